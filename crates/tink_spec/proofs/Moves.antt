@@ -1,0 +1,46 @@
+-- One call of a source or a sink after another.
+use Rattle.std.proofs.Common.{◌≡◌, List, [], ◌++◌, ℕ, refl, sym, ◌∙◌, ap, subst, arith, append_assoc, append-nil}
+use Rattle.std.specs.Prelude.{Option, Some, None, option_map}
+use Rattle.tink_spec.specs.Outside.{SourceState, SinkState, Gave, Took}
+
+prepend_twice : (p q : List ℕ) (o : Option (List ℕ)) → option_map (λ rest. p ++ rest) (option_map (λ rest. q ++ rest) o) ≡ option_map (λ rest. (p ++ q) ++ rest) o
+prepend_twice p q None = refl
+prepend_twice p q (Some rest) = ap Some (sym (append_assoc p q rest))
+
+append_twice : (p q : List ℕ) (o : Option (List ℕ)) → option_map (λ before. before ++ q) (option_map (λ before. before ++ p) o) ≡ option_map (λ before. before ++ (p ++ q)) o
+append_twice p q None = refl
+append_twice p q (Some before) = ap Some (append_assoc before p q)
+
+nothing_before : (o : Option (List ℕ)) → o ≡ option_map (λ rest. [] ++ rest) o
+nothing_before None = refl
+nothing_before (Some rest) = refl
+
+nothing_behind : (o : Option (List ℕ)) → o ≡ option_map (λ before. before ++ []) o
+nothing_behind None = refl
+nothing_behind (Some before) = ap Some (sym (append-nil before))
+
+-- a source that isn't called gives nothing
+pub gave_nothing : (s : SourceState) → Gave s s []
+gave_nothing s = record { left = nothing_before s.left; faults = omega arith }
+
+pub gave_more : (old mid new : SourceState) (p q : List ℕ) → Gave old mid p → Gave mid new q → Gave old new (p ++ q)
+gave_more old mid new p q first second = record {
+  left = first.left ∙ ap (λ (o : Option (List ℕ)). option_map (λ rest. p ++ rest) o) second.left ∙ prepend_twice p q new.left;
+  faults = omega arith;
+}
+
+pub gave_same : (old new : SourceState) → old ≡ new → Gave old new []
+gave_same old new same = subst (λ (s : SourceState). Gave old s []) same (gave_nothing old)
+
+-- a sink that isn't called takes nothing
+pub took_nothing : (s : SinkState) → Took s s []
+took_nothing s = record { written = nothing_behind s.written; faults = omega arith }
+
+pub took_more : (old mid new : SinkState) (p q : List ℕ) → Took old mid p → Took mid new q → Took old new (p ++ q)
+took_more old mid new p q first second = record {
+  written = second.written ∙ ap (λ (o : Option (List ℕ)). option_map (λ before. before ++ q) o) first.written ∙ append_twice p q old.written;
+  faults = omega arith;
+}
+
+pub took_same : (old new : SinkState) → old ≡ new → Took old new []
+took_same old new same = subst (λ (s : SinkState). Took old s []) same (took_nothing old)

@@ -1,0 +1,55 @@
+-- What the outside objects hold, how often they have failed, and what one call moves.
+--
+--   told      an object tells its bytes: what it holds is `Some` of them. A real device tells none.
+--   faults    how often a call of the object has failed. The count never falls, and stands still
+--             at 2 ^ 64 - 1.
+--   Gave, Took   what went out of a source, or into a sink, between two moments
+use Rattle.std.specs.Prelude.{◌≡◌, ◌⊎◌, ℕ, ◌<◌, ◌≤◌, ◌^◌, ◌-◌, List, [], ◌++◌, length, Option, IfSome, option_map}
+
+-- a count of faults has risen, or stands at its last value
+abbrev pub Rose : ℕ → ℕ → Type 0
+Rose before after = (before < after) ⊎ (after ≡ 2 ^ 64 - 1)
+
+-- a source: the bytes that are left, where it tells, and its faults
+pub record SourceState : Type 0 where
+  pub left : Option (List ℕ)
+  pub faults : ℕ
+
+-- a sink: the bytes written so far, where it tells, and its faults
+pub record SinkState : Type 0 where
+  pub written : Option (List ℕ)
+  pub faults : ℕ
+
+-- the source gave exactly these bytes
+pub record Gave (old new : SourceState) (piece : List ℕ) : Type 0 where
+  pub left : old.left ≡ option_map (λ rest. piece ++ rest) new.left
+  pub faults : old.faults ≤ new.faults
+
+-- the source gave some bytes, at most so many
+pub record GaveUpTo (old new : SourceState) (most : ℕ) : Type 0 where
+  pub piece : List ℕ
+  pub within : length piece ≤ most
+  pub gave : Gave old new piece
+
+-- the source gave some bytes, exactly so many
+pub record GaveCount (old new : SourceState) (count : ℕ) : Type 0 where
+  pub piece : List ℕ
+  pub exact : length piece ≡ count
+  pub gave : Gave old new piece
+
+-- nothing is left, where the source tells
+abbrev pub IsAtEnd : SourceState → Type 0
+IsAtEnd source = IfSome source.left (λ rest. rest ≡ [])
+
+-- the sink took exactly these bytes
+pub record Took (old new : SinkState) (piece : List ℕ) : Type 0 where
+  pub written : new.written ≡ option_map (λ before. before ++ piece) old.written
+  pub faults : old.faults ≤ new.faults
+
+-- the sink took the first of these bytes, and at least one of them not
+pub record TookPrefix (old new : SinkState) (bytes : List ℕ) : Type 0 where
+  pub front : List ℕ
+  pub rest : List ℕ
+  pub some : 0 < length rest
+  pub whole : front ++ rest ≡ bytes
+  pub took : Took old new front
