@@ -1,0 +1,84 @@
+//! Whole inputs and whole outputs, over any source and any sink.
+
+ghost use Rattle.std.specs.Prelude.{◌≡◌, ◌+◌, ◌≤◌, ◌^◌, length, IfOk, OnOk, OnErr, IsErrOf};
+ghost use Rattle.tink_spec.specs.Outside.{Rose, Gave, GaveUpTo, GaveCount, Took, TookPrefix, IsAtEnd};
+
+use crate::{Failed, Sink, Source};
+use std::alloc::Global;
+
+/// Why not all of an input was read.
+#[derive(Clone, Copy, Debug, PartialEq, Eq)]
+pub enum ReadAllFault {
+    /// The source failed.
+    Failed,
+    /// The input has more bytes than the limit.
+    TooLong,
+    /// Memory was refused.
+    NoMemory,
+}
+
+/// How many bytes one read asks for at the most.
+const PIECE: usize = 4096;
+
+/// Reads all bytes up to the end, of which there may be `limit`, at most 2^30.
+///
+/// `Failed` comes only where the source failed, and `TooLong` exactly where `limit` + 1 bytes were
+/// taken. With any other answer at most `limit` bytes are gone, and with `Ok` all of them, up to
+/// the end.
+pub fn read_all<S: Source>(
+    alloc: Global,
+    source: &mut S,
+    limit: usize,
+) -> Result<Vec<u8>, ReadAllFault>
+    requires limit_bound { limit ≤ 2 ^ 30 }
+    ensures all { IfOk result (λ all. Gave (S.state source.old) (S.state source.new) all.items) }
+    ensures within { IfOk result (λ all. length all.items ≤ limit) }
+    ensures end { OnOk result (IsAtEnd (S.state source.new)) }
+    ensures failed { IsErrOf result ReadAllFault.Failed →
+        Rose (S.state source.old).faults (S.state source.new).faults }
+    ensures failed_within { IsErrOf result ReadAllFault.Failed →
+        GaveUpTo (S.state source.old) (S.state source.new) limit }
+    ensures too_long { IsErrOf result ReadAllFault.TooLong →
+        GaveCount (S.state source.old) (S.state source.new) (limit + 1) }
+    ensures no_memory { IsErrOf result ReadAllFault.NoMemory →
+        GaveUpTo (S.state source.old) (S.state source.new) limit }
+{
+    let mut all = Vec::new(alloc);
+    let mut buffer = [0u8; PIECE];
+    loop {
+        let room = PIECE.min(limit + 1 - all.len());
+        let n = match source.read(&mut buffer[..room]) {
+            Ok(n) => n,
+            Err(Failed) => return Err(ReadAllFault::Failed),
+        };
+        if n == 0 {
+            return Ok(all);
+        }
+        if n > limit - all.len() {
+            return Err(ReadAllFault::TooLong);
+        }
+        match all.extend_from_slice(&buffer[..n]) {
+            Ok(()) => {}
+            Err(_) => return Err(ReadAllFault::NoMemory),
+        }
+    }
+}
+
+/// Writes all of `bytes`, without memory.
+///
+/// `Failed` comes only where the sink failed. The first bytes were written then, and at least one
+/// of them wasn't.
+pub fn write_all<K: Sink>(sink: &mut K, bytes: &[u8]) -> Result<(), Failed>
+    ensures all { OnOk result (Took (K.state sink.old) (K.state sink.new) bytes.now) }
+    ensures failed { OnErr result (Rose (K.state sink.old).faults (K.state sink.new).faults) }
+    ensures prefix { OnErr result (TookPrefix (K.state sink.old) (K.state sink.new) bytes.now) }
+{
+    let mut at = 0;
+    while at < bytes.len() {
+        match sink.write(&bytes[at..]) {
+            Ok(n) => at += n,
+            Err(Failed) => return Err(Failed),
+        }
+    }
+    Ok(())
+}

@@ -1,0 +1,26 @@
+//! The two ways in which a call over the outside ends badly.
+
+ghost use Rattle.std.specs.Prelude.{◌≡◌};
+ghost use Rattle.tink_base.specs.declared.faults.NoMemory.{NoMemory};
+
+use std::alloc::{AllocError, AllocFailed};
+
+/// An outside object failed. Its count of faults has risen then.
+#[derive(Clone, Copy, Debug, PartialEq, Eq)]
+pub struct Failed;
+
+/// Memory was refused.
+#[derive(Clone, Copy, Debug, PartialEq, Eq)]
+pub struct NoMemory;
+
+impl From<AllocError> for NoMemory {
+    fn from(_error: AllocError) -> NoMemory {
+        NoMemory
+    }
+}
+
+impl<T: Drop> From<AllocFailed<T>> for NoMemory {
+    fn from(_error: AllocFailed<T>) -> NoMemory {
+        NoMemory
+    }
+}

@@ -1,0 +1,21 @@
+//! Where bytes go.
+
+ghost use Rattle.std.specs.Prelude.{◌≡◌, ◌<◌, ◌≤◌, [], length, take, IfOk, OnErr};
+ghost use Rattle.tink_spec.specs.Outside.{SinkState, Rose, Took};
+
+use crate::Failed;
+
+/// A sink for bytes.
+pub trait Sink {
+    /// The bytes that were written, where the sink tells, and how often it has failed.
+    ghost state: { Self → SinkState };
+
+    /// Takes the first bytes of `piece`, and answers how many: at least one, unless `piece` is
+    /// empty. After `Failed` nothing of it was taken.
+    fn write(&mut self, piece: &[u8]) -> Result<usize, Failed>
+        ensures bound { IfOk result (λ n. n ≤ length piece.now) }
+        ensures some { IfOk result (λ n. 0 < length piece.now → 0 < n) }
+        ensures takes { IfOk result (λ n. Took (state self.old) (state self.new) (take n piece.now)) }
+        ensures failed { OnErr result (Rose (state self.old).faults (state self.new).faults) }
+        ensures kept { OnErr result (Took (state self.old) (state self.new) []) };
+}

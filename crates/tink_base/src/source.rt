@@ -1,0 +1,23 @@
+//! Where bytes come from.
+
+ghost use Rattle.std.specs.Prelude.{◌≡◌, ◌<◌, ◌≤◌, [], length, take, drop, IfOk, OnErr};
+ghost use Rattle.tink_spec.specs.Outside.{SourceState, Rose, Gave, IsAtEnd};
+
+use crate::Failed;
+
+/// A source of bytes with an end.
+pub trait Source {
+    /// The bytes that are left, where the source tells, and how often it has failed.
+    ghost state: { Self → SourceState };
+
+    /// Moves the next bytes into the front of `out`, and answers how many. The rest of `out` stays
+    /// as it was. 0 bytes into an `out` that isn't empty are the end of the input. After `Failed`
+    /// no byte is gone.
+    fn read(&mut self, out: &mut [u8]) -> Result<usize, Failed>
+        ensures bound { IfOk result (λ n. n ≤ length out.old) }
+        ensures gives { IfOk result (λ n. Gave (state self.old) (state self.new) (take n out.new)) }
+        ensures rest { IfOk result (λ n. drop n out.new ≡ drop n out.old) }
+        ensures end { IfOk result (λ n. n ≡ 0 → 0 < length out.old → IsAtEnd (state self.new)) }
+        ensures failed { OnErr result (Rose (state self.old).faults (state self.new).faults) }
+        ensures kept { OnErr result (Gave (state self.old) (state self.new) []) };
+}
