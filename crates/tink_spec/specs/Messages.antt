@@ -4,6 +4,7 @@
 -- Each reader answers what a field number gives, or the place of the first field of that number
 -- that has another wire type than its own.
 use Rattle.std.specs.Prelude.{ℕ, ◌%◌, ◌^◌, List, [], ◌∷◌, ◌++◌, Bool, true, false, not, ◌==◌, Option, Some, None, option_map, Result, Ok, Err, filter, find, fold}
+use Rattle.std.specs.Str.{is_utf8}
 use Rattle.tink_spec.specs.Wire.{Payload, varint, bytes, WireField, cut}
 
 abbrev pub is_varint : Payload → Bool
@@ -13,6 +14,10 @@ is_varint _ = false
 abbrev pub is_bytes : Payload → Bool
 is_bytes (bytes start content) = true
 is_bytes _ = false
+
+abbrev pub is_text : Payload → Bool
+is_text (bytes start content) = is_utf8 content
+is_text _ = false
 
 -- the fields of a number, in order
 abbrev pub of_number : ℕ → List WireField → List WireField
@@ -37,15 +42,31 @@ abbrev pub later_bytes : ℕ × List ℕ → Payload → ℕ × List ℕ
 later_bytes before (bytes start content) = (start, content)
 later_bytes before _ = before
 
--- the low 32 bits of the last number, 0 where there is none
-abbrev pub number_in : ℕ → List WireField → Result ℕ ℕ
-number_in number fields = let these = of_number number fields in
-    unless_at (first_other is_varint these) (fold (λ before field. later_number before field.payload) 0 these % 2 ^ 32)
+-- the low 32 bits of the last number of these fields, 0 where there is none
+abbrev pub last_number : List WireField → ℕ
+last_number fields = fold (λ before field. later_number before field.payload) 0 fields % 2 ^ 32
 
--- the last bytes, none at place 0 where there are none
+-- the last bytes of these fields, none at place 0 where there are none
+abbrev pub last_bytes : List WireField → ℕ × List ℕ
+last_bytes fields = fold (λ before field. later_bytes before field.payload) (0, []) fields
+
+-- the value of a field of 32 bits
+abbrev pub number_in : ℕ → List WireField → Result ℕ ℕ
+number_in number fields = unless_at (first_other is_varint (of_number number fields)) (last_number (of_number number fields))
+
+-- the value of a field of bytes, and its place
 abbrev pub bytes_in : ℕ → List WireField → Result (ℕ × List ℕ) ℕ
-bytes_in number fields = let these = of_number number fields in
-    unless_at (first_other is_bytes these) (fold (λ before field. later_bytes before field.payload) (0, []) these)
+bytes_in number fields = unless_at (first_other is_bytes (of_number number fields)) (last_bytes (of_number number fields))
+
+-- the value of a field of text, and its place; each field of the number is UTF-8
+abbrev pub text_in : ℕ → List WireField → Result (ℕ × List ℕ) ℕ
+text_in number fields = unless_at (first_other is_text (of_number number fields)) (last_bytes (of_number number fields))
+
+infixl 10 ◌>>=◌
+-- what comes next, unless a place is at fault
+abbrev pub ◌>>=◌ : {A B : Type 0} → Result A ℕ → (A → Result B ℕ) → Result B ℕ
+(Ok value) >>= next = next value
+(Err place) >>= next = Err place
 
 -- a list behind another, where both could be read
 abbrev pub joined : Result (List WireField) ℕ → Result (List WireField) ℕ → Result (List WireField) ℕ
