@@ -1,1 +1,5 @@
+pub mod Hash
 pub mod Memory
+pub mod Store
+pub use Rattle.tink_spec.specs.Files
+pub use Rattle.tink_spec.specs.Outside

@@ -1,6 +1,9 @@
--- What a source and a sink in memory are, and what they tell.
-use Rattle.std.specs.Prelude.{ℕ, ◌+◌, ◌-◌, ◌^◌, ◌≤◌, List, length, min, Some}
+-- What a source, a sink and a store in memory are, and what they tell.
+use Rattle.std.specs.Prelude.{ℕ, ◌+◌, ◌-◌, ◌^◌, ◌≤◌, List, length, min, Some, refl}
+use Rattle.std.specs.Coded.{Coded, code_by, coded×, coded_ℕ, coded_list}
+use Rattle.std.specs.FinMap as map
 use Rattle.tink_spec.specs.Outside.{SourceState, SinkState}
+use Rattle.tink_spec.specs.Files.{Files, StoreState}
 
 -- the bytes that are left, how many a read gives at the most, the numbers of the calls that fail,
 -- from 1, and how many calls and faults there were
@@ -21,6 +24,22 @@ pub record SinkInMemory : Type 0 where
   pub calls : ℕ
   pub faults : ℕ
 
+-- the files, the numbers of the calls that fail, from 1, and how many calls and faults there were
+pub record StoreInMemory : Type 0 where
+  pub files : Files
+  pub fails : List ℕ
+  pub calls : ℕ
+  pub faults : ℕ
+
+-- a store in memory is kept in contracts as the tuple of its parts
+abbrev pub store_code : Coded StoreInMemory
+store_code =
+    code_by (Files × (List ℕ × (ℕ × ℕ)))
+    (coded× (map.code (coded_list coded_ℕ) (coded_list coded_ℕ)) (coded× (coded_list coded_ℕ) (coded× coded_ℕ coded_ℕ)))
+    (λ s. (s.files, (s.fails, (s.calls, s.faults))))
+    (λ p. record { files = p.0; fails = p.1.0; calls = p.1.1.0; faults = p.1.1.1 })
+    (λ _. refl)
+
 -- a count of 64 bits, one later; it stands still at its end
 abbrev pub next : ℕ → ℕ
 next count = min (count + 1) (2 ^ 64 - 1)
@@ -34,3 +53,6 @@ told_sink s = record { written = Some s.written; faults = s.faults }
 -- there is no room for a byte
 abbrev pub IsFull : SinkInMemory → Type 0
 IsFull s = s.room ≤ length s.written
+
+abbrev pub told_store : StoreInMemory → StoreState
+told_store s = record { files = Some s.files; faults = s.faults }

@@ -1,0 +1,131 @@
+//! A store in memory, which fails exactly at the calls that it is told.
+
+ghost use Rattle.std.specs.Prelude.{◌≡◌, ◌↔◌, IfOk, OnOk, OnErr, IsErrOf, Contains, option_map};
+ghost use Rattle.std.specs.FinMap as map;
+ghost use Rattle.tink_spec.specs.Outside.{Rose};
+ghost use Rattle.tink_spec.specs.Files.{KeptFiles, MayAdd};
+ghost use Rattle.tink_base.specs.Memory.{next, told_store};
+ghost use Rattle.tink_base.specs.Store.{Loads, Creates};
+
+use crate::{Bytes, Created, Loaded, NoMemory, Store, StoreError, Text};
+use std::alloc::Global;
+use std::marker::Model;
+
+/// A store in memory, which contracts see as a `StoreInMemory`.
+#[derive(Drop)]
+pub struct MemStore {
+    // the newest first
+    files: Vec<(Text, Bytes)>,
+    fails: Vec<u64>,
+    calls: u64,
+    faults: u64,
+}
+
+impl Model for MemStore {
+    ghost use Rattle.std.specs.FinMap as map;
+    ghost use Rattle.tink_base.specs.Memory.{StoreInMemory, store_code};
+
+    ghost Value = { StoreInMemory };
+
+    ghost coded = { store_code };
+
+    ghost view = { λ s. record { files = map.from_entries s.files.items; fails = s.fails.items; calls = s.calls; faults = s.faults } };
+}
+
+impl MemStore {
+    /// An empty store. Its `load` and `create` fail exactly at the calls whose numbers, from 1,
+    /// stand in `fails`, and change nothing then.
+    pub fn new(alloc: Global, fails: Vec<u64>) -> MemStore
+        ensures { result ≡ record { files = map.empty; fails = fails.items; calls = 0; faults = 0 } }
+    {
+        MemStore {
+            files: Vec::new(alloc),
+            fails,
+            calls: 0,
+            faults: 0,
+        }
+    }
+
+    /// Sets the file of this name. After `NoMemory` no file has changed.
+    pub fn put(&mut self, alloc: Global, name: &str, bytes: &[u8]) -> Result<(), NoMemory>
+        ensures set { OnOk result (self.new ≡ record self.old { files = map.insert self.old.files name.now bytes.now }) }
+        ensures kept { OnErr result (self.new ≡ self.old) }
+    {
+        let name = Text::copy(alloc, name)?;
+        let bytes = Bytes::copy(alloc, bytes)?;
+        match self.files.insert(0, (name, bytes)) {
+            Ok(()) => Ok(()),
+            Err(_) => Err(NoMemory),
+        }
+    }
+
+    /// Lends the bytes of the file of this name, where there is one.
+    pub fn get(&self, name: &str) -> Option<&[u8]>
+        ensures { option_map (λ bytes. bytes.now) result ≡ map.get self.now.files name.now }
+    {
+        for (other, bytes) in &self.files {
+            if name == other.as_str() {
+                return Some(bytes.as_slice());
+            }
+        }
+        None
+    }
+}
+
+impl Store for MemStore {
+    ghost state = { λ s. told_store s };
+
+    fn load(&mut self, alloc: Global, name: &str, limit: usize) -> Result<Loaded, StoreError>
+        ensures loads { IfOk result (λ found. Loads (told_store self.old) name.now limit found) }
+        ensures kept { KeptFiles (told_store self.old) (told_store self.new) }
+        ensures failed { IsErrOf result StoreError.Failed → Rose self.old.faults self.new.faults }
+
+        // Exactly when it fails.
+        ensures listed { IsErrOf result StoreError.Failed ↔ Contains self.old.fails (next self.old.calls) }
+        ensures faultless { (IsErrOf result StoreError.Failed → ⊥) → self.new ≡ record self.old { calls = next self.old.calls } }
+        ensures faulty { IsErrOf result StoreError.Failed → self.new ≡ record self.old { calls = next self.old.calls; faults = next self.old.faults } }
+    {
+        self.calls = self.calls.saturating_add(1);
+        if self.fails.contains(&self.calls) {
+            self.faults = self.faults.saturating_add(1);
+            return Err(StoreError::Failed);
+        }
+        match self.get(name) {
+            None => Ok(Loaded::Absent),
+            Some(bytes) => {
+                if bytes.len() > limit {
+                    return Ok(Loaded::TooLong);
+                }
+                match Bytes::copy(alloc, bytes) {
+                    Ok(bytes) => Ok(Loaded::Bytes(bytes)),
+                    Err(_) => Err(StoreError::NoMemory),
+                }
+            }
+        }
+    }
+
+    fn create(&mut self, alloc: Global, name: &str, bytes: &[u8]) -> Result<Created, StoreError>
+        ensures creates { IfOk result (λ made. Creates (told_store self.old) (told_store self.new) name.now bytes.now made) }
+        ensures failed { IsErrOf result StoreError.Failed → Rose self.old.faults self.new.faults }
+        ensures may_add { IsErrOf result StoreError.Failed → MayAdd (told_store self.old) (told_store self.new) name.now bytes.now }
+        ensures no_memory { IsErrOf result StoreError.NoMemory → KeptFiles (told_store self.old) (told_store self.new) }
+
+        // Exactly when it fails, and that it changes nothing then.
+        ensures listed { IsErrOf result StoreError.Failed ↔ Contains self.old.fails (next self.old.calls) }
+        ensures faultless { (IsErrOf result StoreError.Failed → ⊥) → self.new.faults ≡ self.old.faults }
+        ensures faulty { IsErrOf result StoreError.Failed → self.new ≡ record self.old { calls = next self.old.calls; faults = next self.old.faults } }
+    {
+        self.calls = self.calls.saturating_add(1);
+        if self.fails.contains(&self.calls) {
+            self.faults = self.faults.saturating_add(1);
+            return Err(StoreError::Failed);
+        }
+        match self.get(name) {
+            Some(_) => Ok(Created::Exists),
+            None => match self.put(alloc, name, bytes) {
+                Ok(()) => Ok(Created::Made),
+                Err(_) => Err(StoreError::NoMemory),
+            },
+        }
+    }
+}
