@@ -1,3 +1,4 @@
+pub mod Cuts
 pub mod Reading
 pub mod Spellings
 pub mod Varints
