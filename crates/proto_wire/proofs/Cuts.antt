@@ -68,13 +68,13 @@ none_spelled at part spelling more field is whole spells =
     let moved = moved_payload (at + length spells.tag) (field.at + length spells.tag) spells.behind field.payload spells.spelled in
     let there : WireField = record { number = field.number; at = at; payload = moved.0 } in
     let spells_there : SpellsField spelling there = record {
-        tag = spells.tag;
-        behind = spells.behind;
-        whole = spells.whole;
-        least = spells.least;
-        most = spells.most;
-        tagged = subst (λ (type : ℕ). SpellsNumber spells.tag (field.number * 8 + type)) (sym moved.2) spells.tagged;
-        spelled = moved.1;
+      tag = spells.tag;
+      behind = spells.behind;
+      whole = spells.whole;
+      least = spells.least;
+      most = spells.most;
+      tagged = subst (λ (type : ℕ). SpellsNumber spells.tag (field.number * 8 + type)) (sym moved.2) spells.tagged;
+      spelled = moved.1;
     } in
     let found : field_front at part ≡ Some (there, more) = subst (λ (l : List ℕ). field_front at l ≡ Some (there, more)) whole (field_front-of spelling more there spells_there) in
     cc
@@ -93,26 +93,26 @@ cut_behind : (at next : ℕ) (part rest : List ℕ) (field : WireField) (is : Fi
 cut_behind at next part rest field is next_is (Ok fields) later =
     (is.spelling, rest, is.whole, is.here, is.spells, subst (λ (n : ℕ). IsCutInto n rest fields) next_is later)
 cut_behind at next part rest field is next_is (Err place) later = record {
-    fields = field ∷ later.fields;
-    front = is.spelling ++ later.front;
-    rest = later.rest;
-    whole = append_assoc is.spelling later.front later.rest ∙ ap (λ (l : List ℕ). is.spelling ++ l) later.whole ∙ is.whole;
-    cut = (is.spelling, later.front, refl, is.here, is.spells, subst (λ (n : ℕ). IsCutInto n later.front later.fields) next_is later.cut);
-    is = omega (arith, later.is, next_is, length-append is.spelling later.front);
-    some = later.some;
-    none = later.none;
+  fields = field ∷ later.fields;
+  front = is.spelling ++ later.front;
+  rest = later.rest;
+  whole = append_assoc is.spelling later.front later.rest ∙ ap (λ (l : List ℕ). is.spelling ++ l) later.whole ∙ is.whole;
+  cut = (is.spelling, later.front, refl, is.here, is.spells, subst (λ (n : ℕ). IsCutInto n later.front later.fields) next_is later.cut);
+  is = omega (arith, later.is, next_is, length-append is.spelling later.front);
+  some = later.some;
+  none = later.none;
 }
 
 front_cut : (n at : ℕ) (part : List ℕ) → 0 < length part → length part ≤ suc n → ((place : ℕ) (rest : List ℕ) → length rest ≤ n → IsCut place rest (cut_within n place rest)) → (front : Option (WireField × List ℕ)) → field_front at part ≡ front → IsField at part front → IsCut at part (cut_front at front (λ rest. cut_within n (at + (length part - length rest)) rest))
 front_cut n at part some small later None is front = record {
-    fields = [];
-    front = [];
-    rest = part;
-    whole = refl;
-    cut = refl;
-    is = sym (add-zero at);
-    some = some;
-    none = λ spelling more field whole spells. none_spelled at part spelling more field is whole spells;
+  fields = [];
+  front = [];
+  rest = part;
+  whole = refl;
+  cut = refl;
+  is = sym (add-zero at);
+  some = some;
+  none = λ spelling more field whole spells. none_spelled at part spelling more field is whole spells;
 }
 front_cut n at part some small later (Some read) is front =
     let shorter : length read.1 < length part = rest-shorter at part read.1 read.0 front in
@@ -150,7 +150,7 @@ cut-append at front rest [] is =
 cut-append at front rest (field ∷ fields) (spelling, behind, whole, here, spells, later) =
     let all : spelling ++ (behind ++ rest) ≡ front ++ rest = sym (append_assoc spelling behind rest) ∙ ap (λ (l : List ℕ). l ++ rest) whole in
     let read : field_front at (spelling ++ (behind ++ rest)) ≡ Some (field, behind ++ rest) =
-        subst (λ (n : ℕ). field_front n (spelling ++ (behind ++ rest)) ≡ Some (field, behind ++ rest)) here (field_front-of spelling (behind ++ rest) field spells) in
+    subst (λ (n : ℕ). field_front n (spelling ++ (behind ++ rest)) ≡ Some (field, behind ++ rest)) here (field_front-of spelling (behind ++ rest) field spells) in
     let found : field_front at (front ++ rest) ≡ Some (field, behind ++ rest) = subst (λ (l : List ℕ). field_front at l ≡ Some (field, behind ++ rest)) all read in
     let next : at + (length (front ++ rest) - length (behind ++ rest)) ≡ at + length spelling = omega (arith, length-append spelling (behind ++ rest), ap length all) in
     let last : at + length spelling + length behind ≡ at + length front = omega (arith, length-append spelling behind, ap length whole) in
@@ -168,7 +168,7 @@ cut-of at part fields is =
 pub cut-fails_at : (at : ℕ) (part : List ℕ) (place : ℕ) → FailsAt at part place → cut at part ≡ Err place
 cut-fails_at at part place fails =
     let unread : field_front (at + length fails.front) fails.rest ≡ None =
-        none_read (at + length fails.front) fails.rest fails.none (field_front (at + length fails.front) fails.rest) (field_front-spells (at + length fails.front) fails.rest) in
+    none_read (at + length fails.front) fails.rest fails.none (field_front (at + length fails.front) fails.rest) (field_front-spells (at + length fails.front) fails.rest) in
     ap (λ (l : List ℕ). cut at l) (sym fails.whole)
     ∙ cut-append at fails.front fails.rest fails.fields fails.cut
     ∙ ap (joined (Ok fails.fields)) (cut-stop (at + length fails.front) fails.rest fails.some unread)

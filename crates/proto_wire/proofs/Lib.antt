@@ -1,4 +1,5 @@
 pub mod Cuts
-pub mod Reading
+pub mod Given
+pub mod Places
 pub mod Spellings
 pub mod Varints

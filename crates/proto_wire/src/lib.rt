@@ -8,6 +8,7 @@ mod cutting;
 mod field;
 mod list;
 mod number;
+mod reading;
 
 pub use cutting::fields;
 pub use field::{Field, FieldsError, Kind, Wire};
