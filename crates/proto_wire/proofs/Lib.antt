@@ -1,5 +1,6 @@
 pub mod Cuts
 pub mod Given
+pub mod Pieces
 pub mod Places
 pub mod Spellings
 pub mod Varints

@@ -5,7 +5,8 @@ ghost use Rattle.std.specs.List.{AllByRecursion};
 ghost use Rattle.tink_spec.specs.Wire.{WireField, IsCutInto, FailsAt, cut};
 ghost use Rattle.proto_wire.specs.Fields.{seen_all, IsOf, GivesFields};
 
-use crate::{Fields, FieldsError};
+use crate::reading::read_field;
+use crate::{Fields, FieldsError, Wire};
 use std::alloc::Global;
 
 /// Cuts the part of `source` from `start` to `end`, places in bytes, into its fields.
@@ -21,5 +22,17 @@ pub fn fields(alloc: Global, source: &[u8], start: usize, end: usize) -> Result<
     ensures fails_only { (place : ℕ) → FailsAt start (slice_range source.now start end) place → GivesFields source.now result (Err place) }
     ensures of_source { IfOk result (λ fields. AllByRecursion (IsOf source.now) fields) }
 {
-    Err(FieldsError::NoMemory)
+    let mut items = Vec::new(alloc);
+    let mut at = start;
+    while at < end {
+        let (field, behind) = match read_field(source, at, end) {
+            Some(read) => read,
+            None => return Err(FieldsError::Wire(Wire { at })),
+        };
+        match items.push(field) {
+            Ok(()) => at = behind,
+            Err(_) => return Err(FieldsError::NoMemory),
+        }
+    }
+    Ok(Fields::own(items))
 }

@@ -26,6 +26,13 @@ impl Model for Fields {
 }
 
 impl Fields {
+    /// The fields of a `Vec`.
+    pub(crate) fn own(items: Vec<Field>) -> Fields
+        ensures { result ≡ items.items }
+    {
+        Fields { items }
+    }
+
     /// How many fields there are.
     pub fn len(&self) -> usize
         ensures { result ≡ length self.now }
