@@ -135,7 +135,7 @@ cut-fails at part place is = subst (IsCut at part) is (cut_within-is (length par
 
 -- ---- what is spelled is what cut answers
 
-joined-nothing : (read : Result (List WireField) ℕ) → joined (Ok []) read ≡ read
+pub joined-nothing : (read : Result (List WireField) ℕ) → joined (Ok []) read ≡ read
 joined-nothing (Ok fields) = refl
 joined-nothing (Err place) = refl
 

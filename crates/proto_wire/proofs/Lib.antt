@@ -1,5 +1,6 @@
+pub mod ByNumber
 pub mod Cuts
-pub mod Given
+pub mod Merging
 pub mod Pieces
 pub mod Places
 pub mod Spellings

@@ -10,7 +10,7 @@ use Rattle.proto_wire.specs.declared.field.Field.{Field}
 use Rattle.proto_wire.specs.declared.field.Wire.{Wire}
 use Rattle.proto_wire.specs.declared.field.FieldsError.{FieldsError}
 use Rattle.proto_wire.specs.declared.field.FieldsError.TheVariants as errors
-use Rattle.proto_wire.proofs.Cuts.{cut-step, cut-stop, cut-spells, cut-fails, cut-of, cut-fails_at}
+use Rattle.proto_wire.proofs.Cuts.{joined-nothing, cut-step, cut-stop, cut-spells, cut-fails, cut-of, cut-fails_at}
 use Rattle.proto_wire.proofs.Places.{length-slice_range}
 
 -- the state at the place `at`
@@ -24,10 +24,6 @@ joined-with_field : (fields : List WireField) (field : WireField) (rest : Result
 joined-with_field fields field (Ok more) = ap (λ (all : List WireField). Ok all) (sym (append_assoc fields (field ∷ []) more))
 joined-with_field fields field (Err place) = refl
 
-joined-none : (read : Result (List WireField) ℕ) → joined (Ok []) read ≡ read
-joined-none (Ok fields) = refl
-joined-none (Err place) = refl
-
 of_source-push : (source : List ℕ) (items : List Field) (field : Field) → AllByRecursion (IsOf source) items → IsOf source field → AllByRecursion (IsOf source) (items ++ field ∷ [])
 of_source-push source [] field all one = (one, tt)
 of_source-push source (first ∷ items) field all one = (all.0, of_source-push source items field all.1 one)
@@ -36,7 +32,7 @@ pub read-init : (source : List ℕ) (start end : ℕ) → start ≤ end → IsRe
 read-init source start end ordered = record {
   behind = omega arith;
   within = ordered;
-  rest = sym (joined-none (cut start (slice_range source start end)));
+  rest = sym (joined-nothing (cut start (slice_range source start end)));
   of_source = tt;
 }
 

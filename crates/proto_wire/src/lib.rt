@@ -6,6 +6,7 @@
 
 mod cutting;
 mod field;
+pub mod laws;
 mod list;
 mod number;
 mod reading;
