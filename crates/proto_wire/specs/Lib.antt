@@ -1,0 +1,4 @@
+pub mod Fields
+pub use Rattle.tink_spec.specs.Messages
+pub use Rattle.tink_spec.specs.Varint
+pub use Rattle.tink_spec.specs.Wire

@@ -1,0 +1,14 @@
+//! Protobuf fields: a part of a message is cut into its fields, and fields give numbers, bytes and
+//! embedded messages.
+//!
+//! The rules of reading stand in `tink_spec`. Groups are refused, and fields are not written yet.
+#![tactic(auto)]
+
+mod cutting;
+mod field;
+mod list;
+mod number;
+
+pub use cutting::fields;
+pub use field::{Field, FieldsError, Kind, Wire};
+pub use list::Fields;
