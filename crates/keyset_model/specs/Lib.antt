@@ -1,0 +1,3 @@
+pub mod Keyset
+pub mod Listing
+pub mod Reading
