@@ -18,6 +18,13 @@ pub record HasSizes (record' : Record) : Type 0 where
   pub url : length record'.url ≤ 2 ^ 30
   pub value : length record'.value ≤ 2 ^ 30
 
+-- the status and the output prefix type have names
+pub record IsKnown (record' : Record) : Type 0 where
+  pub least_status : 1 ≤ record'.status
+  pub most_status : record'.status ≤ 3
+  pub least_prefix : 1 ≤ record'.prefix
+  pub most_prefix : record'.prefix ≤ 4
+
 -- the record is ENABLED, its prefix type and material are known and it has a URL
 abbrev pub is_built : Record → Bool
 is_built r = r.status == 1 && nat_le 1 r.prefix && nat_le r.prefix 4 && nat_le 1 r.material && nat_le r.material 4 && nat_lt 0 (length r.url)

@@ -2,7 +2,7 @@
 
 ghost use Rattle.std.specs.Prelude.{◌≡◌, ◌<◌, ◌≢◌, ◌↔◌, length, Some, IsNone, All, slice_get, position, ◌==◌};
 ghost use Rattle.std.specs.List.{AllByRecursion};
-ghost use Rattle.keyset_model.specs.Keyset.{HasSizes, is_built, fault_of, built};
+ghost use Rattle.keyset_model.specs.Keyset.{HasSizes, IsKnown, is_built, fault_of, built};
 
 use crate::Record;
 use std::marker::Model;
@@ -70,6 +70,7 @@ impl Keyset {
     pub fn record_at(&self, i: usize) -> &Record
         requires place_bound { i < length self.now.records }
         ensures record_there { slice_get self.now.records i ≡ Some result.now }
+        ensures known { IsKnown result.now }
         ensures sizes { HasSizes result.now }
     {
         &self.records[i]

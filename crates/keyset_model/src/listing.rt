@@ -1,9 +1,12 @@
 //! The listing of a keyset, without key material.
 
-ghost use Rattle.std.specs.Prelude.{◌≡◌, ◌≤◌, IfOk};
-ghost use Rattle.keyset_model.specs.Listing.{status_text, prefix_text, info_of};
+ghost use Rattle.std.specs.Prelude.{◌≡◌, ◌≤◌, ◌++◌, IfOk, OnOk};
+ghost use Rattle.std.specs.Fmt.{decimal};
+ghost use Rattle.keyset_model.specs.Keyset.{IsKnown};
+ghost use Rattle.keyset_model.specs.Listing.{status_text, prefix_text, escaped_byte, escaped, record_lines, info_of};
 
-use crate::Keyset;
+use crate::{Keyset, Record};
+use itoa::Buffer;
 use std::alloc::Global;
 use tink_base::NoMemory;
 
@@ -40,7 +43,63 @@ pub fn prefix_name(prefix: u32) -> &'static str
 pub fn info_text(alloc: Global, keyset: &Keyset) -> Result<Vec<u8>, NoMemory>
     ensures { IfOk result (λ text. text.items ≡ info_of keyset.now) }
 {
-    let _ = alloc;
-    let _ = keyset;
-    Err(NoMemory)
+    let mut text = Vec::from_slice(alloc, b"primary_key_id: ")?;
+    push_number(&mut text, keyset.primary())?;
+    text.push(b'\n')?;
+    for i in 0..keyset.len() {
+        push_record(&mut text, keyset.record_at(i))?;
+    }
+    Ok(text)
+}
+
+/// Adds the six lines of a record.
+fn push_record(out: &mut Vec<u8>, record: &Record) -> Result<(), NoMemory>
+    requires known { IsKnown «record».now }
+    ensures { OnOk result (out.new.items ≡ out.old.items ++ record_lines «record».now) }
+{
+    out.extend_from_slice(b"key_info {\n  type_url: \"")?;
+    push_escaped(out, record.url.as_str().as_bytes())?;
+    out.extend_from_slice(b"\"\n  status: ")?;
+    out.extend_from_slice(status_name(record.status).as_bytes())?;
+    out.extend_from_slice(b"\n  key_id: ")?;
+    push_number(out, record.id)?;
+    out.extend_from_slice(b"\n  output_prefix_type: ")?;
+    out.extend_from_slice(prefix_name(record.prefix).as_bytes())?;
+    out.extend_from_slice(b"\n}\n")?;
+    Ok(())
+}
+
+/// Adds a number in decimal.
+fn push_number(out: &mut Vec<u8>, number: u32) -> Result<(), NoMemory>
+    ensures { OnOk result (out.new.items ≡ out.old.items ++ decimal number) }
+{
+    let mut digits = Buffer::new();
+    out.extend_from_slice(digits.format(number).as_bytes())?;
+    Ok(())
+}
+
+/// Adds text as it stands between quotes.
+fn push_escaped(out: &mut Vec<u8>, text: &[u8]) -> Result<(), NoMemory>
+    ensures { OnOk result (out.new.items ≡ out.old.items ++ escaped text.now) }
+{
+    for byte in text {
+        push_escaped_byte(out, *byte)?;
+    }
+    Ok(())
+}
+
+/// Adds a byte as it stands between quotes.
+fn push_escaped_byte(out: &mut Vec<u8>, byte: u8) -> Result<(), NoMemory>
+    ensures { OnOk result (out.new.items ≡ out.old.items ++ escaped_byte byte) }
+{
+    match byte {
+        b'"' | b'\\' => out.extend_from_slice(&[b'\\', byte])?,
+        b' '..=b'~' => out.push(byte)?,
+        _ => {
+            let octal = [b'0' + byte / 64, b'0' + byte / 8 % 8, b'0' + byte % 8];
+            out.push(b'\\')?;
+            out.extend_from_slice(&octal)?;
+        }
+    }
+    Ok(())
 }
