@@ -7,12 +7,12 @@ use Rattle.tink_spec.proofs.Examples.{wire_on_literals, url, keyset}
 use Rattle.keyset_model.specs.declared.keyset.KeysetFault.TheVariants as faults
 use Rattle.keyset_model.specs.Keyset.{Keys}
 use Rattle.keyset_model.specs.Listing.{status_text, prefix_text, escaped, record_lines, info_of}
-use Rattle.keyset_model.specs.Reading.{key_of, reads_binary, Wire, Fault}
+use Rattle.keyset_model.specs.Reading.{record_of, key_of, reads_binary, Wire, Fault}
 use lib.Utf8.{encode}
 
 -- one name for what unfolds in an example
 unfoldable pub keysets_on_literals : Unit {0}
-unfolding wire_on_literals url keyset is_utf8 chars encode key_of reads_binary
+unfolding wire_on_literals url keyset is_utf8 chars encode record_of key_of reads_binary
 keysets_on_literals = tt
 
 -- the keyset of those 90 bytes: an AES-GCM key of 16 zero bytes

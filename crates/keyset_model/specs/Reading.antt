@@ -20,7 +20,7 @@ use Rattle.keyset_model.specs.Keyset.{Keys, built}
 -- the record of a `Key` message of these fields: key_data 1, status 2, key_id 3 and
 -- output_prefix_type 4, and of a `KeyData` message type_url 1, value 2 and key_material_type 3. The
 -- places in a fault are those inside the message, and go no further.
-abbrev pub record_of : List WireField → Result Record ℕ
+unfoldable pub record_of : List WireField → Result Record ℕ
 record_of fields = do
   data' ← merged 1 fields
   url ← text_in 1 data'

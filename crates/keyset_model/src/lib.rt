@@ -3,6 +3,7 @@
 //! A `Keyset` is well formed as its type's invariant. Writing comes with the commands that edit.
 #![tactic(auto)]
 
+mod key;
 mod keyset;
 mod listing;
 mod reading;
