@@ -1,6 +1,6 @@
 -- What a field gives, what the text of fields is, one field after the other, and where the reading
 -- of a key stops.
-use Rattle.std.proofs.Common.{◌≡◌, ◌∙◌, ℕ, ◌+◌, ◌≤◌, Bool, true, false, List, ◌∷◌, length, drop, refl, ap, sym, arith, eq-eqb, Some, None, Ok, Err, Result}
+use Rattle.std.proofs.Common.{◌≡◌, ◌∙◌, ℕ, ◌+◌, ◌≤◌, Bool, true, false, List, ◌∷◌, length, drop, refl, ap, arith, eq-eqb, Some, Ok, Err, Result}
 use Rattle.std.specs.Prelude.{fold, slice_get, slice_range}
 use Rattle.std.specs.Result.{IfErr, IsErrAnd}
 use Rattle.std.specs.Str.{IsUtf8, is_utf8}
@@ -20,7 +20,7 @@ use Rattle.proto_wire.specs.declared.field.Wire.{Wire}
 use Rattle.keyset_model.specs.declared.reading.ReadError.{ReadError}
 use Rattle.keyset_model.specs.declared.reading.ReadError.TheVariants as errors
 use Rattle.keyset_model.specs.declared.record.Record.{Record}
-use Rattle.keyset_model.specs.Reading.{record_of, key_of}
+use Rattle.keyset_model.specs.Reading.{key_of}
 use Rattle.keyset_model.specs.Steps.{IsTextOf, IsNoText, message_of, GivesRecord, of_fields_error}
 
 no_text : (kind : Kind) (source : List ℕ) (field : Field) → (kind ≡ Bytes → ⊥) → is_text (payload_of kind source field) ≡ false

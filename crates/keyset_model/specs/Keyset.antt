@@ -3,7 +3,7 @@
 --   Keys        a primary id and records, whatever they are
 --   fault_of    the first fault, by which they are no keyset, or none
 --   built       the keyset, or that fault
-use Rattle.std.specs.Prelude.{ℕ, ◌≤◌, ◌^◌, List, [], ◌∷◌, length, Bool, true, false, not, ◌&&◌, ◌==◌, nat_lt, nat_le, Option, Some, None, Result, Ok, Err, if◌then◌else◌}
+use Rattle.std.specs.Prelude.{ℕ, ◌≤◌, ◌^◌, List, length, Bool, not, ◌&&◌, ◌==◌, nat_lt, nat_le, Option, Some, None, Result, Ok, Err, if◌then◌else◌}
 use Rattle.std.specs.List.{list_all, list_any}
 use Rattle.keyset_model.specs.declared.record.Record.{Record}
 use Rattle.keyset_model.specs.declared.keyset.KeysetFault.{KeysetFault}

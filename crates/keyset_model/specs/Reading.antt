@@ -5,8 +5,8 @@
 --               a primary id that is no varint, or a key that isn't bytes or can't be read
 --   keys_in     the primary id and the records, or that place
 --   reads_binary   what the bytes give: the place at fault, the first fault of a keyset, or a keyset
-use Rattle.std.specs.Prelude.{◌≡◌, ℕ, List, [], ◌∷◌, Bool, true, false, not, ◌==◌, ◌&&◌, ◌||◌, Option, Some, None, option_map, Result, Ok, Err, is_err, find, if◌then◌else◌}
-use Rattle.std.specs.List.{list_all, filter_map}
+use Rattle.std.specs.Prelude.{◌≡◌, ℕ, List, Bool, not, ◌==◌, ◌&&◌, ◌||◌, Option, option_map, Result, Ok, Err, is_err, find}
+use Rattle.std.specs.List.{filter_map}
 use Rattle.std.specs.Result.{result_ok}
 use Rattle.tink_spec.specs.Wire.{WireField, cut}
 use Rattle.tink_spec.specs.Messages.{is_varint, of_number, unless_at, at_place, ◌>>=◌, last_number, number_in, bytes_in, text_in, merged, embedded}

@@ -1,4 +1,4 @@
-use Rattle.std.proofs.Common.{◌≡◌, refl}
+use Rattle.std.proofs.Common.{refl}
 use Rattle.keyset_model.specs.Reading.{record_of}
 use Rattle.keyset_model.proofs.KeyLemmas.{wire_handed_on, fields_handed_on}
 use Rattle.keyset_model.proofs.key.read_record.Goals as goal

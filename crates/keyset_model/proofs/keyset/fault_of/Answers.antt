@@ -1,4 +1,4 @@
-use Rattle.std.proofs.Common.{◌≡◌, List, ℕ, length, Bool, true, false, refl, sym, ◌∙◌, rules, tests}
+use Rattle.std.proofs.Common.{◌≡◌, List, ℕ, length, true, false, refl, sym, ◌∙◌, rules, tests}
 use Rattle.std.specs.Prelude.{Some}
 use Rattle.std.specs.List.{list_all, list_any}
 use Rattle.std.proofs.lemmas.Iterator.{YieldsList-from_slice}
