@@ -1,1 +1,7 @@
-pub mod Reading
+pub mod ByNumber
+pub mod Cuts
+pub mod Merging
+pub mod Pieces
+pub mod Places
+pub mod Spellings
+pub mod Varints

@@ -43,3 +43,8 @@ abbrev pub GivesSpan : List ℕ → Result (ℕ × ℕ) Wire → Result (ℕ × 
 GivesSpan source (Ok span) read =
     (span.0 ≤ span.1) × (span.1 ≤ length source) × (read ≡ Ok (span.0, slice_range source span.0 span.1))
 GivesSpan source (Err wire) read = read ≡ Err wire.at
+
+-- the error, with this place in the place of its own
+abbrev pub error_at : ℕ → FieldsError → FieldsError
+error_at at (errors.Wire wire) = errors.Wire (record { at = at })
+error_at at errors.NoMemory = errors.NoMemory

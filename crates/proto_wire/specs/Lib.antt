@@ -1,4 +1,5 @@
 pub mod Fields
+pub mod Laws
 pub use Rattle.tink_spec.specs.Messages
 pub use Rattle.tink_spec.specs.Varint
 pub use Rattle.tink_spec.specs.Wire

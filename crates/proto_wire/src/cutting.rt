@@ -3,9 +3,11 @@
 ghost use Rattle.std.specs.Prelude.{◌≡◌, ◌≤◌, List, ℕ, length, Ok, Err, IfOk, IsErrOf, slice_range};
 ghost use Rattle.std.specs.List.{AllByRecursion};
 ghost use Rattle.tink_spec.specs.Wire.{WireField, IsCutInto, FailsAt, cut};
-ghost use Rattle.proto_wire.specs.Fields.{seen_all, IsOf, GivesFields};
+ghost use Rattle.tink_spec.specs.Messages.{at_place, embedded};
+ghost use Rattle.proto_wire.specs.Fields.{payload_of, seen_all, error_at, IsOf, GivesFields};
 
-use crate::{Fields, FieldsError};
+use crate::reading::read_field;
+use crate::{Field, Fields, FieldsError, Kind, Wire};
 use std::alloc::Global;
 
 /// Cuts the part of `source` from `start` to `end`, places in bytes, into its fields.
@@ -21,5 +23,42 @@ pub fn fields(alloc: Global, source: &[u8], start: usize, end: usize) -> Result<
     ensures fails_only { (place : ℕ) → FailsAt start (slice_range source.now start end) place → GivesFields source.now result (Err place) }
     ensures of_source { IfOk result (λ fields. AllByRecursion (IsOf source.now) fields) }
 {
-    Err(FieldsError::NoMemory)
+    let mut items = Vec::new(alloc);
+    let mut at = start;
+    while at < end {
+        let (field, behind) = match read_field(source, at, end) {
+            Some(read) => read,
+            None => return Err(FieldsError::Wire(Wire { at })),
+        };
+        match items.push(field) {
+            Ok(()) => at = behind,
+            Err(_) => return Err(FieldsError::NoMemory),
+        }
+    }
+    Ok(Fields::own(items))
+}
+
+/// The fields of this field's payload. A fault inside has the place of the field itself.
+pub fn embedded(alloc: Global, source: &[u8], field: Field) -> Result<Fields, FieldsError>
+    requires { IsOf source.now field }
+    ensures fields { GivesFields source.now result (at_place field.at (embedded (payload_of field.kind source.now field))) }
+    ensures of_source { IfOk result (λ fields. AllByRecursion (IsOf source.now) fields) }
+{
+    match field.kind {
+        Kind::Bytes => match fields(alloc, source, field.start, field.end) {
+            Ok(inside) => Ok(inside),
+            Err(error) => Err(at_field(error, field.at)),
+        },
+        _ => Err(FieldsError::Wire(Wire { at: field.at })),
+    }
+}
+
+/// The same error, at this place.
+fn at_field(error: FieldsError, at: usize) -> FieldsError
+    ensures { result ≡ error_at at error }
+{
+    match error {
+        FieldsError::Wire(_) => FieldsError::Wire(Wire { at }),
+        FieldsError::NoMemory => FieldsError::NoMemory,
+    }
 }

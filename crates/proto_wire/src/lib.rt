@@ -6,8 +6,10 @@
 
 mod cutting;
 mod field;
+pub mod laws;
 mod list;
 mod number;
+mod reading;
 
 pub use cutting::fields;
 pub use field::{Field, FieldsError, Kind, Wire};

@@ -5,6 +5,7 @@ ghost use Rattle.std.specs.List.{AllByRecursion};
 ghost use Rattle.tink_spec.specs.Messages.{number_in, bytes_in, merged};
 ghost use Rattle.proto_wire.specs.Fields.{seen_all, IsOf, GivesFields, GivesNumber, GivesSpan};
 
+use crate::cutting::embedded;
 use crate::{Field, FieldsError, Kind, Wire};
 use std::alloc::Global;
 use std::marker::Model;
@@ -26,6 +27,13 @@ impl Model for Fields {
 }
 
 impl Fields {
+    /// The fields of a `Vec`.
+    pub(crate) fn own(items: Vec<Field>) -> Fields
+        ensures { result ≡ items.items }
+    {
+        Fields { items }
+    }
+
     /// How many fields there are.
     pub fn len(&self) -> usize
         ensures { result ≡ length self.now }
@@ -101,6 +109,19 @@ impl Fields {
         ensures merged { GivesFields source.now result (merged number (seen_all source.now self.now)) }
         ensures of_source { IfOk result (λ fields. AllByRecursion (IsOf source.now) fields) }
     {
-        Err(FieldsError::NoMemory)
+        let mut all = Fields::own(Vec::new(alloc));
+        for field in &self.items {
+            if field.number == number {
+                let more = match embedded(alloc, source, *field) {
+                    Ok(more) => more,
+                    Err(error) => return Err(error),
+                };
+                match all.append(more) {
+                    Ok(()) => {}
+                    Err(NoMemory) => return Err(FieldsError::NoMemory),
+                }
+            }
+        }
+        Ok(all)
     }
 }

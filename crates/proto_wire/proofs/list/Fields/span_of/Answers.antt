@@ -1,5 +1,5 @@
 use Rattle.std.proofs.Common.{◌∙◌}
-use Rattle.proto_wire.proofs.Reading.{bytes_end}
+use Rattle.proto_wire.proofs.ByNumber.{bytes_end}
 use Rattle.proto_wire.proofs.list.Fields.span_of.Goals as goal
 
 pub returns : goal.returns

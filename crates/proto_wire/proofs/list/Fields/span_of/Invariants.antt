@@ -3,7 +3,7 @@ use Rattle.std.specs.Prelude.{slice_range}
 use Rattle.std.specs.List.{AllByRecursion}
 use Rattle.tink_spec.specs.Messages.{bytes_in}
 use Rattle.proto_wire.specs.Fields.{seen_all, IsOf}
-use Rattle.proto_wire.proofs.Reading.{bytes_from}
+use Rattle.proto_wire.proofs.ByNumber.{bytes_from}
 use Rattle.proto_wire.proofs.list.Fields.span_of.Given as goal
 
 abbrev pub invariant-loop-field : goal.invariant-loop-field
