@@ -1,0 +1,95 @@
+-- A keyset of 90 bytes, its neighbours and its listing, by the definitions.
+use Rattle.std.proofs.Common.{◌≡◌, ◌++◌, ◌∷◌, [], List, ℕ, length, take, drop, refl}
+use Rattle.std.specs.Prelude.{Ok, Err, codes, replicate}
+use Rattle.std.specs.Fmt.{digits}
+use Rattle.std.specs.Str.{is_utf8, chars}
+use Rattle.tink_spec.proofs.Examples.{wire_on_literals, url, keyset}
+use Rattle.keyset_model.specs.declared.keyset.KeysetFault.TheVariants as faults
+use Rattle.keyset_model.specs.Keyset.{Keys}
+use Rattle.keyset_model.specs.Listing.{status_text, prefix_text, escaped, record_lines, info_of}
+use Rattle.keyset_model.specs.Reading.{record_of, key_of, reads_binary, Wire, Fault}
+use lib.Utf8.{encode}
+
+-- one name for what unfolds in an example
+unfoldable pub keysets_on_literals : Unit {0}
+unfolding wire_on_literals url keyset is_utf8 chars encode record_of key_of reads_binary
+keysets_on_literals = tt
+
+-- the keyset of those 90 bytes: an AES-GCM key of 16 zero bytes
+unfoldable pub one_key : Keys
+unfolding url
+one_key = record {
+  primary = 16909060;
+  records = record { id = 16909060; status = 1; prefix = 1; url = url; value = 0x1A ∷ 0x10 ∷ replicate 16 0; material = 1 } ∷ [];
+}
+
+pub read_whole : reads_binary keyset ≡ Ok one_key
+unfolding keysets_on_literals one_key
+read_whole = refl
+
+-- the URL in a first part of key_data, the rest in a second, in 92 bytes
+unfoldable pub two_parts : List ℕ
+unfolding url
+two_parts = 0x08 ∷ 0x84 ∷ 0x86 ∷ 0x88 ∷ 0x08 ∷ 0x12 ∷ 0x55 ∷ 0x0A ∷ 0x32 ∷ 0x0A ∷ 0x30 ∷ url
+    ++ 0x0A ∷ 0x16 ∷ 0x12 ∷ 0x12 ∷ 0x1A ∷ 0x10 ∷ replicate 16 0 ++ 0x18 ∷ 0x01 ∷ []
+    ++ 0x10 ∷ 0x01 ∷ 0x18 ∷ 0x84 ∷ 0x86 ∷ 0x88 ∷ 0x08 ∷ 0x20 ∷ 0x01 ∷ []
+
+pub read_two_parts : reads_binary two_parts ≡ Ok one_key
+unfolding keysets_on_literals two_parts one_key
+read_two_parts = refl
+
+-- without its last byte the key runs past the end, and its tag stands at 5
+pub read_cut_short : reads_binary (take 89 keyset) ≡ Err (Wire 5)
+unfolding keysets_on_literals
+read_cut_short = refl
+
+-- a field 5, which no message here knows
+pub read_unknown : reads_binary (keyset ++ 0x28 ∷ 0x07 ∷ []) ≡ Ok one_key
+unfolding keysets_on_literals one_key
+read_unknown = refl
+
+-- a field of wire type 3
+pub read_group : reads_binary (keyset ++ 0x2B ∷ []) ≡ Err (Wire 90)
+unfolding keysets_on_literals
+read_group = refl
+
+-- of two primary ids the last counts
+pub read_last_primary : reads_binary (0x08 ∷ 0x05 ∷ keyset) ≡ Ok one_key
+unfolding keysets_on_literals one_key
+read_last_primary = refl
+
+pub read_nothing : reads_binary [] ≡ Err (Fault faults.Empty)
+unfolding keysets_on_literals
+read_nothing = refl
+
+-- the primary id 5, and the key as before
+pub read_other_primary : reads_binary (0x08 ∷ 0x05 ∷ drop 5 keyset) ≡ Err (Fault faults.NoPrimary)
+unfolding keysets_on_literals
+read_other_primary = refl
+
+-- a second key, which is empty
+pub read_two_keys : reads_binary (keyset ++ 0x12 ∷ 0x00 ∷ []) ≡ Err (Fault faults.Unbuilt)
+unfolding keysets_on_literals
+read_two_keys = refl
+
+-- a type URL of the byte 0xFF, which isn't UTF-8, three messages deep
+pub read_no_text : reads_binary (0x12 ∷ 0x05 ∷ 0x0A ∷ 0x03 ∷ 0x0A ∷ 0x01 ∷ 0xFF ∷ []) ≡ Err (Wire 0)
+unfolding keysets_on_literals
+read_no_text = refl
+
+unfoldable pub its_listing : List ℕ
+unfolding url
+its_listing = codes "primary_key_id: 16909060\nkey_info {\n  type_url: \"" ++ url
+    ++ codes "\"\n  status: ENABLED\n  key_id: 16909060\n  output_prefix_type: TINK\n}\n"
+
+pub list_one_key : info_of one_key ≡ its_listing
+unfolding url one_key its_listing digits status_text prefix_text record_lines info_of
+list_one_key = refl
+
+pub listing_of_165_bytes : length its_listing ≡ 165
+unfolding url its_listing
+listing_of_165_bytes = refl
+
+-- a quote, a backslash, bytes that don't print and the two bytes of an é
+pub escape_bytes : escaped (0x61 ∷ 0x22 ∷ 0x5C ∷ 0x0A ∷ 0x1F ∷ 0x20 ∷ 0x7E ∷ 0x7F ∷ 0xC3 ∷ 0xA9 ∷ []) ≡ codes "a\\\"\\\\\\012\\037 ~\\177\\303\\251"
+escape_bytes = refl

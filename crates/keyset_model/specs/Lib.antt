@@ -1,0 +1,4 @@
+pub mod Keyset
+pub mod Listing
+pub mod Reading
+pub mod Steps

@@ -1,0 +1,15 @@
+//! Keysets: lists of records with a primary, their binary form read, and their listing.
+//!
+//! A `Keyset` is well formed as its type's invariant. Writing comes with the commands that edit.
+#![tactic(auto)]
+
+mod key;
+mod keyset;
+mod listing;
+mod reading;
+mod record;
+
+pub use keyset::{Keyset, KeysetFault};
+pub use listing::{info_text, prefix_name, status_name};
+pub use reading::{ReadError, read_binary};
+pub use record::Record;

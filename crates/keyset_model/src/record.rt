@@ -1,0 +1,20 @@
+//! One key of a keyset, as it is kept.
+
+use tink_base::{Bytes, Text};
+
+/// A record: one key with its place in the keyset (`Key` and `KeyData` of tink.proto).
+#[derive(Drop)]
+pub struct Record {
+    /// The key id.
+    pub id: u32,
+    /// The status, as tink.proto numbers it.
+    pub status: u32,
+    /// The output prefix type, as tink.proto numbers it.
+    pub prefix: u32,
+    /// The type URL, empty where the key has no key data.
+    pub url: Text,
+    /// The key message, in the form that the type URL names.
+    pub value: Bytes,
+    /// The key material type, as tink.proto numbers it.
+    pub material: u32,
+}
