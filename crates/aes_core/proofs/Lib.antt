@@ -1,0 +1,2 @@
+mod AesExamples
+pub mod Tables
