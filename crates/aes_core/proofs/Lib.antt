@@ -1,2 +1,6 @@
 mod AesExamples
 pub mod Tables
+pub mod KeyExpansion
+pub mod Rounds
+pub mod CounterLemmas
+pub mod CounterMode

@@ -15,18 +15,18 @@ pub enum CtrKind {
 }
 
 // One step of the standard incrementing function.
-fn next_counter(counter: [u8; 16], kind: CtrKind) -> [u8; 16]
-    ensures { result ≡ counter_plus kind counter 1 }
+fn next_counter(counter: &[u8; 16], kind: CtrKind) -> [u8; 16]
+    ensures { result ≡ counter_plus kind counter.now 1 }
 {
     match kind {
         CtrKind::Low32 => {
-            let [.., a, b, c, d] = counter;
+            let [.., a, b, c, d] = *counter;
             let count = u32::from_be_bytes([a, b, c, d]).wrapping_add(1);
-            let mut next = counter;
+            let mut next = *counter;
             next[12..].copy_from_slice(&count.to_be_bytes());
             next
         }
-        CtrKind::All128 => u128::from_be_bytes(counter).wrapping_add(1).to_be_bytes(),
+        CtrKind::All128 => u128::from_be_bytes(*counter).wrapping_add(1).to_be_bytes(),
     }
 }
 
@@ -45,7 +45,7 @@ impl Aes {
         for (i, byte) in body.iter_mut().enumerate() {
             if i % 16 == 0 {
                 output = self.encrypt_block(&counter);
-                counter = next_counter(counter, kind);
+                counter = next_counter(&counter, kind);
             }
             *byte ^= output[i % 16];
         }

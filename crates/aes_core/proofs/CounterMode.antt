@@ -1,0 +1,137 @@
+-- Counter mode (SP 800-38A, 6.5) byte by byte, and the laws that follow.
+use Rattle.std.proofs.Common.{◌≡◌, ℕ, zero, suc, ◌+◌, ◌-◌, ◌*◌, ◌/◌, ◌%◌, ◌<◌, ◌≤◌, List, [], ◌∷◌, ◌++◌, length, get_or, map, inl, inr, refl, sym, ap, ◌∙◌, zero-add, arith, length-append}
+use Rattle.std.proofs.lemmas.Bool.{cases_lt}
+use Rattle.std.proofs.lemmas.List.{ext_get_or, get_or_append_left, get_or-append_right}
+use Rattle.std.specs.List.{flat_map, range_with_len}
+use lib.Bits.{bit_xor, xor_assoc, xor_self, xor_zero_r}
+use Rattle.aes_core.specs.Aes.{add_round_key, cipher}
+use Rattle.aes_core.specs.Bytes.{xor_bytes}
+use Rattle.aes_core.specs.Counter.{counter_plus, ctr, output_blocks}
+use Rattle.aes_core.specs.declared.counter.CtrKind.{CtrKind}
+use Rattle.aes_core.proofs.CounterLemmas.{counters_add}
+
+pub length-xor_bytes : (a b : List ℕ) → length a ≤ length b → length (xor_bytes a b) ≡ length a
+unfolding xor_bytes
+length-xor_bytes [] b h = refl
+length-xor_bytes (x ∷ a) [] h = absurd (omega arith)
+length-xor_bytes (x ∷ a) (y ∷ b) h = ap suc (length-xor_bytes a b (omega arith))
+
+pub get_or-xor_bytes : (a b : List ℕ) (i : ℕ) → i < length a → i < length b
+    → get_or (xor_bytes a b) i 0 ≡ bit_xor (get_or a i 0) (get_or b i 0)
+unfolding xor_bytes
+get_or-xor_bytes [] b i h k = absurd (omega arith)
+get_or-xor_bytes (x ∷ a) [] i h k = absurd (omega arith)
+get_or-xor_bytes (x ∷ a) (y ∷ b) zero h k = refl
+get_or-xor_bytes (x ∷ a) (y ∷ b) (suc i) h k = get_or-xor_bytes a b i (omega arith) (omega arith)
+
+pub length-cipher : (key block : List ℕ) → length (cipher key block) ≡ 16
+unfolding cipher add_round_key
+length-cipher key block = refl
+
+-- ---- blocks of 16 bytes, joined
+
+module _ (f : ℕ → List ℕ) (whole : (j : ℕ) → length (f j) ≡ 16) where
+  length-blocks : (a n : ℕ) → length (flat_map f (range_with_len a n)) ≡ 16 * n
+  length-blocks a zero = refl
+  length-blocks a (suc n) =
+      length-append (f a) (flat_map f (range_with_len (a + 1) n)) ∙ omega (arith, whole a, length-blocks (a + 1) n)
+
+  get_or-blocks : (a n i j r : ℕ) → i < 16 * n → a + i / 16 ≡ j → i % 16 ≡ r
+      → get_or (flat_map f (range_with_len a n)) i 0 ≡ get_or (f j) r 0
+  get_or-blocks a zero i j r h block place = absurd (omega arith)
+  get_or-blocks a (suc n) i j r h block place = elim (cases_lt i 16) [
+    | inl lt ↦
+        let first : a ≡ j = omega arith in
+        let same : i ≡ r = omega arith in
+        get_or_append_left (f a) (flat_map f (range_with_len (a + 1) n)) 0 i (omega (arith, whole a))
+        ∙ ap (λ (k : ℕ). get_or (f k) i 0) first ∙ ap (λ (k : ℕ). get_or (f j) k 0) same
+    | inr le ↦
+        get_or-append_right (f a) (flat_map f (range_with_len (a + 1) n)) 16 i 0 (whole a) le
+        ∙ get_or-blocks (a + 1) n (i - 16) j r (omega arith) (omega arith) (omega arith)
+  ]
+
+-- byte i of the output blocks
+output_byte : List ℕ → List ℕ → CtrKind → ℕ → ℕ
+output_byte key start kind i = get_or (cipher key (counter_plus kind start (i / 16))) (i % 16) 0
+
+length-output_blocks : (key start : List ℕ) (kind : CtrKind) (n : ℕ) → length (output_blocks key start kind n) ≡ 16 * n
+unfolding output_blocks
+length-output_blocks key start kind n =
+    length-blocks (λ j. cipher key (counter_plus kind start j)) (λ j. length-cipher key (counter_plus kind start j)) 0 n
+
+get_or-output_blocks : (key start : List ℕ) (kind : CtrKind) (n i : ℕ) → i < 16 * n
+    → get_or (output_blocks key start kind n) i 0 ≡ get_or (cipher key (counter_plus kind start (i / 16))) (i % 16) 0
+unfolding output_blocks
+get_or-output_blocks key start kind n i h =
+    get_or-blocks (λ j. cipher key (counter_plus kind start j)) (λ j. length-cipher key (counter_plus kind start j))
+      0 n i (i / 16) (i % 16) h (zero-add (i / 16)) refl
+
+-- ---- the laws
+
+pub length-ctr : (key start : List ℕ) (kind : CtrKind) (text : List ℕ) → length (ctr key start kind text) ≡ length text
+unfolding ctr
+length-ctr key start kind text =
+    length-xor_bytes text (output_blocks key start kind ((length text + 15) / 16))
+      (omega (arith, length-output_blocks key start kind ((length text + 15) / 16)))
+
+pub get_or-ctr : (key start : List ℕ) (kind : CtrKind) (text : List ℕ) (i : ℕ) → i < length text
+    → get_or (ctr key start kind text) i 0
+        ≡ bit_xor (get_or text i 0) (get_or (cipher key (counter_plus kind start (i / 16))) (i % 16) 0)
+unfolding ctr
+get_or-ctr key start kind text i h =
+    let n : ℕ = (length text + 15) / 16 in
+    let l : length (output_blocks key start kind n) ≡ 16 * n = length-output_blocks key start kind n in
+    get_or-xor_bytes text (output_blocks key start kind n) i h (omega arith)
+    ∙ ap (bit_xor (get_or text i 0)) (get_or-output_blocks key start kind n i (omega arith))
+
+-- a list is the ciphertext where each of its bytes is
+pub ctr_from_bytes : (key start : List ℕ) (kind : CtrKind) (text out : List ℕ) → length out ≡ length text
+    → ((i : ℕ) → i < length text → get_or out i 0
+        ≡ bit_xor (get_or text i 0) (get_or (cipher key (counter_plus kind start (i / 16))) (i % 16) 0))
+    → out ≡ ctr key start kind text
+ctr_from_bytes key start kind text out l each =
+    ext_get_or 0 out (ctr key start kind text) (l ∙ sym (length-ctr key start kind text))
+      (λ i h. each i (omega arith) ∙ sym (get_or-ctr key start kind text i (omega arith)))
+
+xor_twice : (a b : ℕ) → bit_xor (bit_xor a b) b ≡ a
+xor_twice a b = xor_assoc a b b ∙ ap (bit_xor a) (xor_self b) ∙ xor_zero_r a
+
+pub ctr-ctr : (key start : List ℕ) (kind : CtrKind) (text : List ℕ)
+    → ctr key start kind (ctr key start kind text) ≡ text
+ctr-ctr key start kind text =
+    let once : List ℕ = ctr key start kind text in
+    let l : length (ctr key start kind text) ≡ length text = length-ctr key start kind text in
+    sym (ctr_from_bytes key start kind once text (sym l)
+      (λ i h. sym (xor_twice (get_or text i 0) (get_or (cipher key (counter_plus kind start (i / 16))) (i % 16) 0))
+        ∙ ap (λ (b : ℕ). bit_xor b (get_or (cipher key (counter_plus kind start (i / 16))) (i % 16) 0))
+          (sym (get_or-ctr key start kind text i (omega arith)))))
+
+pub ctr-append : (key start : List ℕ) (kind : CtrKind) (first rest : List ℕ) (m : ℕ)
+    → length start ≡ 16 → length first ≡ 16 * m
+    → ctr key start kind (first ++ rest)
+        ≡ ctr key start kind first ++ ctr key (counter_plus kind start m) kind rest
+ctr-append key start kind first rest m block whole =
+    let front : List ℕ = ctr key start kind first in
+    let back : List ℕ = ctr key (counter_plus kind start m) kind rest in
+    let lf : length (ctr key start kind first) ≡ length first = length-ctr key start kind first in
+    let lb : length (ctr key (counter_plus kind start m) kind rest) ≡ length rest = length-ctr key (counter_plus kind start m) kind rest in
+    let both : length (front ++ back) ≡ length front + length back = length-append front back in
+    let all : length (first ++ rest) ≡ length first + length rest = length-append first rest in
+    sym (ctr_from_bytes key start kind (first ++ rest) (front ++ back) (omega arith)
+      (λ i h. elim (cases_lt i (length first)) [
+        | inl lt ↦
+            get_or_append_left front back 0 i (omega arith) ∙ get_or-ctr key start kind first i lt
+            ∙ ap (λ (b : ℕ). bit_xor b (get_or (cipher key (counter_plus kind start (i / 16))) (i % 16) 0))
+              (sym (get_or_append_left first rest 0 i lt))
+        | inr le ↦
+            let j : ℕ = i - length first in
+            let far : m + j / 16 ≡ i / 16 = omega arith in
+            let place : j % 16 ≡ i % 16 = omega arith in
+            get_or-append_right front back (length first) i 0 lf le
+            ∙ get_or-ctr key (counter_plus kind start m) kind rest j (omega arith)
+            ∙ ap (λ (b : ℕ). bit_xor b (get_or (cipher key (counter_plus kind (counter_plus kind start m) (j / 16))) (j % 16) 0))
+              (sym (get_or-append_right first rest (length first) i 0 refl le))
+            ∙ ap (λ (t : List ℕ). bit_xor (get_or (first ++ rest) i 0) (get_or (cipher key t) (j % 16) 0))
+              (counters_add kind start m (j / 16) block ∙ ap (counter_plus kind start) far)
+            ∙ ap (λ (k : ℕ). bit_xor (get_or (first ++ rest) i 0) (get_or (cipher key (counter_plus kind start (i / 16))) k 0)) place
+      ]))
