@@ -1,7 +1,7 @@
 -- Counter mode (SP 800-38A, 6.5) byte by byte, and the laws that follow.
-use Rattle.std.proofs.Common.{◌≡◌, ℕ, zero, suc, ◌+◌, ◌-◌, ◌*◌, ◌/◌, ◌%◌, ◌<◌, ◌≤◌, List, [], ◌∷◌, ◌++◌, length, get_or, map, inl, inr, refl, sym, ap, ◌∙◌, zero-add, arith, length-append}
+use Rattle.std.proofs.Common.{◌≡◌, ℕ, zero, suc, ◌+◌, ◌-◌, ◌*◌, ◌/◌, ◌%◌, ◌<◌, ◌≤◌, List, [], ◌∷◌, ◌++◌, length, get_or, set, map, inl, inr, refl, sym, ap, ◌∙◌, zero-add, arith, length-append, below_more}
 use Rattle.std.proofs.lemmas.Bool.{cases_lt}
-use Rattle.std.proofs.lemmas.List.{ext_get_or, get_or_append_left, get_or-append_right}
+use Rattle.std.proofs.lemmas.List.{ext_get_or, get_or_append_left, get_or-append_right, get_or-set_other, get_or-set_same}
 use Rattle.std.specs.List.{flat_map, range_with_len}
 use lib.Bits.{bit_xor, xor_assoc, xor_self, xor_zero_r}
 use Rattle.aes_core.specs.Aes.{add_round_key, cipher}
@@ -135,3 +135,19 @@ ctr-append key start kind first rest m block whole =
               (counters_add kind start m (j / 16) block ∙ ap (counter_plus kind start) far)
             ∙ ap (λ (k : ℕ). bit_xor (get_or (first ++ rest) i 0) (get_or (cipher key (counter_plus kind start (i / 16))) k 0)) place
       ]))
+
+-- ---- the code's loop
+
+-- one byte more
+pub byte_more : (f : ℕ → ℕ) (old body : List ℕ) (i b : ℕ) → i < length body → b ≡ bit_xor (get_or old i 0) (f i)
+    → ((k : ℕ) → k < i → get_or body k 0 ≡ bit_xor (get_or old k 0) (f k))
+    → (k : ℕ) → k < i + 1 → get_or (set body i b) k 0 ≡ bit_xor (get_or old k 0) (f k)
+byte_more f old body i b l e done =
+    below_more (λ k. get_or (set body i b) k 0 ≡ bit_xor (get_or old k 0) (f k)) i
+      (λ k h. get_or-set_other body i k b 0 (λ same. absurd (omega arith)) ∙ done k h)
+      (get_or-set_same body i b 0 l ∙ e)
+
+-- the bytes behind it stay
+pub bytes_left : (old body : List ℕ) (i b : ℕ) → ((k : ℕ) → i ≤ k → get_or body k 0 ≡ get_or old k 0)
+    → (k : ℕ) → i + 1 ≤ k → get_or (set body i b) k 0 ≡ get_or old k 0
+bytes_left old body i b left k h = get_or-set_other body i k b 0 (λ same. absurd (omega arith)) ∙ left k (omega arith)

@@ -4,3 +4,4 @@ pub mod KeyExpansion
 pub mod Rounds
 pub mod CounterLemmas
 pub mod CounterMode
+pub mod Bounds
