@@ -16,15 +16,15 @@ use Rattle.aes_core.proofs.KeyExpansion.{length-expanded_words}
 xtimes-lt : (b : ℕ) → xtimes b < 256
 xtimes-lt b =
     cond_both (bit_at b 7 == 0) (2 * b % 256) (bit_xor (2 * b % 256) 0x1B) (λ x. x < 256)
-      (λ e. omega arith) (λ e. xor_of_8 (2 * b % 256) 0x1B (omega arith) (lit< tt))
+    (λ e. omega arith) (λ e. xor_of_8 (2 * b % 256) 0x1B (omega arith) (lit< tt))
 
 sum_of_terms-lt : (a b n : ℕ) → b < 256 → sum_of_terms a b n < 256
 unfolding sum_of_terms
 sum_of_terms-lt a b zero h = lit< tt
 sum_of_terms-lt a b (suc n) h =
     xor_of_8 (cond (a % 2 == 1) b 0) (sum_of_terms (a / 2) (xtimes b) n)
-      (cond_both (a % 2 == 1) b 0 (λ x. x < 256) (λ e. h) (λ e. lit< tt))
-      (sum_of_terms-lt (a / 2) (xtimes b) n (xtimes-lt b))
+    (cond_both (a % 2 == 1) b 0 (λ x. x < 256) (λ e. h) (λ e. lit< tt))
+    (sum_of_terms-lt (a / 2) (xtimes b) n (xtimes-lt b))
 
 power-lt : (b n k : ℕ) → power_by_bits b n k < 256
 unfolding power_by_bits
@@ -61,19 +61,19 @@ sub_word-lt a r = map-lt (λ k. sbox (get_or a k 0)) 4 (λ k. sbox-lt (get_or a 
 mixed_word-lt : (nk i : ℕ) (a : List ℕ) → ((r : ℕ) → get_or a r 0 < 256) → (r : ℕ) → get_or (mixed_word nk i a) r 0 < 256
 mixed_word-lt nk i a h r =
     cond_both (i % nk == 0) (xor_word (sub_word (rot_word a)) (round_constant (i / nk))) (cond (nat_lt 6 nk && i % nk == 4) (sub_word a) a)
-      (λ w. get_or w r 0 < 256)
-      (λ e. xor_word-lt (sub_word (rot_word a)) (round_constant (i / nk)) (sub_word-lt (rot_word a)) (round_constant-lt (i / nk)) r)
-      (λ e. cond_both (nat_lt 6 nk && i % nk == 4) (sub_word a) a (λ w. get_or w r 0 < 256) (λ e2. sub_word-lt a r) (λ e2. h r))
+    (λ w. get_or w r 0 < 256)
+    (λ e. xor_word-lt (sub_word (rot_word a)) (round_constant (i / nk)) (sub_word-lt (rot_word a)) (round_constant-lt (i / nk)) r)
+    (λ e. cond_both (nat_lt 6 nk && i % nk == 4) (sub_word a) a (λ w. get_or w r 0 < 256) (λ e2. sub_word-lt a r) (λ e2. h r))
 
 next_word-lt : (key : List ℕ) (words : List (List ℕ)) (i : ℕ) → ((r : ℕ) → get_or key r 0 < 256)
     → ((j r : ℕ) → get_or (word words j) r 0 < 256) → (r : ℕ) → get_or (next_word key words i) r 0 < 256
 next_word-lt key words i hk hw r =
     cond_both (nat_lt i (word_count key)) (key_word key i)
-      (xor_word (word words (i - word_count key)) (mixed_word (word_count key) i (word words (i - 1))))
-      (λ w. get_or w r 0 < 256)
-      (λ e. map-lt (λ k. get_or key (4 * i + k) 0) 4 (λ k. hk (4 * i + k)) r)
-      (λ e. xor_word-lt (word words (i - word_count key)) (mixed_word (word_count key) i (word words (i - 1)))
-        (hw (i - word_count key)) (mixed_word-lt (word_count key) i (word words (i - 1)) (hw (i - 1))) r)
+    (xor_word (word words (i - word_count key)) (mixed_word (word_count key) i (word words (i - 1))))
+    (λ w. get_or w r 0 < 256)
+    (λ e. map-lt (λ k. get_or key (4 * i + k) 0) 4 (λ k. hk (4 * i + k)) r)
+    (λ e. xor_word-lt (word words (i - word_count key)) (mixed_word (word_count key) i (word words (i - 1)))
+    (hw (i - word_count key)) (mixed_word-lt (word_count key) i (word words (i - 1)) (hw (i - 1))) r)
 
 expanded_words-lt : (key : List ℕ) → ((r : ℕ) → get_or key r 0 < 256) → (n i r : ℕ) → get_or (word (expanded_words key n) i) r 0 < 256
 unfolding expanded_words
@@ -107,15 +107,15 @@ add_round_key-lt : (s : List ℕ) (w : List (List ℕ)) (round : ℕ) → ((i : 
 unfolding add_round_key
 add_round_key-lt s w round hs hw i =
     map-lt (λ k. bit_xor (get_or s (k % 4 + 4 * (k / 4)) 0) (get_or (word w (4 * round + k / 4)) (k % 4) 0)) 16
-      (λ k. xor_of_8 (get_or s (k % 4 + 4 * (k / 4)) 0) (get_or (word w (4 * round + k / 4)) (k % 4) 0)
-        (hs (k % 4 + 4 * (k / 4))) (hw (4 * round + k / 4) (k % 4))) i
+    (λ k. xor_of_8 (get_or s (k % 4 + 4 * (k / 4)) 0) (get_or (word w (4 * round + k / 4)) (k % 4) 0)
+    (hs (k % 4 + 4 * (k / 4))) (hw (4 * round + k / 4) (k % 4))) i
 
 cipher-lt : (key block : List ℕ) → ((r : ℕ) → get_or key r 0 < 256) → (i : ℕ) → get_or (cipher key block) i 0 < 256
 unfolding cipher
 cipher-lt key block small i =
     let s : List ℕ = sub_bytes (rounds (key_expansion key) block (round_count key - 1)) in
     add_round_key-lt (shift_rows s) (key_expansion key) (round_count key) (shift_rows-lt s (sub_bytes-lt _))
-      (expanded_words-lt key small (4 * (round_count key + 1))) i
+    (expanded_words-lt key small (4 * (round_count key + 1))) i
 
 -- a byte of a list of bytes, and 0 past its end
 byte-lt : (xs : List ℕ) → IsBytes xs → (i : ℕ) → get_or xs i 0 < 256

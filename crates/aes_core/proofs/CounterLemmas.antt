@@ -18,7 +18,7 @@ sum-bytes : (x k : ℕ) → sum_through (λ i. byte_worth i (byte_at i x)) k ≡
 sum-bytes x zero = refl
 sum-bytes x (suc k) =
     let split : x % (256 * 256 ^ suc k) ≡ (x / 256 ^ suc k % 256) * 256 ^ suc k + x % 256 ^ suc k =
-        mod-mul x {m = 256} {c = 256 ^ suc k} (lit< tt) (nat.one-le-pow (suc k) 256 (lit< tt)) in
+    mod-mul x {m = 256} {c = 256 ^ suc k} (lit< tt) (nat.one-le-pow (suc k) 256 (lit< tt)) in
     ap (λ (y : ℕ). y + x / 256 ^ suc k % 256 * 256 ^ suc k) (sum-bytes x k)
     ∙ nat.add_comm (x % 256 ^ suc k) (x / 256 ^ suc k % 256 * 256 ^ suc k)
     ∙ sym split ∙ ap (λ (m : ℕ). x % m) (sym (nat.pow-succ' 256 (suc k)))
@@ -40,9 +40,9 @@ unfolding counter_plus
 again_low t v n l fits =
     let twelve : length (take 12 t) ≡ 12 = length-take-le 12 t (omega arith) in
     ap (λ (front : List ℕ). front ++ to_be_bytes w32 ((from_be_bytes w32 (drop 12 (take 12 t ++ to_be_bytes w32 v)) + n) % 2 ^ 32))
-      (take_at (take 12 t) (to_be_bytes w32 v) 12 twelve)
+    (take_at (take 12 t) (to_be_bytes w32 v) 12 twelve)
     ∙ ap (λ (low : List ℕ). take 12 t ++ to_be_bytes w32 ((from_be_bytes w32 low + n) % 2 ^ 32))
-      (drop_at (take 12 t) (to_be_bytes w32 v) 12 twelve)
+    (drop_at (take 12 t) (to_be_bytes w32 v) 12 twelve)
     ∙ ap (λ (x : ℕ). take 12 t ++ to_be_bytes w32 ((x + n) % 2 ^ 32)) (from_be_bytes-to_be_bytes_4 v fits)
 
 again_all : (v n : ℕ) → v < 2 ^ 128
@@ -91,7 +91,7 @@ pub next_low : (t : List ℕ) (count : ℕ) (bytes part : List ℕ) → length t
 unfolding counter_plus
 next_low t count bytes part l is written same =
     let e : part ≡ to_be_bytes w32 ((from_be_bytes w32 (drop 12 t) + 1) % 2 ^ 32) =
-        same ∙ written ∙ ap (λ (x : ℕ). to_be_bytes w32 ((x + 1) % 2 ^ 32)) (is ∙ read_last t) in
+    same ∙ written ∙ ap (λ (x : ℕ). to_be_bytes w32 ((x + 1) % 2 ^ 32)) (is ∙ read_last t) in
     written_last t part l (ap length e) ∙ ap (λ (low : List ℕ). take 12 t ++ low) e
 
 -- a counter is a block of bytes
@@ -173,8 +173,8 @@ unfolding counter_plus
 counter_plus-zero Low32 t l small =
     let last : (i : ℕ) → get_or (drop 12 t) i 0 < 256 = last_small t small in
     ap (λ (low : List ℕ). take 12 t ++ low)
-      (be_bytes_4 (drop 12 t) ((from_be_bytes w32 (drop 12 t) + 0) % 2 ^ 32) (length-drop 12 t ∙ omega arith) last
-        (same_mod (from_be_bytes w32 (drop 12 t)) (2 ^ 32) (value_below_32 (drop 12 t) last)))
+    (be_bytes_4 (drop 12 t) ((from_be_bytes w32 (drop 12 t) + 0) % 2 ^ 32) (length-drop 12 t ∙ omega arith) last
+    (same_mod (from_be_bytes w32 (drop 12 t)) (2 ^ 32) (value_below_32 (drop 12 t) last)))
     ∙ take-append-drop 12 t
 counter_plus-zero All128 t l small =
     ap (to_be_bytes w128) (same_mod (from_be_bytes w128 t) (2 ^ 128) (value_below_128 t small))

@@ -64,7 +64,7 @@ get_or-output_blocks : (key start : List ℕ) (kind : CtrKind) (n i : ℕ) → i
 unfolding output_blocks
 get_or-output_blocks key start kind n i h =
     get_or-blocks (λ j. cipher key (counter_plus kind start j)) (λ j. length-cipher key (counter_plus kind start j))
-      0 n i (i / 16) (i % 16) h (zero-add (i / 16)) refl
+    0 n i (i / 16) (i % 16) h (zero-add (i / 16)) refl
 
 -- ---- the laws
 
@@ -72,11 +72,11 @@ pub length-ctr : (key start : List ℕ) (kind : CtrKind) (text : List ℕ) → l
 unfolding ctr
 length-ctr key start kind text =
     length-xor_bytes text (output_blocks key start kind ((length text + 15) / 16))
-      (omega (arith, length-output_blocks key start kind ((length text + 15) / 16)))
+    (omega (arith, length-output_blocks key start kind ((length text + 15) / 16)))
 
 pub get_or-ctr : (key start : List ℕ) (kind : CtrKind) (text : List ℕ) (i : ℕ) → i < length text
     → get_or (ctr key start kind text) i 0
-        ≡ bit_xor (get_or text i 0) (get_or (cipher key (counter_plus kind start (i / 16))) (i % 16) 0)
+    ≡ bit_xor (get_or text i 0) (get_or (cipher key (counter_plus kind start (i / 16))) (i % 16) 0)
 unfolding ctr
 get_or-ctr key start kind text i h =
     let n : ℕ = (length text + 15) / 16 in
@@ -87,11 +87,11 @@ get_or-ctr key start kind text i h =
 -- a list is the ciphertext where each of its bytes is
 pub ctr_from_bytes : (key start : List ℕ) (kind : CtrKind) (text out : List ℕ) → length out ≡ length text
     → ((i : ℕ) → i < length text → get_or out i 0
-        ≡ bit_xor (get_or text i 0) (get_or (cipher key (counter_plus kind start (i / 16))) (i % 16) 0))
+    ≡ bit_xor (get_or text i 0) (get_or (cipher key (counter_plus kind start (i / 16))) (i % 16) 0))
     → out ≡ ctr key start kind text
 ctr_from_bytes key start kind text out l each =
     ext_get_or 0 out (ctr key start kind text) (l ∙ sym (length-ctr key start kind text))
-      (λ i h. each i (omega arith) ∙ sym (get_or-ctr key start kind text i (omega arith)))
+    (λ i h. each i (omega arith) ∙ sym (get_or-ctr key start kind text i (omega arith)))
 
 xor_twice : (a b : ℕ) → bit_xor (bit_xor a b) b ≡ a
 xor_twice a b = xor_assoc a b b ∙ ap (bit_xor a) (xor_self b) ∙ xor_zero_r a
@@ -102,14 +102,14 @@ ctr-ctr key start kind text =
     let once : List ℕ = ctr key start kind text in
     let l : length (ctr key start kind text) ≡ length text = length-ctr key start kind text in
     sym (ctr_from_bytes key start kind once text (sym l)
-      (λ i h. sym (xor_twice (get_or text i 0) (get_or (cipher key (counter_plus kind start (i / 16))) (i % 16) 0))
-        ∙ ap (λ (b : ℕ). bit_xor b (get_or (cipher key (counter_plus kind start (i / 16))) (i % 16) 0))
-          (sym (get_or-ctr key start kind text i (omega arith)))))
+    (λ i h. sym (xor_twice (get_or text i 0) (get_or (cipher key (counter_plus kind start (i / 16))) (i % 16) 0))
+    ∙ ap (λ (b : ℕ). bit_xor b (get_or (cipher key (counter_plus kind start (i / 16))) (i % 16) 0))
+    (sym (get_or-ctr key start kind text i (omega arith)))))
 
 pub ctr-append : (key start : List ℕ) (kind : CtrKind) (first rest : List ℕ) (m : ℕ)
     → length start ≡ 16 → length first ≡ 16 * m
     → ctr key start kind (first ++ rest)
-        ≡ ctr key start kind first ++ ctr key (counter_plus kind start m) kind rest
+    ≡ ctr key start kind first ++ ctr key (counter_plus kind start m) kind rest
 ctr-append key start kind first rest m block whole =
     let front : List ℕ = ctr key start kind first in
     let back : List ℕ = ctr key (counter_plus kind start m) kind rest in
@@ -118,23 +118,23 @@ ctr-append key start kind first rest m block whole =
     let both : length (front ++ back) ≡ length front + length back = length-append front back in
     let all : length (first ++ rest) ≡ length first + length rest = length-append first rest in
     sym (ctr_from_bytes key start kind (first ++ rest) (front ++ back) (omega arith)
-      (λ i h. elim (cases_lt i (length first)) [
-        | inl lt ↦
-            get_or_append_left front back 0 i (omega arith) ∙ get_or-ctr key start kind first i lt
-            ∙ ap (λ (b : ℕ). bit_xor b (get_or (cipher key (counter_plus kind start (i / 16))) (i % 16) 0))
-              (sym (get_or_append_left first rest 0 i lt))
-        | inr le ↦
-            let j : ℕ = i - length first in
-            let far : m + j / 16 ≡ i / 16 = omega arith in
-            let place : j % 16 ≡ i % 16 = omega arith in
-            get_or-append_right front back (length first) i 0 lf le
-            ∙ get_or-ctr key (counter_plus kind start m) kind rest j (omega arith)
-            ∙ ap (λ (b : ℕ). bit_xor b (get_or (cipher key (counter_plus kind (counter_plus kind start m) (j / 16))) (j % 16) 0))
-              (sym (get_or-append_right first rest (length first) i 0 refl le))
-            ∙ ap (λ (t : List ℕ). bit_xor (get_or (first ++ rest) i 0) (get_or (cipher key t) (j % 16) 0))
-              (counters_add kind start m (j / 16) block ∙ ap (counter_plus kind start) far)
-            ∙ ap (λ (k : ℕ). bit_xor (get_or (first ++ rest) i 0) (get_or (cipher key (counter_plus kind start (i / 16))) k 0)) place
-      ]))
+    (λ i h. elim (cases_lt i (length first)) [
+      | inl lt ↦
+          get_or_append_left front back 0 i (omega arith) ∙ get_or-ctr key start kind first i lt
+          ∙ ap (λ (b : ℕ). bit_xor b (get_or (cipher key (counter_plus kind start (i / 16))) (i % 16) 0))
+          (sym (get_or_append_left first rest 0 i lt))
+      | inr le ↦
+          let j : ℕ = i - length first in
+          let far : m + j / 16 ≡ i / 16 = omega arith in
+          let place : j % 16 ≡ i % 16 = omega arith in
+          get_or-append_right front back (length first) i 0 lf le
+          ∙ get_or-ctr key (counter_plus kind start m) kind rest j (omega arith)
+          ∙ ap (λ (b : ℕ). bit_xor b (get_or (cipher key (counter_plus kind (counter_plus kind start m) (j / 16))) (j % 16) 0))
+          (sym (get_or-append_right first rest (length first) i 0 refl le))
+          ∙ ap (λ (t : List ℕ). bit_xor (get_or (first ++ rest) i 0) (get_or (cipher key t) (j % 16) 0))
+          (counters_add kind start m (j / 16) block ∙ ap (counter_plus kind start) far)
+          ∙ ap (λ (k : ℕ). bit_xor (get_or (first ++ rest) i 0) (get_or (cipher key (counter_plus kind start (i / 16))) k 0)) place
+    ]))
 
 -- ---- the code's loop
 
@@ -144,8 +144,8 @@ pub byte_more : (f : ℕ → ℕ) (old body : List ℕ) (i b : ℕ) → i < leng
     → (k : ℕ) → k < i + 1 → get_or (set body i b) k 0 ≡ bit_xor (get_or old k 0) (f k)
 byte_more f old body i b l e done =
     below_more (λ k. get_or (set body i b) k 0 ≡ bit_xor (get_or old k 0) (f k)) i
-      (λ k h. get_or-set_other body i k b 0 (λ same. absurd (omega arith)) ∙ done k h)
-      (get_or-set_same body i b 0 l ∙ e)
+    (λ k h. get_or-set_other body i k b 0 (λ same. absurd (omega arith)) ∙ done k h)
+    (get_or-set_same body i b 0 l ∙ e)
 
 -- the bytes behind it stay
 pub bytes_left : (old body : List ℕ) (i b : ℕ) → ((k : ℕ) → i ≤ k → get_or body k 0 ≡ get_or old k 0)

@@ -41,7 +41,7 @@ next_word-take key words i h = elim (cases_lt i (word_count key)) [
   | inr le ↦
       let before : word (take i words) (i - 1) ≡ word words (i - 1) = get_or-take i words (i - 1) [] (omega arith) in
       let first : word (take i words) (i - word_count key) ≡ word words (i - word_count key) =
-          get_or-take i words (i - word_count key) [] (omega arith) in
+      get_or-take i words (i - word_count key) [] (omega arith) in
       rw (before, first) refl
 ]
 
@@ -91,9 +91,9 @@ key_of_is key words whole e =
     let nk : ℕ = word_count key in
     let back : word_count key + 6 - 6 ≡ word_count key = omega arith in
     let front : take (word_count key) words ≡ expanded_words key (word_count key) =
-        sym (take-take (word_count key) (4 * (round_count key + 1)) words (omega arith))
-        ∙ ap (take (word_count key)) e
-        ∙ take-expanded_words key (4 * (round_count key + 1)) (word_count key) (omega arith) in
+    sym (take-take (word_count key) (4 * (round_count key + 1)) words (omega arith))
+    ∙ ap (take (word_count key)) e
+    ∙ take-expanded_words key (4 * (round_count key + 1)) (word_count key) (omega arith) in
     rw (back, front) (concat-expanded_words key (word_count key) (omega arith) ∙ take_all (4 * word_count key) key (omega arith))
 
 -- the words and rounds that a new key makes stand for it
@@ -116,5 +116,5 @@ pub round_count-key_of : (nr : ℕ) (words : List (List ℕ)) → 4 * (nr + 1) �
 round_count-key_of nr words h is =
     let l : length (take (4 * (nr + 1)) words) ≡ 4 * (nr + 1) = length-take-le (4 * (nr + 1)) words h in
     let k : length (take (4 * (nr + 1)) words) ≡ 4 * (round_count (key_of nr words) + 1) =
-        ap length is.1 ∙ length-expanded_words (key_of nr words) (4 * (round_count (key_of nr words) + 1)) in
+    ap length is.1 ∙ length-expanded_words (key_of nr words) (4 * (round_count (key_of nr words) + 1)) in
     omega (arith, l, k)

@@ -1,4 +1,5 @@
 mod AesExamples
+mod CounterExamples
 pub mod Tables
 pub mod KeyExpansion
 pub mod Rounds

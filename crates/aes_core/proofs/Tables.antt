@@ -1,10 +1,11 @@
 -- The tables of the code, and its short forms of the field's products, against the definitions: each
 -- by computation over all bytes.
-use Rattle.std.proofs.Common.{◌≡◌, ℕ, ◌*◌, ◌/◌, ◌%◌, ◌<◌, List, map, refl, sym, ap, ◌∙◌, zero-add, slice_index, ◌-◌, ◌≤◌, arith}
+use Rattle.std.proofs.Common.{◌≡◌, ℕ, ◌+◌, ◌*◌, ◌/◌, ◌%◌, ◌<◌, List, map, replicate, refl, sym, ap, ◌∙◌, zero-add, slice_index, ◌-◌, ◌≤◌, arith}
 use Rattle.std.proofs.lemmas.List.FromFn.{get_or-map-range_with_len}
+use Rattle.std.proofs.lemmas.List.{get_or-replicate}
 use Rattle.std.specs.List.{range_with_len}
 use lib.Bits.{bit_xor}
-use Rattle.aes_core.specs.Aes.{aes_on_literals, power, product, sbox}
+use Rattle.aes_core.specs.Aes.{aes_on_literals, inverse, power, product, sbox}
 use Rattle.aes_core.specs.declared.cipher.TheConstants.{SBOX}
 use Rattle.aes_core.specs.declared.key_schedule.TheConstants.{POWERS}
 
@@ -47,3 +48,15 @@ triples = refl
 
 pub triple_is : (b : ℕ) → b < 256 → bit_xor (product 2 b) b ≡ product 3 b
 triple_is b h = same_at_bytes (λ x. bit_xor (product 2 x) x) (product 3) triples b h
+
+products-inverse : map (λ b. product b (inverse b)) (range_with_len 1 255) ≡ replicate 255 1
+unfolding aes_on_literals
+products-inverse = refl
+
+-- a byte but 0 times its inverse
+pub product-inverse : (b : ℕ) → 0 < b → b < 256 → product b (inverse b) ≡ 1
+product-inverse b some h =
+    let at : 1 + (b - 1) ≡ b = omega arith in
+    sym (get_or-map-range_with_len (λ x. product x (inverse x)) 1 255 (b - 1) b 0 (omega arith) at)
+    ∙ ap (λ (t : List ℕ). slice_index t (b - 1)) products-inverse
+    ∙ get_or-replicate 255 (b - 1) 1 0 (omega arith)

@@ -9,9 +9,10 @@
 --   key_expansion               KEYEXPANSION
 --   cipher_with                 CIPHER
 --   cipher                      AES-128 and AES-256, by the length of the key
-use Rattle.std.specs.Prelude.{ℕ, zero, suc, ◌+◌, ◌-◌, ◌*◌, ◌/◌, ◌%◌, ◌^◌, ◌<◌, ◌==◌, nat_lt, ◌&&◌, if◌then◌else◌, List, [], ◌∷◌, ◌++◌, map, length, take, drop, bit_xor, slice_index, slice_index_or}
+use Rattle.std.specs.Prelude.{◌≡◌, ℕ, zero, suc, ◌+◌, ◌-◌, ◌*◌, ◌/◌, ◌%◌, ◌^◌, ◌<◌, ◌==◌, nat_lt, ◌&&◌, if◌then◌else◌, List, [], ◌∷◌, ◌++◌, map, length, take, drop, bit_xor, slice_index, slice_index_or}
 use Rattle.std.specs.Int.{bit_at}
 use Rattle.std.specs.List.{range_with_len, sum_by}
+use Rattle.aes_core.specs.Bytes.{IsBytes}
 
 -- ---- bytes as elements of the field of 256 elements (4)
 
@@ -157,3 +158,14 @@ cipher key block = cipher_with (round_count key) (key_expansion key) block
 unfoldable pub aes_on_literals : Unit {0}
 unfolding sum_of_terms power_by_bits inverse sbox sub_bytes shift_rows mix_columns add_round_key expanded_words rounds cipher
 aes_on_literals = tt
+
+-- ---- laws
+
+-- the inverse is one: each byte but 0 times its inverse is 1 (4.4)
+abbrev pub InversesMultiplyToOne : Type 0
+InversesMultiplyToOne = (b : ℕ) → 0 < b → b < 256 → product b (inverse b) ≡ 1
+
+-- a block of 16 bytes, whatever the block was, under a key of bytes
+abbrev pub CipherHasABlock : Type 0
+CipherHasABlock = (key block : List ℕ) → IsBytes key
+    → (length (cipher key block) ≡ 16) × IsBytes (cipher key block)

@@ -37,7 +37,7 @@ ctr key start kind text = xor_bytes text (output_blocks key start kind ((length 
 abbrev pub CounterModeByBytes : Type 0
 CounterModeByBytes = (key start : List ℕ) (kind : CtrKind) (text : List ℕ) (i : ℕ) → i < length text
     → slice_index (ctr key start kind text) i
-        ≡ bit_xor (slice_index text i) (slice_index (cipher key (counter_plus kind start (i / 16))) (i % 16))
+    ≡ bit_xor (slice_index text i) (slice_index (cipher key (counter_plus kind start (i / 16))) (i % 16))
 
 -- the data keep their length
 abbrev pub CounterModeKeepsLength : Type 0
@@ -54,14 +54,9 @@ abbrev pub CounterModeGoesOn : Type 0
 CounterModeGoesOn = (key start : List ℕ) (kind : CtrKind) (first rest : List ℕ) (m : ℕ)
     → length start ≡ 16 → length first ≡ 16 * m
     → ctr key start kind (first ++ rest)
-        ≡ ctr key start kind first ++ ctr key (counter_plus kind start m) kind rest
+    ≡ ctr key start kind first ++ ctr key (counter_plus kind start m) kind rest
 
 -- a counter moved on twice is moved on by the sum
 abbrev pub CountersAdd : Type 0
 CountersAdd = (kind : CtrKind) (t : List ℕ) (m n : ℕ) → length t ≡ 16
     → counter_plus kind (counter_plus kind t m) n ≡ counter_plus kind t (m + n)
-
--- a block of 16 bytes, whatever block it was, under a key of bytes
-abbrev pub CipherHasABlock : Type 0
-CipherHasABlock = (key block : List ℕ) → IsBytes key
-    → (length (cipher key block) ≡ 16) × IsBytes (cipher key block)

@@ -31,7 +31,12 @@ fn mixed_word(word_count: usize, i: usize, before: [u8; 4]) -> [u8; 4]
     let [a, b, c, d] = before;
     if i % word_count == 0 {
         let constant = round_constant(i / word_count);
-        [sub_byte(b) ^ constant, sub_byte(c), sub_byte(d), sub_byte(a)]
+        [
+            sub_byte(b) ^ constant,
+            sub_byte(c),
+            sub_byte(d),
+            sub_byte(a),
+        ]
     } else if word_count > 6 && i % word_count == 4 {
         [sub_byte(a), sub_byte(b), sub_byte(c), sub_byte(d)]
     } else {
@@ -55,7 +60,10 @@ fn next_word(key: &[u8], words: &[[u8; 4]; WORDS], i: usize) -> [u8; 4]
     if i < word_count {
         return [key[4 * i], key[4 * i + 1], key[4 * i + 2], key[4 * i + 3]];
     }
-    xor_word(words[i - word_count], mixed_word(word_count, i, words[i - 1]))
+    xor_word(
+        words[i - word_count],
+        mixed_word(word_count, i, words[i - 1]),
+    )
 }
 
 /// The words of all rounds under a key, and zeros behind them.
@@ -63,8 +71,9 @@ pub(crate) fn expand(key: &[u8]) -> [[u8; 4]; WORDS]
     requires { (length key.now ≡ 16) ⊎ (length key.now ≡ 32) }
     ensures { take (4 * (round_count key.now + 1)) result ≡ key_expansion key.now }
 {
+    let word_count = key.len() / 4;
     let mut words = [[0; 4]; WORDS];
-    for i in 0..key.len() + 28 {
+    for i in 0..4 * (word_count + 7) {
         words[i] = next_word(key, &words, i);
     }
     words

@@ -9,6 +9,8 @@ mod cipher;
 mod counter;
 mod key_schedule;
 pub mod laws;
+#[cfg(test)]
+mod tests;
 
 pub use cipher::{Aes, KeySize};
 pub use counter::CtrKind;

@@ -23,25 +23,25 @@ loop-i-preserved c =
     let i = c.loop-i.i in
     let now = c.loop-i.invariant in
     let facts : (c.if-i-eq0.output ≡ cipher key (counter_plus kind start (i / 16)))
-            × (c.if-i-eq0.counter ≡ counter_plus kind start ((i + 1 + 15) / 16)) =
-        elim c.if-i-eq0.branch [
-          | then-i-eq0 w ↦
-              let at : (i + 15) / 16 ≡ i / 16 = omega (arith, w.if-i-eq0.true) in
-              let next : (i + 15) / 16 + 1 ≡ (i + 1 + 15) / 16 = omega (arith, w.if-i-eq0.true) in (
-                w.output-is ∙ w.encrypt_block-output.ensures ∙ ap (cipher key) (now.counter ∙ ap (counter_plus kind start) at),
-                w.counter-is ∙ w.next_counter-counter.ensures ∙ ap (λ (t : List ℕ). counter_plus kind t 1) now.counter
+    × (c.if-i-eq0.counter ≡ counter_plus kind start ((i + 1 + 15) / 16)) =
+    elim c.if-i-eq0.branch [
+      | then-i-eq0 w ↦
+          let at : (i + 15) / 16 ≡ i / 16 = omega (arith, w.if-i-eq0.true) in
+          let next : (i + 15) / 16 + 1 ≡ (i + 1 + 15) / 16 = omega (arith, w.if-i-eq0.true) in (
+            w.output-is ∙ w.encrypt_block-output.ensures ∙ ap (cipher key) (now.counter ∙ ap (counter_plus kind start) at),
+            w.counter-is ∙ w.next_counter-counter.ensures ∙ ap (λ (t : List ℕ). counter_plus kind t 1) now.counter
                 ∙ counters_add kind start ((i + 15) / 16) 1 c.told-start ∙ ap (counter_plus kind start) next,
-              )
-          | else-i-eq0 w ↦
-              let same : (i + 15) / 16 ≡ (i + 1 + 15) / 16 = omega (arith, w.if-i-eq0.false) in (
-                w.output-is ∙ now.output (omega (arith, w.if-i-eq0.false)),
-                w.counter-is ∙ now.counter ∙ ap (counter_plus kind start) same,
-              )
-        ] in
+          )
+      | else-i-eq0 w ↦
+          let same : (i + 15) / 16 ≡ (i + 1 + 15) / 16 = omega (arith, w.if-i-eq0.false) in (
+            w.output-is ∙ now.output (omega (arith, w.if-i-eq0.false)),
+            w.counter-is ∙ now.counter ∙ ap (counter_plus kind start) same,
+          )
+    ] in
     let byte : bit_xor (get_or c.loop-i.body i 0) (get_or c.if-i-eq0.output (i % 16) 0)
-            ≡ bit_xor (get_or c.args.body.now i 0) (get_or (cipher key (counter_plus kind start (i / 16))) (i % 16) 0) =
-        ap (λ (b : ℕ). bit_xor b (get_or c.if-i-eq0.output (i % 16) 0)) (now.left i (omega arith))
-        ∙ ap (λ (o : List ℕ). bit_xor (get_or c.args.body.now i 0) (get_or o (i % 16) 0)) facts.0 in
+    ≡ bit_xor (get_or c.args.body.now i 0) (get_or (cipher key (counter_plus kind start (i / 16))) (i % 16) 0) =
+    ap (λ (b : ℕ). bit_xor b (get_or c.if-i-eq0.output (i % 16) 0)) (now.left i (omega arith))
+    ∙ ap (λ (o : List ℕ). bit_xor (get_or c.args.body.now i 0) (get_or o (i % 16) 0)) facts.0 in
     record {
       done = byte_more (λ k. get_or (cipher key (counter_plus kind start (k / 16))) (k % 16) 0) c.args.body.now c.loop-i.body i _ (omega arith) byte now.done;
       left = bytes_left c.args.body.now c.loop-i.body i _ now.left;
@@ -54,4 +54,4 @@ loop-i-preserved c =
 pub returns : goal.returns
 returns c =
     ctr_from_bytes c.args.self.now c.args.start.now c.args.kind c.args.body.now c.loop-i.body c.loop-i.auto.body
-      (λ i h. c.loop-i.invariant.done i (omega arith))
+    (λ i h. c.loop-i.invariant.done i (omega arith))

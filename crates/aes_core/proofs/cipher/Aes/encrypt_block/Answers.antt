@@ -16,7 +16,7 @@ loop-round-preserved c =
     let mixed = c.mix_columns-state.ensures ∙ ap mix_columns shifted in
     let next : r + 1 - 1 ≡ r = omega arith in
     rw next (c.add_round_key-state-in-loop-round.ensures ∙ ap (λ (s : List ℕ). add_round_key s w r) mixed
-      ∙ rounds_more w c.args.block.now r (omega arith))
+    ∙ rounds_more w c.args.block.now r (omega arith))
 
 pub returns : goal.returns
 returns c =
