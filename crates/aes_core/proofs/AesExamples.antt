@@ -1,8 +1,8 @@
 -- The printed examples of FIPS 197, proved of the definitions alone, by computation: a changed digit
 -- is refused.
-use Rattle.std.proofs.Common.{◌≡◌, List, [], ◌∷◌, ◌++◌, drop, map, refl}
+use Rattle.std.proofs.Common.{◌≡◌, [], ◌∷◌, ◌++◌, drop, map, refl}
 use Rattle.std.specs.Int.{to_be_bytes, w32, w128}
-use Rattle.aes_core.specs.Aes.{aes_on_literals, cipher, expanded_words, product, sbox, xtimes}
+use Rattle.aes_core.specs.Aes.{aes_on_literals, cipher, expanded_words, product, sbox}
 
 -- the products of 4.2
 pub product-57_83 : product 0x57 0x83 ≡ 0xC1

@@ -1,14 +1,14 @@
 -- The cipher of a block is a block of bytes: each step keeps to numbers below 256.
-use Rattle.std.proofs.Common.{◌≡◌, ℕ, zero, suc, ◌+◌, ◌-◌, ◌*◌, ◌/◌, ◌%◌, ◌<◌, ◌≤◌, ◌==◌, ◌&&◌, nat_lt, cond, List, [], ◌∷◌, ◌++◌, length, get_or, map, inl, inr, refl, zero-add, arith, lit<}
+use Rattle.std.proofs.Common.{◌≡◌, ℕ, zero, suc, ◌+◌, ◌-◌, ◌*◌, ◌/◌, ◌%◌, ◌<◌, ◌==◌, ◌&&◌, nat_lt, cond, List, [], ◌∷◌, ◌++◌, length, get_or, map, inl, inr, zero-add, arith, lit<}
 use Rattle.std.proofs.lemmas.Bool.{cases_lt, cond_both}
 use Rattle.std.proofs.lemmas.List.{get_or_append_left, get_or_push, get_or_past, length_push}
-use Rattle.std.proofs.lemmas.List.Elements.{All-from_get_or, All-get_or}
+use Rattle.std.proofs.lemmas.List.Elements.{All-from_get_or}
 use Rattle.std.proofs.lemmas.List.FromFn.{get_or-map-range_with_len, length-map-range_with_len}
 use Rattle.std.proofs.lemmas.Nat.{xor_of_8}
 use Rattle.std.specs.Int.{bit_at}
 use Rattle.std.specs.List.{range_with_len}
 use lib.Bits.{bit_xor}
-use Rattle.aes_core.specs.Aes.{add_round_key, cipher, expanded_words, key_expansion, key_word, mixed_word, next_word, power, power_by_bits, product, rot_word, round_constant, round_count, rounds, sbox, shift_rows, sub_bytes, sub_word, sum_of_terms, word, word_count, xor_word, xtimes}
+use Rattle.aes_core.specs.Aes.{add_round_key, cipher, expanded_words, key_expansion, key_word, mixed_word, next_word, power_by_bits, product, rot_word, round_constant, round_count, rounds, sbox, shift_rows, sub_bytes, sub_word, sum_of_terms, word, word_count, xor_word, xtimes}
 use Rattle.aes_core.specs.Bytes.{IsBytes}
 use Rattle.aes_core.proofs.CounterMode.{length-cipher}
 use Rattle.aes_core.proofs.KeyExpansion.{length-expanded_words}

@@ -1,11 +1,10 @@
 -- The words of a key's expansion (FIPS 197, 5.2): how many they are, that a longer expansion begins
 -- with a shorter one, and that its first words are the key.
-use Rattle.std.proofs.Common.{◌≡◌, ◌⊎◌, inl, inr, ℕ, zero, suc, ◌+◌, ◌-◌, ◌*◌, ◌/◌, ◌%◌, ◌<◌, ◌≤◌, List, [], ◌∷◌, ◌++◌, length, take, drop, get_or, set, map, refl, sym, ap, ◌∙◌, true, false, cond, nat_lt, add-one, arith, add-zero, min, length-append, length-take, drop-cons}
+use Rattle.std.proofs.Common.{◌≡◌, ◌⊎◌, inl, inr, ℕ, zero, suc, ◌+◌, ◌-◌, ◌*◌, ◌<◌, ◌≤◌, List, [], ◌∷◌, ◌++◌, length, take, get_or, set, refl, sym, ap, ◌∙◌, add-one, arith, add-zero}
 use Rattle.std.proofs.lemmas.List.{append-nil, length-take-le, length_push, take-append-le, take_all, take-take, take_more_set, take_more, get_or-take, append_assoc}
-use Rattle.std.proofs.lemmas.List.Concat.{concat_is, flat_map-append}
 use Rattle.std.proofs.lemmas.Bool.{cases_lt, lt-ltb}
 use Rattle.std.specs.List.{concat}
-use Rattle.aes_core.specs.Aes.{expanded_words, key_expansion, key_word, mixed_word, next_word, round_count, word, word_count, xor_word}
+use Rattle.aes_core.specs.Aes.{expanded_words, key_expansion, key_word, next_word, round_count, word, word_count}
 use Rattle.aes_core.specs.KeySchedule.{IsExpansion, key_of}
 
 pub length-expanded_words : (key : List ℕ) (n : ℕ) → length (expanded_words key n) ≡ n

@@ -1,8 +1,8 @@
 -- The rounds of the cipher (FIPS 197, 5.1) read only the words of the rounds so far, so the words
 -- that an `Aes` keeps serve as the expansion of its key.
-use Rattle.std.proofs.Common.{◌≡◌, ℕ, zero, suc, ◌+◌, ◌-◌, ◌*◌, ◌<◌, ◌≤◌, List, [], length, take, inl, inr, refl, sym, ap, ◌∙◌, add-one, sub-one, arith}
+use Rattle.std.proofs.Common.{◌≡◌, ℕ, zero, suc, ◌+◌, ◌-◌, ◌*◌, ◌<◌, ◌≤◌, List, [], length, take, refl, sym, ap, ◌∙◌, sub-one, arith}
 use Rattle.std.proofs.lemmas.List.{get_or-take}
-use Rattle.aes_core.specs.Aes.{add_round_key, cipher, cipher_with, key_expansion, mix_columns, round_count, rounds, shift_rows, sub_bytes, word}
+use Rattle.aes_core.specs.Aes.{add_round_key, cipher, cipher_with, key_expansion, mix_columns, rounds, shift_rows, sub_bytes, word}
 use Rattle.aes_core.specs.KeySchedule.{IsExpansion, key_of}
 use Rattle.aes_core.proofs.KeyExpansion.{round_count-key_of}
 

@@ -1,6 +1,6 @@
 -- The tables of the code, and its short forms of the field's products, against the definitions: each
 -- by computation over all bytes.
-use Rattle.std.proofs.Common.{◌≡◌, ℕ, ◌+◌, ◌*◌, ◌/◌, ◌%◌, ◌<◌, List, map, replicate, refl, sym, ap, ◌∙◌, zero-add, slice_index, ◌-◌, ◌≤◌, arith}
+use Rattle.std.proofs.Common.{◌≡◌, ℕ, ◌+◌, ◌*◌, ◌/◌, ◌%◌, ◌<◌, List, map, replicate, refl, sym, ap, ◌∙◌, zero-add, slice_index, ◌-◌, arith}
 use Rattle.std.proofs.lemmas.List.FromFn.{get_or-map-range_with_len}
 use Rattle.std.proofs.lemmas.List.{get_or-replicate}
 use Rattle.std.specs.List.{range_with_len}

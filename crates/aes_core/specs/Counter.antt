@@ -7,11 +7,11 @@
 --
 -- The standard leaves the counter blocks open. Here they are those of its appendix B.1, with m = 32
 -- or m = 128 counted bits, and T 1 is given.
-use Rattle.std.specs.Prelude.{◌≡◌, ℕ, ◌+◌, ◌*◌, ◌/◌, ◌%◌, ◌^◌, ◌≤◌, List, ◌++◌, length, take, drop, bit_xor, slice_index, ◌<◌}
+use Rattle.std.specs.Prelude.{◌≡◌, ℕ, ◌+◌, ◌*◌, ◌/◌, ◌%◌, ◌^◌, List, ◌++◌, length, take, drop, bit_xor, slice_index, ◌<◌}
 use Rattle.std.specs.Int.{w32, w128, from_be_bytes, to_be_bytes}
 use Rattle.std.specs.List.{range_with_len, flat_map}
 use Rattle.aes_core.specs.Aes.{cipher}
-use Rattle.aes_core.specs.Bytes.{IsBytes, xor_bytes}
+use Rattle.aes_core.specs.Bytes.{xor_bytes}
 use Rattle.aes_core.specs.declared.counter.CtrKind.{CtrKind}
 use Rattle.aes_core.specs.declared.counter.CtrKind.TheVariants.{Low32, All128}
 

@@ -1,6 +1,5 @@
-use Rattle.std.proofs.Common.{◌≡◌, ℕ, ◌+◌, ◌*◌, ◌/◌, ◌%◌, ◌<◌, get_or}
-use lib.Bits.{bit_xor}
-use Rattle.aes_core.specs.Aes.{product, sbox, state_byte, word}
+use Rattle.std.proofs.Common.{◌≡◌, ℕ, ◌+◌, ◌/◌, ◌%◌, ◌<◌, get_or}
+use Rattle.aes_core.specs.Aes.{state_byte}
 use Rattle.aes_core.proofs.cipher.shift_rows.Given as goal
 
 abbrev pub invariant-loop-i : goal.invariant-loop-i

@@ -1,4 +1,4 @@
-use Rattle.std.proofs.Common.{arith, ap, ◌∙◌, sym}
+use Rattle.std.proofs.Common.{arith}
 use Rattle.aes_core.specs.Counter.{counter_plus}
 use Rattle.aes_core.proofs.CounterLemmas.{next_low}
 use Rattle.aes_core.proofs.counter.next_counter.Goals as goal
