@@ -1,5 +1,5 @@
--- The printed examples of FIPS 197, proved of the definitions alone, by computation: a changed digit
--- is refused.
+-- The printed examples of FIPS 197, proved of the definitions alone, by computation: a changed
+-- digit is refused.
 use Rattle.std.proofs.Common.{◌≡◌, [], ◌∷◌, ◌++◌, drop, map, refl}
 use Rattle.std.specs.Int.{to_be_bytes, w32, w128}
 use Rattle.aes_core.specs.Aes.{aes_on_literals, cipher, expanded_words, product, sbox}

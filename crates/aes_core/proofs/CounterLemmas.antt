@@ -30,25 +30,34 @@ turned_16 a b c d e f g h i j k l m n o p = omega arith
 
 from_be_bytes-to_be_bytes_16 : (x : ℕ) → x < 2 ^ 128 → from_be_bytes w128 (to_be_bytes w128 x) ≡ x
 from_be_bytes-to_be_bytes_16 x fits =
-    turned_16 (byte_worth 0 (byte_at 0 x)) (byte_worth 1 (byte_at 1 x)) (byte_worth 2 (byte_at 2 x)) (byte_worth 3 (byte_at 3 x)) (byte_worth 4 (byte_at 4 x)) (byte_worth 5 (byte_at 5 x)) (byte_worth 6 (byte_at 6 x)) (byte_worth 7 (byte_at 7 x)) (byte_worth 8 (byte_at 8 x)) (byte_worth 9 (byte_at 9 x)) (byte_worth 10 (byte_at 10 x)) (byte_worth 11 (byte_at 11 x)) (byte_worth 12 (byte_at 12 x)) (byte_worth 13 (byte_at 13 x)) (byte_worth 14 (byte_at 14 x)) (byte_worth 15 (byte_at 15 x))
+    turned_16
+    (byte_worth 0 (byte_at 0 x)) (byte_worth 1 (byte_at 1 x)) (byte_worth 2 (byte_at 2 x))
+    (byte_worth 3 (byte_at 3 x)) (byte_worth 4 (byte_at 4 x)) (byte_worth 5 (byte_at 5 x))
+    (byte_worth 6 (byte_at 6 x)) (byte_worth 7 (byte_at 7 x)) (byte_worth 8 (byte_at 8 x))
+    (byte_worth 9 (byte_at 9 x)) (byte_worth 10 (byte_at 10 x)) (byte_worth 11 (byte_at 11 x))
+    (byte_worth 12 (byte_at 12 x)) (byte_worth 13 (byte_at 13 x)) (byte_worth 14 (byte_at 14 x))
+    (byte_worth 15 (byte_at 15 x))
     ∙ sum-bytes x 15 ∙ omega arith
 
 -- a counter that was made, moved on
 again_low : (t : List ℕ) (v n : ℕ) → length t ≡ 16 → v < 2 ^ 32
-    → counter_plus Low32 (take 12 t ++ to_be_bytes w32 v) n ≡ take 12 t ++ to_be_bytes w32 ((v + n) % 2 ^ 32)
+    → counter_plus Low32 (take 12 t ++ to_be_bytes w32 v) n
+    ≡ take 12 t ++ to_be_bytes w32 ((v + n) % 2 ^ 32)
 unfolding counter_plus
 again_low t v n l fits =
     let twelve : length (take 12 t) ≡ 12 = length-take-le 12 t (omega arith) in
-    ap (λ (front : List ℕ). front ++ to_be_bytes w32 ((from_be_bytes w32 (drop 12 (take 12 t ++ to_be_bytes w32 v)) + n) % 2 ^ 32))
+    let value = λ (low : List ℕ). to_be_bytes w32 ((from_be_bytes w32 low + n) % 2 ^ 32) in
+    ap (λ (front : List ℕ). front ++ value (drop 12 (take 12 t ++ to_be_bytes w32 v)))
     (take_at (take 12 t) (to_be_bytes w32 v) 12 twelve)
-    ∙ ap (λ (low : List ℕ). take 12 t ++ to_be_bytes w32 ((from_be_bytes w32 low + n) % 2 ^ 32))
-    (drop_at (take 12 t) (to_be_bytes w32 v) 12 twelve)
-    ∙ ap (λ (x : ℕ). take 12 t ++ to_be_bytes w32 ((x + n) % 2 ^ 32)) (from_be_bytes-to_be_bytes_4 v fits)
+    ∙ ap (λ (low : List ℕ). take 12 t ++ value low) (drop_at (take 12 t) (to_be_bytes w32 v) 12 twelve)
+    ∙ ap (λ (x : ℕ). take 12 t ++ to_be_bytes w32 ((x + n) % 2 ^ 32))
+    (from_be_bytes-to_be_bytes_4 v fits)
 
 again_all : (v n : ℕ) → v < 2 ^ 128
     → counter_plus All128 (to_be_bytes w128 v) n ≡ to_be_bytes w128 ((v + n) % 2 ^ 128)
 unfolding counter_plus
-again_all v n fits = ap (λ (x : ℕ). to_be_bytes w128 ((x + n) % 2 ^ 128)) (from_be_bytes-to_be_bytes_16 v fits)
+again_all v n fits =
+    ap (λ (x : ℕ). to_be_bytes w128 ((x + n) % 2 ^ 128)) (from_be_bytes-to_be_bytes_16 v fits)
 
 below_32 : (x : ℕ) → x % 2 ^ 32 < 2 ^ 32
 below_32 x = omega arith
@@ -66,24 +75,36 @@ pub counters_add : (kind : CtrKind) (t : List ℕ) (m n : ℕ) → length t ≡ 
     → counter_plus kind (counter_plus kind t m) n ≡ counter_plus kind t (m + n)
 unfolding counter_plus
 counters_add Low32 t m n l =
-    again_low t ((from_be_bytes w32 (drop 12 t) + m) % 2 ^ 32) n l (below_32 (from_be_bytes w32 (drop 12 t) + m))
-    ∙ ap (λ (x : ℕ). take 12 t ++ to_be_bytes w32 x) (twice_32 (from_be_bytes w32 (drop 12 t)) m n)
+    let v : ℕ = from_be_bytes w32 (drop 12 t) in
+    again_low t ((v + m) % 2 ^ 32) n l (below_32 (v + m))
+    ∙ ap (λ (x : ℕ). take 12 t ++ to_be_bytes w32 x) (twice_32 v m n)
 counters_add All128 t m n l =
-    again_all ((from_be_bytes w128 t + m) % 2 ^ 128) n (below_128 (from_be_bytes w128 t + m))
-    ∙ ap (λ (x : ℕ). to_be_bytes w128 x) (twice_128 (from_be_bytes w128 t) m n)
+    let v : ℕ = from_be_bytes w128 t in
+    again_all ((v + m) % 2 ^ 128) n (below_128 (v + m))
+    ∙ ap (λ (x : ℕ). to_be_bytes w128 x) (twice_128 v m n)
 
 -- a block whose last four bytes were written
-written_last : (t part : List ℕ) → length t ≡ 16 → length part ≡ 4 → put_mid 12 4 t part ≡ take 12 t ++ part
+written_last : (t part : List ℕ) → length t ≡ 16 → length part ≡ 4
+    → put_mid 12 4 t part ≡ take 12 t ++ part
 written_last t part l k =
+    let front : take 16 (put_mid 12 4 t part) ≡ take 12 t ++ part =
+    take-put_mid 12 4 t part 16 (omega arith) (omega arith) in
+    let back : drop 16 (put_mid 12 4 t part) ≡ [] =
+    drop-put_mid 12 4 t part 16 (omega arith) (omega arith) k ∙ drop_all 16 t (omega arith) in
     sym (take-append-drop 16 (put_mid 12 4 t part))
-    ∙ ap (λ (front : List ℕ). front ++ drop 16 (put_mid 12 4 t part)) (take-put_mid 12 4 t part 16 (omega arith) (omega arith))
-    ∙ ap (λ (back : List ℕ). take 12 t ++ part ++ back) (drop-put_mid 12 4 t part 16 (omega arith) (omega arith) k ∙ drop_all 16 t (omega arith))
+    ∙ ap (λ (xs : List ℕ). xs ++ drop 16 (put_mid 12 4 t part)) front
+    ∙ ap (λ (xs : List ℕ). take 12 t ++ part ++ xs) back
     ∙ append-nil (take 12 t ++ part)
 
 -- the last four bytes, read one by one
-read_last : (t : List ℕ) → from_be_bytes w32 (get_or t 12 0 ∷ get_or t 13 0 ∷ get_or t 14 0 ∷ get_or t 15 0 ∷ []) ≡ from_be_bytes w32 (drop 12 t)
-read_last t = rw (get_or-drop 12 t 0 0, get_or-drop 12 t 1 0, get_or-drop 12 t 2 0, get_or-drop 12 t 3 0) refl
+abbrev last_four : List ℕ → List ℕ
+last_four t = get_or t 12 0 ∷ get_or t 13 0 ∷ get_or t 14 0 ∷ get_or t 15 0 ∷ []
 
+read_last : (t : List ℕ) → from_be_bytes w32 (last_four t) ≡ from_be_bytes w32 (drop 12 t)
+read_last t =
+    rw (get_or-drop 12 t 0 0, get_or-drop 12 t 1 0, get_or-drop 12 t 2 0, get_or-drop 12 t 3 0) refl
+
+-- the code's step at Low32
 pub next_low : (t : List ℕ) (count : ℕ) (bytes part : List ℕ) → length t ≡ 16
     → count ≡ from_be_bytes w32 (get_or t 12 0 ∷ get_or t 13 0 ∷ get_or t 14 0 ∷ get_or t 15 0 ∷ [])
     → bytes ≡ to_be_bytes w32 ((count + 1) % 2 ^ 32) → part ≡ bytes
@@ -95,7 +116,8 @@ next_low t count bytes part l is written same =
     written_last t part l (ap length e) ∙ ap (λ (low : List ℕ). take 12 t ++ low) e
 
 -- a counter is a block of bytes
-pub length-counter_plus : (kind : CtrKind) (t : List ℕ) (n : ℕ) → length t ≡ 16 → length (counter_plus kind t n) ≡ 16
+pub length-counter_plus : (kind : CtrKind) (t : List ℕ) (n : ℕ) → length t ≡ 16
+    → length (counter_plus kind t n) ≡ 16
 unfolding counter_plus
 length-counter_plus Low32 t n l =
     let low : List ℕ = to_be_bytes w32 ((from_be_bytes w32 (drop 12 t) + n) % 2 ^ 32) in
@@ -110,7 +132,8 @@ digit_of : (x p q b : ℕ) → x / p ≡ q * 256 + b → b < 256 → (x / (p * 2
 digit_of x p q b e small = (sym (nat.div-div-eq-div-mul x p 256) ∙ omega arith, omega arith)
 
 -- a block of bytes as a number, and back
-digits_16 : (x : ℕ) (b : ℕ → ℕ) → ((i : ℕ) → b i < 256) → x ≡ sum_through (λ i. byte_worth (15 - i) (b i)) 15
+digits_16 : (x : ℕ) (b : ℕ → ℕ) → ((i : ℕ) → b i < 256)
+    → x ≡ sum_through (λ i. byte_worth (15 - i) (b i)) 15
     → to_be_bytes w128 x ≡ map b (range_with_len 0 16)
 digits_16 x b small is =
     let q15 : ℕ = b 0 in
@@ -145,7 +168,8 @@ digits_16 x b small is =
     let d13 = digit_of x (256 ^ 13) q14 (b 2) d12.0 (small 2) in
     let d14 = digit_of x (256 ^ 14) q15 (b 1) d13.0 (small 1) in
     let d15 : x / 256 ^ 15 % 256 ≡ b 0 = omega (arith, d14.0, small 0) in
-    rw (d15, d14.1, d13.1, d12.1, d11.1, d10.1, d9.1, d8.1, d7.1, d6.1, d5.1, d4.1, d3.1, d2.1, d1.1, d0) refl
+    rw (d15, d14.1, d13.1, d12.1, d11.1, d10.1, d9.1, d8.1, d7.1, d6.1, d5.1, d4.1, d3.1, d2.1, d1.1, d0)
+    refl
 
 to_be_bytes-from_be_bytes_16 : (t : List ℕ) → length t ≡ 16 → ((i : ℕ) → get_or t i 0 < 256)
     → to_be_bytes w128 (from_be_bytes w128 t) ≡ t
@@ -159,22 +183,45 @@ last_small t small i = rw (get_or-drop 12 t i 0) (small (12 + i))
 same_mod : (v m : ℕ) → v < m → (v + 0) % m ≡ v
 same_mod v m h = rw (add-zero v) (nat.mod-eq_of_lt h)
 
-value_below_32 : (bytes : List ℕ) → ((i : ℕ) → get_or bytes i 0 < 256) → from_be_bytes w32 bytes < 2 ^ 32
+value_below_32 : (bytes : List ℕ) → ((i : ℕ) → get_or bytes i 0 < 256)
+    → from_be_bytes w32 bytes < 2 ^ 32
 value_below_32 bytes small = omega (arith, small 0, small 1, small 2, small 3)
 
-value_below_128 : (bytes : List ℕ) → ((i : ℕ) → get_or bytes i 0 < 256) → from_be_bytes w128 bytes < 2 ^ 128
+value_below_128 : (bytes : List ℕ) → ((i : ℕ) → get_or bytes i 0 < 256)
+    → from_be_bytes w128 bytes < 2 ^ 128
 value_below_128 bytes small =
-    omega (arith, small 0, small 1, small 2, small 3, small 4, small 5, small 6, small 7, small 8, small 9, small 10, small 11, small 12, small 13, small 14, small 15)
+    omega (
+      arith,
+      small 0,
+      small 1,
+      small 2,
+      small 3,
+      small 4,
+      small 5,
+      small 6,
+      small 7,
+      small 8,
+      small 9,
+      small 10,
+      small 11,
+      small 12,
+      small 13,
+      small 14,
+      small 15,
+    )
 
 -- no step leaves a block of bytes as it is
-pub counter_plus-zero : (kind : CtrKind) (t : List ℕ) → length t ≡ 16 → ((i : ℕ) → get_or t i 0 < 256)
-    → counter_plus kind t 0 ≡ t
+pub counter_plus-zero : (kind : CtrKind) (t : List ℕ) → length t ≡ 16
+    → ((i : ℕ) → get_or t i 0 < 256) → counter_plus kind t 0 ≡ t
 unfolding counter_plus
 counter_plus-zero Low32 t l small =
-    let last : (i : ℕ) → get_or (drop 12 t) i 0 < 256 = last_small t small in
-    ap (λ (low : List ℕ). take 12 t ++ low)
-    (be_bytes_4 (drop 12 t) ((from_be_bytes w32 (drop 12 t) + 0) % 2 ^ 32) (length-drop 12 t ∙ omega arith) last
-    (same_mod (from_be_bytes w32 (drop 12 t)) (2 ^ 32) (value_below_32 (drop 12 t) last)))
+    let low : List ℕ = drop 12 t in
+    let last : (i : ℕ) → get_or low i 0 < 256 = last_small t small in
+    let four : length low ≡ 4 = length-drop 12 t ∙ omega arith in
+    let value : (from_be_bytes w32 low + 0) % 2 ^ 32 ≡ from_be_bytes w32 low =
+    same_mod (from_be_bytes w32 low) (2 ^ 32) (value_below_32 low last) in
+    ap (λ (xs : List ℕ). take 12 t ++ xs)
+    (be_bytes_4 low ((from_be_bytes w32 low + 0) % 2 ^ 32) four last value)
     ∙ take-append-drop 12 t
 counter_plus-zero All128 t l small =
     ap (to_be_bytes w128) (same_mod (from_be_bytes w128 t) (2 ^ 128) (value_below_128 t small))

@@ -34,9 +34,9 @@ impl Aes {
     /// Encrypts or decrypts `body` in place, of any length (SP 800-38A, 6.5).
     ///
     /// The body is XORed with the cipher of `start`, of `start` + 1 and so on, counted as `kind`
-    /// says; of the last block that is needed only the first bytes may be. A second call with the
-    /// same start and kind gives the body back. A start is never to be used for two bodies under one
-    /// key, and no counter block twice; this call can't see to that.
+    /// says, and a second call with the same start and kind gives it back. No counter block may
+    /// serve twice under one key: this is for the caller to see to, within a body that is longer
+    /// than the counter's period too.
     pub fn ctr_xor(&self, start: &[u8; 16], kind: CtrKind, body: &mut [u8])
         ensures { body.new ≡ ctr self.now start.now kind body.old }
     {

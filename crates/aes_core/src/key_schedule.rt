@@ -5,14 +5,14 @@ ghost use Rattle.aes_core.specs.Aes.{key_expansion, mixed_word, next_word, power
 
 use crate::cipher::sub_byte;
 
-/// The number of words for 14 rounds, as a key of 32 bytes has them; one of 16 bytes leaves the last
-/// 16 words out.
+/// The number of words for 14 rounds, as a key of 32 bytes has them. One of 16 bytes has 10 rounds
+/// and leaves the last 16 words out.
 pub(crate) const WORDS: usize = 60;
 
 // The first bytes of Rcon 1 to Rcon 10: x to the powers 0 to 9.
 const POWERS: [u8; 10] = [0x01, 0x02, 0x04, 0x08, 0x10, 0x20, 0x40, 0x80, 0x1B, 0x36];
 
-// The first byte of Rcon `number`, whose other bytes are 0.
+// The first byte of Rcon `number`; its other bytes are 0.
 fn round_constant(number: usize) -> u8
     requires low { 1 ≤ number }
     requires high { number ≤ 10 }

@@ -1,5 +1,5 @@
-//! The vectors of FIPS 197 and SP 800-38A, and what those leave out: the wraps of both counters, and
-//! every length.
+//! The vectors of FIPS 197 and SP 800-38A, and what those leave out: both counters where they wrap,
+//! and every length.
 
 use crate::{Aes, CtrKind, KeySize};
 use std::process::Abort;
@@ -80,9 +80,9 @@ fn enciphers_the_texts_of_sp_800_38a(rt: HostRuntime) -> Result<(), Fail> {
     Ok(())
 }
 
-// Output blocks under `COUNTING_KEY` at starts beside the counters' ends. Those of All128 are
-// OpenSSL's (`openssl enc -aes-256-ctr` over zeros). Those of Low32 are joined from single blocks of
-// OpenSSL's `-aes-256-ecb`, since its counter mode has the other counter alone.
+// Output blocks under `COUNTING_KEY` at starts beside the counters' ends. Those of All128 are what
+// `openssl enc -aes-256-ctr` makes of zeros. Those of Low32 are the single blocks of python's
+// `cryptography` in ECB mode, since the CTR mode of both has the other counter alone.
 #[test]
 fn counters_wrap_as_their_kind_says(rt: HostRuntime) -> Result<(), Fail> {
     let aes = Aes::new(&COUNTING_KEY)?;

@@ -6,4 +6,5 @@ use Rattle.aes_core.proofs.cipher.shift_rows.Goals as goal
 pub returns : goal.returns
 unfolding shift_rows
 returns c =
-    fill_by_all _ c.loop-i.byte-items 16 0 c.loop-i-test.array_long (λ k lt. c.loop-i.invariant k (omega arith))
+    fill_by_all _ c.loop-i.byte-items 16 0 c.loop-i-test.array_long
+    (λ k lt. c.loop-i.invariant k (omega arith))

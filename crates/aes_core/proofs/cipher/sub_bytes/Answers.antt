@@ -6,4 +6,5 @@ use Rattle.aes_core.proofs.cipher.sub_bytes.Goals as goal
 pub returns : goal.returns
 unfolding sub_bytes
 returns c =
-    fill_by_all _ c.loop-i.byte-items 16 0 c.loop-i-test.array_long (λ k lt. c.loop-i.invariant k (omega arith))
+    fill_by_all _ c.loop-i.byte-items 16 0 c.loop-i-test.array_long
+    (λ k lt. c.loop-i.invariant k (omega arith))

@@ -3,7 +3,7 @@ use lib.Bits.{bit_xor}
 use Rattle.aes_core.specs.Aes.{cipher}
 use Rattle.aes_core.specs.Counter.{counter_plus}
 use Rattle.aes_core.proofs.CounterLemmas.{counter_plus-zero, counters_add}
-use Rattle.aes_core.proofs.CounterMode.{byte_more, bytes_left, ctr_from_bytes}
+use Rattle.aes_core.proofs.CounterMode.{byte_more, bytes_left, ctr_from_bytes, output_byte}
 use Rattle.aes_core.proofs.cipher.Aes.ctr_xor.Goals as goal
 use Rattle.aes_core.proofs.cipher.Aes.ctr_xor.Goals.{then-i-eq0, else-i-eq0}
 
@@ -11,7 +11,8 @@ pub loop-i-init : goal.loop-i-init
 loop-i-init c = record {
   done = λ k h. absurd (omega arith);
   left = λ k h. refl;
-  counter = sym (counter_plus-zero c.args.kind c.args.start.now c.told-start (λ i. omega (arith, c.fits-start i)));
+  counter = sym (counter_plus-zero c.args.kind c.args.start.now c.told-start
+      (λ i. omega (arith, c.fits-start i)));
   output = λ h. absurd (omega arith);
 }
 
@@ -20,6 +21,7 @@ loop-i-preserved c =
     let key = c.args.self.now in
     let start = c.args.start.now in
     let kind = c.args.kind in
+    let old = c.args.body.now in
     let i = c.loop-i.i in
     let now = c.loop-i.invariant in
     let facts : (c.if-i-eq0.output ≡ cipher key (counter_plus kind start (i / 16)))
@@ -28,9 +30,12 @@ loop-i-preserved c =
       | then-i-eq0 w ↦
           let at : (i + 15) / 16 ≡ i / 16 = omega (arith, w.if-i-eq0.true) in
           let next : (i + 15) / 16 + 1 ≡ (i + 1 + 15) / 16 = omega (arith, w.if-i-eq0.true) in (
-            w.output-is ∙ w.encrypt_block-output.ensures ∙ ap (cipher key) (now.counter ∙ ap (counter_plus kind start) at),
-            w.counter-is ∙ w.next_counter-counter.ensures ∙ ap (λ (t : List ℕ). counter_plus kind t 1) now.counter
-                ∙ counters_add kind start ((i + 15) / 16) 1 c.told-start ∙ ap (counter_plus kind start) next,
+            w.output-is ∙ w.encrypt_block-output.ensures
+                ∙ ap (cipher key) (now.counter ∙ ap (counter_plus kind start) at),
+            w.counter-is ∙ w.next_counter-counter.ensures
+                ∙ ap (λ (t : List ℕ). counter_plus kind t 1) now.counter
+                ∙ counters_add kind start ((i + 15) / 16) 1 c.told-start
+                ∙ ap (counter_plus kind start) next,
           )
       | else-i-eq0 w ↦
           let same : (i + 15) / 16 ≡ (i + 1 + 15) / 16 = omega (arith, w.if-i-eq0.false) in (
@@ -39,12 +44,13 @@ loop-i-preserved c =
           )
     ] in
     let byte : bit_xor (get_or c.loop-i.body i 0) (get_or c.if-i-eq0.output (i % 16) 0)
-    ≡ bit_xor (get_or c.args.body.now i 0) (get_or (cipher key (counter_plus kind start (i / 16))) (i % 16) 0) =
+    ≡ bit_xor (get_or old i 0) (output_byte key start kind i) =
     ap (λ (b : ℕ). bit_xor b (get_or c.if-i-eq0.output (i % 16) 0)) (now.left i (omega arith))
-    ∙ ap (λ (o : List ℕ). bit_xor (get_or c.args.body.now i 0) (get_or o (i % 16) 0)) facts.0 in
+    ∙ ap (λ (o : List ℕ). bit_xor (get_or old i 0) (get_or o (i % 16) 0)) facts.0 in
     record {
-      done = byte_more (λ k. get_or (cipher key (counter_plus kind start (k / 16))) (k % 16) 0) c.args.body.now c.loop-i.body i _ (omega arith) byte now.done;
-      left = bytes_left c.args.body.now c.loop-i.body i _ now.left;
+      done = byte_more (output_byte key start kind) old c.loop-i.body i _
+          (omega arith) byte now.done;
+      left = bytes_left old c.loop-i.body i _ now.left;
       counter = facts.1;
       output = λ h.
           let same : i / 16 ≡ (i + 1) / 16 = omega arith in
@@ -53,5 +59,5 @@ loop-i-preserved c =
 
 pub returns : goal.returns
 returns c =
-    ctr_from_bytes c.args.self.now c.args.start.now c.args.kind c.args.body.now c.loop-i.body c.loop-i.auto.body
-    (λ i h. c.loop-i.invariant.done i (omega arith))
+    ctr_from_bytes c.args.self.now c.args.start.now c.args.kind c.args.body.now c.loop-i.body
+    c.loop-i.auto.body (λ i h. c.loop-i.invariant.done i (omega arith))
