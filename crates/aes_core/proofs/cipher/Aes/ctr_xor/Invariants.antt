@@ -1,0 +1,17 @@
+use Rattle.std.proofs.Common.{◌≡◌, ℕ, ◌+◌, ◌/◌, ◌%◌, ◌<◌, ◌≤◌, get_or}
+use lib.Bits.{bit_xor}
+use Rattle.aes_core.specs.Aes.{cipher}
+use Rattle.aes_core.specs.Counter.{counter_plus}
+use Rattle.aes_core.proofs.CounterMode.{output_byte}
+use Rattle.aes_core.proofs.cipher.Aes.ctr_xor.Given as goal
+
+-- the bytes before i are done and the others as they were; the counter is that of the first block
+-- that wasn't begun, and within a block the output is that block's
+abbrev pub invariant-loop-i : goal.invariant-loop-i
+invariant-loop-i l = record {
+  done : (k : ℕ) → k < l.i
+      → get_or l.body k 0 ≡ bit_xor (get_or l.initial.body k 0) (output_byte l.self l.start l.kind k);
+  left : (k : ℕ) → l.i ≤ k → get_or l.body k 0 ≡ get_or l.initial.body k 0;
+  counter : l.counter ≡ counter_plus l.kind l.start ((l.i + 15) / 16);
+  output : 0 < l.i % 16 → l.output ≡ cipher l.self (counter_plus l.kind l.start (l.i / 16));
+}

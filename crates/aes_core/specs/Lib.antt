@@ -1,0 +1,4 @@
+pub mod Bytes
+pub mod Aes
+pub mod KeySchedule
+pub mod Counter
