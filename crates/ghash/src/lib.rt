@@ -1,0 +1,2 @@
+//! Products in GF(2^128), GHASH and the doubling of a block.
+#![tactic(auto)]
