@@ -30,7 +30,7 @@ xor_right a b c = sym (xor_assoc a b c)
 pub xor_of_same : (a b c d : ℕ) → a ≡ c → b ≡ d → bit_xor a b ≡ bit_xor c d
 xor_of_same a b c d e f = cc
 
-parity : (a : ℕ) → (a % 2 ≡ 0) ⊎ (a % 2 ≡ 1)
+pub parity : (a : ℕ) → (a % 2 ≡ 0) ⊎ (a % 2 ≡ 1)
 parity a = grind arith
 
 -- ---- the step
@@ -223,7 +223,7 @@ unfolding shifted_factor
 shifted_factor-one zero k e = let f : 127 ≡ k = omega arith in ap (λ n. 2 ^ n) f
 shifted_factor-one (suc i) k e = ap times_x (shifted_factor-one i (suc k) (omega arith)) ∙ times_x-pow k
 
-shr-suc : (x k : ℕ) → x / 2 ^ suc k ≡ x / 2 ^ k / 2
+pub shr-suc : (x k : ℕ) → x / 2 ^ suc k ≡ x / 2 ^ k / 2
 shr-suc x k = let e : k + 1 ≡ suc k = omega arith in ap (λ n. x / 2 ^ n) (sym e) ∙ sym (shr-shr x k 1)
 
 -- the number q with k zeros after it, from its half and its last bit

@@ -1,2 +1,4 @@
 pub mod Examples
 pub mod FieldLemmas
+pub mod DoublingLemmas
+pub mod GhashLemmas
