@@ -1,11 +1,11 @@
 -- The algebra of GCM's product. Each map that adds and that commutes with the step of the field is
 -- moved into the second factor, from which the product's laws follow.
-use Rattle.std.proofs.Common.{◌≡◌, ℕ, zero, suc, ◌+◌, ◌-◌, ◌*◌, ◌/◌, ◌%◌, ◌^◌, ◌<◌, ◌≤◌, ◌≢◌, ◌⊎◌, inl, inr, refl, sym, ◌∙◌, ap, arith, bit_xor, lit<}
+use Rattle.std.proofs.Common.{◌≡◌, ℕ, zero, suc, ◌+◌, ◌-◌, ◌*◌, ◌/◌, ◌%◌, ◌^◌, ◌<◌, ◌≤◌, ◌≢◌, ◌⊎◌, inl, inr, refl, sym, ◌∙◌, ap, arith, bit_and, bit_xor, lit<}
 use Rattle.std.proofs.Math.Nat.{pow-suc}
 use Rattle.std.specs.Int.{bit_at}
 use Rattle.std.specs.Int.Bits.{xor_assoc, xor_self, xor_zero_l, xor_zero_r, xor_comm}
 use Rattle.std.proofs.lemmas.Nat.{xor_shr, xor_mod, xor_lt, xor_block, shr-shr, pow_below}
-use Rattle.std.proofs.lemmas.Nat.Bits.{bit_at_xor, bit_at-lt, bit_at-pow_other}
+use Rattle.std.proofs.lemmas.Nat.Bits.{bit_at_xor, bit_at-lt, bit_at-pow_other, shr_and_one}
 use Rattle.ghash.specs.Field.{block_bit, reduction, times_x, shifted_factor, partial_product, prod, one}
 
 -- ---- sums
@@ -96,6 +96,27 @@ pub partial_product-on : (x y i : ℕ) → block_bit x i ≡ 1
 unfolding partial_product
 partial_product-on x y i e = rw e
 
+-- one round of the plain product: the bit's test, and the two words after it
+pub next-factor : (y i v w : ℕ) → v ≡ shifted_factor y i → w ≡ times_x v
+    → w ≡ shifted_factor y (i + 1)
+unfolding shifted_factor
+next-factor y i v w e f = let n : i + 1 ≡ suc i = omega arith in f ∙ ap times_x e ∙ ap (shifted_factor y) (sym n)
+
+pub next-product_off : (x y i z : ℕ) → z ≡ partial_product x y i
+    → bit_and (x / 2 ^ (127 - i)) 1 ≢ 1 → z ≡ partial_product x y (i + 1)
+next-product_off x y i z e test =
+    let n : i + 1 ≡ suc i = omega arith in
+    elim (bit_cases x i) [
+      inl b ↦ e ∙ sym (partial_product-off x y i b) ∙ ap (partial_product x y) (sym n)
+    | inr b ↦ absurd (test (shr_and_one x (127 - i) ∙ b)) ]
+
+pub next-product_on : (x y i z v : ℕ) → z ≡ partial_product x y i → v ≡ shifted_factor y i
+    → bit_and (x / 2 ^ (127 - i)) 1 ≡ 1 → bit_xor z v ≡ partial_product x y (i + 1)
+next-product_on x y i z v e f test =
+    let n : i + 1 ≡ suc i = omega arith in
+    let b : block_bit x i ≡ 1 = sym (shr_and_one x (127 - i)) ∙ test in
+    xor_of_same _ _ _ _ e f ∙ sym (partial_product-on x y i b) ∙ ap (partial_product x y) (sym n)
+
 pub linear-partial_product : (f : ℕ → ℕ) → IsLinear f → (x y i : ℕ)
     → f (partial_product x y i) ≡ partial_product x (f y) i
 unfolding partial_product
@@ -177,6 +198,12 @@ pub prod_linear : (x : ℕ) → IsLinear (prod x)
 prod_linear x = record {
   adds = prod-xor_right x;
   steps = λ a. sym (linear-prod times_x times_x_linear x a) }
+
+pub prod-zero_right : (x : ℕ) → prod x 0 ≡ 0
+prod-zero_right x = linear-zero (prod x) (prod_linear x)
+
+pub prod-zero_left : (y : ℕ) → prod 0 y ≡ 0
+prod-zero_left y = ap (λ u. prod u y) (sym (xor_self 0)) ∙ prod-xor_left 0 0 y ∙ xor_self (prod 0 y)
 
 -- ---- ranges
 

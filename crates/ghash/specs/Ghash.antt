@@ -22,7 +22,7 @@ running_value h blocks zero = 0
 running_value h blocks (suc i) = prod (bit_xor (running_value h blocks i) (slice_index blocks i)) h
 
 -- a piece of at most 16 bytes as a block, with zeros after it (7.1, step 4)
-abbrev pub padded_block : List ℕ → ℕ
+unfoldable pub padded_block : List ℕ → ℕ
 padded_block piece = from_be_bytes w128 (piece ++ replicate (16 - length piece) 0)
 
 -- the block in place i of a string of bytes, of which only the last one may have to be padded

@@ -1,0 +1,6 @@
+use Rattle.ghash.specs.GhashState.{Holds}
+use Rattle.ghash.proofs.hash.Ghash.finish.Goals as goal
+
+pub returns : goal.returns
+unfolding Holds
+returns c h blocks holds = holds.1
