@@ -1,9 +1,9 @@
 -- The doubling is the product by x, on the block whose bits stand in the other order.
-use Rattle.std.proofs.Common.{◌≡◌, ℕ, zero, suc, ◌+◌, ◌-◌, ◌*◌, ◌/◌, ◌%◌, ◌^◌, ◌<◌, ◌≤◌, ◌⊎◌, inl, inr, refl, sym, ◌∙◌, ap, arith, bit_xor, lit<}
+use Rattle.std.proofs.Common.{◌≡◌, ℕ, zero, suc, ◌+◌, ◌*◌, ◌/◌, ◌%◌, ◌^◌, ◌<◌, ◌⊎◌, inl, inr, refl, sym, ◌∙◌, ap, arith, bit_xor, lit<}
 use Rattle.std.proofs.Math.Nat.{pow-suc}
 use Rattle.std.specs.Int.{w128, reverse_bits, reverse_bits_onto}
 use Rattle.std.proofs.lemmas.Nat.{xor_shr, xor_mod, xor_lt, xor_block, shr-shr}
-use Rattle.ghash.specs.Field.{block_bit, reduction, times_x, prod, one, doubled}
+use Rattle.ghash.specs.Field.{block_bit, reduction, times_x, prod, doubled}
 use Rattle.ghash.specs.Laws.{x_block}
 use Rattle.ghash.proofs.FieldLemmas.{parity, xor_of_same, times_x-even, times_x-odd, times_x_linear, linear-at_one, prod_comm}
 
@@ -37,7 +37,7 @@ reverse-last (suc k) n a =
     let place : 1 + k ≡ suc k = omega arith in
     reverse-last k (n / 2) (a * 2 + n % 2)
     ∙ ap (λ u. reverse_bits_onto k (n / 2) (a * 2 + n % 2) * 2 + u % 2)
-        (shr-shr n 1 k ∙ ap (λ u. n / 2 ^ u) place)
+    (shr-shr n 1 k ∙ ap (λ u. n / 2 ^ u) place)
 
 below-twice : (b p r : ℕ) → (b ≡ 0) ⊎ (b ≡ 1) → r < p → b * p + r < p * 2
 below-twice b p r (inl e) h = rw e (omega arith)
@@ -48,7 +48,7 @@ unfolding reverse_bits_onto
 reverse_below zero n = lit< tt
 reverse_below (suc k) n =
     rw (reverse-first k n, pow-suc 2 k)
-        (below-twice (n % 2) (2 ^ k) (reverse_bits_onto k (n / 2) 0) (parity n) (reverse_below k (n / 2)))
+    (below-twice (n % 2) (2 ^ k) (reverse_bits_onto k (n / 2) 0) (parity n) (reverse_below k (n / 2)))
 
 reverse-xor : (k m n a b : ℕ) → reverse_bits_onto k (bit_xor m n) (bit_xor a b)
     ≡ bit_xor (reverse_bits_onto k m a) (reverse_bits_onto k n b)
@@ -58,7 +58,7 @@ reverse-xor (suc k) m n a b =
     let half : bit_xor m n / 2 ≡ bit_xor (m / 2) (n / 2) = xor_shr m n 1 in
     let last : bit_xor m n % 2 ≡ bit_xor (m % 2) (n % 2) = xor_mod m n 1 in
     let onto : bit_xor a b * 2 + bit_xor m n % 2 ≡ bit_xor (a * 2 + m % 2) (b * 2 + n % 2)
-        = rw last (sym (xor_block 1 a b (m % 2) (n % 2) (omega arith) (omega arith))) in
+    = rw last (sym (xor_block 1 a b (m % 2) (n % 2) (omega arith) (omega arith))) in
     rw (half, onto) (reverse-xor k (m / 2) (n / 2) (a * 2 + m % 2) (b * 2 + n % 2))
 
 -- ---- the doubling
@@ -69,7 +69,7 @@ doubled-shift a h =
     let low = reverse_bits_onto 127 (a / 2) 0 in
     let first : reverse_bits_onto 128 a 0 ≡ a % 2 * 2 ^ 127 + low = reverse-first 127 a in
     let last : reverse_bits_onto 128 (a / 2) 0 ≡ low * 2 + a / 2 / 2 ^ 127 % 2
-        = reverse-last 127 (a / 2) 0 in
+    = reverse-last 127 (a / 2) 0 in
     let below : low < 2 ^ 127 = reverse_below 127 (a / 2) in
     omega arith
 
@@ -93,19 +93,21 @@ doubled-on a e = rw e
 pub doubled_reversed : (a : ℕ) → a < 2 ^ 128
     → doubled (reverse_bits w128 a) ≡ reverse_bits w128 (times_x a)
 doubled_reversed a h = elim (parity a) [
-    inl e ↦ doubled-off (reverse_bits w128 a) (first_bit a ∙ e) ∙ doubled-shift a h
-        ∙ ap (reverse_bits w128) (sym (times_x-even a e))
+  | inl e ↦ doubled-off (reverse_bits w128 a) (first_bit a ∙ e) ∙ doubled-shift a h
+      ∙ ap (reverse_bits w128) (sym (times_x-even a e))
   | inr e ↦ doubled-on (reverse_bits w128 a) (first_bit a ∙ e)
-        ∙ xor_of_same _ _ _ _ (doubled-shift a h) (sym reverse-reduction)
-        ∙ sym (reverse-xor 128 (a / 2) reduction 0 0)
-        ∙ ap (reverse_bits w128) (sym (times_x-odd a e)) ]
+      ∙ xor_of_same _ _ _ _ (doubled-shift a h) (sym reverse-reduction)
+      ∙ sym (reverse-xor 128 (a / 2) reduction 0 0)
+      ∙ ap (reverse_bits w128) (sym (times_x-odd a e))
+]
 
 pub doubled_below : (a : ℕ) → doubled a < 2 ^ 128
 doubled_below a =
     let low : a * 2 % 2 ^ 128 < 2 ^ 128 = omega arith in
     elim (parity (a / 2 ^ 127)) [
-      inl e ↦ rw (doubled-off a e) low
-    | inr e ↦ rw (doubled-on a e) (xor_lt 128 (a * 2 % 2 ^ 128) 0x87 low (lit< tt)) ]
+      | inl e ↦ rw (doubled-off a e) low
+      | inr e ↦ rw (doubled-on a e) (xor_lt 128 (a * 2 % 2 ^ 128) 0x87 low (lit< tt))
+    ]
 
 -- ---- the product by x
 

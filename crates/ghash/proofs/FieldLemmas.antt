@@ -1,11 +1,10 @@
 -- The algebra of GCM's product. Each map that adds and that commutes with the step of the field is
 -- moved into the second factor, from which the product's laws follow.
-use Rattle.std.proofs.Common.{◌≡◌, ℕ, zero, suc, ◌+◌, ◌-◌, ◌*◌, ◌/◌, ◌%◌, ◌^◌, ◌<◌, ◌≤◌, ◌≢◌, ◌⊎◌, inl, inr, refl, sym, ◌∙◌, ap, arith, bit_and, bit_xor, lit<}
+use Rattle.std.proofs.Common.{◌≡◌, ℕ, zero, suc, ◌+◌, ◌-◌, ◌*◌, ◌/◌, ◌%◌, ◌^◌, ◌<◌, ◌≢◌, ◌⊎◌, inl, inr, refl, sym, ◌∙◌, ap, arith, bit_and, bit_xor, lit<}
 use Rattle.std.proofs.Math.Nat.{pow-suc}
-use Rattle.std.specs.Int.{bit_at}
 use Rattle.std.specs.Int.Bits.{xor_assoc, xor_self, xor_zero_l, xor_zero_r, xor_comm}
 use Rattle.std.proofs.lemmas.Nat.{xor_shr, xor_mod, xor_lt, xor_block, shr-shr, pow_below}
-use Rattle.std.proofs.lemmas.Nat.Bits.{bit_at_xor, bit_at-lt, bit_at-pow_other, shr_and_one}
+use Rattle.std.proofs.lemmas.Nat.Bits.{bit_at_xor, bit_at-pow_other, shr_and_one}
 use Rattle.ghash.specs.Field.{block_bit, reduction, times_x, shifted_factor, partial_product, prod, one}
 
 -- ---- sums
@@ -46,24 +45,28 @@ times_x-xor a b =
     let low : bit_xor a b % 2 ≡ bit_xor (a % 2) (b % 2) = xor_mod a b 1 in
     let high : bit_xor a b / 2 ≡ bit_xor (a / 2) (b / 2) = xor_shr a b 1 in
     elim (parity a) [
-      inl p ↦ elim (parity b) [
-        inl q ↦ times_x-even (bit_xor a b) (low ∙ xor_of_same (a % 2) (b % 2) 0 0 p q) ∙ high
+      | inl p ↦ elim (parity b) [
+        | inl q ↦ times_x-even (bit_xor a b) (low ∙ xor_of_same (a % 2) (b % 2) 0 0 p q) ∙ high
             ∙ sym (xor_of_same _ _ _ _ (times_x-even a p) (times_x-even b q))
-      | inr q ↦ times_x-odd (bit_xor a b) (low ∙ xor_of_same (a % 2) (b % 2) 0 1 p q)
+        | inr q ↦ times_x-odd (bit_xor a b) (low ∙ xor_of_same (a % 2) (b % 2) 0 1 p q)
             ∙ ap (λ u. bit_xor u reduction) high ∙ xor_assoc (a / 2) (b / 2) reduction
-            ∙ sym (xor_of_same _ _ _ _ (times_x-even a p) (times_x-odd b q)) ]
-    | inr p ↦ elim (parity b) [
-        inl q ↦ times_x-odd (bit_xor a b) (low ∙ xor_of_same (a % 2) (b % 2) 1 0 p q)
+            ∙ sym (xor_of_same _ _ _ _ (times_x-even a p) (times_x-odd b q))
+      ]
+      | inr p ↦ elim (parity b) [
+        | inl q ↦ times_x-odd (bit_xor a b) (low ∙ xor_of_same (a % 2) (b % 2) 1 0 p q)
             ∙ ap (λ u. bit_xor u reduction) high ∙ sym (xor_left (a / 2) (b / 2) reduction)
             ∙ sym (xor_of_same _ _ _ _ (times_x-odd a p) (times_x-even b q))
-      | inr q ↦ times_x-even (bit_xor a b) (low ∙ xor_of_same (a % 2) (b % 2) 1 1 p q) ∙ high
+        | inr q ↦ times_x-even (bit_xor a b) (low ∙ xor_of_same (a % 2) (b % 2) 1 1 p q) ∙ high
             ∙ sym (xor_twice (a / 2) (b / 2) reduction)
-            ∙ sym (xor_of_same _ _ _ _ (times_x-odd a p) (times_x-odd b q)) ] ]
+            ∙ sym (xor_of_same _ _ _ _ (times_x-odd a p) (times_x-odd b q))
+      ]
+    ]
 
 pub times_x_below : (a : ℕ) → a < 2 ^ 128 → times_x a < 2 ^ 128
 times_x_below a h = elim (parity a) [
-    inl e ↦ rw (times_x-even a e) (omega arith)
-  | inr e ↦ rw (times_x-odd a e) (xor_lt 128 (a / 2) reduction (omega arith) (lit< tt)) ]
+  | inl e ↦ rw (times_x-even a e) (omega arith)
+  | inr e ↦ rw (times_x-odd a e) (xor_lt 128 (a / 2) reduction (omega arith) (lit< tt))
+]
 
 -- ---- maps that add, and that commute with the step
 
@@ -107,8 +110,9 @@ pub next-product_off : (x y i z : ℕ) → z ≡ partial_product x y i
 next-product_off x y i z e test =
     let n : i + 1 ≡ suc i = omega arith in
     elim (bit_cases x i) [
-      inl b ↦ e ∙ sym (partial_product-off x y i b) ∙ ap (partial_product x y) (sym n)
-    | inr b ↦ absurd (test (shr_and_one x (127 - i) ∙ b)) ]
+      | inl b ↦ e ∙ sym (partial_product-off x y i b) ∙ ap (partial_product x y) (sym n)
+      | inr b ↦ absurd (test (shr_and_one x (127 - i) ∙ b))
+    ]
 
 pub next-product_on : (x y i z v : ℕ) → z ≡ partial_product x y i → v ≡ shifted_factor y i
     → bit_and (x / 2 ^ (127 - i)) 1 ≡ 1 → bit_xor z v ≡ partial_product x y (i + 1)
@@ -122,11 +126,12 @@ pub linear-partial_product : (f : ℕ → ℕ) → IsLinear f → (x y i : ℕ)
 unfolding partial_product
 linear-partial_product f l x y zero = linear-zero f l
 linear-partial_product f l x y (suc i) = elim (bit_cases x i) [
-    inl e ↦ ap f (partial_product-off x y i e) ∙ linear-partial_product f l x y i
-        ∙ sym (partial_product-off x (f y) i e)
+  | inl e ↦ ap f (partial_product-off x y i e) ∙ linear-partial_product f l x y i
+      ∙ sym (partial_product-off x (f y) i e)
   | inr e ↦ ap f (partial_product-on x y i e) ∙ l.adds (partial_product x y i) (shifted_factor y i)
-        ∙ xor_of_same _ _ _ _ (linear-partial_product f l x y i) (linear-shifted_factor f l y i)
-        ∙ sym (partial_product-on x (f y) i e) ]
+      ∙ xor_of_same _ _ _ _ (linear-partial_product f l x y i) (linear-shifted_factor f l y i)
+      ∙ sym (partial_product-on x (f y) i e)
+]
 
 -- ---- sums on both sides
 
@@ -142,13 +147,14 @@ pub partial_product-xor_right : (x a b i : ℕ) → partial_product x (bit_xor a
 unfolding partial_product
 partial_product-xor_right x a b zero = sym (xor_self 0)
 partial_product-xor_right x a b (suc i) = elim (bit_cases x i) [
-    inl e ↦ partial_product-off x (bit_xor a b) i e ∙ partial_product-xor_right x a b i
-        ∙ sym (xor_of_same _ _ _ _ (partial_product-off x a i e) (partial_product-off x b i e))
+  | inl e ↦ partial_product-off x (bit_xor a b) i e ∙ partial_product-xor_right x a b i
+      ∙ sym (xor_of_same _ _ _ _ (partial_product-off x a i e) (partial_product-off x b i e))
   | inr e ↦ partial_product-on x (bit_xor a b) i e
-        ∙ xor_of_same _ _ _ _ (partial_product-xor_right x a b i) (shifted_factor-xor a b i)
-        ∙ xor_exchange (partial_product x a i) (partial_product x b i) (shifted_factor a i)
-            (shifted_factor b i)
-        ∙ sym (xor_of_same _ _ _ _ (partial_product-on x a i e) (partial_product-on x b i e)) ]
+      ∙ xor_of_same _ _ _ _ (partial_product-xor_right x a b i) (shifted_factor-xor a b i)
+      ∙ xor_exchange (partial_product x a i) (partial_product x b i) (shifted_factor a i)
+      (shifted_factor b i)
+      ∙ sym (xor_of_same _ _ _ _ (partial_product-on x a i e) (partial_product-on x b i e))
+]
 
 -- the bit of a sum, from the bits
 block_bit-xor : (a b i p q r : ℕ) → block_bit a i ≡ p → block_bit b i ≡ q → (p + q) % 2 ≡ r
@@ -160,23 +166,26 @@ pub partial_product-xor_left : (a b y i : ℕ) → partial_product (bit_xor a b)
 unfolding partial_product
 partial_product-xor_left a b y zero = sym (xor_self 0)
 partial_product-xor_left a b y (suc i) = elim (bit_cases a i) [
-    inl p ↦ elim (bit_cases b i) [
-      inl q ↦ partial_product-off (bit_xor a b) y i (block_bit-xor a b i 0 0 0 p q refl)
-          ∙ partial_product-xor_left a b y i
-          ∙ sym (xor_of_same _ _ _ _ (partial_product-off a y i p) (partial_product-off b y i q))
+  | inl p ↦ elim (bit_cases b i) [
+    | inl q ↦ partial_product-off (bit_xor a b) y i (block_bit-xor a b i 0 0 0 p q refl)
+        ∙ partial_product-xor_left a b y i
+        ∙ sym (xor_of_same _ _ _ _ (partial_product-off a y i p) (partial_product-off b y i q))
     | inr q ↦ partial_product-on (bit_xor a b) y i (block_bit-xor a b i 0 1 1 p q refl)
-          ∙ ap (λ u. bit_xor u (shifted_factor y i)) (partial_product-xor_left a b y i)
-          ∙ xor_assoc (partial_product a y i) (partial_product b y i) (shifted_factor y i)
-          ∙ sym (xor_of_same _ _ _ _ (partial_product-off a y i p) (partial_product-on b y i q)) ]
+        ∙ ap (λ u. bit_xor u (shifted_factor y i)) (partial_product-xor_left a b y i)
+        ∙ xor_assoc (partial_product a y i) (partial_product b y i) (shifted_factor y i)
+        ∙ sym (xor_of_same _ _ _ _ (partial_product-off a y i p) (partial_product-on b y i q))
+  ]
   | inr p ↦ elim (bit_cases b i) [
-      inl q ↦ partial_product-on (bit_xor a b) y i (block_bit-xor a b i 1 0 1 p q refl)
-          ∙ ap (λ u. bit_xor u (shifted_factor y i)) (partial_product-xor_left a b y i)
-          ∙ sym (xor_left (partial_product a y i) (partial_product b y i) (shifted_factor y i))
-          ∙ sym (xor_of_same _ _ _ _ (partial_product-on a y i p) (partial_product-off b y i q))
+    | inl q ↦ partial_product-on (bit_xor a b) y i (block_bit-xor a b i 1 0 1 p q refl)
+        ∙ ap (λ u. bit_xor u (shifted_factor y i)) (partial_product-xor_left a b y i)
+        ∙ sym (xor_left (partial_product a y i) (partial_product b y i) (shifted_factor y i))
+        ∙ sym (xor_of_same _ _ _ _ (partial_product-on a y i p) (partial_product-off b y i q))
     | inr q ↦ partial_product-off (bit_xor a b) y i (block_bit-xor a b i 1 1 0 p q refl)
-          ∙ partial_product-xor_left a b y i
-          ∙ sym (xor_twice (partial_product a y i) (partial_product b y i) (shifted_factor y i))
-          ∙ sym (xor_of_same _ _ _ _ (partial_product-on a y i p) (partial_product-on b y i q)) ] ]
+        ∙ partial_product-xor_left a b y i
+        ∙ sym (xor_twice (partial_product a y i) (partial_product b y i) (shifted_factor y i))
+        ∙ sym (xor_of_same _ _ _ _ (partial_product-on a y i p) (partial_product-on b y i q))
+  ]
+]
 
 pub times_x_linear : IsLinear times_x
 times_x_linear = record { adds = times_x-xor; steps = λ a. refl }
@@ -197,7 +206,8 @@ prod-xor_left a b y = partial_product-xor_left a b y 128
 pub prod_linear : (x : ℕ) → IsLinear (prod x)
 prod_linear x = record {
   adds = prod-xor_right x;
-  steps = λ a. sym (linear-prod times_x times_x_linear x a) }
+  steps = λ a. sym (linear-prod times_x times_x_linear x a);
+}
 
 pub prod-zero_right : (x : ℕ) → prod x 0 ≡ 0
 prod-zero_right x = linear-zero (prod x) (prod_linear x)
@@ -216,9 +226,10 @@ pub partial_product_below : (x y i : ℕ) → y < 2 ^ 128 → partial_product x 
 unfolding partial_product
 partial_product_below x y zero h = lit< tt
 partial_product_below x y (suc i) h = elim (bit_cases x i) [
-    inl e ↦ rw (partial_product-off x y i e) (partial_product_below x y i h)
+  | inl e ↦ rw (partial_product-off x y i e) (partial_product_below x y i h)
   | inr e ↦ rw (partial_product-on x y i e) (xor_lt 128 (partial_product x y i) (shifted_factor y i)
-        (partial_product_below x y i h) (shifted_factor_below y i h)) ]
+      (partial_product_below x y i h) (shifted_factor_below y i h))
+]
 
 pub prod_below : (x y : ℕ) → y < 2 ^ 128 → prod x y < 2 ^ 128
 unfolding prod
@@ -278,15 +289,16 @@ partial_product-one_right x zero k h e =
 partial_product-one_right x (suc i) k h e =
     let q = x / 2 ^ k in
     let before : partial_product x one i ≡ q / 2 * (2 ^ k * 2)
-        = partial_product-one_right x i (suc k) h (omega arith) ∙ rw (shr-suc x k, pow-suc 2 k) in
+    = partial_product-one_right x i (suc k) h (omega arith) ∙ rw (shr-suc x k, pow-suc 2 k) in
     let bit : block_bit x i ≡ q % 2
-        = let place : 127 - i ≡ k = omega arith in ap (λ n. x / 2 ^ n % 2) place in
+    = let place : 127 - i ≡ k = omega arith in ap (λ n. x / 2 ^ n % 2) place in
     elim (bit_cases x i) [
-      inl b ↦ partial_product-off x one i b ∙ before ∙ half-even q (2 ^ k) (sym bit ∙ b)
-    | inr b ↦ partial_product-on x one i b
-        ∙ xor_of_same _ _ _ _ before (shifted_factor-one i k (omega arith))
-        ∙ ap (λ n. bit_xor (q / 2 * n) (2 ^ k)) (sym (pow-suc 2 k)) ∙ xor-next_bit (q / 2) k
-        ∙ ap (λ n. q / 2 * n + 2 ^ k) (pow-suc 2 k) ∙ half-odd q (2 ^ k) (sym bit ∙ b) ]
+      | inl b ↦ partial_product-off x one i b ∙ before ∙ half-even q (2 ^ k) (sym bit ∙ b)
+      | inr b ↦ partial_product-on x one i b
+          ∙ xor_of_same _ _ _ _ before (shifted_factor-one i k (omega arith))
+          ∙ ap (λ n. bit_xor (q / 2 * n) (2 ^ k)) (sym (pow-suc 2 k)) ∙ xor-next_bit (q / 2) k
+          ∙ ap (λ n. q / 2 * n + 2 ^ k) (pow-suc 2 k) ∙ half-odd q (2 ^ k) (sym bit ∙ b)
+    ]
 
 pub prod-one_right : (x : ℕ) → x < 2 ^ 128 → prod x one ≡ x
 unfolding prod

@@ -1,3 +1,4 @@
+pub mod OnLiterals
 pub mod Examples
 pub mod FieldLemmas
 pub mod DoublingLemmas

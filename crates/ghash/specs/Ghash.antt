@@ -1,6 +1,6 @@
 -- GHASH (SP 800-38D of 2007, 6.4) on lists of blocks, as the sum with powers of H, and the blocks of
 -- a string of bytes.
-use Rattle.std.specs.Prelude.{ℕ, zero, suc, ◌+◌, ◌-◌, ◌*◌, ◌/◌, ◌^◌, List, [], ◌∷◌, ◌++◌, length, map, take, drop, replicate, bit_xor, slice_index}
+use Rattle.std.specs.Prelude.{ℕ, zero, suc, ◌+◌, ◌-◌, ◌*◌, ◌/◌, List, [], ◌∷◌, ◌++◌, length, map, take, drop, replicate, bit_xor, slice_index}
 use Rattle.std.specs.Int.{w128, from_be_bytes}
 use Rattle.std.specs.List.{range_with_len}
 use Rattle.ghash.specs.Field.{prod, one}

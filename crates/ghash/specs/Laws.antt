@@ -1,10 +1,10 @@
 -- The laws of the product, of GHASH and of the doubling, over the definitions alone. Sums are XOR.
-use Rattle.std.specs.Prelude.{◌≡◌, ℕ, ◌+◌, ◌%◌, ◌^◌, ◌<◌, List, ◌++◌, length, bit_xor}
+use Rattle.std.specs.Prelude.{◌≡◌, ℕ, ◌-◌, ◌%◌, ◌^◌, ◌<◌, List, ◌++◌, length, bit_xor}
 use Rattle.std.specs.Int.{w128, reverse_bits}
 use Rattle.ghash.specs.Field.{prod, one, doubled}
-use Rattle.ghash.specs.Ghash.{ghash, running_value, padded_blocks}
+use Rattle.ghash.specs.Ghash.{power, ghash, running_value, padded_blocks}
 
--- the block 0 1 0^126: the x of the polynomials that blocks stand for (SP 800-38D, 6.3)
+-- the block 0 1 0^126, which stands for the polynomial x (SP 800-38D, 6.3)
 abbrev pub x_block : ℕ
 x_block = 2 ^ 126
 
@@ -24,6 +24,13 @@ ProductDistributes = (a b c : ℕ) → a < 2 ^ 128 → b < 2 ^ 128 → c < 2 ^ 1
 
 abbrev pub ProductHasOne : Type 0
 ProductHasOne = (a : ℕ) → a < 2 ^ 128 → (prod one a ≡ a) × (prod a one ≡ a)
+
+-- x^i is the block whose bit in place i alone is a 1, and x^128 is 1 + x + x^2 + x^7: products are
+-- those of polynomials, modulo 1 + x + x^2 + x^7 + x^128 (SP 800-38D, 6.3)
+abbrev pub PowersOfX : Type 0
+PowersOfX = ((i : ℕ) → i < 128 → power x_block i ≡ 2 ^ (127 - i))
+    × (power x_block 128 ≡ bit_xor (bit_xor (power x_block 0) (power x_block 1))
+        (bit_xor (power x_block 2) (power x_block 7)))
 
 -- of any list of blocks, the value by which the standard computes GHASH is the sum with powers of H
 abbrev pub HornerIsTheSum : Type 0

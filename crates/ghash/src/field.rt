@@ -24,12 +24,20 @@ pub fn mul(x: u128, y: u128) -> u128
 fn multiply_by_x(block: u128) -> u128
     ensures { result ≡ times_x block }
 {
-    if block & 1 == 0 { block >> 1 } else { (block >> 1) ^ REDUCTION }
+    if block & 1 == 0 {
+        block >> 1
+    } else {
+        (block >> 1) ^ REDUCTION
+    }
 }
 
 /// The doubling of a block, by which CMAC's subkeys follow one another (SP 800-38B, 6.1).
 pub fn dbl(x: u128) -> u128
     ensures { result ≡ doubled x }
 {
-    if x >> 127 == 0 { x << 1 } else { (x << 1) ^ 0x87 }
+    if x >> 127 == 0 {
+        x << 1
+    } else {
+        (x << 1) ^ 0x87
+    }
 }

@@ -24,10 +24,8 @@ impl Ghash {
     /// Adds `body`, padded with zeros to a whole number of blocks. Each call pads for itself, so
     /// what is cut anywhere but between two blocks of 16 bytes has another GHASH.
     pub fn absorb(&mut self, body: &[u8])
-        ensures {
-            (h : ℕ) (blocks : List ℕ)
-            → Holds self.old h blocks → Holds self.new h (blocks ++ padded_blocks body.now)
-        }
+        ensures { (h : ℕ) (blocks : List ℕ)
+            → Holds self.old h blocks → Holds self.new h (blocks ++ padded_blocks body.now) }
     {
         for piece in body.chunks(16) {
             self.add_block(block_of(piece));
@@ -36,10 +34,8 @@ impl Ghash {
 
     // One step of Horner's rule.
     fn add_block(&mut self, block: u128)
-        ensures {
-            (h : ℕ) (blocks : List ℕ)
-            → Holds self.old h blocks → Holds self.new h (blocks ++ block ∷ [])
-        }
+        ensures { (h : ℕ) (blocks : List ℕ)
+            → Holds self.old h blocks → Holds self.new h (blocks ++ block ∷ []) }
     {
         self.y = mul(self.y ^ block, self.h);
     }

@@ -6,4 +6,5 @@ use Rattle.ghash.proofs.field.mul.Given as goal
 abbrev pub invariant-loop-i : goal.invariant-loop-i
 invariant-loop-i l = record {
   product : l.partial_product ≡ partial_product l.x l.y l.i;
-  factor : l.shifted_factor ≡ shifted_factor l.y l.i }
+  factor : l.shifted_factor ≡ shifted_factor l.y l.i;
+}

@@ -15,6 +15,6 @@ pub returns : goal.returns
 unfolding padded_block
 returns c =
     let read : c.from_be_bytes.result ≡ from_be_bytes w128
-            (c.copy_from_slice.new.self ++ drop (length c.args.piece.now) (replicate 16 0))
-        = c.from_be_bytes.ensures in
+    (c.copy_from_slice.new.self ++ drop (length c.args.piece.now) (replicate 16 0))
+    = c.from_be_bytes.ensures in
     read ∙ ap (from_be_bytes w128) (whole _ c.args.piece.now c.copy_from_slice.ensures.after)

@@ -8,4 +8,4 @@ use Rattle.ghash.proofs.hash.Ghash.absorb.Given as goal
 abbrev pub invariant-loop-piece : goal.invariant-loop-piece
 invariant-loop-piece l = (chunks_size l.piece-iterator ≡ 16)
     × ((done : List ℕ) × (done ++ padded_blocks (chunks_rest l.piece-iterator) ≡ padded_blocks l.body)
-      × ((h : ℕ) (blocks : List ℕ) → Holds l.initial.self h blocks → Holds l.self h (blocks ++ done)))
+    × ((h : ℕ) (blocks : List ℕ) → Holds l.initial.self h blocks → Holds l.self h (blocks ++ done)))
