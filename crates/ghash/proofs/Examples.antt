@@ -31,7 +31,7 @@ ciphertext = take 60
 
 pub ghash-case_4 : ghash 0xB83B533708BF535D0AA6E52980D53B78
     (padded_blocks associated_data ++ padded_blocks ciphertext
-        ++ padded_blocks (to_be_bytes w64 160 ++ to_be_bytes w64 480))
+    ++ padded_blocks (to_be_bytes w64 160 ++ to_be_bytes w64 480))
     ≡ 0x698E57F70E6ECC7FD9463B7260A9AE5F
 unfolding ghash_on_literals
 ghash-case_4 = refl

@@ -3,3 +3,4 @@ pub mod Examples
 pub mod FieldLemmas
 pub mod DoublingLemmas
 pub mod GhashLemmas
+pub mod BlockBytes

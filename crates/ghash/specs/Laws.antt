@@ -1,6 +1,6 @@
 -- The laws of the product, of GHASH and of the doubling, over the definitions alone. Sums are XOR.
-use Rattle.std.specs.Prelude.{◌≡◌, ℕ, ◌-◌, ◌%◌, ◌^◌, ◌<◌, List, ◌++◌, length, bit_xor}
-use Rattle.std.specs.Int.{w128, reverse_bits}
+use Rattle.std.specs.Prelude.{◌≡◌, ℕ, ◌-◌, ◌%◌, ◌^◌, ◌<◌, List, [], ◌∷◌, ◌++◌, length, bit_xor}
+use Rattle.std.specs.Int.{w128, reverse_bits, to_be_bytes}
 use Rattle.ghash.specs.Field.{prod, one, doubled}
 use Rattle.ghash.specs.Ghash.{power, ghash, running_value, padded_blocks}
 
@@ -30,7 +30,7 @@ ProductHasOne = (a : ℕ) → a < 2 ^ 128 → (prod one a ≡ a) × (prod a one 
 abbrev pub PowersOfX : Type 0
 PowersOfX = ((i : ℕ) → i < 128 → power x_block i ≡ 2 ^ (127 - i))
     × (power x_block 128 ≡ bit_xor (bit_xor (power x_block 0) (power x_block 1))
-        (bit_xor (power x_block 2) (power x_block 7)))
+    (bit_xor (power x_block 2) (power x_block 7)))
 
 -- of any list of blocks, the value by which the standard computes GHASH is the sum with powers of H
 abbrev pub HornerIsTheSum : Type 0
@@ -50,3 +50,6 @@ ProductsAreBlocks = (a b : ℕ) (blocks : List ℕ) → a < 2 ^ 128 → b < 2 ^ 
 abbrev pub CutsBetweenBlocksVanish : Type 0
 CutsBetweenBlocksVanish = (front back : List ℕ) → length front % 16 ≡ 0
     → padded_blocks (front ++ back) ≡ padded_blocks front ++ padded_blocks back
+
+abbrev pub BytesOfABlockGiveItBack : Type 0
+BytesOfABlockGiveItBack = (a : ℕ) → a < 2 ^ 128 → padded_blocks (to_be_bytes w128 a) ≡ a ∷ []

@@ -21,8 +21,10 @@ impl Ghash {
         Ghash { h, y: 0 }
     }
 
-    /// Adds `body`, padded with zeros to a whole number of blocks. Each call pads for itself, so
-    /// what is cut anywhere but between two blocks of 16 bytes has another GHASH.
+    /// Adds the blocks of `body`, of any length, with zeros after it up to a whole block.
+    ///
+    /// Each call pads for itself: give a long string in pieces of whole blocks, and only its last
+    /// piece may end within one (SP 800-38D, 7.1, steps 4 and 5).
     pub fn absorb(&mut self, body: &[u8])
         ensures { (h : ℕ) (blocks : List ℕ)
             → Holds self.old h blocks → Holds self.new h (blocks ++ padded_blocks body.now) }

@@ -1,5 +1,6 @@
 //! Laws of the product, of GHASH and of the doubling, for blocks: numbers below 2^128.
-ghost use Rattle.ghash.specs.Laws.{CutsBetweenBlocksVanish, DoublingMultipliesByX, HornerIsTheSum};
+ghost use Rattle.ghash.specs.Laws.{BytesOfABlockGiveItBack, CutsBetweenBlocksVanish};
+ghost use Rattle.ghash.specs.Laws.{DoublingMultipliesByX, HornerIsTheSum};
 ghost use Rattle.ghash.specs.Laws.{PowersOfX, ProductAssociates, ProductCommutes, ProductDistributes};
 ghost use Rattle.ghash.specs.Laws.{ProductHasOne, ProductsAreBlocks};
 
@@ -27,8 +28,7 @@ pub fn product_has_one()
 /// 1 + x + x^2 + x^7 + x^128 (SP 800-38D, 6.3).
 pub fn powers_of_x()
     ensures { PowersOfX }
-{
-}
+{}
 
 /// The value by which the standard computes GHASH is the sum with powers of H.
 pub fn horner_is_the_sum()
@@ -48,4 +48,9 @@ pub fn products_are_blocks()
 /// The blocks of a string of bytes that is cut between two of them are those of its parts.
 pub fn cuts_between_blocks_vanish()
     ensures { CutsBetweenBlocksVanish }
+{}
+
+/// The 16 bytes of a block, highest first, are one block, which is that number.
+pub fn bytes_of_a_block_give_it_back()
+    ensures { BytesOfABlockGiveItBack }
 {}

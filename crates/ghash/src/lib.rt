@@ -7,6 +7,8 @@
 mod field;
 mod hash;
 pub mod laws;
+#[cfg(test)]
+mod tests;
 
 pub use field::{dbl, mul};
 pub use hash::Ghash;
