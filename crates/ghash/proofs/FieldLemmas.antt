@@ -13,12 +13,14 @@ pub xor_exchange : (a b c d : ℕ)
     → bit_xor (bit_xor a b) (bit_xor c d) ≡ bit_xor (bit_xor a c) (bit_xor b d)
 xor_exchange a b c d =
     xor_assoc a b (bit_xor c d)
-    ∙ ap (λ u. bit_xor a u) (sym (xor_assoc b c d) ∙ ap (λ u. bit_xor u d) (xor_comm b c) ∙ xor_assoc c b d)
+    ∙ ap (λ u. bit_xor a u)
+    (sym (xor_assoc b c d) ∙ ap (λ u. bit_xor u d) (xor_comm b c) ∙ xor_assoc c b d)
     ∙ sym (xor_assoc a c (bit_xor b d))
 
 -- the sum of a block with another one that is added twice
 pub xor_twice : (a b c : ℕ) → bit_xor (bit_xor a c) (bit_xor b c) ≡ bit_xor a b
-xor_twice a b c = xor_exchange a c b c ∙ ap (λ u. bit_xor (bit_xor a b) u) (xor_self c) ∙ xor_zero_r (bit_xor a b)
+xor_twice a b c =
+    xor_exchange a c b c ∙ ap (λ u. bit_xor (bit_xor a b) u) (xor_self c) ∙ xor_zero_r (bit_xor a b)
 
 pub xor_left : (a b c : ℕ) → bit_xor (bit_xor a c) b ≡ bit_xor (bit_xor a b) c
 xor_left a b c = xor_assoc a c b ∙ ap (λ u. bit_xor a u) (xor_comm c b) ∙ sym (xor_assoc a b c)
@@ -103,7 +105,9 @@ partial_product-on x y i e = rw e
 pub next-factor : (y i v w : ℕ) → v ≡ shifted_factor y i → w ≡ times_x v
     → w ≡ shifted_factor y (i + 1)
 unfolding shifted_factor
-next-factor y i v w e f = let n : i + 1 ≡ suc i = omega arith in f ∙ ap times_x e ∙ ap (shifted_factor y) (sym n)
+next-factor y i v w e f =
+    let n : i + 1 ≡ suc i = omega arith in
+    f ∙ ap times_x e ∙ ap (shifted_factor y) (sym n)
 
 pub next-product_off : (x y i z : ℕ) → z ≡ partial_product x y i
     → bit_and (x / 2 ^ (127 - i)) 1 ≢ 1 → z ≡ partial_product x y (i + 1)
@@ -259,10 +263,13 @@ times_x-pow k =
 pub shifted_factor-one : (i k : ℕ) → i + k ≡ 127 → shifted_factor one i ≡ 2 ^ k
 unfolding shifted_factor
 shifted_factor-one zero k e = let f : 127 ≡ k = omega arith in ap (λ n. 2 ^ n) f
-shifted_factor-one (suc i) k e = ap times_x (shifted_factor-one i (suc k) (omega arith)) ∙ times_x-pow k
+shifted_factor-one (suc i) k e =
+    ap times_x (shifted_factor-one i (suc k) (omega arith)) ∙ times_x-pow k
 
 pub shr-suc : (x k : ℕ) → x / 2 ^ suc k ≡ x / 2 ^ k / 2
-shr-suc x k = let e : k + 1 ≡ suc k = omega arith in ap (λ n. x / 2 ^ n) (sym e) ∙ sym (shr-shr x k 1)
+shr-suc x k =
+    let e : k + 1 ≡ suc k = omega arith in
+    ap (λ n. x / 2 ^ n) (sym e) ∙ sym (shr-shr x k 1)
 
 -- the number q with k zeros after it, from its half and its last bit
 half-even : (q p : ℕ) → q % 2 ≡ 0 → q / 2 * (p * 2) ≡ q * p

@@ -104,7 +104,7 @@ fn hashes_the_published_cases_in_any_pieces(rt: HostRuntime) -> Result<(), Fail>
     Ok(())
 }
 
-// X 1 of test case 2 of the same appendix, and the subkeys of SP 800-38B, D.1 and D.3.
+// X 1 of test case 2 of the same appendix, and the subkeys of SP 800-38B (2005), D.1 and D.3.
 #[test]
 fn multiplies_and_doubles_as_printed(rt: HostRuntime) {
     let x_1 = mul(

@@ -1,3 +1,4 @@
+-- The words start as Z 0 and V 0, each round takes the next ones, and Z 128 is the product.
 use Rattle.std.proofs.Common.{◌≡◌, refl, ◌∙◌, ap, arith}
 use Rattle.ghash.specs.Field.{shifted_factor, partial_product, prod}
 use Rattle.ghash.proofs.FieldLemmas.{next-factor, next-product_on, next-product_off}

@@ -1,3 +1,4 @@
+-- The running value is GHASH of the blocks so far.
 use Rattle.ghash.specs.GhashState.{Holds}
 use Rattle.ghash.proofs.hash.Ghash.finish.Goals as goal
 
