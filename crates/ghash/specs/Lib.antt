@@ -1,0 +1,4 @@
+pub mod Field
+pub mod Ghash
+pub mod Laws
+pub mod GhashState
