@@ -1,0 +1,2 @@
+pub mod HmacExamples
+pub mod HmacLemmas

@@ -1,0 +1,4 @@
+pub mod Hmac
+pub mod HasherState
+pub mod HmacState
+pub mod Laws

@@ -1,0 +1,75 @@
+//! A running digest of FIPS 180-4 whose hash function is known only when it runs.
+
+ghost use Rattle.std.specs.Prelude.{◌≡◌, ◌≤◌, ℕ, List, [], ◌++◌, length, take};
+ghost use Rattle.tink_base.specs.Hash.{hash_size};
+ghost use Rattle.mac_prf.specs.Hmac.{block_size, digest};
+ghost use Rattle.mac_prf.specs.HasherState.{hash_under, IsAfter};
+
+use sha2::{Digest, Sha256};
+use tink_base::Hash;
+
+/// The bytes of the longest block, that of SHA-384 and SHA-512.
+pub const LONGEST_BLOCK: usize = 128;
+
+/// The bytes of the longest digest, that of SHA-512.
+pub const LONGEST_DIGEST: usize = 64;
+
+/// The bytes of a block of `hash` (FIPS 180-4, figure 1).
+pub fn block_len(hash: Hash) -> usize
+    ensures { result ≡ block_size hash }
+{
+    match hash {
+        Hash::Sha1 | Hash::Sha224 | Hash::Sha256 => 64,
+        Hash::Sha384 | Hash::Sha512 => 128,
+    }
+}
+
+/// A hasher under one of the hash functions.
+#[derive(Drop)]
+pub enum Hasher {
+    Sha256(Sha256),
+}
+
+impl Hasher {
+    /// A hasher of the empty message.
+    pub fn new(hash: Hash) -> Hasher
+        requires built { hash ≡ Hash.Sha256 }
+        ensures { IsAfter result hash [] }
+    {
+        match hash {
+            Hash::Sha256 => Hasher::Sha256(Sha256::new()),
+            _ => unreachable!(),
+        }
+    }
+
+    /// The hash function.
+    pub fn hash(&self) -> Hash
+        ensures { result ≡ hash_under self.now }
+    {
+        match self {
+            Hasher::Sha256(_) => Hash::Sha256,
+        }
+    }
+
+    /// Adds `piece` to the message.
+    pub fn update(&mut self, piece: &[u8])
+        ensures kept { hash_under self.new ≡ hash_under self.old }
+        ensures taken { (hash : Hash) (m : List ℕ) →
+            IsAfter self.old hash m → IsAfter self.new hash (m ++ piece.now) }
+    {
+        match self {
+            Hasher::Sha256(hasher) => hasher.update(piece),
+        }
+    }
+
+    /// Writes the first bytes of the message's digest, as many as `out` has.
+    pub fn finish(self, out: &mut [u8])
+        requires { length out.old ≤ hash_size (hash_under self) }
+        ensures { (hash : Hash) (m : List ℕ) →
+            IsAfter self hash m → out.new ≡ take (length out.old) (digest hash m) }
+    {
+        match self {
+            Hasher::Sha256(hasher) => out.copy_from_slice(&hasher.finalize()[..out.len()]),
+        }
+    }
+}

@@ -1,0 +1,120 @@
+//! HMAC (RFC 2104; FIPS 198-1) of a message that comes in pieces.
+
+ghost use Rattle.std.specs.Prelude.{◌≡◌, ◌≤◌, ◌-◌, ℕ, List, [], ◌++◌, length, replicate, take};
+ghost use Rattle.tink_base.specs.Hash.{hash_size};
+ghost use Rattle.mac_prf.specs.Hmac.{block_key, block_size, hmac, xored};
+ghost use Rattle.mac_prf.specs.HasherState.{hash_under, IsAfter};
+
+use crate::hasher::{Hasher, LONGEST_BLOCK, LONGEST_DIGEST, block_len};
+use tink_base::Hash;
+
+/// The byte of the inner pad (RFC 2104, 2).
+const IPAD: u8 = 0x36;
+
+/// The byte of the outer pad (RFC 2104, 2).
+const OPAD: u8 = 0x5c;
+
+/// HMAC under one key, of a message that comes in pieces: `new`, an `update` for each piece, and
+/// `finish`.
+///
+/// No call takes memory. No running time is promised, nor that a key leaves memory.
+#[derive(Drop)]
+pub struct Hmac {
+    // After K XOR ipad and the message so far.
+    inner: Hasher,
+    // After K XOR opad.
+    outer: Hasher,
+    ghost alike: { hash_under inner ≡ hash_under outer },
+}
+
+impl Hmac {
+    ghost use Rattle.mac_prf.specs.HmacState.{hash_of, Holds};
+
+    /// Begins with the empty message, under `key` (RFC 2104, 2).
+    ///
+    /// `hash` is SHA-256, the only one that is built so far. `key` may have any length, also none:
+    /// one longer than a block is replaced by its digest.
+    pub fn new(hash: Hash, key: &[u8]) -> Hmac
+        requires built { hash ≡ Hash.Sha256 }
+        ensures holds { Holds result hash key.now [] }
+        ensures under { hash_of result ≡ hash }
+    {
+        let block = key_in_a_block(hash, key);
+        Hmac {
+            inner: after_pad(hash, block, IPAD),
+            outer: after_pad(hash, block, OPAD),
+        }
+    }
+
+    /// Adds `body` to the message. How a message is cut into pieces doesn't change its tag.
+    pub fn update(&mut self, body: &[u8])
+        ensures holds { (hash : Hash) (key m : List ℕ) →
+            Holds self.old hash key m → Holds self.new hash key (m ++ body.now) }
+        ensures under { hash_of self.new ≡ hash_of self.old }
+    {
+        self.inner.update(body);
+    }
+
+    /// Writes the first bytes of the message's tag into `out`, all that it has (RFC 2104, 2 and 5).
+    ///
+    /// `out` has at most as many bytes as a digest of the hash function.
+    pub fn finish(self, out: &mut [u8])
+        requires fits { length out.old ≤ hash_size (hash_of self) }
+        ensures { (hash : Hash) (key m : List ℕ) →
+            Holds self hash key m → out.new ≡ take (length out.old) (hmac hash key m) }
+    {
+        let Hmac { inner, mut outer } = self;
+        let mut longest = [0; LONGEST_DIGEST];
+        let digest = &mut longest[..inner.hash().size()];
+        inner.finish(digest);
+        outer.update(digest);
+        outer.finish(out);
+    }
+}
+
+// The key, or its digest where it is longer than a block, with zeros after it up to the longest
+// block: the key's own block is at the front.
+fn key_in_a_block(hash: Hash, key: &[u8]) -> [u8; LONGEST_BLOCK]
+    requires built { hash ≡ Hash.Sha256 }
+    ensures { take (block_size hash) result ≡ block_key hash key.now }
+{
+    if key.len() > block_len(hash) {
+        let mut longest = [0; LONGEST_DIGEST];
+        let digest = &mut longest[..hash.size()];
+        let mut hasher = Hasher::new(hash);
+        hasher.update(key);
+        hasher.finish(digest);
+        with_zeros(digest)
+    } else {
+        with_zeros(key)
+    }
+}
+
+fn with_zeros(key: &[u8]) -> [u8; LONGEST_BLOCK]
+    requires { length key.now ≤ LONGEST_BLOCK }
+    ensures { result ≡ key.now ++ replicate (LONGEST_BLOCK - length key.now) 0 }
+{
+    let mut block = [0; LONGEST_BLOCK];
+    block[..key.len()].copy_from_slice(key);
+    block
+}
+
+// A hasher that has taken the block's key XOR a pad.
+fn after_pad(hash: Hash, mut block: [u8; LONGEST_BLOCK], pad: u8) -> Hasher
+    requires built { hash ≡ Hash.Sha256 }
+    ensures { IsAfter result hash (xored (take (block_size hash) block) pad) }
+{
+    let padded = &mut block[..block_len(hash)];
+    xor_each(padded, pad);
+    let mut hasher = Hasher::new(hash);
+    hasher.update(padded);
+    hasher
+}
+
+fn xor_each(bytes: &mut [u8], pad: u8)
+    ensures { bytes.new ≡ xored bytes.old pad }
+{
+    for byte in bytes.iter_mut() {
+        *byte ^= pad;
+    }
+}

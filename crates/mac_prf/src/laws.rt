@@ -1,0 +1,8 @@
+//! Laws of the definitions alone, under all five hash functions.
+
+ghost use Rattle.mac_prf.specs.Laws.{TagsHaveTheirSize};
+
+/// A whole tag has the size of its hash function's digest, under any key and of any message.
+pub fn tags_have_their_size()
+    ensures { TagsHaveTheirSize }
+{}

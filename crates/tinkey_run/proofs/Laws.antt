@@ -1,0 +1,184 @@
+-- Each promise, proved once for every end of every plan.
+use Rattle.std.proofs.Common.{◌≡◌, ◌≢◌, ◌⊎◌, inl, inr, ℕ, ◌+◌, ◌<◌, ◌≤◌, List, [], ◌++◌, length, drop, refl, sym, ◌∙◌, ap, subst, arith, append-nil, length-append}
+use Rattle.std.specs.Prelude.{Option, Some, None, option_map, IfSome, nat_le, true, false}
+use Rattle.std.proofs.lemmas.List.{drop_at}
+use Rattle.std.proofs.lemmas.Bool.Decides.{nat_tests}
+use Rattle.tink_spec.specs.Outside.{SourceState, SinkState, Rose, Gave, GaveCount, Took, TookPrefix, IsAtEnd}
+use Rattle.tink_spec.proofs.Moves.{gave_same, gave_more, took_same}
+use Rattle.tinkey_run.specs.declared.status.Status.{Status}
+use Rattle.tinkey_run.specs.declared.status.Status.TheVariants as status
+use Rattle.tinkey_run.specs.Plan.{Plan, ends, writes, allocates, reads_all, Told, Answer, answer, IsStated}
+use Rattle.tinkey_run.specs.Ends.{World, Ends, OnlySource, OnlySink, wrote, write_failed, read, too_long, read_failed, read_starved}
+use Rattle.tinkey_run.specs.Promises.{Tells, IsAnswer, Answers, HasCause, IsFront, IsLeft, Leaves, Stands, Completes}
+
+-- a stated status is no fault, and no want of memory
+abbrev not_read_fault : (s : Status) → IsStated s → s ≡ status.ReadFault → ⊥
+not_read_fault s stated is = let h : IsStated status.ReadFault = rw is at stated in h
+
+abbrev not_write_fault : (s : Status) → IsStated s → s ≡ status.WriteFault → ⊥
+not_write_fault s stated is = let h : IsStated status.WriteFault = rw is at stated in h
+
+abbrev not_no_memory : (s : Status) → IsStated s → s ≡ status.NoMemory → ⊥
+not_no_memory s stated is = let h : IsStated status.NoMemory = rw is at stated in h
+
+rose_after : (a b c : ℕ) → a ≤ b → Rose b c → Rose a c
+rose_after a b c le (inl lt) = inl (omega arith)
+rose_after a b c le (inr last) = inr last
+
+-- The causes of faults.
+
+no_fault : (old new : World) (s : Status) → IsStated s → HasCause old s new
+no_fault old new s stated = record {
+  read = λ h. absurd (not_read_fault s stated h);
+  write = λ h. absurd (not_write_fault s stated h);
+}
+
+pub has_cause : (p : Plan) (old : World) (s : Status) (new : World) → Ends p old s new → HasCause old s new
+has_cause (ends answered stated) old s new (is, same) = no_fault old new s (rw is stated)
+has_cause (writes output) old s new (wrote is only took) = no_fault old new s (rw is tt)
+has_cause (writes output) old s new (write_failed is only rose front) = record { read = λ h. absurd (cc); write = λ h. rose }
+has_cause (allocates next) old s new (inl run) = has_cause next old s new run
+has_cause (allocates next) old s new (inr (is, same)) = record { read = λ h. absurd (cc); write = λ h. absurd (cc) }
+has_cause (reads_all limit long stated next) old s new (read all source gave within end run) =
+    let later = has_cause (next all) (record old { source = source }) s new run in
+    record { read = λ h. rose_after _ _ _ gave.faults (later.read h); write = later.write }
+has_cause (reads_all limit long stated next) old s new (too_long is only count) = no_fault old new s (rw is stated)
+has_cause (reads_all limit long stated next) old s new (read_failed is only rose upto) = record { read = λ h. rose; write = λ h. absurd (cc) }
+has_cause (reads_all limit long stated next) old s new (read_starved is only upto) = record { read = λ h. absurd (cc); write = λ h. absurd (cc) }
+
+-- Completeness.
+
+completes_from : (p : Plan) (old : World) (s : Status) (new : World) → Ends p old s new → (Rose old.source.faults new.source.faults → ⊥) → (Rose old.sink.faults new.sink.faults → ⊥) → s ≢ status.NoMemory → IsStated s
+completes_from (ends answered stated) old s new (is, same) no_read no_write memory = rw is stated
+completes_from (writes output) old s new (wrote is only took) no_read no_write memory = rw is tt
+completes_from (writes output) old s new (write_failed is only rose front) no_read no_write memory = absurd (no_write rose)
+completes_from (allocates next) old s new (inl run) no_read no_write memory = completes_from next old s new run no_read no_write memory
+completes_from (allocates next) old s new (inr (is, same)) no_read no_write memory = absurd (memory is)
+completes_from (reads_all limit long stated next) old s new (read all source gave within end run) no_read no_write memory =
+    completes_from (next all) (record old { source = source }) s new run (λ rose. no_read (rose_after _ _ _ gave.faults rose)) no_write memory
+completes_from (reads_all limit long stated next) old s new (too_long is only count) no_read no_write memory = rw is stated
+completes_from (reads_all limit long stated next) old s new (read_failed is only rose upto) no_read no_write memory = absurd (no_read rose)
+completes_from (reads_all limit long stated next) old s new (read_starved is only upto) no_read no_write memory = absurd (memory is)
+
+pub completes : (p : Plan) (old : World) (s : Status) (new : World) → Ends p old s new → Completes old s new
+completes p old s new run = record { stated = completes_from p old s new run }
+
+-- The stated answer.
+
+-- what is left after some bytes were given
+split_told : (left before : Option (List ℕ)) (input piece : List ℕ) → before ≡ Some input → before ≡ option_map (λ rest. piece ++ rest) left → (rest : List ℕ) × (left ≡ Some rest) × (input ≡ piece ++ rest)
+split_told None before input piece told is = absurd (cc)
+split_told (Some rest) before input piece told is = (rest, refl, cc)
+
+at_end : (left : Option (List ℕ)) (rest : List ℕ) → left ≡ Some rest → IfSome left (λ r. r ≡ []) → rest ≡ []
+at_end left rest is end = let h : IfSome (Some rest) (λ r. r ≡ []) = rw is at end in h
+
+-- a whole input that is told is what was given
+whole_input : (old source : SourceState) (input all : List ℕ) → old.left ≡ Some input → Gave old source all → IsAtEnd source → (source.left ≡ Some []) × (input ≡ all)
+whole_input old source input all told gave end =
+    let split = split_told source.left old.left input all told gave.left in
+    let none = at_end source.left split.0 split.1 end in
+    (split.1 ∙ ap (λ (r : List ℕ). Some r) none, split.2 ∙ ap (λ (r : List ℕ). all ++ r) none ∙ append-nil all)
+
+after_count : (old new : SourceState) (input : List ℕ) (n : ℕ) → old.left ≡ Some input → GaveCount old new n → (n ≤ length input) × (new.left ≡ Some (drop n input))
+after_count old new input n told count =
+    let split = split_told new.left old.left input count.piece told count.gave.left in (
+      omega (arith, count.exact, ap length split.2, length-append count.piece split.0),
+      split.1 ∙ ap (λ (l : List ℕ). Some l) (sym (ap (λ (l : List ℕ). drop n l) split.2 ∙ drop_at count.piece split.0 n count.exact)),
+    )
+
+tells_same : (old new : World) (told : Told) → Tells old told → old.source ≡ new.source → new.source.left ≡ Some told.input
+tells_same old new told tells source = sym (ap (λ (w : SourceState). w.left) source) ∙ tells.input
+
+fits_test : (n limit : ℕ) → n ≤ limit → nat_le n limit ≡ true
+fits_test n limit le = grind (arith, nat_tests)
+
+past_test : (n limit : ℕ) → limit < n → nat_le n limit ≡ false
+past_test n limit lt = grind (arith, nat_tests)
+
+-- the answer goes on behind a whole input
+read_answer : (limit : ℕ) (long : Status) (stated : IsStated long) (next : List ℕ → Plan) (told : Told) (all : List ℕ) → told.input ≡ all → length all ≤ limit → answer (reads_all limit long stated next) told ≡ answer (next all) (record { input = [] })
+read_answer limit long stated next told all is le = rw (is, fits_test (length all) limit le) refl
+
+long_answer : (limit : ℕ) (long : Status) (stated : IsStated long) (next : List ℕ → Plan) (told : Told) → limit < length told.input → answer (reads_all limit long stated next) told ≡ record { status = long; input = drop (limit + 1) told.input; output = [] }
+long_answer limit long stated next told lt = rw (past_test (length told.input) limit lt) refl
+
+answers_over : (p : Plan) (old : World) (s : Status) (new : World) → Ends p old s new → (told : Told) → Tells old told → IsStated s → IsAnswer (answer p told) old s new
+answers_over (ends answered stated) old s new (is, same) told tells ok = record {
+  status = is;
+  input = tells_same old new told tells (ap (λ (w : World). w.source) same);
+  output = took_same old.sink new.sink (ap (λ (w : World). w.sink) same);
+}
+answers_over (writes output) old s new (wrote is only took) told tells ok = record {
+  status = is;
+  input = tells_same old new told tells only.source;
+  output = took;
+}
+answers_over (writes output) old s new (write_failed is only rose front) told tells ok = absurd (not_write_fault s ok is)
+answers_over (allocates next) old s new (inl run) told tells ok = answers_over next old s new run told tells ok
+answers_over (allocates next) old s new (inr (is, same)) told tells ok = absurd (not_no_memory s ok is)
+answers_over (reads_all limit long stated next) old s new (read all source gave within end run) told tells ok =
+    let whole = whole_input old.source source told.input all tells.input gave end in
+    let later = answers_over (next all) (record old { source = source }) s new run (record { input = [] }) (record { input = whole.0 }) ok in
+    subst (λ (a : Answer). IsAnswer a old s new) (sym (read_answer limit long stated next told all whole.1 within))
+    (record { status = later.status; input = later.input; output = later.output })
+answers_over (reads_all limit long stated next) old s new (too_long is only count) told tells ok =
+    let after = after_count old.source new.source told.input (limit + 1) tells.input count in
+    subst (λ (a : Answer). IsAnswer a old s new) (sym (long_answer limit long stated next told (omega (arith, after.0))))
+    (record { status = is; input = after.1; output = took_same old.sink new.sink only.sink })
+answers_over (reads_all limit long stated next) old s new (read_failed is only rose upto) told tells ok = absurd (not_read_fault s ok is)
+answers_over (reads_all limit long stated next) old s new (read_starved is only upto) told tells ok = absurd (not_no_memory s ok is)
+
+pub answers : (p : Plan) (old : World) (s : Status) (new : World) → Ends p old s new → Answers p old s new
+answers p old s new run = record { over = answers_over p old s new run }
+
+-- What stands.
+
+-- a status that isn't the write fault, and a sink that is as before
+untouched : (p : Plan) (old : World) (s : Status) (new : World) → (s ≡ status.WriteFault → ⊥) → old.sink ≡ new.sink → Stands p old s new
+untouched p old s new other same = record { kept = λ done fault. took_same old.sink new.sink same; front = λ h. absurd (other h); last = λ h. absurd (other h) }
+
+pub stands : (p : Plan) (old : World) (s : Status) (new : World) → Ends p old s new → Stands p old s new
+stands (ends answered stated) old s new (is, same) = untouched (ends answered stated) old s new (λ h. not_write_fault answered stated (sym is ∙ h)) (ap (λ (w : World). w.sink) same)
+stands (writes output) old s new (wrote is only took) = record { kept = λ done fault. absurd (done is); front = λ h. absurd (cc); last = λ h. absurd (cc) }
+stands (writes output) old s new (write_failed is only rose front) = record { kept = λ done fault. absurd (fault is); front = λ h told tells. front; last = λ h told tells. refl }
+stands (allocates next) old s new (inl run) = let later = stands next old s new run in record { kept = later.kept; front = later.front; last = later.last }
+stands (allocates next) old s new (inr (is, same)) = untouched (allocates next) old s new (λ h. absurd (cc)) (ap (λ (w : World). w.sink) same)
+stands (reads_all limit long stated next) old s new (read all source gave within end run) =
+    let later = stands (next all) (record old { source = source }) s new run in
+    let whole : (told : Told) → Tells old told → (source.left ≡ Some []) × (told.input ≡ all) = λ told tells. whole_input old.source source told.input all tells.input gave end in
+    let goes_on : (told : Told) → Tells old told → answer (reads_all limit long stated next) told ≡ answer (next all) (record { input = [] }) = λ told tells. read_answer limit long stated next told all (whole told tells).1 within in
+    record {
+      kept = later.kept;
+      front = λ h told tells. subst (λ (a : Answer). TookPrefix old.sink new.sink a.output) (sym (goes_on told tells)) (later.front h (record { input = [] }) (record { input = (whole told tells).0 }));
+      last = λ h told tells. ap (λ (a : Answer). a.status) (goes_on told tells) ∙ later.last h (record { input = [] }) (record { input = (whole told tells).0 });
+    }
+stands (reads_all limit long stated next) old s new (too_long is only count) = untouched (reads_all limit long stated next) old s new (λ h. not_write_fault long stated (sym is ∙ h)) only.sink
+stands (reads_all limit long stated next) old s new (read_failed is only rose upto) = untouched (reads_all limit long stated next) old s new (λ h. absurd (cc)) only.sink
+stands (reads_all limit long stated next) old s new (read_starved is only upto) = untouched (reads_all limit long stated next) old s new (λ h. absurd (cc)) only.sink
+
+-- What was taken and written.
+
+front_of : (old new : SinkState) (bytes : List ℕ) (front : TookPrefix old new bytes) → IsFront front.front bytes
+front_of old new bytes front = record { rest = front.rest; some = front.some; is = front.whole }
+
+-- nothing was taken or written
+none_left : (p : Plan) (old : World) (s : Status) (new : World) → old ≡ new → IsLeft p s [] [] → Leaves p old s new
+none_left p old s new same is = record { taken = []; written = []; gave = gave_same _ _ (ap (λ (w : World). w.source) same); took = took_same _ _ (ap (λ (w : World). w.sink) same); is = is }
+
+-- bytes were taken, and nothing was written
+some_taken : (p : Plan) (old : World) (s : Status) (new : World) (taken : List ℕ) → Gave old.source new.source taken → OnlySource old new → IsLeft p s taken [] → Leaves p old s new
+some_taken p old s new taken gave only is = record { taken = taken; written = []; gave = gave; took = took_same _ _ only.sink; is = is }
+
+pub leaves : (p : Plan) (old : World) (s : Status) (new : World) → Ends p old s new → Leaves p old s new
+leaves (ends answered stated) old s new (is, same) = none_left _ old s new same (is, refl, refl)
+leaves (writes output) old s new (wrote is only took) = record { taken = []; written = output; gave = gave_same _ _ only.source; took = took; is = (refl, inl (is, refl)) }
+leaves (writes output) old s new (write_failed is only rose front) = record { taken = []; written = front.front; gave = gave_same _ _ only.source; took = front.took; is = (refl, inr (is, front_of _ _ _ front)) }
+leaves (allocates next) old s new (inl run) = let later = leaves next old s new run in record { taken = later.taken; written = later.written; gave = later.gave; took = later.took; is = inr later.is }
+leaves (allocates next) old s new (inr (is, same)) = none_left _ old s new same (inl (is, refl, refl))
+leaves (reads_all limit long stated next) old s new (read all source gave within end run) =
+    let later = leaves (next all) (record old { source = source }) s new run in
+    record { taken = all ++ later.taken; written = later.written; gave = gave_more _ _ _ _ _ gave later.gave; took = later.took; is = inr (all, later.taken, refl, within, later.is) }
+leaves (reads_all limit long stated next) old s new (too_long is only count) = some_taken _ old s new count.piece count.gave only (inl (refl, inl (is, count.exact)))
+leaves (reads_all limit long stated next) old s new (read_failed is only rose upto) = some_taken _ old s new upto.piece upto.gave only (inl (refl, inr (inl is, upto.within)))
+leaves (reads_all limit long stated next) old s new (read_starved is only upto) = some_taken _ old s new upto.piece upto.gave only (inl (refl, inr (inr is, upto.within)))

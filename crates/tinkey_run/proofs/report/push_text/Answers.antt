@@ -1,0 +1,11 @@
+use Rattle.std.proofs.Common.{append_assoc}
+use Rattle.tinkey_run.specs.Status.{text_of}
+use Rattle.tinkey_run.proofs.report.push_text.Goals as goal
+
+pub returns-in-Usage-clause-text : goal.returns-in-Usage-clause-text
+unfolding text_of
+returns-in-Usage-clause-text c = rw (c.in-Usage.is, c.push_number.ensures.text, c.push.ensures) (simp append_assoc)
+
+pub returns-in-BadProto-clause-text : goal.returns-in-BadProto-clause-text
+unfolding text_of
+returns-in-BadProto-clause-text c = rw (c.in-BadProto.is, c.push_number-in-BadProto.ensures.text, c.push-in-BadProto.ensures) (simp append_assoc)

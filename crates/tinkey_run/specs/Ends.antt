@@ -1,0 +1,41 @@
+-- How a run of a plan may end, whatever fails.
+use Rattle.std.specs.Prelude.{◌≡◌, ◌⊎◌, ℕ, ◌+◌, ◌≤◌, List, length}
+use Rattle.tink_spec.specs.Outside.{SourceState, SinkState, Rose, Gave, GaveUpTo, GaveCount, Took, TookPrefix, IsAtEnd}
+use Rattle.tinkey_run.specs.declared.status.Status.{Status}
+use Rattle.tinkey_run.specs.declared.status.Status.TheVariants as status
+use Rattle.tinkey_run.specs.Plan.{Plan, ends, writes, allocates, reads_all}
+
+-- the outside objects at one moment
+pub record World : Type 0 where
+  pub source : SourceState
+  pub sink : SinkState
+
+abbrev pub world : SourceState → SinkState → World
+world source sink = record { source = source; sink = sink }
+
+-- all objects but the source are as before
+pub record OnlySource (old new : World) : Type 0 where
+  pub sink : old.sink ≡ new.sink
+
+-- all objects but the sink are as before
+pub record OnlySink (old new : World) : Type 0 where
+  pub source : old.source ≡ new.source
+
+-- all of the output was written, or the first bytes of it where the sink failed
+pub data EndsWriting (output : List ℕ) (old : World) (s : Status) (new : World) : Type 0 where
+  wrote : s ≡ status.Done → OnlySink old new → Took old.sink new.sink output → EndsWriting output old s new
+  write_failed : s ≡ status.WriteFault → OnlySink old new → Rose old.sink.faults new.sink.faults → TookPrefix old.sink new.sink output → EndsWriting output old s new
+
+-- all bytes were read, and then it went on; or one byte more than the limit was taken; or the source
+-- failed, or memory was wanting, within the limit
+pub data EndsReading (limit : ℕ) (long : Status) (Then : List ℕ → World → Status → World → Type 0) (old : World) (s : Status) (new : World) : Type 0 where
+  read : (all : List ℕ) (source : SourceState) → Gave old.source source all → length all ≤ limit → IsAtEnd source → Then all (record old { source = source }) s new → EndsReading limit long Then old s new
+  too_long : s ≡ long → OnlySource old new → GaveCount old.source new.source (limit + 1) → EndsReading limit long Then old s new
+  read_failed : s ≡ status.ReadFault → OnlySource old new → Rose old.source.faults new.source.faults → GaveUpTo old.source new.source limit → EndsReading limit long Then old s new
+  read_starved : s ≡ status.NoMemory → OnlySource old new → GaveUpTo old.source new.source limit → EndsReading limit long Then old s new
+
+abbrev pub Ends : Plan → World → Status → World → Type 0
+Ends (ends stated_status stated) old s new = (s ≡ stated_status) × (old ≡ new)
+Ends (writes output) old s new = EndsWriting output old s new
+Ends (allocates next) old s new = Ends next old s new ⊎ ((s ≡ status.NoMemory) × (old ≡ new))
+Ends (reads_all limit long stated next) old s new = EndsReading limit long (λ all. Ends (next all)) old s new

@@ -1,0 +1,10 @@
+pub mod Commands
+pub mod Ends
+pub mod Plan
+pub mod Promises
+pub mod Status
+pub mod Words
+pub use Rattle.keyset_model.specs.Keyset
+pub use Rattle.keyset_model.specs.Listing
+pub use Rattle.keyset_model.specs.Reading
+pub use Rattle.tink_spec.specs.Outside

@@ -1,0 +1,43 @@
+-- The exit code and the diagnostic line of each status.
+use Rattle.std.specs.Prelude.{ℕ, List, [], ◌++◌, codes}
+use Rattle.std.specs.Fmt.{decimal}
+use Rattle.keyset_model.specs.declared.keyset.KeysetFault.{KeysetFault}
+use Rattle.keyset_model.specs.declared.keyset.KeysetFault.TheVariants as faults
+use Rattle.tink_spec.specs.Outside.{SinkState, Rose, Took, TookPrefix}
+use Rattle.tinkey_run.specs.declared.status.Status.{Status}
+use Rattle.tinkey_run.specs.declared.status.Status.TheVariants as status
+
+abbrev pub code_of : Status → ℕ
+code_of status.Done = 0
+code_of (status.Usage word) = 2
+code_of (status.BadProto at) = 3
+code_of (status.Keyset fault) = 3
+code_of status.ReadFault = 5
+code_of status.WriteFault = 5
+code_of status.KeysetTooLong = 6
+code_of status.NoMemory = 7
+
+unfoldable pub fault_text : KeysetFault → List ℕ
+fault_text faults.Empty = codes "keyset has no key"
+fault_text faults.Unbuilt = codes "keyset form not built yet"
+fault_text faults.NoPrimary = codes "no key has the primary id"
+
+unfoldable pub text_of : Status → List ℕ
+text_of status.Done = []
+text_of (status.Usage word) = codes "usage: word " ++ decimal word
+text_of (status.BadProto at) = codes "bad protobuf at byte " ++ decimal at
+text_of (status.Keyset fault) = fault_text fault
+text_of status.KeysetTooLong = codes "keyset too long"
+text_of status.ReadFault = codes "read fault"
+text_of status.WriteFault = codes "write fault"
+text_of status.NoMemory = codes "out of memory"
+
+-- Done writes nothing; any other status is told by one line
+unfoldable pub line_of : Status → List ℕ
+line_of status.Done = []
+line_of other = codes "tinkey: " ++ text_of other ++ codes "\n"
+
+-- the line was written, or the first bytes of it where the count of faults rose
+pub data Reports (s : Status) (old new : SinkState) : Type 0 where
+  reported : Took old new (line_of s) → Reports s old new
+  report_failed : Rose old.faults new.faults → TookPrefix old new (line_of s) → Reports s old new

@@ -1,0 +1,47 @@
+//! How a run ends.
+
+ghost use Rattle.std.specs.Prelude.{◌≡◌};
+
+use keyset_model::KeysetFault;
+
+/// How a run ends, with the place where it was refused.
+///
+/// Places of words and bytes count from 0. The texts and the exit codes stand in `specs/Status.antt`
+/// and in docs/SPECIFICATION.md.
+#[derive(Clone, Copy, Debug, PartialEq, Eq)]
+pub enum Status {
+    /// The command was done.
+    Done,
+    /// The word of this place is at fault, or missing where it is the number of words.
+    Usage(usize),
+    /// The field whose tag has this place can't be cut or read.
+    BadProto(usize),
+    /// The keyset has this fault.
+    Keyset(KeysetFault),
+    /// The keyset has more than 1,048,576 bytes.
+    KeysetTooLong,
+    /// The source failed.
+    ReadFault,
+    /// The sink failed.
+    WriteFault,
+    /// Memory was refused.
+    NoMemory,
+}
+
+impl Status {
+    ghost use Rattle.tinkey_run.specs.Status.{code_of};
+
+    /// The exit code, which tells the kind of the status.
+    pub fn code(&self) -> u8
+        ensures { result ≡ code_of self.now }
+    {
+        match self {
+            Status::Done => 0,
+            Status::Usage(_) => 2,
+            Status::BadProto(_) | Status::Keyset(_) => 3,
+            Status::ReadFault | Status::WriteFault => 5,
+            Status::KeysetTooLong => 6,
+            Status::NoMemory => 7,
+        }
+    }
+}

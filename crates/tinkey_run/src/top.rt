@@ -1,0 +1,74 @@
+//! The top call.
+
+ghost use Rattle.std.specs.Prelude.{◌≡◌, map, string_bytes};
+ghost use Rattle.tinkey_run.specs.Ends.{Ends, world};
+ghost use Rattle.tinkey_run.specs.Commands.{plan_of, command_plan};
+ghost use Rattle.tinkey_run.specs.Promises.{Answers, HasCause, Leaves, Stands, Completes};
+ghost use Rattle.tinkey_run.specs.Status.{Reports};
+
+use crate::Status;
+use crate::commands::list_keyset;
+use crate::report::report;
+use crate::words::{Command, parse};
+use std::alloc::Global;
+use tink_base::{Sink, Source};
+
+/// Does what the words after the program's name ask for, and tells on `diag` what went wrong.
+///
+/// Each clause is over the plan of the words: `answer` is the stated answer, over objects that tell;
+/// `cause` and `leaves` say when a fault comes and what was taken and written then; `stands` says
+/// what the sink holds after any status; `line` is the diagnostic line; `complete` says that the
+/// status is the stated one where nothing fails and memory suffices. `ends`, from which they follow,
+/// has each way in which a run may end.
+#[tactic(auto, using(crate::proofs::Plans::run_answers, crate::proofs::Plans::run_has_cause, crate::proofs::Plans::run_leaves, crate::proofs::Plans::run_stands, crate::proofs::Plans::run_completes))]
+pub fn run<S: Source, K: Sink, G: Sink>(
+    alloc: Global,
+    words: &[String],
+    source: &mut S,
+    sink: &mut K,
+    diag: &mut G,
+) -> Status
+    ensures answer { Answers (plan_of (map string_bytes words.now)) (world (S.state source.old) (K.state sink.old))
+        result (world (S.state source.new) (K.state sink.new)) }
+    ensures cause { HasCause (world (S.state source.old) (K.state sink.old))
+        result (world (S.state source.new) (K.state sink.new)) }
+    ensures leaves { Leaves (plan_of (map string_bytes words.now)) (world (S.state source.old) (K.state sink.old))
+        result (world (S.state source.new) (K.state sink.new)) }
+    ensures stands { Stands (plan_of (map string_bytes words.now)) (world (S.state source.old) (K.state sink.old))
+        result (world (S.state source.new) (K.state sink.new)) }
+    ensures line { Reports result (G.state diag.old) (G.state diag.new) }
+    ensures complete { Completes (world (S.state source.old) (K.state sink.old))
+        result (world (S.state source.new) (K.state sink.new)) }
+    ensures ends { Ends (plan_of (map string_bytes words.now)) (world (S.state source.old) (K.state sink.old))
+        result (world (S.state source.new) (K.state sink.new)) }
+{
+    let status = obey(alloc, words, source, sink);
+    report(diag, status);
+    status
+}
+
+/// Does what the words ask for.
+fn obey<S: Source, K: Sink>(alloc: Global, words: &[String], source: &mut S, sink: &mut K) -> Status
+    ensures { Ends (plan_of (map string_bytes words.now)) (world (S.state source.old) (K.state sink.old))
+        result (world (S.state source.new) (K.state sink.new)) }
+{
+    match parse(words) {
+        Ok(command) => dispatch(alloc, command, source, sink),
+        Err(word) => Status::Usage(word),
+    }
+}
+
+/// Does the command.
+fn dispatch<S: Source, K: Sink>(
+    alloc: Global,
+    command: Command,
+    source: &mut S,
+    sink: &mut K,
+) -> Status
+    ensures { Ends (command_plan command) (world (S.state source.old) (K.state sink.old))
+        result (world (S.state source.new) (K.state sink.new)) }
+{
+    match command {
+        Command::ListKeyset => list_keyset(alloc, source, sink),
+    }
+}
