@@ -14,6 +14,7 @@ use std::marker::Model;
 /// A store in memory, which contracts see as a `StoreInMemory`.
 #[derive(Drop)]
 pub struct MemStore {
+    alloc: Global,
     // the newest first
     files: Vec<(Text, Bytes)>,
     fails: Vec<u64>,
@@ -39,6 +40,7 @@ impl MemStore {
         ensures { result ≡ record { files = map.empty; fails = fails.items; calls = 0; faults = 0 } }
     {
         MemStore {
+            alloc,
             files: Vec::new(alloc),
             fails,
             calls: 0,
@@ -47,12 +49,12 @@ impl MemStore {
     }
 
     /// Sets the file of this name. After `NoMemory` no file has changed.
-    pub fn put(&mut self, alloc: Global, name: &str, bytes: &[u8]) -> Result<(), NoMemory>
+    pub fn put(&mut self, name: &str, bytes: &[u8]) -> Result<(), NoMemory>
         ensures set { OnOk result (self.new ≡ record self.old { files = map.insert self.old.files name.now bytes.now }) }
         ensures kept { OnErr result (self.new ≡ self.old) }
     {
-        let name = Text::copy(alloc, name)?;
-        let bytes = Bytes::copy(alloc, bytes)?;
+        let name = Text::copy(self.alloc, name)?;
+        let bytes = Bytes::copy(self.alloc, bytes)?;
         match self.files.insert(0, (name, bytes)) {
             Ok(()) => Ok(()),
             Err(_) => Err(NoMemory),
@@ -104,7 +106,7 @@ impl Store for MemStore {
         }
     }
 
-    fn create(&mut self, alloc: Global, name: &str, bytes: &[u8]) -> Result<Created, StoreError>
+    fn create(&mut self, _alloc: Global, name: &str, bytes: &[u8]) -> Result<Created, StoreError>
         ensures creates { IfOk result (λ made. Creates (told_store self.old) (told_store self.new) name.now bytes.now made) }
         ensures failed { IsErrOf result StoreError.Failed → Rose self.old.faults self.new.faults }
         ensures may_add { IsErrOf result StoreError.Failed → MayAdd (told_store self.old) (told_store self.new) name.now bytes.now }
@@ -122,7 +124,7 @@ impl Store for MemStore {
         }
         match self.get(name) {
             Some(_) => Ok(Created::Exists),
-            None => match self.put(alloc, name, bytes) {
+            None => match self.put(name, bytes) {
                 Ok(()) => Ok(Created::Made),
                 Err(_) => Err(StoreError::NoMemory),
             },

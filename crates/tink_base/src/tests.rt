@@ -62,8 +62,8 @@ fn keeps_files_that_stand(rt: HostRuntime) -> Result<(), Fail> {
     fails.push(3)?;
     fails.push(5)?;
     let mut store = MemStore::new(rt.alloc(), fails);
-    store.put(rt.alloc(), "a", b"first")?;
-    store.put(rt.alloc(), "a", b"second")?;
+    store.put("a", b"first")?;
+    store.put("a", b"second")?;
     assert_eq!(rt;
         store.create(rt.alloc(), "a", b"third"),
         Ok(Created::Exists)
