@@ -48,7 +48,8 @@ IsSmall-map : (f : ℕ → ℕ) (n : ℕ) → ((i : ℕ) → f i < 256) → IsSm
 IsSmall-map f n small i = elim (cases_lt i n) [
   | inl lt ↦ rw (get_or-map-range_with_len f 0 n i i 0 lt (zero-add i)) (small i)
   | inr le ↦
-      let past : length (map f (range_with_len 0 n)) ≤ i = omega (arith, length-map-range_with_len f 0 n) in
+      let past : length (map f (range_with_len 0 n)) ≤ i =
+      omega (arith, length-map-range_with_len f 0 n) in
       rw (get_or_past (map f (range_with_len 0 n)) i 0 past) (lit< tt)
 ]
 
@@ -88,7 +89,8 @@ IsSmall-next_word key words i hk hw =
     (λ e. IsSmall-xor_word first mixed (hw (i - nk))
     (IsSmall-mixed_word nk i (word words (i - 1)) (hw (i - 1))))
 
-IsSmall-expanded_words : (key : List ℕ) → IsSmall key → (n i : ℕ) → IsSmall (word (expanded_words key n) i)
+IsSmall-expanded_words : (key : List ℕ) → IsSmall key → (n i : ℕ)
+    → IsSmall (word (expanded_words key n) i)
 unfolding expanded_words
 IsSmall-expanded_words key small zero i = λ r. lit< tt
 IsSmall-expanded_words key small (suc n) i =
@@ -97,10 +99,12 @@ IsSmall-expanded_words key small (suc n) i =
     let l : length words ≡ n = length-expanded_words key n in
     elim (cases_lt i n) [
       | inl lt ↦
-          rw (get_or_append_left words (new ∷ []) [] i (omega arith)) (IsSmall-expanded_words key small n i)
+          rw (get_or_append_left words (new ∷ []) [] i (omega arith))
+          (IsSmall-expanded_words key small n i)
       | inr le ↦ elim (cases_lt n i) [
         | inl past ↦
-            rw (get_or_past (words ++ new ∷ []) i [] (omega (arith, length_push words new))) (λ r. lit< tt)
+            rw (get_or_past (words ++ new ∷ []) i [] (omega (arith, length_push words new)))
+            (λ r. lit< tt)
         | inr at ↦
             rw (get_or_push words new [] i (omega arith))
             (IsSmall-next_word key words n small (IsSmall-expanded_words key small n))
