@@ -1,5 +1,5 @@
 -- The cipher of a block is a block of bytes: each step keeps to numbers below 256.
-use Rattle.std.proofs.Common.{◌≡◌, ℕ, zero, suc, ◌+◌, ◌-◌, ◌*◌, ◌/◌, ◌%◌, ◌<◌, ◌==◌, ◌&&◌, nat_lt, cond, List, [], ◌∷◌, ◌++◌, length, get_or, map, inl, inr, zero-add, arith, lit<}
+use Rattle.std.proofs.Common.{◌≡◌, ℕ, zero, suc, ◌+◌, ◌-◌, ◌*◌, ◌/◌, ◌%◌, ◌<◌, ◌≤◌, ◌==◌, ◌&&◌, nat_lt, cond, List, [], ◌∷◌, ◌++◌, length, get_or, map, inl, inr, zero-add, arith, lit<}
 use Rattle.std.proofs.lemmas.Bool.{cases_lt, cond_both}
 use Rattle.std.proofs.lemmas.List.{get_or_append_left, get_or_push, get_or_past, length_push}
 use Rattle.std.proofs.lemmas.List.Elements.{All-from_get_or}
@@ -8,10 +8,16 @@ use Rattle.std.proofs.lemmas.Nat.{xor_of_8}
 use Rattle.std.specs.Int.{bit_at}
 use Rattle.std.specs.List.{range_with_len}
 use lib.Bits.{bit_xor}
-use Rattle.aes_core.specs.Aes.{add_round_key, cipher, expanded_words, key_expansion, key_word, mixed_word, next_word, power_by_bits, product, rot_word, round_constant, round_count, rounds, sbox, shift_rows, sub_bytes, sub_word, sum_of_terms, word, word_count, xor_word, xtimes}
+use Rattle.aes_core.specs.Aes.{add_round_key, cipher, expanded_words, key_expansion, key_word, mixed_word, next_word, power_by_bits, product, rot_word, round_constant, round_count, rounds, sbox, shift_rows, sub_bytes, state_byte, sub_word, sum_of_terms, word, word_count, xor_word, xtimes}
 use Rattle.aes_core.specs.Bytes.{IsBytes}
 use Rattle.aes_core.proofs.CounterMode.{length-cipher}
 use Rattle.aes_core.proofs.KeyExpansion.{length-expanded_words}
+
+-- each element is below 256, and so is the 0 past the end
+abbrev IsSmall : List ℕ → Type 0
+IsSmall xs = (i : ℕ) → get_or xs i 0 < 256
+
+-- ---- the field
 
 xtimes-lt : (b : ℕ) → xtimes b < 256
 xtimes-lt b =
@@ -35,97 +41,119 @@ sbox-lt : (b : ℕ) → sbox b < 256
 unfolding sbox
 sbox-lt b = omega arith
 
--- bytes made place by place
-map-lt : (f : ℕ → ℕ) (n : ℕ) → ((i : ℕ) → f i < 256) → (i : ℕ) → get_or (map f (range_with_len 0 n)) i 0 < 256
-map-lt f n small i = elim (cases_lt i n) [
-  | inl lt ↦ rw (get_or-map-range_with_len f 0 n i i 0 lt (zero-add i)) (small i)
-  | inr le ↦ rw (get_or_past (map f (range_with_len 0 n)) i 0 (omega (arith, length-map-range_with_len f 0 n))) (lit< tt)
-]
-
 -- ---- words
 
-xor_word-lt : (a b : List ℕ) → ((r : ℕ) → get_or a r 0 < 256) → ((r : ℕ) → get_or b r 0 < 256)
-    → (r : ℕ) → get_or (xor_word a b) r 0 < 256
-xor_word-lt a b ha hb r = map-lt (λ k. bit_xor (get_or a k 0) (get_or b k 0)) 4 (λ k. xor_of_8 (get_or a k 0) (get_or b k 0) (ha k) (hb k)) r
+-- bytes made place by place
+IsSmall-map : (f : ℕ → ℕ) (n : ℕ) → ((i : ℕ) → f i < 256) → IsSmall (map f (range_with_len 0 n))
+IsSmall-map f n small i = elim (cases_lt i n) [
+  | inl lt ↦ rw (get_or-map-range_with_len f 0 n i i 0 lt (zero-add i)) (small i)
+  | inr le ↦
+      let past : length (map f (range_with_len 0 n)) ≤ i =
+      omega (arith, length-map-range_with_len f 0 n) in
+      rw (get_or_past (map f (range_with_len 0 n)) i 0 past) (lit< tt)
+]
 
-round_constant-lt : (j r : ℕ) → get_or (round_constant j) r 0 < 256
-round_constant-lt j zero = power-lt 2 (j - 1) 8
-round_constant-lt j (suc zero) = lit< tt
-round_constant-lt j (suc (suc zero)) = lit< tt
-round_constant-lt j (suc (suc (suc zero))) = lit< tt
-round_constant-lt j (suc (suc (suc (suc r)))) = lit< tt
+IsSmall-xor_word : (a b : List ℕ) → IsSmall a → IsSmall b → IsSmall (xor_word a b)
+IsSmall-xor_word a b ha hb =
+    IsSmall-map (λ k. bit_xor (get_or a k 0) (get_or b k 0)) 4
+    (λ k. xor_of_8 (get_or a k 0) (get_or b k 0) (ha k) (hb k))
 
-sub_word-lt : (a : List ℕ) (r : ℕ) → get_or (sub_word a) r 0 < 256
-sub_word-lt a r = map-lt (λ k. sbox (get_or a k 0)) 4 (λ k. sbox-lt (get_or a k 0)) r
+IsSmall-round_constant : (j : ℕ) → IsSmall (round_constant j)
+IsSmall-round_constant j zero = power-lt 2 (j - 1) 8
+IsSmall-round_constant j (suc zero) = lit< tt
+IsSmall-round_constant j (suc (suc zero)) = lit< tt
+IsSmall-round_constant j (suc (suc (suc zero))) = lit< tt
+IsSmall-round_constant j (suc (suc (suc (suc r)))) = lit< tt
 
-mixed_word-lt : (nk i : ℕ) (a : List ℕ) → ((r : ℕ) → get_or a r 0 < 256) → (r : ℕ) → get_or (mixed_word nk i a) r 0 < 256
-mixed_word-lt nk i a h r =
-    cond_both (i % nk == 0) (xor_word (sub_word (rot_word a)) (round_constant (i / nk))) (cond (nat_lt 6 nk && i % nk == 4) (sub_word a) a)
-    (λ w. get_or w r 0 < 256)
-    (λ e. xor_word-lt (sub_word (rot_word a)) (round_constant (i / nk)) (sub_word-lt (rot_word a)) (round_constant-lt (i / nk)) r)
-    (λ e. cond_both (nat_lt 6 nk && i % nk == 4) (sub_word a) a (λ w. get_or w r 0 < 256) (λ e2. sub_word-lt a r) (λ e2. h r))
+IsSmall-sub_word : (a : List ℕ) → IsSmall (sub_word a)
+IsSmall-sub_word a = IsSmall-map (λ k. sbox (get_or a k 0)) 4 (λ k. sbox-lt (get_or a k 0))
 
-next_word-lt : (key : List ℕ) (words : List (List ℕ)) (i : ℕ) → ((r : ℕ) → get_or key r 0 < 256)
-    → ((j r : ℕ) → get_or (word words j) r 0 < 256) → (r : ℕ) → get_or (next_word key words i) r 0 < 256
-next_word-lt key words i hk hw r =
-    cond_both (nat_lt i (word_count key)) (key_word key i)
-    (xor_word (word words (i - word_count key)) (mixed_word (word_count key) i (word words (i - 1))))
-    (λ w. get_or w r 0 < 256)
-    (λ e. map-lt (λ k. get_or key (4 * i + k) 0) 4 (λ k. hk (4 * i + k)) r)
-    (λ e. xor_word-lt (word words (i - word_count key)) (mixed_word (word_count key) i (word words (i - 1)))
-    (hw (i - word_count key)) (mixed_word-lt (word_count key) i (word words (i - 1)) (hw (i - 1))) r)
+IsSmall-mixed_word : (nk i : ℕ) (a : List ℕ) → IsSmall a → IsSmall (mixed_word nk i a)
+IsSmall-mixed_word nk i a h =
+    let turned : List ℕ = sub_word (rot_word a) in
+    cond_both (i % nk == 0) (xor_word turned (round_constant (i / nk)))
+    (cond (nat_lt 6 nk && i % nk == 4) (sub_word a) a) IsSmall
+    (λ e. IsSmall-xor_word turned (round_constant (i / nk))
+    (IsSmall-sub_word (rot_word a)) (IsSmall-round_constant (i / nk)))
+    (λ e. cond_both (nat_lt 6 nk && i % nk == 4) (sub_word a) a IsSmall
+    (λ here. IsSmall-sub_word a) (λ here. h))
 
-expanded_words-lt : (key : List ℕ) → ((r : ℕ) → get_or key r 0 < 256) → (n i r : ℕ) → get_or (word (expanded_words key n) i) r 0 < 256
+IsSmall-next_word : (key : List ℕ) (words : List (List ℕ)) (i : ℕ) → IsSmall key
+    → ((j : ℕ) → IsSmall (word words j)) → IsSmall (next_word key words i)
+IsSmall-next_word key words i hk hw =
+    let nk : ℕ = word_count key in
+    let first : List ℕ = word words (i - nk) in
+    let mixed : List ℕ = mixed_word nk i (word words (i - 1)) in
+    cond_both (nat_lt i nk) (key_word key i) (xor_word first mixed) IsSmall
+    (λ e. IsSmall-map (λ k. get_or key (4 * i + k) 0) 4 (λ k. hk (4 * i + k)))
+    (λ e. IsSmall-xor_word first mixed (hw (i - nk))
+    (IsSmall-mixed_word nk i (word words (i - 1)) (hw (i - 1))))
+
+IsSmall-expanded_words : (key : List ℕ) → IsSmall key → (n i : ℕ)
+    → IsSmall (word (expanded_words key n) i)
 unfolding expanded_words
-expanded_words-lt key small zero i r = lit< tt
-expanded_words-lt key small (suc n) i r =
+IsSmall-expanded_words key small zero i = λ r. lit< tt
+IsSmall-expanded_words key small (suc n) i =
     let words : List (List ℕ) = expanded_words key n in
     let new : List ℕ = next_word key words n in
-    let l : length (expanded_words key n) ≡ n = length-expanded_words key n in
+    let l : length words ≡ n = length-expanded_words key n in
     elim (cases_lt i n) [
-      | inl lt ↦ rw (get_or_append_left words (new ∷ []) [] i (omega arith)) (expanded_words-lt key small n i r)
+      | inl lt ↦
+          rw (get_or_append_left words (new ∷ []) [] i (omega arith))
+          (IsSmall-expanded_words key small n i)
       | inr le ↦ elim (cases_lt n i) [
-        | inl past ↦ rw (get_or_past (words ++ new ∷ []) i [] (omega (arith, length_push words new))) (lit< tt)
+        | inl past ↦
+            rw (get_or_past (words ++ new ∷ []) i [] (omega (arith, length_push words new)))
+            (λ r. lit< tt)
         | inr at ↦
-            rw (get_or_push words new [] i (omega arith)) (next_word-lt key words n small (expanded_words-lt key small n) r)
+            rw (get_or_push words new [] i (omega arith))
+            (IsSmall-next_word key words n small (IsSmall-expanded_words key small n))
       ]
     ]
 
 -- ---- states
 
-sub_bytes-lt : (s : List ℕ) (i : ℕ) → get_or (sub_bytes s) i 0 < 256
+IsSmall-sub_bytes : (s : List ℕ) → IsSmall (sub_bytes s)
 unfolding sub_bytes
-sub_bytes-lt s i = map-lt (λ k. sbox (get_or s (k % 4 + 4 * (k / 4)) 0)) 16 (λ k. sbox-lt (get_or s (k % 4 + 4 * (k / 4)) 0)) i
+IsSmall-sub_bytes s =
+    let at = λ (k : ℕ). state_byte s (k % 4) (k / 4) in
+    IsSmall-map (λ k. sbox (at k)) 16 (λ k. sbox-lt (at k))
 
-shift_rows-lt : (s : List ℕ) → ((i : ℕ) → get_or s i 0 < 256) → (i : ℕ) → get_or (shift_rows s) i 0 < 256
+IsSmall-shift_rows : (s : List ℕ) → IsSmall s → IsSmall (shift_rows s)
 unfolding shift_rows
-shift_rows-lt s h i =
-    map-lt (λ k. get_or s (k % 4 + 4 * ((k / 4 + k % 4) % 4)) 0) 16 (λ k. h (k % 4 + 4 * ((k / 4 + k % 4) % 4))) i
+IsSmall-shift_rows s h =
+    IsSmall-map (λ k. state_byte s (k % 4) ((k / 4 + k % 4) % 4)) 16
+    (λ k. h (k % 4 + 4 * ((k / 4 + k % 4) % 4)))
 
-add_round_key-lt : (s : List ℕ) (w : List (List ℕ)) (round : ℕ) → ((i : ℕ) → get_or s i 0 < 256)
-    → ((j r : ℕ) → get_or (word w j) r 0 < 256) → (i : ℕ) → get_or (add_round_key s w round) i 0 < 256
+IsSmall-add_round_key : (s : List ℕ) (w : List (List ℕ)) (round : ℕ) → IsSmall s
+    → ((j : ℕ) → IsSmall (word w j)) → IsSmall (add_round_key s w round)
 unfolding add_round_key
-add_round_key-lt s w round hs hw i =
-    map-lt (λ k. bit_xor (get_or s (k % 4 + 4 * (k / 4)) 0) (get_or (word w (4 * round + k / 4)) (k % 4) 0)) 16
-    (λ k. xor_of_8 (get_or s (k % 4 + 4 * (k / 4)) 0) (get_or (word w (4 * round + k / 4)) (k % 4) 0)
-    (hs (k % 4 + 4 * (k / 4))) (hw (4 * round + k / 4) (k % 4))) i
+IsSmall-add_round_key s w round hs hw =
+    let at = λ (k : ℕ). state_byte s (k % 4) (k / 4) in
+    let key_at = λ (k : ℕ). get_or (word w (4 * round + k / 4)) (k % 4) 0 in
+    IsSmall-map (λ k. bit_xor (at k) (key_at k)) 16
+    (λ k. xor_of_8 (at k) (key_at k) (hs (k % 4 + 4 * (k / 4))) (hw (4 * round + k / 4) (k % 4)))
 
-cipher-lt : (key block : List ℕ) → ((r : ℕ) → get_or key r 0 < 256) → (i : ℕ) → get_or (cipher key block) i 0 < 256
+IsSmall-cipher : (key block : List ℕ) → IsSmall key → IsSmall (cipher key block)
 unfolding cipher
-cipher-lt key block small i =
+IsSmall-cipher key block small =
     let s : List ℕ = sub_bytes (rounds (key_expansion key) block (round_count key - 1)) in
-    add_round_key-lt (shift_rows s) (key_expansion key) (round_count key) (shift_rows-lt s (sub_bytes-lt _))
-    (expanded_words-lt key small (4 * (round_count key + 1))) i
+    IsSmall-add_round_key (shift_rows s) (key_expansion key) (round_count key)
+    (IsSmall-shift_rows s (IsSmall-sub_bytes _))
+    (IsSmall-expanded_words key small (4 * (round_count key + 1)))
 
--- a byte of a list of bytes, and 0 past its end
-byte-lt : (xs : List ℕ) → IsBytes xs → (i : ℕ) → get_or xs i 0 < 256
-byte-lt xs small i = elim (cases_lt i (length xs)) [
+-- ---- the law
+
+small_from_bytes : (xs : List ℕ) → IsBytes xs → IsSmall xs
+small_from_bytes xs small i = elim (cases_lt i (length xs)) [
   | inl lt ↦ small i 0 lt
   | inr le ↦ rw (get_or_past xs i 0 le) (lit< tt)
 ]
 
-pub cipher-has_a_block : (key block : List ℕ) → IsBytes key → (length (cipher key block) ≡ 16) × IsBytes (cipher key block)
+pub cipher-has_a_block : (key block : List ℕ) → IsBytes key
+    → (length (cipher key block) ≡ 16) × IsBytes (cipher key block)
 cipher-has_a_block key block small = (
   length-cipher key block,
-  All-from_get_or (λ b. b < 256) (cipher key block) 0 (λ i h. cipher-lt key block (byte-lt key small) i),
+  All-from_get_or (λ b. b < 256) (cipher key block) 0
+      (λ i h. IsSmall-cipher key block (small_from_bytes key small) i),
 )

@@ -49,7 +49,8 @@ again_low t v n l fits =
     let value = λ (low : List ℕ). to_be_bytes w32 ((from_be_bytes w32 low + n) % 2 ^ 32) in
     ap (λ (front : List ℕ). front ++ value (drop 12 (take 12 t ++ to_be_bytes w32 v)))
     (take_at (take 12 t) (to_be_bytes w32 v) 12 twelve)
-    ∙ ap (λ (low : List ℕ). take 12 t ++ value low) (drop_at (take 12 t) (to_be_bytes w32 v) 12 twelve)
+    ∙ ap (λ (low : List ℕ). take 12 t ++ value low)
+    (drop_at (take 12 t) (to_be_bytes w32 v) 12 twelve)
     ∙ ap (λ (x : ℕ). take 12 t ++ to_be_bytes w32 ((x + n) % 2 ^ 32))
     (from_be_bytes-to_be_bytes_4 v fits)
 

@@ -97,8 +97,8 @@ fn add_round_key(state: &[u8; 16], words: &[[u8; 4]; WORDS], round: usize) -> [u
 #[derive(Clone, Copy, Debug, PartialEq, Eq)]
 pub struct KeySize;
 
-/// AES under one key, of which it keeps the expansion (FIPS 197, 5.2). Contracts see it as the bytes
-/// of the key.
+/// AES under one key, of which it keeps the expansion (FIPS 197, 5.2). Contracts see it as the
+/// bytes of the key.
 #[derive(Drop)]
 pub struct Aes {
     words: [[u8; 4]; WORDS],

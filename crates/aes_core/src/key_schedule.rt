@@ -9,8 +9,8 @@ use crate::cipher::sub_byte;
 /// and leaves the last 16 words out.
 pub(crate) const WORDS: usize = 60;
 
-// The first bytes of Rcon 1 to Rcon 10: x to the powers 0 to 9.
-const POWERS: [u8; 10] = [0x01, 0x02, 0x04, 0x08, 0x10, 0x20, 0x40, 0x80, 0x1B, 0x36];
+// The first bytes of Rcon 1 to Rcon 10: x to the powers 0 to 9 (5.2).
+const ROUND_CONSTANTS: [u8; 10] = [0x01, 0x02, 0x04, 0x08, 0x10, 0x20, 0x40, 0x80, 0x1B, 0x36];
 
 // The first byte of Rcon `number`; its other bytes are 0.
 fn round_constant(number: usize) -> u8
@@ -18,7 +18,7 @@ fn round_constant(number: usize) -> u8
     requires high { number ≤ 10 }
     ensures { result ≡ power 2 (number - 1) }
 {
-    POWERS[number - 1]
+    ROUND_CONSTANTS[number - 1]
 }
 
 // What word `i` adds to the word `word_count` before it, from the word just before it.

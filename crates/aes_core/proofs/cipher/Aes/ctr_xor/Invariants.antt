@@ -10,7 +10,8 @@ use Rattle.aes_core.proofs.cipher.Aes.ctr_xor.Given as goal
 abbrev pub invariant-loop-i : goal.invariant-loop-i
 invariant-loop-i l = record {
   done : (k : ℕ) → k < l.i
-      → get_or l.body k 0 ≡ bit_xor (get_or l.initial.body k 0) (output_byte l.self l.start l.kind k);
+      → get_or l.body k 0
+      ≡ bit_xor (get_or l.initial.body k 0) (output_byte l.self l.start l.kind k);
   left : (k : ℕ) → l.i ≤ k → get_or l.body k 0 ≡ get_or l.initial.body k 0;
   counter : l.counter ≡ counter_plus l.kind l.start ((l.i + 15) / 16);
   output : 0 < l.i % 16 → l.output ≡ cipher l.self (counter_plus l.kind l.start (l.i / 16));

@@ -15,7 +15,8 @@ loop-round-preserved c =
     let shifted = c.shift_rows.ensures ∙ ap shift_rows substituted in
     let mixed = c.mix_columns-state.ensures ∙ ap mix_columns shifted in
     let next : r + 1 - 1 ≡ r = omega arith in
-    rw next (c.add_round_key-state-in-loop-round.ensures ∙ ap (λ (s : List ℕ). add_round_key s w r) mixed
+    rw next (c.add_round_key-state-in-loop-round.ensures
+    ∙ ap (λ (s : List ℕ). add_round_key s w r) mixed
     ∙ rounds_more w c.args.block.now r (omega arith))
 
 pub returns : goal.returns
