@@ -36,7 +36,9 @@ impl Model for Keyset {
 
     ghost view = { λ k. record { primary = k.primary; records = k.records.items } };
 
-    ghost invariant = { λ k. (fault_of (record { primary = k.primary; records = k.records.items }) ≡ None) × AllByRecursion HasSizes k.records.items };
+    ghost invariant = { λ k.
+        (fault_of (record { primary = k.primary; records = k.records.items }) ≡ None)
+        × AllByRecursion HasSizes k.records.items };
 }
 
 impl Keyset {
