@@ -22,10 +22,18 @@ seen source field = record { number = field.number; at = field.at; payload = pay
 abbrev pub seen_all : List ℕ → List Field → List WireField
 seen_all source fields = map (seen source) fields
 
+-- what a kind has no use for is 0
+abbrev pub UnusedAreZero : Kind → Field → Type 0
+UnusedAreZero kinds.Varint field = (field.start ≡ 0) × (field.end ≡ 0)
+UnusedAreZero kinds.Eight field = (field.value ≡ 0) × (field.start ≡ 0) × (field.end ≡ 0)
+UnusedAreZero kinds.Bytes field = field.value ≡ 0
+UnusedAreZero kinds.Four field = (field.value ≡ 0) × (field.start ≡ 0) × (field.end ≡ 0)
+
 -- what the fields of a source are known by
 pub record IsOf (source : List ℕ) (field : Field) : Type 0 where
   pub ordered : field.start ≤ field.end
   pub within : field.end ≤ length source
+  pub unused : UnusedAreZero field.kind field
 
 -- Fields are what the definition gives, or the place at fault is. Of want of memory nothing is said.
 abbrev pub GivesFields : List ℕ → Result (List Field) FieldsError → Result (List WireField) ℕ → Type 0

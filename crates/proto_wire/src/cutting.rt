@@ -26,9 +26,8 @@ pub fn fields(alloc: Global, source: &[u8], start: usize, end: usize) -> Result<
     let mut items = Vec::new(alloc);
     let mut at = start;
     while at < end {
-        let (field, behind) = match read_field(source, at, end) {
-            Some(read) => read,
-            None => return Err(FieldsError::Wire(Wire { at })),
+        let Some((field, behind)) = read_field(source, at, end) else {
+            return Err(FieldsError::Wire(Wire { at }));
         };
         match items.push(field) {
             Ok(()) => at = behind,

@@ -1,5 +1,9 @@
 //! One field, and what ends the reading of fields.
 
+ghost use Rattle.std.specs.Prelude.{◌≡◌};
+
+use tink_base::NoMemory;
+
 /// The kind of a payload, by its wire type.
 #[derive(Clone, Copy, Debug, PartialEq, Eq)]
 pub enum Kind {
@@ -44,4 +48,14 @@ pub enum FieldsError {
     Wire(Wire),
     /// Memory was refused.
     NoMemory,
+}
+
+impl From<NoMemory> for FieldsError {
+    ghost use Rattle.proto_wire.specs.declared.field.FieldsError.{FieldsError};
+
+    ghost from_gives = { λ _ error. error ≡ FieldsError.NoMemory };
+
+    fn from(_error: NoMemory) -> FieldsError {
+        FieldsError::NoMemory
+    }
 }

@@ -14,3 +14,6 @@ mod reading;
 pub use cutting::fields;
 pub use field::{Field, FieldsError, Kind, Wire};
 pub use list::Fields;
+
+#[cfg(test)]
+mod tests;

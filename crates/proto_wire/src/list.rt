@@ -112,14 +112,8 @@ impl Fields {
         let mut all = Fields::own(Vec::new(alloc));
         for field in &self.items {
             if field.number == number {
-                let more = match embedded(alloc, source, *field) {
-                    Ok(more) => more,
-                    Err(error) => return Err(error),
-                };
-                match all.append(more) {
-                    Ok(()) => {}
-                    Err(NoMemory) => return Err(FieldsError::NoMemory),
-                }
+                let more = embedded(alloc, source, *field)?;
+                all.append(more)?;
             }
         }
         Ok(all)

@@ -13,23 +13,23 @@ abbrev failed : After-drop-items → Result (List Field) FieldsError
 failed c = Err (errors.Wire (record { at = c.loop-at.at }))
 
 stopped : (c : After-drop-items) → cut c.args.start (slice_range c.args.source.now c.args.start c.args.end) ≡ Err c.loop-at.at
-stopped c = read-stop _ _ _ _ _ c.requires.within c.loop-at.invariant c.loop-at-test.true c.in-None.ensures.read
+stopped c = read-stop _ _ _ _ _ c.requires.within c.loop-at.invariant c.loop-at-test.true c.in_default.ensures.read
 
-pub returns-in-None-clause-cut : goal.returns-in-None-clause-cut
-returns-in-None-clause-cut c = stopped c
+pub returns-in_default-clause-cut : goal.returns-in_default-clause-cut
+returns-in_default-clause-cut c = stopped c
 
-pub returns-in-None-clause-only : goal.returns-in-None-clause-only
-returns-in-None-clause-only c = gives-only c.args.source.now c.args.start _ (failed c) (stopped c)
+pub returns-in_default-clause-only : goal.returns-in_default-clause-only
+returns-in_default-clause-only c = gives-only c.args.source.now c.args.start _ (failed c) (stopped c)
 
-pub returns-in-None-clause-fails : goal.returns-in-None-clause-fails
-returns-in-None-clause-fails c = gives-fails c.args.source.now c.args.start _ (failed c) (stopped c)
+pub returns-in_default-clause-fails : goal.returns-in_default-clause-fails
+returns-in_default-clause-fails c = gives-fails c.args.source.now c.args.start _ (failed c) (stopped c)
 
-pub returns-in-None-clause-fails_only : goal.returns-in-None-clause-fails_only
-returns-in-None-clause-fails_only c = gives-fails_only c.args.source.now c.args.start _ (failed c) (stopped c)
+pub returns-in_default-clause-fails_only : goal.returns-in_default-clause-fails_only
+returns-in_default-clause-fails_only c = gives-fails_only c.args.source.now c.args.start _ (failed c) (stopped c)
 
 pub loop-at-preserved : goal.loop-at-preserved
 loop-at-preserved c =
-    let more = read-more _ _ _ _ c.in-Some.read.1 _ c.in-Some.read.0 c.requires.within c.loop-at.invariant c.in-Some.ensures.behind.0 c.in-Some.ensures.behind.1 c.in-Some.ensures.read c.in-Some.ensures.of_source in
+    let more = read-more _ _ _ _ c.in-Some.behind _ c.in-Some.field c.requires.within c.loop-at.invariant c.in-Some.ensures.behind.0 c.in-Some.ensures.behind.1 c.in-Some.ensures.read c.in-Some.ensures.of_source in
     rw c.in-Ok.ensures.items more
 
 finished : (c : After-own) → cut c.args.start (slice_range c.args.source.now c.args.start c.args.end) ≡ Ok (seen_all c.args.source.now c.own.result)
