@@ -27,7 +27,9 @@ pub record IsKnown (record' : Record) : Type 0 where
 
 -- the record is ENABLED, its prefix type and material are known and it has a URL
 abbrev pub is_built : Record → Bool
-is_built r = r.status == 1 && nat_le 1 r.prefix && nat_le r.prefix 4 && nat_le 1 r.material && nat_le r.material 4 && nat_lt 0 (length r.url)
+is_built r =
+    r.status == 1 && nat_le 1 r.prefix && nat_le r.prefix 4
+    && nat_le 1 r.material && nat_le r.material 4 && nat_lt 0 (length r.url)
 
 abbrev pub has_id : ℕ → Record → Bool
 has_id id r = r.id == id
@@ -35,7 +37,8 @@ has_id id r = r.id == id
 abbrev pub fault_of : Keys → Option KeysetFault
 fault_of keys =
     if length keys.records == 0 then Some faults.Empty
-    else (if not (length keys.records == 1 && list_all is_built keys.records) then Some faults.Unbuilt
+    else (if not (length keys.records == 1 && list_all is_built keys.records)
+    then Some faults.Unbuilt
     else (if not (list_any (has_id keys.primary) keys.records) then Some faults.NoPrimary
     else None))
 

@@ -1,5 +1,6 @@
--- The listing of a keyset: its primary id, and six lines a record, in Tinkey's text form of a
--- KeysetInfo. A type URL is quoted with the escapes of protobuf's text format.
+-- The listing of a keyset: its primary id, and six lines a record, in the text form of Tink's
+-- KeysetInfo. A type URL stands between quotes, with escapes that this text form reads. Its own
+-- printers have letters for some bytes, as \n, where here each byte that doesn't print is octal.
 use Rattle.std.specs.Prelude.{ℕ, ◌+◌, ◌/◌, ◌%◌, List, [], ◌∷◌, ◌++◌, ◌||◌, ◌==◌, nat_lt, if◌then◌else◌, codes}
 use Rattle.std.specs.List.{flat_map}
 use Rattle.std.specs.Fmt.{decimal}
@@ -35,6 +36,7 @@ escaped_byte b =
 abbrev pub escaped : List ℕ → List ℕ
 escaped text = flat_map escaped_byte text
 
+-- the six lines of a record
 unfoldable pub record_lines : Record → List ℕ
 record_lines r =
     codes "key_info {\n  type_url: \"" ++ escaped r.url ++
@@ -43,5 +45,8 @@ record_lines r =
     codes "\n  output_prefix_type: " ++ prefix_text r.prefix ++
     codes "\n}\n"
 
+-- the whole listing
 unfoldable pub info_of : Keys → List ℕ
-info_of keys = codes "primary_key_id: " ++ decimal keys.primary ++ codes "\n" ++ flat_map record_lines keys.records
+info_of keys =
+    codes "primary_key_id: " ++ decimal keys.primary ++ codes "\n" ++
+    flat_map record_lines keys.records

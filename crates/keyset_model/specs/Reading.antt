@@ -1,10 +1,15 @@
--- The binary form of a keyset, read (tink.proto: Keyset, Key and KeyData).
+-- The binary form of a keyset, read (tink.proto: Keyset, Key and KeyData). Field numbers are those
+-- of tink.proto. Fields of other numbers are skipped.
 --
---   key_data_of, record_of   the message of these fields, where each known field has its wire type
---   fault_at    the place of the first known field of the keyset, in byte order, that is at fault:
---               a primary id that is no varint, or a key that isn't bytes or can't be read
---   keys_in     the primary id and the records, or that place
---   reads_binary   what the bytes give: the place at fault, the first fault of a keyset, or a keyset
+--   record_of   the record of a `Key` message of these fields
+--   key_of      the record of a field `key` of a keyset
+--   fault_at    the place of the first field of a keyset, in byte order, that is at fault: a
+--               primary id that is no varint, or a key that isn't bytes or can't be read
+--   keys_in     the primary id and the records that fields give, or that place
+--   reads_binary   what the bytes give: a keyset, or the place of a fault, or the first fault that
+--               keeps records from being a keyset
+--
+-- Places are those of tags, counted in bytes from 0.
 use Rattle.std.specs.Prelude.{◌≡◌, ℕ, List, Bool, not, ◌==◌, ◌&&◌, ◌||◌, Option, option_map, Result, Ok, Err, is_err, find}
 use Rattle.std.specs.List.{filter_map}
 use Rattle.std.specs.Result.{result_ok}
@@ -17,9 +22,9 @@ use Rattle.keyset_model.specs.declared.reading.ReadError.{ReadError}
 use Rattle.keyset_model.specs.declared.reading.ReadError.TheVariants as errors
 use Rattle.keyset_model.specs.Keyset.{Keys, built}
 
--- the record of a `Key` message of these fields: key_data 1, status 2, key_id 3 and
--- output_prefix_type 4, and of a `KeyData` message type_url 1, value 2 and key_material_type 3. The
--- places in a fault are those inside the message, and go no further.
+-- `Key` has key_data 1, status 2, key_id 3 and output_prefix_type 4. `KeyData` has type_url 1,
+-- value 2 and key_material_type 3; `data'` is its fields, from each payload of key_data. What isn't
+-- there is 0 or empty. The place of a fault goes no further than `key_of`.
 unfoldable pub record_of : List WireField → Result Record ℕ
 record_of fields = do
   data' ← merged 1 fields
@@ -29,25 +34,39 @@ record_of fields = do
   status ← number_in 2 fields
   id ← number_in 3 fields
   prefix ← number_in 4 fields
-  Ok (record { id = id; status = status; prefix = prefix; url = url.1; value = value.1; material = material })
+  Ok (record {
+    id = id;
+    status = status;
+    prefix = prefix;
+    url = url.1;
+    value = value.1;
+    material = material;
+  })
 
--- the record of a field `key`; a fault has the place of its tag
+-- the record of a field `key`; any fault inside it has the place of its tag
 unfoldable pub key_of : WireField → Result Record ℕ
 key_of field = at_place field.at (embedded field.payload >>= record_of)
 
--- a primary_key_id of another wire type, or a key that can't be read
+-- `Keyset` has primary_key_id 1 and key 2. A primary id has another wire type, or a key can't be
+-- read.
 abbrev pub is_at_fault : WireField → Bool
-is_at_fault field = (field.number == 1 && not (is_varint field.payload)) || (field.number == 2 && is_err (key_of field))
+is_at_fault field =
+    (field.number == 1 && not (is_varint field.payload))
+    || (field.number == 2 && is_err (key_of field))
 
 abbrev pub fault_at : List WireField → Option ℕ
 fault_at fields = option_map (λ field. field.at) (find is_at_fault fields)
 
--- the records of the fields `key`, each of which can be read
+-- the records of the fields `key`, in order; none is left out where no field is at fault
 abbrev pub records_in : List WireField → List Record
 records_in fields = filter_map (λ field. result_ok (key_of field)) (of_number 2 fields)
 
+-- the last primary id counts
 abbrev pub keys_in : List WireField → Result Keys ℕ
-keys_in fields = unless_at (fault_at fields) (record { primary = last_number (of_number 1 fields); records = records_in fields })
+keys_in fields = unless_at (fault_at fields) (record {
+  primary = last_number (of_number 1 fields);
+  records = records_in fields;
+})
 
 -- why bytes give no keyset
 pub data Refusal : Type 0 where
@@ -55,14 +74,17 @@ pub data Refusal : Type 0 where
   Wire : (at : ℕ) → Refusal
   Fault : (fault : KeysetFault) → Refusal
 
+-- the same keyset or fault, as an answer of reading
 abbrev pub without_fault : Result Keys KeysetFault → Result Keys Refusal
 without_fault (Ok keys) = Ok keys
 without_fault (Err fault) = Err (Fault fault)
 
+-- a keyset of what was read
 abbrev pub well_formed : Result Keys ℕ → Result Keys Refusal
 well_formed (Ok keys) = without_fault (built keys)
 well_formed (Err at) = Err (Wire at)
 
+-- the whole is cut first, then its fields are read, and then the records are tried
 unfoldable pub reads_binary : List ℕ → Result Keys Refusal
 reads_binary bytes = well_formed (cut 0 bytes >>= keys_in)
 

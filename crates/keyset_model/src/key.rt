@@ -1,6 +1,6 @@
 //! A `Key` message and its `KeyData` (tink.proto), read into a record.
 
-ghost use Rattle.std.specs.Prelude.{◌≡◌, ◌≤◌, ◌^◌, length, Err, IfOk, IfErr, MatchResult, slice_range};
+ghost use Rattle.std.specs.Prelude.{◌≡◌, ◌≤◌, ◌^◌, length, Err, IfOk, IfErr, slice_range};
 ghost use Rattle.std.specs.List.{AllByRecursion};
 ghost use Rattle.tink_spec.specs.Messages.{text_in};
 ghost use Rattle.proto_wire.specs.Fields.{seen, seen_all, IsOf};
@@ -89,8 +89,10 @@ fn read_record(alloc: Global, source: &[u8], key: &Fields) -> Result<Record, Rea
 /// `Wire` names the first field of this number that isn't bytes or isn't UTF-8.
 fn text_of<'a>(source: &'a [u8], message: &Fields, number: u32) -> Result<&'a str, Wire>
     requires of_source { AllByRecursion (IsOf source.now) message.now }
-    ensures text { IfOk result (λ text. GivesText text.now (text_in number (seen_all source.now message.now))) }
-    ensures fault { IfErr result (λ wire. text_in number (seen_all source.now message.now) ≡ Err wire.at) }
+    ensures text { IfOk result (λ text.
+        GivesText text.now (text_in number (seen_all source.now message.now))) }
+    ensures fault { IfErr result (λ wire.
+        text_in number (seen_all source.now message.now) ≡ Err wire.at) }
     ensures within { IfOk result (λ text. length text.now ≤ length source.now) }
 {
     let mut text = "";
@@ -106,7 +108,8 @@ fn text_of<'a>(source: &'a [u8], message: &Fields, number: u32) -> Result<&'a st
 /// The text of a field.
 fn text_at(source: &[u8], field: Field) -> Result<&str, Wire>
     requires of_source { IsOf source.now field }
-    ensures { MatchResult result (λ text. IsTextOf source.now field text.now) (λ wire. IsNoText source.now field wire.at) }
+    ensures text { IfOk result (λ text. IsTextOf source.now field text.now) }
+    ensures other { IfErr result (λ wire. IsNoText source.now field wire.at) }
 {
     if field.kind != Kind::Bytes {
         return Err(Wire { at: field.at });

@@ -36,7 +36,9 @@ impl Model for Keyset {
 
     ghost view = { λ k. record { primary = k.primary; records = k.records.items } };
 
-    ghost invariant = { λ k. (fault_of (record { primary = k.primary; records = k.records.items }) ≡ None) × AllByRecursion HasSizes k.records.items };
+    ghost invariant = { λ k.
+        (fault_of (record { primary = k.primary; records = k.records.items }) ≡ None)
+        × AllByRecursion HasSizes k.records.items };
 }
 
 impl Keyset {
@@ -81,7 +83,7 @@ impl Keyset {
         ensures place { result ≡ position (λ r. r.id == id) self.now.records }
         ensures none { IsNone result ↔ All (λ r. r.id ≢ id) self.now.records }
     {
-        self.records.iter().position(|record| record.id == id)
+        self.records.iter().position(|key| key.id == id)
     }
 }
 
@@ -92,21 +94,21 @@ fn fault_of(primary: u32, records: &[Record]) -> Option<KeysetFault>
     if records.is_empty() {
         return Some(KeysetFault::Empty);
     }
-    if records.len() != 1 || !records.iter().all(|r| is_built(r)) {
+    if records.len() != 1 || !records.iter().all(|key| is_built(key)) {
         return Some(KeysetFault::Unbuilt);
     }
-    if !records.iter().any(|r| r.id == primary) {
+    if !records.iter().any(|key| key.id == primary) {
         return Some(KeysetFault::NoPrimary);
     }
     None
 }
 
 /// Whether the form of this record is built.
-fn is_built(record: &Record) -> bool
-    ensures { result ≡ is_built «record».now }
+fn is_built(key: &Record) -> bool
+    ensures { result ≡ is_built key.now }
 {
-    record.status == ENABLED
-        && (TINK..=CRUNCHY).contains(&record.prefix)
-        && (1..=4).contains(&record.material)
-        && !record.url.as_str().is_empty()
+    key.status == ENABLED
+        && (TINK..=CRUNCHY).contains(&key.prefix)
+        && (1..=4).contains(&key.material)
+        && !key.url.as_str().is_empty()
 }

@@ -8,6 +8,8 @@ mod keyset;
 mod listing;
 mod reading;
 mod record;
+#[cfg(test)]
+mod tests;
 
 pub use keyset::{Keyset, KeysetFault};
 pub use listing::{info_text, prefix_name, status_name};

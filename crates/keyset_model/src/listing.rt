@@ -53,18 +53,18 @@ pub fn info_text(alloc: Global, keyset: &Keyset) -> Result<Vec<u8>, NoMemory>
 }
 
 /// Adds the six lines of a record.
-fn push_record(out: &mut Vec<u8>, record: &Record) -> Result<(), NoMemory>
-    requires known { IsKnown «record».now }
-    ensures { OnOk result (out.new.items ≡ out.old.items ++ record_lines «record».now) }
+fn push_record(out: &mut Vec<u8>, key: &Record) -> Result<(), NoMemory>
+    requires known { IsKnown key.now }
+    ensures { OnOk result (out.new.items ≡ out.old.items ++ record_lines key.now) }
 {
     out.extend_from_slice(b"key_info {\n  type_url: \"")?;
-    push_escaped(out, record.url.as_str().as_bytes())?;
+    push_escaped(out, key.url.as_str().as_bytes())?;
     out.extend_from_slice(b"\"\n  status: ")?;
-    out.extend_from_slice(status_name(record.status).as_bytes())?;
+    out.extend_from_slice(status_name(key.status).as_bytes())?;
     out.extend_from_slice(b"\n  key_id: ")?;
-    push_number(out, record.id)?;
+    push_number(out, key.id)?;
     out.extend_from_slice(b"\n  output_prefix_type: ")?;
-    out.extend_from_slice(prefix_name(record.prefix).as_bytes())?;
+    out.extend_from_slice(prefix_name(key.prefix).as_bytes())?;
     out.extend_from_slice(b"\n}\n")?;
     Ok(())
 }

@@ -100,8 +100,10 @@ pub fn read_binary(alloc: Global, bytes: &[u8]) -> Result<Keyset, ReadError>
 fn read_records(alloc: Global, source: &[u8], message: &Fields) -> Result<Vec<Record>, ReadError>
     requires size_bound { length source.now ≤ 2 ^ 30 }
     requires of_source { AllByRecursion (IsOf source.now) message.now }
-    ensures records { IfOk result (λ records. IsRead records.items (seen_all source.now message.now)) }
-    ensures fault { IfErr result (λ error. IsFaultAt error (fault_at (seen_all source.now message.now))) }
+    ensures records { IfOk result (λ records.
+        IsRead records.items (seen_all source.now message.now)) }
+    ensures fault { IfErr result (λ error.
+        IsFaultAt error (fault_at (seen_all source.now message.now))) }
     ensures sizes { IfOk result (λ records. AllByRecursion HasSizes records.items) }
 {
     let mut records = Vec::new(alloc);
@@ -119,8 +121,10 @@ fn read_records(alloc: Global, source: &[u8], message: &Fields) -> Result<Vec<Re
 fn read_field(alloc: Global, source: &[u8], field: Field) -> Result<Option<Record>, ReadError>
     requires size_bound { length source.now ≤ 2 ^ 30 }
     requires of_source { IsOf source.now field }
-    ensures records { IfOk result (λ key. IsRead (option_to_list key) (seen source.now field ∷ [])) }
-    ensures fault { IfErr result (λ error. IsFaultAt error (fault_at (seen source.now field ∷ []))) }
+    ensures records { IfOk result (λ key.
+        IsRead (option_to_list key) (seen source.now field ∷ [])) }
+    ensures fault { IfErr result (λ error.
+        IsFaultAt error (fault_at (seen source.now field ∷ []))) }
     ensures sizes { IfOk result (λ key. IfSome key HasSizes) }
 {
     if field.number == KEY {
