@@ -1,6 +1,6 @@
 //! Keysets, well formed by their type.
 
-ghost use Rattle.std.specs.Prelude.{◌≡◌, ◌<◌, ◌≢◌, ◌↔◌, length, Some, IsNone, All, slice_get, position, ◌==◌};
+ghost use Rattle.std.specs.Prelude.{◌≡◌, ◌<◌, ◌≢◌, ◌↔◌, length, Some, IsNone, All, slice_get, position, ◌==◌, IfSome};
 ghost use Rattle.std.specs.List.{AllByRecursion};
 ghost use Rattle.keyset_model.specs.Keyset.{HasSizes, IsKnown, is_built, fault_of, built};
 
@@ -82,6 +82,7 @@ impl Keyset {
     pub fn find(&self, id: u32) -> Option<usize>
         ensures place { result ≡ position (λ r. r.id == id) self.now.records }
         ensures none { IsNone result ↔ All (λ r. r.id ≢ id) self.now.records }
+        ensures within { IfSome result (λ i. i < length self.now.records) }
     {
         self.records.iter().position(|key| key.id == id)
     }
