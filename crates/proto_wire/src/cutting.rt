@@ -17,10 +17,15 @@ pub fn fields(alloc: Global, source: &[u8], start: usize, end: usize) -> Result<
     requires ordered { start ≤ end }
     requires within { end ≤ length source.now }
     ensures cut { GivesFields source.now result (cut start (slice_range source.now start end)) }
-    ensures spelled { IfOk result (λ fields. IsCutInto start (slice_range source.now start end) (seen_all source.now fields)) }
-    ensures only { (others : List WireField) → IsCutInto start (slice_range source.now start end) others → GivesFields source.now result (Ok others) }
-    ensures fails { (wire : _) → IsErrOf result (FieldsError.Wire wire) → FailsAt start (slice_range source.now start end) wire.at }
-    ensures fails_only { (place : ℕ) → FailsAt start (slice_range source.now start end) place → GivesFields source.now result (Err place) }
+    ensures spelled { IfOk result (λ fields.
+        IsCutInto start (slice_range source.now start end) (seen_all source.now fields)) }
+    ensures only { (others : List WireField) →
+        IsCutInto start (slice_range source.now start end) others →
+        GivesFields source.now result (Ok others) }
+    ensures fails { (wire : _) → IsErrOf result (FieldsError.Wire wire) →
+        FailsAt start (slice_range source.now start end) wire.at }
+    ensures fails_only { (place : ℕ) → FailsAt start (slice_range source.now start end) place →
+        GivesFields source.now result (Err place) }
     ensures of_source { IfOk result (λ fields. AllByRecursion (IsOf source.now) fields) }
 {
     let mut items = Vec::new(alloc);
@@ -40,7 +45,8 @@ pub fn fields(alloc: Global, source: &[u8], start: usize, end: usize) -> Result<
 /// The fields of this field's payload. A fault inside has the place of the field itself.
 pub fn embedded(alloc: Global, source: &[u8], field: Field) -> Result<Fields, FieldsError>
     requires { IsOf source.now field }
-    ensures fields { GivesFields source.now result (at_place field.at (embedded (payload_of field.kind source.now field))) }
+    ensures fields { GivesFields source.now result
+        (at_place field.at (embedded (payload_of field.kind source.now field))) }
     ensures of_source { IfOk result (λ fields. AllByRecursion (IsOf source.now) fields) }
 {
     match field.kind {

@@ -62,9 +62,11 @@ impl Fields {
 
     /// The low 32 bits of the last field of this number, 0 where there is none.
     ///
-    /// `Wire` comes exactly where a field of this number isn't a varint, with the place of the first such.
+    /// `Wire` comes exactly where a field of this number isn't a varint, with the place of the first
+    /// such.
     pub fn number_of(&self, number: u32) -> Result<u32, Wire>
-        ensures { (source : List ℕ) → GivesNumber result (number_in number (seen_all source self.now)) }
+        ensures { (source : List ℕ) →
+            GivesNumber result (number_in number (seen_all source self.now)) }
     {
         let mut value = 0;
         for field in &self.items {
@@ -81,9 +83,11 @@ impl Fields {
     /// The places of the last payload of this number, its first byte and the one behind its last;
     /// (0, 0) where there is none.
     ///
-    /// `Wire` comes exactly where a field of this number isn't `Bytes`, with the place of the first such.
+    /// `Wire` comes exactly where a field of this number isn't `Bytes`, with the place of the first
+    /// such.
     pub fn span_of(&self, number: u32) -> Result<(usize, usize), Wire>
-        ensures { (source : List ℕ) → AllByRecursion (IsOf source) self.now → GivesSpan source result (bytes_in number (seen_all source self.now)) }
+        ensures { (source : List ℕ) → AllByRecursion (IsOf source) self.now →
+            GivesSpan source result (bytes_in number (seen_all source self.now)) }
     {
         let mut start = 0;
         let mut end = 0;
@@ -103,10 +107,12 @@ impl Fields {
 
     /// The fields of all payloads of this number, in order; `self` was cut from `source`.
     ///
-    /// `Wire` names the first field of this number that isn't `Bytes` or whose payload can't be cut.
+    /// `Wire` comes exactly where a field of this number isn't `Bytes` or its payload can't be cut,
+    /// with the place of the first such field's tag.
     pub fn merged(&self, alloc: Global, source: &[u8], number: u32) -> Result<Fields, FieldsError>
         requires of_source { AllByRecursion (IsOf source.now) self.now }
-        ensures merged { GivesFields source.now result (merged number (seen_all source.now self.now)) }
+        ensures merged { GivesFields source.now result
+            (merged number (seen_all source.now self.now)) }
         ensures of_source { IfOk result (λ fields. AllByRecursion (IsOf source.now) fields) }
     {
         let mut all = Fields::own(Vec::new(alloc));

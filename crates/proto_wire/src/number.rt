@@ -10,7 +10,8 @@ const LONGEST: usize = 10;
 pub fn front_number(bytes: &[u8]) -> Option<(u64, usize)>
     ensures some { IfSome result (λ found. 0 < found.1) }
     ensures within { IfSome result (λ found. found.1 ≤ length bytes.now) }
-    ensures read { number_front bytes.now ≡ option_map (λ found. (found.0, drop found.1 bytes.now)) result }
+    ensures read { number_front bytes.now ≡
+        option_map (λ found. (found.0, drop found.1 bytes.now)) result }
 {
     let last = last_place(bytes)?;
     Some((low_groups(&bytes[..=last]), last + 1))

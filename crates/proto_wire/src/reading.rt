@@ -27,7 +27,8 @@ pub fn read_field(source: &[u8], at: usize, end: usize) -> Option<(Field, usize)
     requires ordered { at ≤ end }
     requires within { end ≤ length source.now }
     ensures behind { IfSome result (λ read. (at < read.1) × (read.1 ≤ end)) }
-    ensures read { field_front at (slice_range source.now at end) ≡ option_map (λ read. (seen source.now read.0, slice_range source.now read.1 end)) result }
+    ensures read { field_front at (slice_range source.now at end) ≡
+        option_map (λ read. (seen source.now read.0, slice_range source.now read.1 end)) result }
     ensures of_source { IfSome result (λ read. IsOf source.now read.0) }
 {
     let tag = read_tag(source, at, end)?;
@@ -39,7 +40,9 @@ fn read_tag(source: &[u8], at: usize, end: usize) -> Option<Tag>
     requires ordered { at ≤ end }
     requires within { end ≤ length source.now }
     ensures none { IfNone result (field_front at (slice_range source.now at end) ≡ None) }
-    ensures found { IfSome result (λ tag. field_front at (slice_range source.now at end) ≡ option_map (λ read. (record { number = tag.number; at = tag.at; payload = read.0 }, read.1)) (payload_front tag.wire_type tag.behind (slice_range source.now tag.behind end))) }
+    ensures found { IfSome result (λ tag. field_front at (slice_range source.now at end) ≡
+        option_map (λ read. (record { number = tag.number; at = tag.at; payload = read.0 }, read.1))
+        (payload_front tag.wire_type tag.behind (slice_range source.now tag.behind end))) }
     ensures behind { IfSome result (λ tag. (at < tag.behind) × (tag.behind ≤ end)) }
 {
     let (value, behind) = read_number(source, at, end)?;
@@ -59,8 +62,11 @@ fn read_tag(source: &[u8], at: usize, end: usize) -> Option<Tag>
 fn read_payload(source: &[u8], tag: Tag, end: usize) -> Option<(Field, usize)>
     requires ordered { tag.behind ≤ end }
     requires within { end ≤ length source.now }
-    ensures none { IfNone result (payload_front tag.wire_type tag.behind (slice_range source.now tag.behind end) ≡ None) }
-    ensures found { IfSome result (λ read. payload_front tag.wire_type tag.behind (slice_range source.now tag.behind end) ≡ Some (payload_of read.0.kind source.now read.0, slice_range source.now read.1 end)) }
+    ensures none { IfNone result
+        (payload_front tag.wire_type tag.behind (slice_range source.now tag.behind end) ≡ None) }
+    ensures found { IfSome result (λ read.
+        payload_front tag.wire_type tag.behind (slice_range source.now tag.behind end) ≡
+        Some (payload_of read.0.kind source.now read.0, slice_range source.now read.1 end)) }
     ensures named { IfSome result (λ read. (read.0.number ≡ tag.number) × (read.0.at ≡ tag.at)) }
     ensures behind { IfSome result (λ read. (tag.behind ≤ read.1) × (read.1 ≤ end)) }
     ensures of_source { IfSome result (λ read. IsOf source.now read.0) }
@@ -130,8 +136,11 @@ fn read_fixed(size: usize, at: usize, end: usize) -> Option<usize>
 fn read_span(source: &[u8], at: usize, end: usize) -> Option<(usize, usize)>
     requires ordered { at ≤ end }
     requires within { end ≤ length source.now }
-    ensures read { payload_front 2 at (slice_range source.now at end) ≡ option_map (λ span. (bytes span.0 (slice_range source.now span.0 span.1), slice_range source.now span.1 end)) result }
-    ensures behind { IfSome result (λ span. (at < span.0) × (span.0 ≤ span.1) × (span.1 ≤ end)) }
+    ensures read { payload_front 2 at (slice_range source.now at end) ≡ option_map (λ span.
+        (bytes span.0 (slice_range source.now span.0 span.1), slice_range source.now span.1 end))
+        result }
+    ensures behind { IfSome result (λ span.
+        (at < span.0) × (span.0 ≤ span.1) × (span.1 ≤ end)) }
 {
     let (size, start) = read_number(source, at, end)?;
     // The size can be any number of 64 bits, so it is compared with what is left.
@@ -145,7 +154,8 @@ fn read_span(source: &[u8], at: usize, end: usize) -> Option<(usize, usize)>
 fn read_number(source: &[u8], at: usize, end: usize) -> Option<(u64, usize)>
     requires ordered { at ≤ end }
     requires within { end ≤ length source.now }
-    ensures read { number_front (slice_range source.now at end) ≡ option_map (λ read. (read.0, slice_range source.now read.1 end)) result }
+    ensures read { number_front (slice_range source.now at end) ≡
+        option_map (λ read. (read.0, slice_range source.now read.1 end)) result }
     ensures behind { IfSome result (λ read. (at < read.1) × (read.1 ≤ end)) }
 {
     let (value, size) = front_number(&source[at..end])?;
