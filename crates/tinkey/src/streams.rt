@@ -1,30 +1,29 @@
-//! Standard input, output and error as a source and sinks, which tell no bytes. Each counts its
+//! Real streams, standard ones and files, as sources and sinks, which tell no bytes. Each counts its
 //! errors.
 
 ghost use Rattle.std.specs.Prelude.{◌≡◌, None};
 
 use std::io::{Read, Write};
-use std::rt::Stdin;
 use tink_base::{Failed, Sink, Source};
 
 /// How many bytes are read at a time at the most.
 const PIECE: usize = 4096;
 
-/// Standard input.
+/// A stream that is read, as standard input.
 #[derive(Drop)]
-pub struct StdSource {
-    input: Stdin,
+pub struct StdSource<R: Read> {
+    input: R,
     faults: u64,
 }
 
-impl StdSource {
-    /// Standard input, before its first read.
-    pub fn new(input: Stdin) -> StdSource {
+impl<R: Read> StdSource<R> {
+    /// A stream before its first read.
+    pub fn new(input: R) -> StdSource<R> {
         StdSource { input, faults: 0 }
     }
 }
 
-impl Source for StdSource {
+impl<R: Read> Source for StdSource<R> {
     ghost state = { λ s. record { left = None; faults = s.faults } };
 
     fn read(&mut self, out: &mut [u8]) -> Result<usize, Failed> {
@@ -43,7 +42,7 @@ impl Source for StdSource {
     }
 }
 
-/// Standard output or standard error.
+/// A stream that is written, as standard output.
 #[derive(Drop)]
 pub struct StdSink<W: Write> {
     output: W,

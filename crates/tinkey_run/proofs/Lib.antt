@@ -1,3 +1,5 @@
+pub mod HmacKeyExamples
+pub mod HmacKeyLemmas
 pub mod Laws
 pub mod Plans
 pub mod WordLemmas

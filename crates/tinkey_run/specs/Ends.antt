@@ -1,30 +1,48 @@
 -- How a run of a plan may end, whatever fails.
-use Rattle.std.specs.Prelude.{◌≡◌, ◌⊎◌, ℕ, ◌+◌, ◌≤◌, List, length}
+use Rattle.std.specs.Prelude.{◌≡◌, ◌⊎◌, ℕ, ◌+◌, ◌≤◌, List, length, Some, None}
+use Rattle.tink_spec.specs.Files.{StoreState, KeptFiles, Holds, HoldsLonger}
 use Rattle.tink_spec.specs.Outside.{SourceState, SinkState, Rose, Gave, GaveUpTo, GaveCount, Took, TookPrefix, IsAtEnd}
 use Rattle.tinkey_run.specs.declared.status.Status.{Status}
 use Rattle.tinkey_run.specs.declared.status.Status.TheVariants as status
-use Rattle.tinkey_run.specs.Plan.{Plan, ends, writes, allocates, reads_all}
+use Rattle.tinkey_run.specs.Plan.{Plan, ends, writes, allocates, loads, reads_all}
 
 -- the outside objects at one moment
 pub record World : Type 0 where
   pub source : SourceState
   pub sink : SinkState
+  pub store : StoreState
 
-abbrev pub world : SourceState → SinkState → World
-world source sink = record { source = source; sink = sink }
+abbrev pub world : SourceState → SinkState → StoreState → World
+world source sink store = record { source = source; sink = sink; store = store }
 
 -- all objects but the source are as before
 pub record OnlySource (old new : World) : Type 0 where
   pub sink : old.sink ≡ new.sink
+  pub store : old.store ≡ new.store
 
 -- all objects but the sink are as before
 pub record OnlySink (old new : World) : Type 0 where
   pub source : old.source ≡ new.source
+  pub store : old.store ≡ new.store
+
+-- all objects but the store are as before
+pub record OnlyStore (old new : World) : Type 0 where
+  pub source : old.source ≡ new.source
+  pub sink : old.sink ≡ new.sink
 
 -- all of the output was written, or the first bytes of it where the sink failed
 pub data EndsWriting (output : List ℕ) (old : World) (s : Status) (new : World) : Type 0 where
   wrote : s ≡ status.Done → OnlySink old new → Took old.sink new.sink output → EndsWriting output old s new
   write_failed : s ≡ status.WriteFault → OnlySink old new → Rose old.sink.faults new.sink.faults → TookPrefix old.sink new.sink output → EndsWriting output old s new
+
+-- the file was loaded, and then it went on; or it is missing, or longer than the limit; or the store
+-- failed, or memory was wanting
+pub data EndsLoading (name : List ℕ) (limit : ℕ) (absent long : Status) (Then : List ℕ → World → Status → World → Type 0) (old : World) (s : Status) (new : World) : Type 0 where
+  loaded : (bytes : List ℕ) (store : StoreState) → KeptFiles old.store store → length bytes ≤ limit → Holds old.store name (Some bytes) → Then bytes (record old { store = store }) s new → EndsLoading name limit absent long Then old s new
+  load_absent : s ≡ absent → OnlyStore old new → KeptFiles old.store new.store → Holds old.store name None → EndsLoading name limit absent long Then old s new
+  load_long : s ≡ long → OnlyStore old new → KeptFiles old.store new.store → HoldsLonger old.store name limit → EndsLoading name limit absent long Then old s new
+  load_failed : s ≡ status.StoreFault → OnlyStore old new → KeptFiles old.store new.store → Rose old.store.faults new.store.faults → EndsLoading name limit absent long Then old s new
+  load_starved : s ≡ status.NoMemory → OnlyStore old new → KeptFiles old.store new.store → EndsLoading name limit absent long Then old s new
 
 -- all bytes were read, and then it went on; or one byte more than the limit was taken; or the source
 -- failed, or memory was wanting, within the limit
@@ -38,4 +56,5 @@ abbrev pub Ends : Plan → World → Status → World → Type 0
 Ends (ends stated_status stated) old s new = (s ≡ stated_status) × (old ≡ new)
 Ends (writes output) old s new = EndsWriting output old s new
 Ends (allocates next) old s new = Ends next old s new ⊎ ((s ≡ status.NoMemory) × (old ≡ new))
+Ends (loads name limit absent long a l next) old s new = EndsLoading name limit absent long (λ bytes. Ends (next bytes)) old s new
 Ends (reads_all limit long stated next) old s new = EndsReading limit long (λ all. Ends (next all)) old s new

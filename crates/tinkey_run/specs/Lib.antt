@@ -1,8 +1,11 @@
 pub mod Commands
 pub mod Ends
+pub mod HmacKey
 pub mod Plan
 pub mod Promises
 pub mod Status
+pub mod TagSteps
+pub mod Tags
 pub mod Words
 pub use Rattle.keyset_model.specs.Keyset
 pub use Rattle.keyset_model.specs.Listing

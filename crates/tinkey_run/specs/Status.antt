@@ -4,6 +4,8 @@ use Rattle.std.specs.Fmt.{decimal}
 use Rattle.keyset_model.specs.declared.keyset.KeysetFault.{KeysetFault}
 use Rattle.keyset_model.specs.declared.keyset.KeysetFault.TheVariants as faults
 use Rattle.tink_spec.specs.Outside.{SinkState, Rose, Took, TookPrefix}
+use Rattle.tinkey_run.specs.declared.rule.Rule.{Rule}
+use Rattle.tinkey_run.specs.declared.rule.Rule.TheVariants as broken
 use Rattle.tinkey_run.specs.declared.status.Status.{Status}
 use Rattle.tinkey_run.specs.declared.status.Status.TheVariants as status
 
@@ -12,9 +14,14 @@ code_of status.Done = 0
 code_of (status.Usage word) = 2
 code_of (status.BadProto at) = 3
 code_of (status.Keyset fault) = 3
+code_of (status.NoManager i) = 3
+code_of (status.BadKey i rule) = 3
+code_of status.InMissing = 4
 code_of status.ReadFault = 5
 code_of status.WriteFault = 5
+code_of status.StoreFault = 5
 code_of status.KeysetTooLong = 6
+code_of status.InputTooLong = 6
 code_of status.NoMemory = 7
 
 unfoldable pub fault_text : KeysetFault → List ℕ
@@ -22,14 +29,26 @@ fault_text faults.Empty = codes "keyset has no key"
 fault_text faults.Unbuilt = codes "keyset form not built yet"
 fault_text faults.NoPrimary = codes "no key has the primary id"
 
+unfoldable pub rule_text : Rule → List ℕ
+rule_text broken.Form = codes "form"
+rule_text broken.Version = codes "version"
+rule_text broken.Hash = codes "hash"
+rule_text broken.KeySize = codes "key size"
+rule_text broken.TagSize = codes "tag size"
+
 unfoldable pub text_of : Status → List ℕ
 text_of status.Done = []
 text_of (status.Usage word) = codes "usage: word " ++ decimal word
 text_of (status.BadProto at) = codes "bad protobuf at byte " ++ decimal at
 text_of (status.Keyset fault) = fault_text fault
 text_of status.KeysetTooLong = codes "keyset too long"
+text_of (status.NoManager i) = codes "key " ++ decimal i ++ codes " has no manager for this command"
+text_of (status.BadKey i rule) = codes "key " ++ decimal i ++ codes " is not valid: " ++ rule_text rule
+text_of status.InMissing = codes "input file missing"
+text_of status.InputTooLong = codes "input too long"
 text_of status.ReadFault = codes "read fault"
 text_of status.WriteFault = codes "write fault"
+text_of status.StoreFault = codes "store fault"
 text_of status.NoMemory = codes "out of memory"
 
 -- Done writes nothing; any other status is told by one line

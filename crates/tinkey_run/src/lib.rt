@@ -6,13 +6,18 @@
 //! `run` follows for every plan (`specs/Promises.antt`, `proofs/Laws.antt`).
 #![tactic(auto)]
 
-mod commands;
+mod hmac_key;
 mod line;
+mod list;
+mod output;
 mod report;
+mod rule;
 mod status;
+mod tag;
 mod top;
 mod words;
 
 pub use keyset_model::KeysetFault;
+pub use rule::Rule;
 pub use status::Status;
 pub use top::run;

@@ -1,10 +1,10 @@
 //! The diagnostic line of a status, told without memory.
 
 ghost use Rattle.std.specs.Prelude.{◌≡◌, ◌+◌, ◌≤◌, ◌++◌, length};
-ghost use Rattle.tinkey_run.specs.Status.{line_of, text_of, fault_text, Reports};
+ghost use Rattle.tinkey_run.specs.Status.{line_of, text_of, fault_text, rule_text, Reports};
 
-use crate::Status;
 use crate::line::Line;
+use crate::{Rule, Status};
 use keyset_model::KeysetFault;
 use tink_base::{Sink, write_all};
 
@@ -37,7 +37,7 @@ fn line(status: Status) -> Line
 fn push_text(line: &mut Line, status: Status)
     requires room { length line.old ≤ 16 }
     ensures text { line.new ≡ line.old ++ text_of status }
-    ensures short { length line.new ≤ 100 }
+    ensures short { length line.new ≤ 108 }
 {
     match status {
         Status::Done => {}
@@ -51,6 +51,20 @@ fn push_text(line: &mut Line, status: Status)
         }
         Status::Keyset(fault) => line.push(keyset_text(fault)),
         Status::KeysetTooLong => line.push("keyset too long"),
+        Status::InMissing => line.push("input file missing"),
+        Status::NoManager(i) => {
+            line.push("key ");
+            line.push_number(i);
+            line.push(" has no manager for this command");
+        }
+        Status::BadKey(i, rule) => {
+            line.push("key ");
+            line.push_number(i);
+            line.push(" is not valid: ");
+            line.push(rule_name(rule));
+        }
+        Status::InputTooLong => line.push("input too long"),
+        Status::StoreFault => line.push("store fault"),
         Status::ReadFault => line.push("read fault"),
         Status::WriteFault => line.push("write fault"),
         Status::NoMemory => line.push("out of memory"),
@@ -67,5 +81,20 @@ fn keyset_text(fault: KeysetFault) -> &'static str
         KeysetFault::Empty => "keyset has no key",
         KeysetFault::Unbuilt => "keyset form not built yet",
         KeysetFault::NoPrimary => "no key has the primary id",
+    }
+}
+
+/// The text of a rule.
+#[tactic(auto, unfolding(crate::specs::Status::rule_text))]
+fn rule_name(rule: Rule) -> &'static str
+    ensures text { result.now ≡ rule_text rule }
+    ensures short { length result.now ≤ 16 }
+{
+    match rule {
+        Rule::Form => "form",
+        Rule::Version => "version",
+        Rule::Hash => "hash",
+        Rule::KeySize => "key size",
+        Rule::TagSize => "tag size",
     }
 }

@@ -2,6 +2,7 @@
 
 ghost use Rattle.std.specs.Prelude.{◌≡◌};
 
+use crate::Rule;
 use keyset_model::KeysetFault;
 
 /// How a run ends, with the place where it was refused.
@@ -20,10 +21,20 @@ pub enum Status {
     Keyset(KeysetFault),
     /// The keyset has more than 1,048,576 bytes.
     KeysetTooLong,
+    /// The keyset's file is missing.
+    InMissing,
+    /// The record of this place has a type URL that no manager of the command has.
+    NoManager(usize),
+    /// The record of this place breaks this rule of its key message, the first one.
+    BadKey(usize, Rule),
+    /// The input has more than 16,777,216 bytes.
+    InputTooLong,
     /// The source failed.
     ReadFault,
     /// The sink failed.
     WriteFault,
+    /// The store failed.
+    StoreFault,
     /// Memory was refused.
     NoMemory,
 }
@@ -38,9 +49,11 @@ impl Status {
         match self {
             Status::Done => 0,
             Status::Usage(_) => 2,
-            Status::BadProto(_) | Status::Keyset(_) => 3,
-            Status::ReadFault | Status::WriteFault => 5,
-            Status::KeysetTooLong => 6,
+            Status::BadProto(_) | Status::Keyset(_) | Status::NoManager(_) | Status::BadKey(_, _) =>
+                3,
+            Status::InMissing => 4,
+            Status::ReadFault | Status::WriteFault | Status::StoreFault => 5,
+            Status::KeysetTooLong | Status::InputTooLong => 6,
             Status::NoMemory => 7,
         }
     }

@@ -5,13 +5,15 @@ ghost use Rattle.tinkey_run.specs.Ends.{Ends, world};
 ghost use Rattle.tinkey_run.specs.Commands.{plan_of, command_plan};
 ghost use Rattle.tinkey_run.specs.Promises.{Answers, HasCause, Leaves, Stands, Completes};
 ghost use Rattle.tinkey_run.specs.Status.{Reports};
+ghost use Rattle.tinkey_run.specs.Words.{seen_command};
 
 use crate::Status;
-use crate::commands::list_keyset;
+use crate::list::list_keyset;
 use crate::report::report;
+use crate::tag::tag;
 use crate::words::{Command, parse};
 use std::alloc::Global;
-use tink_base::{Sink, Source};
+use tink_base::{Sink, Source, Store};
 
 /// Does what the words after the program's name ask for, and tells on `diag` what went wrong.
 ///
@@ -21,54 +23,63 @@ use tink_base::{Sink, Source};
 /// status is the stated one where nothing fails and memory suffices. `ends`, from which they follow,
 /// has each way in which a run may end.
 #[tactic(auto, using(crate::proofs::Plans::run_answers, crate::proofs::Plans::run_has_cause, crate::proofs::Plans::run_leaves, crate::proofs::Plans::run_stands, crate::proofs::Plans::run_completes))]
-pub fn run<S: Source, K: Sink, G: Sink>(
+pub fn run<S: Source, K: Sink, G: Sink, D: Store>(
     alloc: Global,
     words: &[String],
     source: &mut S,
     sink: &mut K,
     diag: &mut G,
+    store: &mut D,
 ) -> Status
-    ensures answer { Answers (plan_of (map string_bytes words.now)) (world (S.state source.old) (K.state sink.old))
-        result (world (S.state source.new) (K.state sink.new)) }
-    ensures cause { HasCause (world (S.state source.old) (K.state sink.old))
-        result (world (S.state source.new) (K.state sink.new)) }
-    ensures leaves { Leaves (plan_of (map string_bytes words.now)) (world (S.state source.old) (K.state sink.old))
-        result (world (S.state source.new) (K.state sink.new)) }
-    ensures stands { Stands (plan_of (map string_bytes words.now)) (world (S.state source.old) (K.state sink.old))
-        result (world (S.state source.new) (K.state sink.new)) }
+    ensures answer { Answers (plan_of (map string_bytes words.now)) (world (S.state source.old) (K.state sink.old) (D.state store.old))
+        result (world (S.state source.new) (K.state sink.new) (D.state store.new)) }
+    ensures cause { HasCause (world (S.state source.old) (K.state sink.old) (D.state store.old))
+        result (world (S.state source.new) (K.state sink.new) (D.state store.new)) }
+    ensures leaves { Leaves (plan_of (map string_bytes words.now)) (world (S.state source.old) (K.state sink.old) (D.state store.old))
+        result (world (S.state source.new) (K.state sink.new) (D.state store.new)) }
+    ensures stands { Stands (plan_of (map string_bytes words.now)) (world (S.state source.old) (K.state sink.old) (D.state store.old))
+        result (world (S.state source.new) (K.state sink.new) (D.state store.new)) }
     ensures line { Reports result (G.state diag.old) (G.state diag.new) }
-    ensures complete { Completes (world (S.state source.old) (K.state sink.old))
-        result (world (S.state source.new) (K.state sink.new)) }
-    ensures ends { Ends (plan_of (map string_bytes words.now)) (world (S.state source.old) (K.state sink.old))
-        result (world (S.state source.new) (K.state sink.new)) }
+    ensures complete { Completes (world (S.state source.old) (K.state sink.old) (D.state store.old))
+        result (world (S.state source.new) (K.state sink.new) (D.state store.new)) }
+    ensures ends { Ends (plan_of (map string_bytes words.now)) (world (S.state source.old) (K.state sink.old) (D.state store.old))
+        result (world (S.state source.new) (K.state sink.new) (D.state store.new)) }
 {
-    let status = obey(alloc, words, source, sink);
+    let status = obey(alloc, words, source, sink, store);
     report(diag, status);
     status
 }
 
 /// Does what the words ask for.
-fn obey<S: Source, K: Sink>(alloc: Global, words: &[String], source: &mut S, sink: &mut K) -> Status
-    ensures { Ends (plan_of (map string_bytes words.now)) (world (S.state source.old) (K.state sink.old))
-        result (world (S.state source.new) (K.state sink.new)) }
+fn obey<S: Source, K: Sink, D: Store>(
+    alloc: Global,
+    words: &[String],
+    source: &mut S,
+    sink: &mut K,
+    store: &mut D,
+) -> Status
+    ensures { Ends (plan_of (map string_bytes words.now)) (world (S.state source.old) (K.state sink.old) (D.state store.old))
+        result (world (S.state source.new) (K.state sink.new) (D.state store.new)) }
 {
     match parse(words) {
-        Ok(command) => dispatch(alloc, command, source, sink),
+        Ok(command) => dispatch(alloc, command, source, sink, store),
         Err(word) => Status::Usage(word),
     }
 }
 
 /// Does the command.
-fn dispatch<S: Source, K: Sink>(
+fn dispatch<S: Source, K: Sink, D: Store>(
     alloc: Global,
-    command: Command,
+    command: Command<'_>,
     source: &mut S,
     sink: &mut K,
+    store: &mut D,
 ) -> Status
-    ensures { Ends (command_plan command) (world (S.state source.old) (K.state sink.old))
-        result (world (S.state source.new) (K.state sink.new)) }
+    ensures { Ends (command_plan (seen_command command.entry)) (world (S.state source.old) (K.state sink.old) (D.state store.old))
+        result (world (S.state source.new) (K.state sink.new) (D.state store.new)) }
 {
     match command {
         Command::ListKeyset => list_keyset(alloc, source, sink),
+        Command::Tag(name) => tag(alloc, name, source, sink, store),
     }
 }

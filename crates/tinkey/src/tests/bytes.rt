@@ -1,169 +1,43 @@
 //! What hostile bytes get.
 
-use super::{KEYSET, LIST, WHOLE, run_over};
+use super::{KEYSET, LIST, WHOLE, around_keyset, run_over};
 use std::test::Fail;
 use tinkey_run::{KeysetFault, Status};
 
-// Each case worked out by hand from the encoding guide of Protocol Buffers and tink.proto.
+// The bytes before the keyset, the place from which on it is there, and those behind it. Each case is
+// worked out by hand from the encoding guide of Protocol Buffers and tink.proto.
 #[test]
+#[rattlefmt::skip]
 fn names_the_first_fault_of_the_bytes(rt: HostRuntime) -> Result<(), Fail> {
-    let cases: [(&str, &[&[u8]], Status, &str); 25] = [
-        (
-            "no byte",
-            &[],
-            Status::Keyset(KeysetFault::Empty),
-            "keyset has no key",
-        ),
-        (
-            "an unknown field alone",
-            &[b"\x28\x07"],
-            Status::Keyset(KeysetFault::Empty),
-            "keyset has no key",
-        ),
-        (
-            "another primary id",
-            &[b"\x08\x05", &KEYSET[5..]],
-            Status::Keyset(KeysetFault::NoPrimary),
-            "no key has the primary id",
-        ),
-        (
-            "a second key",
-            &[KEYSET, b"\x12\x00"],
-            Status::Keyset(KeysetFault::Unbuilt),
-            "keyset form not built yet",
-        ),
-        (
-            "an empty key",
-            &[b"\x12\x00"],
-            Status::Keyset(KeysetFault::Unbuilt),
-            "keyset form not built yet",
-        ),
-        (
-            "field number 0",
-            &[b"\x00"],
-            Status::BadProto(0),
-            "bad protobuf at byte 0",
-        ),
-        (
-            "a tag alone",
-            &[b"\x08"],
-            Status::BadProto(0),
-            "bad protobuf at byte 0",
-        ),
-        (
-            "a varint of eleven bytes",
-            &[b"\x08\x80\x80\x80\x80\x80\x80\x80\x80\x80\x80\x01"],
-            Status::BadProto(0),
-            "bad protobuf at byte 0",
-        ),
-        (
-            "a varint without an end",
-            &[b"\x08\x80\x80"],
-            Status::BadProto(0),
-            "bad protobuf at byte 0",
-        ),
-        (
-            "a payload past the end",
-            &[b"\x08\x84\x86\x88\x08\x12\x01"],
-            Status::BadProto(5),
-            "bad protobuf at byte 5",
-        ),
-        (
-            "a payload of 2^64 - 1 bytes",
-            &[b"\x12\xff\xff\xff\xff\xff\xff\xff\xff\xff\x01"],
-            Status::BadProto(0),
-            "bad protobuf at byte 0",
-        ),
-        (
-            "a primary id of four bytes",
-            &[b"\x0d\x00\x00\x00\x00"],
-            Status::BadProto(0),
-            "bad protobuf at byte 0",
-        ),
-        (
-            "a primary id of eight bytes",
-            &[KEYSET, b"\x09\x00\x00\x00\x00\x00\x00\x00\x00"],
-            Status::BadProto(90),
-            "bad protobuf at byte 90",
-        ),
-        (
-            "a primary id of bytes",
-            &[b"\x0a\x00"],
-            Status::BadProto(0),
-            "bad protobuf at byte 0",
-        ),
-        (
-            "a key that is a number",
-            &[KEYSET, b"\x10\x01"],
-            Status::BadProto(90),
-            "bad protobuf at byte 90",
-        ),
-        (
-            "four bytes of which three are there",
-            &[b"\x2d\x00\x00\x00"],
-            Status::BadProto(0),
-            "bad protobuf at byte 0",
-        ),
-        (
-            "eight bytes of which seven are there",
-            &[b"\x29\x00\x00\x00\x00\x00\x00\x00"],
-            Status::BadProto(0),
-            "bad protobuf at byte 0",
-        ),
-        (
-            "wire type 3",
-            &[KEYSET, b"\x2b"],
-            Status::BadProto(90),
-            "bad protobuf at byte 90",
-        ),
-        (
-            "wire type 4",
-            &[KEYSET, b"\x2c"],
-            Status::BadProto(90),
-            "bad protobuf at byte 90",
-        ),
-        (
-            "wire type 6",
-            &[KEYSET, b"\x2e"],
-            Status::BadProto(90),
-            "bad protobuf at byte 90",
-        ),
-        (
-            "wire type 7",
-            &[KEYSET, b"\x2f"],
-            Status::BadProto(90),
-            "bad protobuf at byte 90",
-        ),
-        (
-            "field number 2^29 - 1",
-            &[b"\xf8\xff\xff\xff\x0f\x00"],
-            Status::Keyset(KeysetFault::Empty),
-            "keyset has no key",
-        ),
-        (
-            "field number 2^29",
-            &[b"\x80\x80\x80\x80\x10\x00"],
-            Status::BadProto(0),
-            "bad protobuf at byte 0",
-        ),
-        (
-            "a type URL that isn't UTF-8",
-            &[b"\x12\x05\x0a\x03\x0a\x01\xff"],
-            Status::BadProto(0),
-            "bad protobuf at byte 0",
-        ),
-        (
-            "a fault behind a fault",
-            &[b"\x12\x01\x00", b"\x00"],
-            Status::BadProto(3),
-            "bad protobuf at byte 3",
-        ),
+    let cases: [(&str, &[u8], usize, &[u8], Status, &str); 25] = [
+        ("no byte", b"", 90, b"", Status::Keyset(KeysetFault::Empty), "keyset has no key"),
+        ("an unknown field alone", b"\x28\x07", 90, b"", Status::Keyset(KeysetFault::Empty), "keyset has no key"),
+        ("another primary id", b"\x08\x05", 5, b"", Status::Keyset(KeysetFault::NoPrimary), "no key has the primary id"),
+        ("a second key", b"", 0, b"\x12\x00", Status::Keyset(KeysetFault::Unbuilt), "keyset form not built yet"),
+        ("an empty key", b"\x12\x00", 90, b"", Status::Keyset(KeysetFault::Unbuilt), "keyset form not built yet"),
+        ("field number 0", b"\x00", 90, b"", Status::BadProto(0), "bad protobuf at byte 0"),
+        ("a tag alone", b"\x08", 90, b"", Status::BadProto(0), "bad protobuf at byte 0"),
+        ("a varint of eleven bytes", b"\x08\x80\x80\x80\x80\x80\x80\x80\x80\x80\x80\x01", 90, b"", Status::BadProto(0), "bad protobuf at byte 0"),
+        ("a varint without an end", b"\x08\x80\x80", 90, b"", Status::BadProto(0), "bad protobuf at byte 0"),
+        ("a payload past the end", b"\x08\x84\x86\x88\x08\x12\x01", 90, b"", Status::BadProto(5), "bad protobuf at byte 5"),
+        ("a payload of 2^64 - 1 bytes", b"\x12\xff\xff\xff\xff\xff\xff\xff\xff\xff\x01", 90, b"", Status::BadProto(0), "bad protobuf at byte 0"),
+        ("a primary id of four bytes", b"\x0d\x00\x00\x00\x00", 90, b"", Status::BadProto(0), "bad protobuf at byte 0"),
+        ("a primary id of eight bytes", b"", 0, b"\x09\x00\x00\x00\x00\x00\x00\x00\x00", Status::BadProto(90), "bad protobuf at byte 90"),
+        ("a primary id of bytes", b"\x0a\x00", 90, b"", Status::BadProto(0), "bad protobuf at byte 0"),
+        ("a key that is a number", b"", 0, b"\x10\x01", Status::BadProto(90), "bad protobuf at byte 90"),
+        ("four bytes of which three are there", b"\x2d\x00\x00\x00", 90, b"", Status::BadProto(0), "bad protobuf at byte 0"),
+        ("eight bytes of which seven are there", b"\x29\x00\x00\x00\x00\x00\x00\x00", 90, b"", Status::BadProto(0), "bad protobuf at byte 0"),
+        ("wire type 3", b"", 0, b"\x2b", Status::BadProto(90), "bad protobuf at byte 90"),
+        ("wire type 4", b"", 0, b"\x2c", Status::BadProto(90), "bad protobuf at byte 90"),
+        ("wire type 6", b"", 0, b"\x2e", Status::BadProto(90), "bad protobuf at byte 90"),
+        ("wire type 7", b"", 0, b"\x2f", Status::BadProto(90), "bad protobuf at byte 90"),
+        ("field number 2^29 - 1", b"\xf8\xff\xff\xff\x0f\x00", 90, b"", Status::Keyset(KeysetFault::Empty), "keyset has no key"),
+        ("field number 2^29", b"\x80\x80\x80\x80\x10\x00", 90, b"", Status::BadProto(0), "bad protobuf at byte 0"),
+        ("a type URL that isn't UTF-8", b"\x12\x05\x0a\x03\x0a\x01\xff", 90, b"", Status::BadProto(0), "bad protobuf at byte 0"),
+        ("a fault behind a fault", b"\x12\x01\x00\x00", 90, b"", Status::BadProto(3), "bad protobuf at byte 3"),
     ];
-    for (shows, parts, status, text) in cases {
-        let mut input = Vec::new(rt.alloc());
-        for part in parts {
-            input.extend_from_slice(part)?;
-        }
+    for (shows, front, from, behind, status, text) in cases {
+        let input = around_keyset(rt.alloc(), front, from, behind)?;
         let got = run_over(rt.alloc(), LIST, &input, &WHOLE)?;
         let want = format!(in rt.alloc(); "tinkey: {text}\n")?;
         assert_eq!(rt; got.status, status, "{shows}");

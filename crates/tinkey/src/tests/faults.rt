@@ -10,46 +10,45 @@ use tinkey_run::Status;
 fn names_the_object_that_failed(rt: HostRuntime) -> Result<(), Fail> {
     for call in 1..5 {
         let fails = [call];
-        let reading = Objects {
-            piece: 64,
-            read_fails: &fails,
-            ..WHOLE
-        };
-        let got = run_over(rt.alloc(), LIST, KEYSET, &reading)?;
-        if call <= 3 {
-            assert_eq!(rt; got.status, Status::ReadFault, "read {call}");
-            assert_eq!(rt; got.status.code(), 5);
-            assert_eq!(rt;
-                got.line.as_slice(),
-                b"tinkey: read fault\n".as_slice(),
-                "read {call}"
-            );
-            assert_eq!(rt; got.output.len(), 0, "read {call}");
-        } else {
-            assert_eq!(rt; got.status, Status::Done, "no read {call}");
-        }
-
-        let writing = Objects {
-            piece: 64,
-            write_fails: &fails,
-            ..WHOLE
-        };
-        let got = run_over(rt.alloc(), LIST, KEYSET, &writing)?;
-        let written = [0, 64, 128, 165]
-            .get(call as usize - 1)
-            .copied()
-            .ok_or("a count")?;
-        let front = LISTING.as_bytes().get(..written).ok_or("a front")?;
-        assert_eq!(rt; got.output.as_slice(), front, "write {call}");
-        if call <= 3 {
-            assert_eq!(rt; got.status, Status::WriteFault, "write {call}");
-            assert_eq!(rt;
-                got.line.as_slice(),
-                b"tinkey: write fault\n".as_slice(),
-                "write {call}"
-            );
-        } else {
-            assert_eq!(rt; got.status, Status::Done, "no write {call}");
+        let whole = Objects { piece: 64, ..WHOLE };
+        let written = 64 * (call as usize - 1);
+        let cases = [
+            (
+                Objects {
+                    read_fails: &fails,
+                    ..whole
+                },
+                3,
+                Status::ReadFault,
+                0,
+                "tinkey: read fault\n",
+            ),
+            (
+                Objects {
+                    write_fails: &fails,
+                    ..whole
+                },
+                3,
+                Status::WriteFault,
+                written,
+                "tinkey: write fault\n",
+            ),
+        ];
+        for (objects, last, status, size, line) in cases {
+            let got = run_over(rt.alloc(), LIST, KEYSET, &objects)?;
+            if call <= last {
+                assert_eq!(rt; got.status, status, "call {call}");
+                assert_eq!(rt; got.status.code(), 5, "call {call}");
+                assert_eq!(rt; got.line.as_slice(), line.as_bytes(), "call {call}");
+                assert_eq!(rt;
+                    got.output.as_slice(),
+                    LISTING.as_bytes().get(..size).ok_or("a front")?,
+                    "call {call}"
+                );
+            } else {
+                assert_eq!(rt; got.status, Status::Done, "no call {call}");
+                assert_eq!(rt; got.output.as_slice(), LISTING.as_bytes(), "no call {call}");
+            }
         }
     }
     Ok(())

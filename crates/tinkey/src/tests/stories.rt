@@ -1,6 +1,6 @@
 //! What a user gets.
 
-use super::{KEYSET, LIST, LISTING, Objects, WHOLE, run_over};
+use super::{KEYSET, LIST, LISTING, Objects, WHOLE, around_keyset, run_over};
 use std::test::Fail;
 use tinkey_run::Status;
 
@@ -25,36 +25,16 @@ fn lists_a_keyset_whatever_the_pieces(rt: HostRuntime) -> Result<(), Fail> {
 
 // Other spellings of the same keyset, by the encoding guide of Protocol Buffers.
 #[test]
+#[rattlefmt::skip]
 fn lists_each_spelling_of_a_keyset(rt: HostRuntime) -> Result<(), Fail> {
-    let spellings: [(&str, &[&[u8]]); 4] = [
-        ("an unknown field at the end", &[KEYSET, b"\x28\x07"]),
-        (
-            "key data in two parts, which are merged",
-            &[
-                &KEYSET[..5],
-                b"\x12\x55\x0a\x32",
-                &KEYSET[9..59],
-                b"\x0a\x16",
-                &KEYSET[59..],
-            ],
-        ),
-        (
-            "a primary id of ten bytes, whose low 32 bits count",
-            &[
-                b"\x08\x84\x86\x88\x88\xf0\xff\xff\xff\xff\x01",
-                &KEYSET[5..],
-            ],
-        ),
-        (
-            "two primary ids, the last of which counts",
-            &[b"\x08\x07", KEYSET],
-        ),
+    let spellings: [(&str, &[u8], usize, &[u8]); 4] = [
+        ("an unknown field at the end", b"", 0, b"\x28\x07"),
+        ("key data in two parts, which are merged", b"\x08\x84\x86\x88\x08\x12\x55\x0a\x32\x0a\x30type.googleapis.com/google.crypto.tink.AesGcmKey\x0a\x16", 59, b""),
+        ("a primary id of ten bytes, whose low 32 bits count", b"\x08\x84\x86\x88\x88\xf0\xff\xff\xff\xff\x01", 5, b""),
+        ("two primary ids, the last of which counts", b"\x08\x07", 0, b""),
     ];
-    for (shows, parts) in spellings {
-        let mut input = Vec::new(rt.alloc());
-        for part in parts {
-            input.extend_from_slice(part)?;
-        }
+    for (shows, front, from, behind) in spellings {
+        let input = around_keyset(rt.alloc(), front, from, behind)?;
         let got = run_over(rt.alloc(), LIST, &input, &WHOLE)?;
         assert_eq!(rt; got.status, Status::Done, "{shows}");
         assert_eq!(rt; got.output.as_slice(), LISTING.as_bytes(), "{shows}");

@@ -1,10 +1,8 @@
-use Rattle.tinkey_run.specs.declared.words.Command.TheVariants.{ListKeyset}
-use Rattle.tinkey_run.specs.Commands.{command_plan}
-use Rattle.tinkey_run.specs.Ends.{Ends, world}
+use Rattle.tinkey_run.specs.Ends.{world}
 use Rattle.tinkey_run.proofs.top.dispatch.Goals as goal
 
--- there is one command
-pub returns : goal.returns
-returns g c =
-    elim c.args.command as (λ command. Ends (command_plan command) (world (g.S.Source.state c.args.source.now) (g.K.Sink.state c.args.sink.now)) c.list_keyset.result (world (g.S.Source.state c.list_keyset.new.source) (g.K.Sink.state c.list_keyset.new.sink)))
-    [ ListKeyset ↦ c.list_keyset.ensures (world (g.S.Source.state c.args.source.now) (g.K.Sink.state c.args.sink.now)) ]
+pub returns-in-ListKeyset : goal.returns-in-ListKeyset
+returns-in-ListKeyset g c = rw c.in-ListKeyset.is (c.list_keyset.ensures (world (g.S.Source.state c.args.source.now) (g.K.Sink.state c.args.sink.now) (g.D.Store.state c.args.store.now)))
+
+pub returns-in-Tag : goal.returns-in-Tag
+returns-in-Tag g c = rw c.in-Tag.is (c.tag.ensures (world (g.S.Source.state c.args.source.now) (g.K.Sink.state c.args.sink.now) (g.D.Store.state c.args.store.now)))

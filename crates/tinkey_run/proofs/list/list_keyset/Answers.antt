@@ -1,5 +1,5 @@
 use Rattle.tinkey_run.specs.Ends.{read}
-use Rattle.tinkey_run.proofs.commands.list_keyset.Goals as goal
+use Rattle.tinkey_run.proofs.list.list_keyset.Goals as goal
 
 pub returns-in-Ok : goal.returns-in-Ok
 returns-in-Ok g c = λ w.

@@ -1,17 +1,14 @@
-//! The commands, one function a step of their plans.
+//! list-keyset, one function a step of its plan.
 
 ghost use Rattle.std.specs.Prelude.{◌≡◌, ◌≤◌, ◌^◌, length};
-ghost use Rattle.tinkey_run.specs.Plan.{writes};
 ghost use Rattle.tinkey_run.specs.Ends.{Ends, World};
-ghost use Rattle.tinkey_run.specs.Commands.{list_keyset_plan, list_bytes_plan, listing_plan, refusal_of};
+ghost use Rattle.tinkey_run.specs.Commands.{list_keyset_plan, list_bytes_plan, listing_plan};
 
 use crate::Status;
-use keyset_model::{Keyset, ReadError, info_text, read_binary};
+use crate::output::{KEYSET_LIMIT, refusal, write_output};
+use keyset_model::{Keyset, info_text, read_binary};
 use std::alloc::Global;
-use tink_base::{ReadAllFault, Sink, Source, read_all, write_all};
-
-/// How many bytes a keyset may have.
-const KEYSET_LIMIT: usize = 1_048_576;
+use tink_base::{ReadAllFault, Sink, Source, read_all};
 
 /// list-keyset: the listing of the keyset that the source holds.
 pub(crate) fn list_keyset<S: Source, K: Sink>(alloc: Global, source: &mut S, sink: &mut K) -> Status
@@ -38,17 +35,6 @@ fn list_bytes<K: Sink>(alloc: Global, bytes: &[u8], sink: &mut K) -> Status
     }
 }
 
-/// The status of a keyset that can't be read.
-fn refusal(e: ReadError) -> Status
-    ensures { result ≡ refusal_of e }
-{
-    match e {
-        ReadError::Wire(wire) => Status::BadProto(wire.at),
-        ReadError::Fault(fault) => Status::Keyset(fault),
-        ReadError::NoMemory => Status::NoMemory,
-    }
-}
-
 /// The listing of this keyset.
 fn list<K: Sink>(alloc: Global, keyset: &Keyset, sink: &mut K) -> Status
     ensures { (w : World) → Ends (listing_plan keyset.now) (record w { sink = K.state sink.old })
@@ -57,16 +43,5 @@ fn list<K: Sink>(alloc: Global, keyset: &Keyset, sink: &mut K) -> Status
     match info_text(alloc, keyset) {
         Ok(text) => write_output(sink, &text),
         Err(_) => Status::NoMemory,
-    }
-}
-
-/// Writes the output, the last step of a command.
-fn write_output<K: Sink>(sink: &mut K, output: &[u8]) -> Status
-    ensures { (w : World) → Ends (writes output.now) (record w { sink = K.state sink.old })
-        result (record w { sink = K.state sink.new }) }
-{
-    match write_all(sink, output) {
-        Ok(()) => Status::Done,
-        Err(_) => Status::WriteFault,
     }
 }

@@ -1,0 +1,22 @@
+use Rattle.std.proofs.Common.{◌∙◌, sym}
+use Rattle.tinkey_run.proofs.HmacKeyLemmas.{handed_on, whole, cut_fails, message_fails, message_gives}
+use Rattle.tinkey_run.proofs.hmac_key.read_hmac_key.Goals as goal
+
+pub returns-in_err-message-clause-key : goal.returns-in_err-message-clause-key
+returns-in_err-message-clause-key c =
+    let bytes = c.args.value.now in
+    handed_on _ _ _ c.from_residual.ensures.1 (cut_fails bytes bytes _ (rw whole at c.in_err-message.ensures.cut))
+
+pub returns-in_err-message-2-clause-key : goal.returns-in_err-message-2-clause-key
+returns-in_err-message-2-clause-key c =
+    handed_on _ _ _ c.from_residual-in_err-message-2.ensures.1
+    (message_fails c.args.value.now _ _ (rw whole at c.in_ok-message.ensures.cut) c.in_err-message-2.ensures)
+
+pub returns-in_err-key-clause-key : goal.returns-in_err-key-clause-key
+returns-in_err-key-clause-key c =
+    handed_on _ _ _ c.from_residual-in_err-key.ensures.1
+    (message_gives c.args.value.now _ _ (rw whole at c.in_ok-message.ensures.cut) c.in_ok-message-2.ensures ∙ sym c.in_err-key.ensures.key)
+
+pub returns-clause-key : goal.returns-clause-key
+returns-clause-key c =
+    message_gives c.args.value.now _ _ (rw whole at c.in_ok-message.ensures.cut) c.in_ok-message-2.ensures ∙ sym c.in_ok-key.ensures.key
