@@ -1,5 +1,6 @@
 //! What failing objects get.
 
+use super::tags::TAG;
 use super::{KEYSET, LIST, LISTING, Objects, WHOLE, run_over};
 use std::test::Fail;
 use tinkey_run::Status;
@@ -54,23 +55,32 @@ fn names_the_object_that_failed(rt: HostRuntime) -> Result<(), Fail> {
     Ok(())
 }
 
-// The line of 31 bytes in pieces of 7: what was written before the failing call stands.
+// Lines of 31 and 27 bytes in pieces of 7: what was written before the failing call stands.
 #[test]
 fn keeps_the_status_where_the_line_fails(rt: HostRuntime) -> Result<(), Fail> {
-    for call in 1..6 {
-        let fails = [call];
-        let objects = Objects {
-            piece: 7,
-            diag_fails: &fails,
-            ..WHOLE
-        };
-        let got = run_over(rt.alloc(), LIST, b"\x08", &objects)?;
-        let written = (call as usize - 1) * 7;
-        let front = b"tinkey: bad protobuf at byte 0\n"
-            .get(..written)
-            .ok_or("a front")?;
-        assert_eq!(rt; got.status, Status::BadProto(0), "call {call}");
-        assert_eq!(rt; got.line.as_slice(), front, "call {call}");
+    let cases = [
+        (
+            LIST,
+            Status::BadProto(0),
+            "tinkey: bad protobuf at byte 0\n",
+            6,
+        ),
+        (TAG, Status::InMissing, "tinkey: input file missing\n", 5),
+    ];
+    for (words, status, line, calls) in cases {
+        for call in 1..calls {
+            let fails = [call];
+            let objects = Objects {
+                piece: 7,
+                diag_fails: &fails,
+                ..WHOLE
+            };
+            let got = run_over(rt.alloc(), words, b"\x08", &objects)?;
+            let written = (call as usize - 1) * 7;
+            let front = line.as_bytes().get(..written).ok_or("a front")?;
+            assert_eq!(rt; got.status, status, "call {call}");
+            assert_eq!(rt; got.line.as_slice(), front, "call {call}");
+        }
     }
     Ok(())
 }

@@ -1,8 +1,10 @@
 //! The real files, in the folder where the test runs.
 
+use super::tags::HMAC_KEYSET;
 use crate::store::DirStore;
 use std::test::Fail;
-use tink_base::{Created, Loaded, Store, StoreError};
+use tink_base::{Created, Loaded, MemSink, MemSource, Store, StoreError};
+use tinkey_run::{Status, run};
 
 #[test]
 fn keeps_and_reads_real_files(rt: HostRuntime) -> Result<(), Fail> {
@@ -37,5 +39,35 @@ fn keeps_and_reads_real_files(rt: HostRuntime) -> Result<(), Fail> {
         store.create(rt.alloc(), "no-folder/file", b""),
         Err(StoreError::Failed)
     );
+    Ok(())
+}
+
+// RFC 4231's first case for HMAC with SHA-256.
+#[test]
+fn tags_under_a_keyset_in_a_real_file(rt: HostRuntime) -> Result<(), Fail> {
+    let mut store = DirStore::new(&rt);
+    assert_eq!(rt;
+        store.create(rt.alloc(), "a-keyset", HMAC_KEYSET),
+        Ok(Created::Made)
+    );
+    let mut words = Vec::new(rt.alloc());
+    for word in ["tag", "--keyset", "a-keyset", "--keyset-format", "binary"] {
+        words.push(String::from_str(rt.alloc(), word)?)?;
+    }
+    let input = b"Hi There".to_vec(rt.alloc())?;
+    let mut source = MemSource::new(input, 64, Vec::new(rt.alloc()));
+    let mut sink = MemSink::new(rt.alloc(), 64, 64, Vec::new(rt.alloc()))?;
+    let mut diag = MemSink::new(rt.alloc(), 64, 64, Vec::new(rt.alloc()))?;
+    let status = run(
+        rt.alloc(),
+        &words,
+        &mut source,
+        &mut sink,
+        &mut diag,
+        &mut store,
+    );
+    let tag = 0xb0344c61d8db38535ca8afceaf0bf12b_u128.to_be_bytes();
+    assert_eq!(rt; status, Status::Done);
+    assert_eq!(rt; sink.written(), tag.as_slice());
     Ok(())
 }
