@@ -91,8 +91,9 @@ fn status_of(letter: char) -> Option<Status> {
     }
 }
 
-// A letter for each bit of the bytes outside the type URL and the key, the lowest bit first. The
-// table was worked out by a reader of these messages that was written apart from this program.
+// A letter for each bit of the bytes outside the type URL and the key, the lowest bit first, which is
+// worth 1. The table was worked out by a reader of these messages that was written apart from this
+// program.
 #[test]
 fn names_the_fault_of_every_changed_bit(rt: HostRuntime) -> Result<(), Fail> {
     let rows = [
@@ -134,6 +135,7 @@ fn names_the_fault_of_every_changed_bit(rt: HostRuntime) -> Result<(), Fail> {
                 status_of(letter),
                 "bit {bit} of byte {place}"
             );
+            bit = bit.wrapping_mul(2);
         }
     }
     Ok(())

@@ -1,13 +1,15 @@
-//! The real files, in the folder where the test runs.
+//! The real files, in the folder where the test runs, which are removed again.
 
 use super::tags::HMAC_KEYSET;
 use crate::store::DirStore;
+use std::fs;
 use std::test::Fail;
 use tink_base::{Created, Loaded, MemSink, MemSource, Store, StoreError};
 use tinkey_run::{Status, run};
 
 #[test]
 fn keeps_and_reads_real_files(rt: HostRuntime) -> Result<(), Fail> {
+    let _ = fs::remove_file(&rt, "a-new-file");
     let mut store = DirStore::new(&rt);
     assert_eq!(rt;
         store.create(rt.alloc(), "a-new-file", b"bytes"),
@@ -39,12 +41,14 @@ fn keeps_and_reads_real_files(rt: HostRuntime) -> Result<(), Fail> {
         store.create(rt.alloc(), "no-folder/file", b""),
         Err(StoreError::Failed)
     );
+    fs::remove_file(&rt, "a-new-file")?;
     Ok(())
 }
 
 // RFC 4231's first case for HMAC with SHA-256.
 #[test]
 fn tags_under_a_keyset_in_a_real_file(rt: HostRuntime) -> Result<(), Fail> {
+    let _ = fs::remove_file(&rt, "a-keyset");
     let mut store = DirStore::new(&rt);
     assert_eq!(rt;
         store.create(rt.alloc(), "a-keyset", HMAC_KEYSET),
@@ -69,5 +73,6 @@ fn tags_under_a_keyset_in_a_real_file(rt: HostRuntime) -> Result<(), Fail> {
     let tag = 0xb0344c61d8db38535ca8afceaf0bf12b_u128.to_be_bytes();
     assert_eq!(rt; status, Status::Done);
     assert_eq!(rt; sink.written(), tag.as_slice());
+    fs::remove_file(&rt, "a-keyset")?;
     Ok(())
 }
