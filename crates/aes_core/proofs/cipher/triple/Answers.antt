@@ -1,6 +1,0 @@
-use Rattle.std.proofs.Common.{arith}
-use Rattle.aes_core.proofs.Tables.{triple_is}
-use Rattle.aes_core.proofs.cipher.triple.Goals as goal
-
-pub returns : goal.returns
-returns c = rw c.double.ensures (triple_is c.args.byte (omega arith))
