@@ -1,13 +1,28 @@
-//! GHASH (SP 800-38D, 6.4), block by block.
+//! GHASH (SP 800-38D, 6.4), up to eight blocks at a time.
+//!
+//! By the standard's sum with powers of H, eight steps of Horner's rule are one sum of eight
+//! products: GHASH so far is added to the first block, and block i of them has the factor H^(9 - i).
+//! Such a sum takes the moves and the fold of one product alone.
 ghost use Rattle.ghash.specs.Ghash.{ghash, padded_block, padded_blocks};
-ghost use Rattle.std.specs.Prelude.{◌≡◌, ℕ, ◌≤◌, List, [], ◌∷◌, ◌++◌, length};
+ghost use Rattle.ghash.specs.Field.{prod};
+ghost use Rattle.std.specs.Prelude.{◌≡◌, ℕ, ◌+◌, ◌≤◌, Bool, true, List, [], ◌∷◌, ◌++◌, length};
+ghost use Rattle.std.specs.Simd.Lanes.{chunk};
 
-use crate::field::mul;
+use crate::products::{Factor, ONE, factor_of, lanes_of, multiply, no_factor, sum_of_products};
+use std::simd::prelude::*;
 
-/// A running GHASH: its hash subkey, and the blocks that it has taken so far.
+// A body of so many bytes makes the higher powers, which takes as long as 512 bytes do.
+const LONG: usize = 2048;
+
+/// A running GHASH: H^8 to H as factors, of which the first four are made for the first long body,
+/// and GHASH of the blocks so far. It takes 4 KiB, so lend it rather than move it.
+///
+/// Nothing that it does branches, or reads a place in memory, by the subkey or the data: only by
+/// lengths, and by whether a long body came.
 #[derive(Drop)]
 pub struct Ghash {
-    h: u128,
+    factors: [Factor; 8],
+    all_powers: bool,
     y: u128,
 }
 
@@ -18,7 +33,25 @@ impl Ghash {
     pub fn new(h: u128) -> Ghash
         ensures { Holds result h [] }
     {
-        Ghash { h, y: 0 }
+        let first = factor_of(h);
+        let square = multiply(&first, h);
+        let cube = multiply(&first, square);
+        let fourth = multiply(&first, cube);
+        let none = no_factor();
+        Ghash {
+            factors: [
+                none,
+                none,
+                none,
+                none,
+                factor_of(fourth),
+                factor_of(cube),
+                factor_of(square),
+                first,
+            ],
+            all_powers: false,
+            y: 0,
+        }
     }
 
     /// Adds the blocks of `body`, of any length, with zeros after it up to a whole block.
@@ -29,17 +62,146 @@ impl Ghash {
         ensures { (h : ℕ) (blocks : List ℕ)
             → Holds self.old h blocks → Holds self.new h (blocks ++ padded_blocks body.now) }
     {
+        self.prepare(body.len());
+        for piece in body.chunks(128) {
+            self.add_piece(piece);
+        }
+    }
+
+    // Makes the higher powers, once, where a body is long.
+    fn prepare(&mut self, size: usize)
+        ensures { (h : ℕ) (blocks : List ℕ) → Holds self.old h blocks → Holds self.new h blocks }
+    {
+        if size >= LONG && !self.all_powers {
+            self.make_higher_powers();
+        }
+    }
+
+    // Makes the first four factors.
+    fn make_higher_powers(&mut self)
+        ensures { (h : ℕ) (blocks : List ℕ) → Holds self.old h blocks → Holds self.new h blocks }
+    {
+        let fourth = multiply(&self.factors[4], ONE);
+        let fifth = self.multiply_by_subkey(fourth);
+        let sixth = self.multiply_by_subkey(fifth);
+        let seventh = self.multiply_by_subkey(sixth);
+        let eighth = self.multiply_by_subkey(seventh);
+        self.factors = [
+            factor_of(eighth),
+            factor_of(seventh),
+            factor_of(sixth),
+            factor_of(fifth),
+            self.factors[4],
+            self.factors[5],
+            self.factors[6],
+            self.factors[7],
+        ];
+        self.all_powers = true;
+    }
+
+    // Adds a piece, as eight blocks at once where it can.
+    #[inline(always)]
+    fn add_piece(&mut self, piece: &[u8])
+        ensures { (h : ℕ) (blocks : List ℕ)
+            → Holds self.old h blocks → Holds self.new h (blocks ++ padded_blocks piece.now) }
+    {
+        if self.all_powers && piece.len() == 128 {
+            self.y = self.after_eight(piece);
+        } else {
+            self.add_short(piece);
+        }
+    }
+
+    // Adds blocks four at a time.
+    fn add_short(&mut self, body: &[u8])
+        ensures { (h : ℕ) (blocks : List ℕ)
+            → Holds self.old h blocks → Holds self.new h (blocks ++ padded_blocks body.now) }
+    {
+        for piece in body.chunks(64) {
+            self.add_half(piece);
+        }
+    }
+
+    // Adds a piece, as four blocks at once where it can.
+    #[inline(always)]
+    fn add_half(&mut self, piece: &[u8])
+        ensures { (h : ℕ) (blocks : List ℕ)
+            → Holds self.old h blocks → Holds self.new h (blocks ++ padded_blocks piece.now) }
+    {
+        if piece.len() == 64 {
+            self.y = self.after_four(piece);
+        } else {
+            self.add_each(piece);
+        }
+    }
+
+    // GHASH after eight blocks more: eight steps of Horner's rule at once.
+    #[inline(always)]
+    fn after_eight(&self, piece: &[u8]) -> u128
+        requires { length piece.now ≡ 128 }
+        ensures { (h : ℕ) (blocks : List ℕ) → Holds self.now h blocks → self.now.all_powers ≡ true
+            → result ≡ ghash h (blocks ++ padded_blocks piece.now) }
+    {
+        let first = u128::from_be_bytes(loaded(piece, 0).to_array());
+        sum_of_products(
+            &self.factors,
+            &[
+                lanes_of(self.y ^ first).to_array(),
+                loaded(piece, 16).to_array(),
+                loaded(piece, 32).to_array(),
+                loaded(piece, 48).to_array(),
+                loaded(piece, 64).to_array(),
+                loaded(piece, 80).to_array(),
+                loaded(piece, 96).to_array(),
+                loaded(piece, 112).to_array(),
+            ],
+        )
+    }
+
+    // The same with four.
+    #[inline(always)]
+    fn after_four(&self, piece: &[u8]) -> u128
+        requires { length piece.now ≡ 64 }
+        ensures { (h : ℕ) (blocks : List ℕ) → Holds self.now h blocks
+            → result ≡ ghash h (blocks ++ padded_blocks piece.now) }
+    {
+        let first = u128::from_be_bytes(loaded(piece, 0).to_array());
+        sum_of_products(
+            &self.factors[4..],
+            &[
+                lanes_of(self.y ^ first).to_array(),
+                loaded(piece, 16).to_array(),
+                loaded(piece, 32).to_array(),
+                loaded(piece, 48).to_array(),
+            ],
+        )
+    }
+
+    // Adds block by block.
+    fn add_each(&mut self, body: &[u8])
+        ensures { (h : ℕ) (blocks : List ℕ)
+            → Holds self.old h blocks → Holds self.new h (blocks ++ padded_blocks body.now) }
+    {
         for piece in body.chunks(16) {
             self.add_block(block_of(piece));
         }
     }
 
     // One step of Horner's rule.
+    #[inline(always)]
     fn add_block(&mut self, block: u128)
         ensures { (h : ℕ) (blocks : List ℕ)
             → Holds self.old h blocks → Holds self.new h (blocks ++ block ∷ []) }
     {
-        self.y = mul(self.y ^ block, self.h);
+        self.y = self.multiply_by_subkey(self.y ^ block);
+    }
+
+    // The product with H.
+    #[inline(always)]
+    fn multiply_by_subkey(&self, block: u128) -> u128
+        ensures { (h : ℕ) (blocks : List ℕ) → Holds self.now h blocks → result ≡ prod block h }
+    {
+        multiply(&self.factors[7], block)
     }
 
     /// The GHASH of the blocks so far (SP 800-38D, 6.4). More can be added afterwards.
@@ -50,8 +212,29 @@ impl Ghash {
     }
 }
 
+// The block that starts at that byte.
+#[inline(always)]
+fn loaded(piece: &[u8], at: usize) -> u8x16
+    requires { at + 16 ≤ length piece.now }
+    ensures { result ≡ chunk at 16 piece.now }
+{
+    u8x16::from_slice(&piece[at..])
+}
+
 // The block of at most 16 bytes, with zeros after them.
+#[inline(always)]
 fn block_of(piece: &[u8]) -> u128
+    requires { length piece.now ≤ 16 }
+    ensures { result ≡ padded_block piece.now }
+{
+    match piece.first_chunk::<16>() {
+        Some(whole) => u128::from_be_bytes(*whole),
+        None => padded(piece),
+    }
+}
+
+// The same, by a copy.
+fn padded(piece: &[u8]) -> u128
     requires { length piece.now ≤ 16 }
     ensures { result ≡ padded_block piece.now }
 {
