@@ -1,9 +1,10 @@
 # The commands of this repository. The first run of each proves every crate below it.
-.PHONY: run test try
+.PHONY: run test try bench
 
-# Proves the program, lists the example's keyset with it, and leaves it as ./tinkey.
+# Proves the program, lists the example's keyset with it, and leaves it as ./tinkey. With
+# CPU=x86-64-v3 it has instructions of newer processors.
 run:
-	@cd crates/tinkey && { rt run -- list-keyset --in-format binary \
+	@cd crates/tinkey && { rt run $(if $(CPU),--cpu $(CPU)) -- list-keyset --in-format binary \
 	    < ../../examples/aes128-gcm.binary 2>out.log || { cat out.log >&2; exit 1; }; }
 	@rm -f crates/tinkey/out.log
 	@cp crates/tinkey/out/tinkey tinkey
@@ -17,3 +18,7 @@ try:
 	@echo "nothing is proved in this run" >&2
 	@cd crates/tinkey && rt try -- list-keyset --in-format binary \
 	    < ../../examples/aes128-gcm.binary
+
+# Times the kernels and the program beside OpenSSL, and prints a table.
+bench:
+	@tools/bench

@@ -1,0 +1,107 @@
+//! The kernels that are timed, each under a key of zeros.
+
+ghost use Rattle.std.specs.Prelude.{◌≡◌, ◌⊎◌, length};
+
+use aes_core::{Aes, CtrKind};
+use ghash::Ghash;
+use mac_prf::Hmac;
+use tink_base::Hash;
+
+/// Their names, in the order in which they are printed.
+pub const NAMES: [&str; 5] = [
+    "aes128-ctr",
+    "aes256-ctr",
+    "aes128-chain",
+    "ghash",
+    "hmac-sha256",
+];
+
+/// A subkey of GHASH: the cipher of the block of zeros under the key of zeros.
+const SUBKEY: u128 = 0x66e9_4bd4_ef8a_2c3b_884c_fa59_ca34_2b2e;
+
+/// A kernel that is ready to run.
+#[derive(Drop)]
+pub enum Kernel {
+    /// AES in counter mode.
+    Counter(Aes),
+    /// Blocks that are XORed with the last result and enciphered.
+    Chain(Aes),
+    /// GHASH under one subkey.
+    Ghash(Ghash),
+    /// HMAC with SHA-256, the key included.
+    Hmac,
+}
+
+impl Kernel {
+    /// The kernel of this name.
+    pub fn named(name: &str) -> Option<Kernel> {
+        match name {
+            "aes128-ctr" => Some(Kernel::Counter(new_aes(&[0; 16]))),
+            "aes256-ctr" => Some(Kernel::Counter(new_aes(&[0; 32]))),
+            "aes128-chain" => Some(Kernel::Chain(new_aes(&[0; 16]))),
+            "ghash" => Some(Kernel::Ghash(new_ghash(SUBKEY))),
+            "hmac-sha256" => Some(Kernel::Hmac),
+            _ => None,
+        }
+    }
+
+    /// Runs once over the text, and answers a byte of the result.
+    pub fn turn(&mut self, text: &mut [u8]) -> u8 {
+        match self {
+            Kernel::Counter(aes) => count(aes, text),
+            Kernel::Chain(aes) => chain(aes, text),
+            Kernel::Ghash(ghash) => hash(ghash, text),
+            Kernel::Hmac => tag(text),
+        }
+    }
+}
+
+// Each kernel is a function of its own in the machine code, which `tools/kernel_code` reads.
+
+#[inline(never)]
+fn new_aes(key: &[u8]) -> Aes
+    requires { (length key.now ≡ 16) ⊎ (length key.now ≡ 32) }
+{
+    match Aes::new(key) {
+        Ok(aes) => aes,
+        Err(_) => unreachable!(),
+    }
+}
+
+#[inline(never)]
+fn new_ghash(subkey: u128) -> Ghash {
+    Ghash::new(subkey)
+}
+
+#[inline(never)]
+fn count(aes: &Aes, text: &mut [u8]) -> u8 {
+    aes.ctr_xor(&[0; 16], CtrKind::All128, text);
+    text.first().copied().unwrap_or(0)
+}
+
+// Each block of the text is XORed with the one before and enciphered.
+#[inline(never)]
+fn chain(aes: &Aes, text: &[u8]) -> u8 {
+    let mut state = [0; 16];
+    let (blocks, _rest) = text.as_chunks::<16>();
+    for block in blocks {
+        let mixed = u128::from_be_bytes(state) ^ u128::from_be_bytes(*block);
+        state = aes.encrypt_block(&mixed.to_be_bytes());
+    }
+    state[0]
+}
+
+#[inline(never)]
+fn hash(ghash: &mut Ghash, text: &[u8]) -> u8 {
+    ghash.absorb(text);
+    (ghash.finish() & 0xff) as u8
+}
+
+#[inline(never)]
+fn tag(text: &[u8]) -> u8 {
+    let mut tag = [0; 32];
+    let mut hmac = Hmac::new(Hash::Sha256, &[0; 32]);
+    hmac.update(text);
+    hmac.finish(&mut tag);
+    tag[0]
+}
