@@ -1,5 +1,6 @@
 pub mod Hash
 pub mod Memory
+pub mod Numbers
 pub mod Store
 pub use Rattle.tink_spec.specs.Files
 pub use Rattle.tink_spec.specs.Outside

@@ -2,7 +2,7 @@
 
 ghost use Rattle.std.specs.Prelude.{◌≡◌, ◌↔◌, IfOk, OnOk, OnErr, IsErrOf, Contains, option_map};
 ghost use Rattle.std.specs.FinMap as map;
-ghost use Rattle.tink_spec.specs.Outside.{Rose};
+ghost use Rattle.tink_spec.specs.Outside.{Rose, Stood};
 ghost use Rattle.tink_spec.specs.Files.{KeptFiles, MayAdd};
 ghost use Rattle.tink_base.specs.Memory.{next, told_store};
 ghost use Rattle.tink_base.specs.Store.{Loads, Creates};
@@ -80,6 +80,7 @@ impl Store for MemStore {
     fn load(&mut self, alloc: Global, name: &str, limit: usize) -> Result<Loaded, StoreError>
         ensures loads { IfOk result (λ found. Loads (told_store self.old) name.now limit found) }
         ensures kept { KeptFiles (told_store self.old) (told_store self.new) }
+        ensures no_fault { (IsErrOf result StoreError.Failed → ⊥) → Stood self.old.faults self.new.faults }
         ensures failed { IsErrOf result StoreError.Failed → Rose self.old.faults self.new.faults }
 
         // Exactly when it fails.
@@ -108,13 +109,14 @@ impl Store for MemStore {
 
     fn create(&mut self, _alloc: Global, name: &str, bytes: &[u8]) -> Result<Created, StoreError>
         ensures creates { IfOk result (λ made. Creates (told_store self.old) (told_store self.new) name.now bytes.now made) }
+        ensures no_fault { (IsErrOf result StoreError.Failed → ⊥) → Stood self.old.faults self.new.faults }
         ensures failed { IsErrOf result StoreError.Failed → Rose self.old.faults self.new.faults }
         ensures may_add { IsErrOf result StoreError.Failed → MayAdd (told_store self.old) (told_store self.new) name.now bytes.now }
         ensures no_memory { IsErrOf result StoreError.NoMemory → KeptFiles (told_store self.old) (told_store self.new) }
 
         // Exactly when it fails, and that it changes nothing then.
         ensures listed { IsErrOf result StoreError.Failed ↔ Contains self.old.fails (next self.old.calls) }
-        ensures faultless { (IsErrOf result StoreError.Failed → ⊥) → self.new.faults ≡ self.old.faults }
+        ensures faultless { (IsErrOf result StoreError.Failed → ⊥) → self.new ≡ record self.old { files = self.new.files; calls = next self.old.calls } }
         ensures faulty { IsErrOf result StoreError.Failed → self.new ≡ record self.old { calls = next self.old.calls; faults = next self.old.faults } }
     {
         self.calls = self.calls.saturating_add(1);

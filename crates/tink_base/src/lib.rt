@@ -11,6 +11,7 @@ mod constants;
 mod faults;
 mod files;
 mod hash;
+pub mod laws;
 mod memory;
 mod sink;
 mod source;

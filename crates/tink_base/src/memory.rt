@@ -1,7 +1,7 @@
 //! A source and a sink in memory, which fail exactly at the calls that they are told.
 
 ghost use Rattle.std.specs.Prelude.{◌≡◌, ◌<◌, ◌≤◌, ◌-◌, ◌↔◌, ◌⊎◌, [], length, take, drop, min, IfOk, IsErr, OnOk, OnErr, Contains};
-ghost use Rattle.tink_spec.specs.Outside.{Rose, Gave, IsAtEnd, Took};
+ghost use Rattle.tink_spec.specs.Outside.{Rose, Stood, Gave, IsAtEnd, Took};
 ghost use Rattle.tink_base.specs.Memory.{next, told_source, told_sink, IsFull};
 
 use crate::{Failed, NoMemory, Sink, Source};
@@ -56,6 +56,7 @@ impl Source for MemSource {
         ensures gives { IfOk result (λ n. Gave (told_source self.old) (told_source self.new) (take n out.new)) }
         ensures rest { IfOk result (λ n. drop n out.new ≡ drop n out.old) }
         ensures end { IfOk result (λ n. n ≡ 0 → 0 < length out.old → IsAtEnd (told_source self.new)) }
+        ensures no_fault { OnOk result (Stood self.old.faults self.new.faults) }
         ensures failed { OnErr result (Rose self.old.faults self.new.faults) }
         ensures kept { OnErr result (Gave (told_source self.old) (told_source self.new) []) }
 
@@ -140,6 +141,7 @@ impl Sink for MemSink {
         ensures bound { IfOk result (λ n. n ≤ length piece.now) }
         ensures some { IfOk result (λ n. 0 < length piece.now → 0 < n) }
         ensures takes { IfOk result (λ n. Took (told_sink self.old) (told_sink self.new) (take n piece.now)) }
+        ensures no_fault { OnOk result (Stood self.old.faults self.new.faults) }
         ensures failed { OnErr result (Rose self.old.faults self.new.faults) }
         ensures kept { OnErr result (Took (told_sink self.old) (told_sink self.new) []) }
 

@@ -1,7 +1,7 @@
 //! Where bytes go.
 
-ghost use Rattle.std.specs.Prelude.{◌≡◌, ◌<◌, ◌≤◌, [], length, take, IfOk, OnErr};
-ghost use Rattle.tink_spec.specs.Outside.{SinkState, Rose, Took};
+ghost use Rattle.std.specs.Prelude.{◌≡◌, ◌<◌, ◌≤◌, [], length, take, IfOk, OnOk, OnErr};
+ghost use Rattle.tink_spec.specs.Outside.{SinkState, Rose, Stood, Took};
 
 use crate::Failed;
 
@@ -11,11 +11,13 @@ pub trait Sink {
     ghost state: { Self → SinkState };
 
     /// Takes the first bytes of `piece`, and answers how many: at least one, unless `piece` is
-    /// empty. After `Failed` nothing of it was taken.
+    /// empty. After `Failed` nothing of it was taken, and the count of faults has risen; with any
+    /// other answer it is as it was.
     fn write(&mut self, piece: &[u8]) -> Result<usize, Failed>
         ensures bound { IfOk result (λ n. n ≤ length piece.now) }
         ensures some { IfOk result (λ n. 0 < length piece.now → 0 < n) }
         ensures takes { IfOk result (λ n. Took (state self.old) (state self.new) (take n piece.now)) }
+        ensures no_fault { OnOk result (Stood (state self.old).faults (state self.new).faults) }
         ensures failed { OnErr result (Rose (state self.old).faults (state self.new).faults) }
         ensures kept { OnErr result (Took (state self.old) (state self.new) []) };
 }

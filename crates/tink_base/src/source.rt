@@ -1,7 +1,7 @@
 //! Where bytes come from.
 
-ghost use Rattle.std.specs.Prelude.{◌≡◌, ◌<◌, ◌≤◌, [], length, take, drop, IfOk, OnErr};
-ghost use Rattle.tink_spec.specs.Outside.{SourceState, Rose, Gave, IsAtEnd};
+ghost use Rattle.std.specs.Prelude.{◌≡◌, ◌<◌, ◌≤◌, [], length, take, drop, IfOk, OnOk, OnErr};
+ghost use Rattle.tink_spec.specs.Outside.{SourceState, Rose, Stood, Gave, IsAtEnd};
 
 use crate::Failed;
 
@@ -12,12 +12,13 @@ pub trait Source {
 
     /// Moves the next bytes into the front of `out`, and answers how many. The rest of `out` stays
     /// as it was. 0 bytes into an `out` that isn't empty are the end of the input. After `Failed`
-    /// no byte is gone.
+    /// no byte is gone, and the count of faults has risen; with any other answer it is as it was.
     fn read(&mut self, out: &mut [u8]) -> Result<usize, Failed>
         ensures bound { IfOk result (λ n. n ≤ length out.old) }
         ensures gives { IfOk result (λ n. Gave (state self.old) (state self.new) (take n out.new)) }
         ensures rest { IfOk result (λ n. drop n out.new ≡ drop n out.old) }
         ensures end { IfOk result (λ n. n ≡ 0 → 0 < length out.old → IsAtEnd (state self.new)) }
+        ensures no_fault { OnOk result (Stood (state self.old).faults (state self.new).faults) }
         ensures failed { OnErr result (Rose (state self.old).faults (state self.new).faults) }
         ensures kept { OnErr result (Gave (state self.old) (state self.new) []) };
 }

@@ -1,7 +1,7 @@
 //! Named files.
 
 ghost use Rattle.std.specs.Prelude.{◌≡◌, IfOk, IsErrOf};
-ghost use Rattle.tink_spec.specs.Outside.{Rose};
+ghost use Rattle.tink_spec.specs.Outside.{Rose, Stood};
 ghost use Rattle.tink_spec.specs.Files.{StoreState, KeptFiles, MayAdd};
 ghost use Rattle.tink_base.specs.Store.{Loads, Creates};
 
@@ -42,17 +42,21 @@ pub trait Store {
     /// The files, where the store tells, and how often it has failed.
     ghost state: { Self → StoreState };
 
-    /// Loads the file of this name where it has at most `limit` bytes. No file changes.
+    /// Loads the file of this name where it has at most `limit` bytes. No file changes. The count of
+    /// faults has risen after `Failed`, and is as it was with any other answer.
     fn load(&mut self, alloc: Global, name: &str, limit: usize) -> Result<Loaded, StoreError>
         ensures loads { IfOk result (λ found. Loads (state self.old) name.now limit found) }
         ensures kept { KeptFiles (state self.old) (state self.new) }
+        ensures no_fault { (IsErrOf result StoreError.Failed → ⊥) → Stood (state self.old).faults (state self.new).faults }
         ensures failed { IsErrOf result StoreError.Failed → Rose (state self.old).faults (state self.new).faults };
 
     /// Makes a new file of this name with these bytes; a file that is there is never replaced.
     /// After `Failed` the file may be there with the first of the bytes, if the name was free. After
-    /// `NoMemory` no file has changed.
+    /// `NoMemory` no file has changed. The count of faults has risen after `Failed`, and is as it was
+    /// with any other answer.
     fn create(&mut self, alloc: Global, name: &str, bytes: &[u8]) -> Result<Created, StoreError>
         ensures creates { IfOk result (λ made. Creates (state self.old) (state self.new) name.now bytes.now made) }
+        ensures no_fault { (IsErrOf result StoreError.Failed → ⊥) → Stood (state self.old).faults (state self.new).faults }
         ensures failed { IsErrOf result StoreError.Failed → Rose (state self.old).faults (state self.new).faults }
         ensures may_add { IsErrOf result StoreError.Failed → MayAdd (state self.old) (state self.new) name.now bytes.now }
         ensures no_memory { IsErrOf result StoreError.NoMemory → KeptFiles (state self.old) (state self.new) };

@@ -3,12 +3,17 @@
 --   told      an object tells its bytes: what it holds is `Some` of them. A real device tells none.
 --   faults    how often a call of the object has failed. The count never falls, and stands still
 --             at 2 ^ 64 - 1.
+--   Rose, Stood   what a count of faults does in a call that failed, and in every other call
 --   Gave, Took   what went out of a source, or into a sink, between two moments
 use Rattle.std.specs.Prelude.{◌≡◌, ◌⊎◌, ℕ, ◌<◌, ◌≤◌, ◌^◌, ◌-◌, List, [], ◌++◌, length, Option, IfSome, option_map}
 
 -- a count of faults has risen, or stands at its last value
 abbrev pub Rose : ℕ → ℕ → Type 0
 Rose before after = (before < after) ⊎ (after ≡ 2 ^ 64 - 1)
+
+-- a count of faults is as it was: nothing failed
+abbrev pub Stood : ℕ → ℕ → Type 0
+Stood before after = after ≡ before
 
 -- a source: the bytes that are left, where it tells, and its faults
 pub record SourceState : Type 0 where

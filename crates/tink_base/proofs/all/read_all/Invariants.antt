@@ -1,9 +1,13 @@
 use Rattle.std.proofs.Common.{◌≤◌, length, ◌-◌}
-use Rattle.tink_spec.specs.Outside.{Gave}
+use Rattle.tink_spec.specs.Outside.{Gave, Stood}
 use Rattle.tink_base.proofs.all.read_all.Given as goal
 
 abbrev pub invariant-loop-n : goal.invariant-loop-n
-invariant-loop-n g l = record { within : length l.all.items ≤ l.limit; gave : Gave (g.S.Source.state l.fn.source) (g.S.Source.state l.source) l.all.items }
+invariant-loop-n g l = record {
+  within : length l.all.items ≤ l.limit;
+  gave : Gave (g.S.Source.state l.fn.source) (g.S.Source.state l.source) l.all.items;
+  no_fault : Stood (g.S.Source.state l.fn.source).faults (g.S.Source.state l.source).faults;
+}
 
 abbrev pub decreases-loop-n : goal.decreases-loop-n
 decreases-loop-n g l = l.limit - length l.all.items

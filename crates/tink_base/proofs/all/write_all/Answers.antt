@@ -1,4 +1,4 @@
-use Rattle.std.proofs.Common.{List, ℕ, take, drop, arith, subst, append-nil}
+use Rattle.std.proofs.Common.{List, ℕ, take, drop, arith, subst, ◌∙◌, append-nil}
 use Rattle.std.proofs.lemmas.List.{take-append-drop, length-drop}
 use Rattle.tink_spec.specs.Outside.{Took}
 use Rattle.tink_spec.proofs.Moves.{took_more}
@@ -11,6 +11,7 @@ loop-at-preserved g c = record {
   took = subst (λ (p : List ℕ). Took (g.K.Sink.state c.args.sink.now) (g.K.Sink.state c.write.new.self) p)
       (front_rest c.args.bytes.now c.loop-at.at c.in-Ok.n)
       (took_more _ _ _ _ _ c.loop-at.invariant.took c.in-Ok.ensures.takes);
+  no_fault = c.in-Ok.ensures.no_fault ∙ c.loop-at.invariant.no_fault;
 }
 
 pub returns-in-Err-clause-prefix : goal.returns-in-Err-clause-prefix
