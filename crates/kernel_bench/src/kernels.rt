@@ -79,16 +79,11 @@ fn count(aes: &Aes, text: &mut [u8]) -> u8 {
     text.first().copied().unwrap_or(0)
 }
 
-// Each block of the text is XORed with the one before and enciphered.
+// Each whole block of the text is XORed with the result before it and enciphered.
 #[inline(never)]
 fn chain(aes: &Aes, text: &[u8]) -> u8 {
-    let mut state = [0; 16];
-    let (blocks, _rest) = text.as_chunks::<16>();
-    for block in blocks {
-        let mixed = u128::from_be_bytes(state) ^ u128::from_be_bytes(*block);
-        state = aes.encrypt_block(&mixed.to_be_bytes());
-    }
-    state[0]
+    let whole = text.len() / 16 * 16;
+    aes.chain(&[0; 16], &text[..whole])[0]
 }
 
 #[inline(never)]
