@@ -1,3 +1,4 @@
 pub mod KeyLemmas
 pub mod KeysetExamples
+pub mod PrimaryLemmas
 pub mod ReadingLemmas

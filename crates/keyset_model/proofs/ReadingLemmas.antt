@@ -1,10 +1,12 @@
 -- The fields of a keyset, one after the other, and where the reading of a keyset stops.
-use Rattle.std.proofs.Common.{◌≡◌, ◌∙◌, ◌==◌, ℕ, ◌+◌, Bool, true, false, List, [], ◌∷◌, ◌++◌, length, drop, refl, ap, sym, append_assoc, append-nil, arith, Option, Some, None, Ok, Err, Result}
-use Rattle.std.specs.Prelude.{IfSome, slice_get, slice_range}
+use Rattle.std.proofs.Common.{◌≡◌, ◌⊎◌, ◌∙◌, ◌==◌, ℕ, ◌+◌, Bool, true, false, List, [], ◌∷◌, ◌++◌, length, take, drop, ◌<◌, ◌≤◌, inl, inr, refl, ap, sym, append_assoc, append-nil, arith, Option, Some, None, Ok, Err, Result}
+use Rattle.std.specs.Prelude.{IfSome, slice_get, slice_range, nat_le}
 use Rattle.std.specs.Option.{option_to_list}
 use Rattle.std.specs.List.{AllByRecursion}
 use Rattle.std.specs.Result.{IfErr, IsErrAnd, result_ok}
 use Rattle.std.proofs.Math.Seq.{take-length}
+use Rattle.std.proofs.lemmas.List.{take_all, take-append-le, length-take, length-append}
+use Rattle.std.proofs.lemmas.Bool.Decides.{nat_tests}
 use Rattle.tink_spec.specs.Wire.{WireField, cut}
 use Rattle.tink_spec.specs.Messages.{is_varint, of_number, first_other, last_number, number_in, at_place}
 use Rattle.proto_wire.specs.Fields.{GivesFields, seen, seen_all}
@@ -12,12 +14,13 @@ use Rattle.proto_wire.specs.declared.field.Field.{Field}
 use Rattle.proto_wire.specs.declared.field.FieldsError.{FieldsError}
 use Rattle.proto_wire.specs.declared.field.FieldsError.TheVariants as fields_errors
 use Rattle.keyset_model.specs.declared.keyset.Keyset.{Keyset}
+use Rattle.keyset_model.specs.declared.keyset.KeysetFault.TheVariants as faults
 use Rattle.keyset_model.specs.declared.reading.ReadError.{ReadError}
 use Rattle.keyset_model.specs.declared.reading.ReadError.TheVariants as errors
 use Rattle.keyset_model.specs.declared.record.Record.{Record}
 use Rattle.keyset_model.specs.Keyset.{Keys, HasSizes, built}
 use Rattle.keyset_model.specs.Reading.{key_of, is_at_fault, fault_at, records_in, Refusal, without_fault, reads_binary, GivesKeyset}
-use Rattle.keyset_model.specs.Steps.{GivesRecord, IsRead, IsFaultAt, of_fields_error}
+use Rattle.keyset_model.specs.Steps.{GivesRecord, IsRead, KeepsRead, IsFaultAt, of_fields_error}
 use Rattle.keyset_model.proofs.KeyLemmas.{seen_from}
 
 -- a fault inside a key is one at its tag
@@ -56,33 +59,56 @@ all_behind : {A : Type 0} (P : A → Type 0) (xs ys : List A) → AllByRecursion
 all_behind P [] ys front back = back
 all_behind P (x ∷ xs) ys front back = (front.0, all_behind P xs ys front.1 back)
 
--- the records of the fields before a place, and what the fields from there on add
-pub record RecordsSoFar (source : List ℕ) (message : List Field) (i : ℕ) (records : List Record) : Type 0 where
+-- the records of the fields before a place, of which the first ones are kept, and what the fields
+-- from there on add
+pub record RecordsSoFar (source : List ℕ) (message : List Field) (i : ℕ) (kept : List Record) : Type 0 where
+  pub records : List Record
+  pub first : kept ≡ take 2 records
   pub fault : fault_at (seen_all source message) ≡ fault_at (seen_all source (drop i message))
   pub all : records_in (seen_all source message) ≡ records ++ records_in (seen_all source (drop i message))
-  pub sizes : AllByRecursion HasSizes records
+  pub sizes : AllByRecursion HasSizes kept
 
-pub so_far_reads : (source : List ℕ) (message : List Field) (i : ℕ) (records more : List Record) (field : Field) → RecordsSoFar source message i records → slice_get message i ≡ Some field → IsRead more (seen source field ∷ []) → AllByRecursion HasSizes more → RecordsSoFar source message (i + 1) (records ++ more)
-so_far_reads source message i records more field before there read sizes =
+-- these records are read next, and these are kept then
+reads_on : (source : List ℕ) (message : List Field) (i : ℕ) (kept more keeps : List Record) (field : Field) → (before : RecordsSoFar source message i kept) → slice_get message i ≡ Some field → IsRead more (seen source field ∷ []) → keeps ≡ take 2 (before.records ++ more) → AllByRecursion HasSizes keeps → RecordsSoFar source message (i + 1) keeps
+reads_on source message i kept more keeps field before there read first sizes =
+    let records = before.records in
     let rest : List WireField = seen_all source (drop (i + 1) message) in
     let here = seen_from source message i field there in
     record {
+      records = records ++ more;
+      first = first;
       fault = before.fault ∙ ap fault_at here ∙ fault_rest (seen source field) rest _ refl read.faultless;
       all = before.all ∙ ap (λ (fields : List WireField). records ++ records_in fields) here
           ∙ ap (λ (all : List Record). records ++ all) (records_first (seen source field) rest _ _ refl refl)
           ∙ ap (λ (these : List Record). records ++ (these ++ records_in rest)) (sym read.all)
           ∙ sym (append_assoc records more (records_in rest));
-      sizes = all_behind HasSizes records more before.sizes sizes;
+      sizes = sizes;
     }
 
-pub so_far_passes : (source : List ℕ) (message : List Field) (i : ℕ) (records : List Record) (field : Field) → RecordsSoFar source message i records → slice_get message i ≡ Some field → IsRead [] (seen source field ∷ []) → RecordsSoFar source message (i + 1) records
-so_far_passes source message i records field before there read =
-    let reads = so_far_reads source message i records [] field before there read tt in
-    record {
-      fault = reads.fault;
-      all = reads.all ∙ ap (λ (all : List Record). all ++ records_in (seen_all source (drop (i + 1) message))) (append-nil records);
-      sizes = before.sizes;
-    }
+-- a list is cut at a place behind its end, and one more element is kept
+take_short : {A : Type 0} (n : ℕ) (xs : List A) (y : A) → length (take n xs) < n → take n xs ++ (y ∷ []) ≡ take n (xs ++ (y ∷ []))
+take_short {A} n xs y short =
+    let whole : length xs < n = omega (arith, length-take n xs) in
+    let all : length (xs ++ (y ∷ [])) ≤ n = omega (arith, length-append xs (y ∷ [])) in
+    ap (λ (l : List A). l ++ (y ∷ [])) (take_all n xs (omega arith)) ∙ sym (take_all n (xs ++ (y ∷ [])) all)
+
+take_full : {A : Type 0} (n : ℕ) (xs : List A) (y : A) → (length (take n xs) < n → ⊥) → take n xs ≡ take n (xs ++ (y ∷ []))
+take_full n xs y full = sym (take-append-le n xs (y ∷ []) (omega (arith, length-take n xs)))
+
+pub so_far_keeps : (source : List ℕ) (message : List Field) (i : ℕ) (kept : List Record) (key : Record) (field : Field) → RecordsSoFar source message i kept → slice_get message i ≡ Some field → IsRead (key ∷ []) (seen source field ∷ []) → HasSizes key → length kept < 2 → RecordsSoFar source message (i + 1) (kept ++ (key ∷ []))
+so_far_keeps source message i kept key field before there read sizes short =
+    let more = take_short 2 before.records key (rw before.first at short) in
+    reads_on source message i kept (key ∷ []) (kept ++ (key ∷ [])) field before there read
+    (ap (λ (l : List Record). l ++ (key ∷ [])) before.first ∙ more) (all_behind HasSizes kept (key ∷ []) before.sizes (sizes, tt))
+
+pub so_far_leaves : (source : List ℕ) (message : List Field) (i : ℕ) (kept : List Record) (key : Record) (field : Field) → RecordsSoFar source message i kept → slice_get message i ≡ Some field → IsRead (key ∷ []) (seen source field ∷ []) → (length kept < 2 → ⊥) → RecordsSoFar source message (i + 1) kept
+so_far_leaves source message i kept key field before there read full =
+    let same = take_full 2 before.records key (rw before.first at full) in
+    reads_on source message i kept (key ∷ []) kept field before there read (before.first ∙ same) before.sizes
+
+pub so_far_passes : (source : List ℕ) (message : List Field) (i : ℕ) (kept : List Record) (field : Field) → RecordsSoFar source message i kept → slice_get message i ≡ Some field → IsRead [] (seen source field ∷ []) → RecordsSoFar source message (i + 1) kept
+so_far_passes source message i kept field before there read =
+    reads_on source message i kept [] kept field before there read (before.first ∙ ap (λ (l : List Record). take 2 l) (sym (append-nil before.records))) before.sizes
 
 pub so_far_fails : {T : Type 0} (r : Result T ReadError) (error : ReadError) (source : List ℕ) (message : List Field) (i : ℕ) (records : List Record) (field : Field) → IsErrAnd r (λ e. e ≡ error) → RecordsSoFar source message i records → slice_get message i ≡ Some field → IsFaultAt error (fault_at (seen source field ∷ [])) → IfErr r (λ e. IsFaultAt e (fault_at (seen_all source message)))
 so_far_fails (Ok all) error source message i records field is before there fault = absurd is
@@ -130,12 +156,33 @@ reading_fails bytes fields (errors.Wire wire) is fault = rw (is, fault) refl
 reading_fails bytes fields (errors.Fault wrong) is fault = absurd fault
 reading_fails bytes fields errors.NoMemory is fault = tt
 
+-- a keyset of two records has the fault of any longer one
+many : (keys : Keys) → 2 ≤ length keys.records → built keys ≡ Err faults.Unbuilt
+many keys two =
+    let some : (length keys.records == 0) ≡ false = grind (arith, nat_tests) in
+    let more : (length keys.records == 1) ≡ false = grind (arith, nat_tests) in
+    rw (some, more) refl
+
+bool_cases : (b : Bool) → (b ≡ true) ⊎ (b ≡ false)
+bool_cases true = inl refl
+bool_cases false = inr refl
+
+built_first : (primary : ℕ) (kept records : List Record) → kept ≡ take 2 records → (nat_le 2 (length records)) ≡ true ⊎ (nat_le 2 (length records) ≡ false) → built (record { primary = primary; records = records }) ≡ built (record { primary = primary; records = kept })
+built_first primary kept records first (inl long) =
+    let two : 2 ≤ length records = grind (arith, nat_tests) in
+    let kept_two : 2 ≤ length kept = omega (arith, ap length first, length-take 2 records) in
+    many (record { primary = primary; records = records }) two ∙ sym (many (record { primary = primary; records = kept }) kept_two)
+built_first primary kept records first (inr short) =
+    let few : length records ≤ 2 = grind (arith, nat_tests) in
+    ap (λ (l : List Record). built (record { primary = primary; records = l })) (sym (first ∙ take_all 2 records few))
+
 -- the keyset, or its fault, of what was read
-pub builds : (bytes : List ℕ) (fields : List WireField) (primary : ℕ) (records : List Record) → cut 0 bytes ≡ Ok fields → number_in 1 fields ≡ Ok primary → IsRead records fields → reads_binary bytes ≡ without_fault (built (record { primary = primary; records = records }))
+pub builds : (bytes : List ℕ) (fields : List WireField) (primary : ℕ) (kept : List Record) → cut 0 bytes ≡ Ok fields → number_in 1 fields ≡ Ok primary → KeepsRead kept fields → reads_binary bytes ≡ without_fault (built (record { primary = primary; records = kept }))
 unfolding reads_binary
-builds bytes fields primary records is number read =
+builds bytes fields primary kept is number read =
     let last : last_number (of_number 1 fields) ≡ primary = let all = primary_read fields read.faultless in cc in
-    rw (is, read.faultless, last, sym read.all) refl
+    let same = built_first primary kept (records_in fields) read.first (bool_cases (nat_le 2 (length (records_in fields)))) in
+    rw (is, read.faultless, last, same) refl
 
 pub sizes_of : (key : Option Record) → IfSome key HasSizes → AllByRecursion HasSizes (option_to_list key)
 sizes_of None sizes = tt

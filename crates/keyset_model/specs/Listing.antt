@@ -33,6 +33,7 @@ escaped_byte b =
     else (if nat_lt b 32 || nat_lt 126 b then 92 ∷ octal b
     else b ∷ [])
 
+-- a text as it stands between quotes
 abbrev pub escaped : List ℕ → List ℕ
 escaped text = flat_map escaped_byte text
 

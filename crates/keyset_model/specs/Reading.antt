@@ -54,6 +54,7 @@ is_at_fault field =
     (field.number == 1 && not (is_varint field.payload))
     || (field.number == 2 && is_err (key_of field))
 
+-- the place of the first field at fault
 abbrev pub fault_at : List WireField → Option ℕ
 fault_at fields = option_map (λ field. field.at) (find is_at_fault fields)
 
@@ -61,7 +62,7 @@ fault_at fields = option_map (λ field. field.at) (find is_at_fault fields)
 abbrev pub records_in : List WireField → List Record
 records_in fields = filter_map (λ field. result_ok (key_of field)) (of_number 2 fields)
 
--- the last primary id counts
+-- what fields give, or the place of the first one at fault; the last primary id counts
 abbrev pub keys_in : List WireField → Result Keys ℕ
 keys_in fields = unless_at (fault_at fields) (record {
   primary = last_number (of_number 1 fields);

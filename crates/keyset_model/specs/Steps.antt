@@ -1,5 +1,5 @@
 -- What the steps of reading a keyset answer, by the definitions of reading.
-use Rattle.std.specs.Prelude.{◌≡◌, ◌≤◌, ℕ, true, false, List, length, Option, Some, None, Result, Ok, Err}
+use Rattle.std.specs.Prelude.{◌≡◌, ◌≤◌, ℕ, true, false, List, length, take, Option, Some, None, Result, Ok, Err}
 use Rattle.std.specs.Str.{is_utf8}
 use Rattle.tink_spec.specs.Wire.{bytes, WireField, cut}
 use Rattle.tink_spec.specs.Messages.{is_text, ◌>>=◌}
@@ -42,6 +42,12 @@ GivesRecord (Err errors.NoMemory) read = Unit {0}
 pub record IsRead (records : List Record) (fields : List WireField) : Type 0 where
   pub faultless : fault_at fields ≡ None
   pub all : records ≡ records_in fields
+
+-- no field is at fault, and these are the first records of the fields, as many as are kept while a
+-- keyset is read: one more than it may have
+pub record KeepsRead (records : List Record) (fields : List WireField) : Type 0 where
+  pub faultless : fault_at fields ≡ None
+  pub first : records ≡ take 2 (records_in fields)
 
 -- the error is the field at fault at this place
 abbrev pub IsFaultAt : ReadError → Option ℕ → Type 0

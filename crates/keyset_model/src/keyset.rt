@@ -1,8 +1,8 @@
 //! Keysets, well formed by their type.
 
-ghost use Rattle.std.specs.Prelude.{◌≡◌, ◌<◌, ◌≢◌, ◌↔◌, length, Some, IsNone, All, slice_get, position, ◌==◌, IfSome};
+ghost use Rattle.std.specs.Prelude.{◌≡◌, ◌<◌, ◌≢◌, ◌↔◌, length, Some, None, IsNone, All, slice_get, position, ◌==◌, IfSome};
 ghost use Rattle.std.specs.List.{AllByRecursion};
-ghost use Rattle.keyset_model.specs.Keyset.{HasSizes, IsKnown, is_built, fault_of, built};
+ghost use Rattle.keyset_model.specs.Keyset.{HasSizes, IsKnown, is_built, primary_of, fault_of, built};
 
 use crate::Record;
 use std::marker::Model;
@@ -59,6 +59,22 @@ impl Keyset {
         ensures { result ≡ self.now.primary }
     {
         self.primary
+    }
+
+    /// The primary record, the first one that has the primary id.
+    ///
+    /// It is there, is ENABLED and has a name for its output prefix type, as a keyset has no fault.
+    pub fn primary_record(&self) -> &Record
+        ensures faultless { fault_of self.now ≡ None }
+        ensures primary { primary_of self.now ≡ Some result.now }
+        ensures enabled { result.now.status ≡ ENABLED }
+        ensures known { IsKnown result.now }
+        ensures sizes { HasSizes result.now }
+    {
+        match self.find(self.primary) {
+            Some(i) => self.record_at(i),
+            None => unreachable!(),
+        }
     }
 
     /// How many records there are.

@@ -8,7 +8,7 @@ ghost use Rattle.keyset_model.specs.Listing.{status_text, prefix_text, escaped_b
 use crate::{Keyset, Record};
 use itoa::Buffer;
 use std::alloc::Global;
-use tink_base::NoMemory;
+use tink_base::{CRUNCHY, DESTROYED, DISABLED, ENABLED, LEGACY, NoMemory, RAW, TINK};
 
 /// The name of a status, 1 to 3 (tink.proto, KeyStatusType).
 #[tactic(auto, unfolding(crate::specs::Listing::status_text))]
@@ -18,9 +18,10 @@ pub fn status_name(status: u32) -> &'static str
     ensures { result.now ≡ status_text status }
 {
     match status {
-        1 => "ENABLED",
-        2 => "DISABLED",
-        _ => "DESTROYED",
+        ENABLED => "ENABLED",
+        DISABLED => "DISABLED",
+        DESTROYED => "DESTROYED",
+        _ => unreachable!(),
     }
 }
 
@@ -32,10 +33,11 @@ pub fn prefix_name(prefix: u32) -> &'static str
     ensures { result.now ≡ prefix_text prefix }
 {
     match prefix {
-        1 => "TINK",
-        2 => "LEGACY",
-        3 => "RAW",
-        _ => "CRUNCHY",
+        TINK => "TINK",
+        LEGACY => "LEGACY",
+        RAW => "RAW",
+        CRUNCHY => "CRUNCHY",
+        _ => unreachable!(),
     }
 }
 

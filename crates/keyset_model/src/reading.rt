@@ -6,7 +6,7 @@ ghost use Rattle.std.specs.List.{AllByRecursion};
 ghost use Rattle.proto_wire.specs.Fields.{seen, seen_all, IsOf};
 ghost use Rattle.keyset_model.specs.Keyset.{HasSizes};
 ghost use Rattle.keyset_model.specs.Reading.{fault_at, reads_binary, GivesKeyset};
-ghost use Rattle.keyset_model.specs.Steps.{IsRead, IsFaultAt};
+ghost use Rattle.keyset_model.specs.Steps.{IsRead, KeepsRead, IsFaultAt};
 ghost use Rattle.keyset_model.specs.declared.reading.ReadError.TheVariants as errors;
 
 use crate::key::read_key;
@@ -19,6 +19,10 @@ use tink_base::NoMemory;
 const PRIMARY_KEY_ID: u32 = 1;
 
 const KEY: u32 = 2;
+
+/// How many records are kept while a keyset is read: one more than it may have. Those behind them
+/// are read for their faults alone, so a long list of keys takes no memory.
+const KEPT: usize = 2;
 
 /// Why bytes give no keyset.
 #[derive(Clone, Copy, Debug, PartialEq, Eq)]
@@ -93,7 +97,7 @@ pub fn read_binary(alloc: Global, bytes: &[u8]) -> Result<Keyset, ReadError>
     Ok(keyset)
 }
 
-/// The records of a `Keyset` message of these fields, in order.
+/// The first records of a `Keyset` message of these fields, in order, as many as are kept.
 ///
 /// `Wire` names the first field at fault: a primary id that is no varint, or a key that isn't bytes
 /// or can't be read.
@@ -101,7 +105,7 @@ fn read_records(alloc: Global, source: &[u8], message: &Fields) -> Result<Vec<Re
     requires size_bound { length source.now ≤ 2 ^ 30 }
     requires of_source { AllByRecursion (IsOf source.now) message.now }
     ensures records { IfOk result (λ records.
-        IsRead records.items (seen_all source.now message.now)) }
+        KeepsRead records.items (seen_all source.now message.now)) }
     ensures fault { IfErr result (λ error.
         IsFaultAt error (fault_at (seen_all source.now message.now))) }
     ensures sizes { IfOk result (λ records. AllByRecursion HasSizes records.items) }
@@ -109,7 +113,9 @@ fn read_records(alloc: Global, source: &[u8], message: &Fields) -> Result<Vec<Re
     let mut records = Vec::new(alloc);
     for i in 0..message.len() {
         if let Some(key) = read_field(alloc, source, message.field(i))? {
-            records.push(key)?;
+            if records.len() < KEPT {
+                records.push(key)?;
+            }
         }
     }
     Ok(records)

@@ -73,6 +73,16 @@ fn names_the_first_field_at_fault(rt: HostRuntime) {
             ReadError::Wire(Wire { at: 2 }),
         ),
         (
+            "a fault behind three keys",
+            b"\x12\0\x12\0\x12\0\x10\x01".as_slice(),
+            ReadError::Wire(Wire { at: 6 }),
+        ),
+        (
+            "three keys",
+            b"\x12\0\x12\0\x12\0".as_slice(),
+            ReadError::Fault(KeysetFault::Unbuilt),
+        ),
+        (
             "no key",
             b"\x08\x01".as_slice(),
             ReadError::Fault(KeysetFault::Empty),
@@ -91,6 +101,7 @@ fn gives_what_was_read(rt: HostRuntime) -> Result<(), Fail> {
     assert_eq!(rt; keyset.len(), 1);
     assert_eq!(rt; keyset.find(16909060), Some(0));
     assert_eq!(rt; keyset.find(1), None);
+    assert_eq!(rt; keyset.primary_record().id, 16909060);
     let key = keyset.record_at(0);
     assert_eq!(rt;
         key.value.as_slice(),

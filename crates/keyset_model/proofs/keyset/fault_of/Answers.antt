@@ -1,15 +1,18 @@
-use Rattle.std.proofs.Common.{◌≡◌, List, ℕ, length, true, false, refl, sym, ◌∙◌, rules, tests}
-use Rattle.std.specs.Prelude.{Some}
+use Rattle.std.proofs.Common.{◌≡◌, List, ℕ, length, true, false, refl, sym, ◌∙◌, ap, rules, tests}
+use Rattle.std.specs.Prelude.{Some, not}
 use Rattle.std.specs.List.{list_all, list_any}
 use Rattle.std.proofs.lemmas.Iterator.{YieldsList-from_slice}
 use Rattle.std.proofs.lemmas.Iterator.Search.{all_from_yields_List, any_from_yields_List}
 use Rattle.keyset_model.specs.declared.keyset.KeysetFault.TheVariants as faults
 use Rattle.keyset_model.specs.declared.record.Record.{Record}
 use Rattle.keyset_model.specs.Keyset.{is_built, has_id, fault_of}
+use Rattle.keyset_model.proofs.PrimaryLemmas.{is_none-find}
 use Rattle.keyset_model.proofs.keyset.fault_of.Goals as goal
 
 no_primary : (primary : ℕ) (records : List Record) → length records ≡ 1 → list_all is_built records ≡ true → list_any (has_id primary) records ≡ false → fault_of (record { primary = primary; records = records }) ≡ Some faults.NoPrimary
-no_primary primary records one all any = rw (one, all, any) refl
+no_primary primary records one all any =
+    let none = is_none-find (has_id primary) records ∙ ap not any in
+    rw (one, all, none) refl
 
 pub returns-then-not-any : goal.returns-then-not-any
 returns-then-not-any c =
