@@ -5,24 +5,32 @@
 //! Such a sum takes the moves and the fold of one product alone.
 ghost use Rattle.ghash.specs.Ghash.{ghash, padded_block, padded_blocks};
 ghost use Rattle.ghash.specs.Field.{prod};
-ghost use Rattle.std.specs.Prelude.{◌≡◌, ℕ, ◌+◌, ◌≤◌, Bool, true, List, [], ◌∷◌, ◌++◌, length};
+ghost use Rattle.std.specs.Prelude.{◌≡◌, ℕ, ◌+◌, ◌≤◌, List, [], ◌∷◌, ◌++◌, length};
 ghost use Rattle.std.specs.Simd.Lanes.{chunk};
 
 use crate::products::{Factor, ONE, factor_of, lanes_of, multiply, no_factor, sum_of_products};
 use std::simd::prelude::*;
 
-// A body of so many bytes makes the higher powers, which takes as long as 512 bytes do.
-const LONG: usize = 2048;
+// After so many bytes under one subkey H^2 to H^4 are made, which takes as long as seven blocks do,
+// one by one.
+const PAYS_FOR_FOUR: usize = 192;
 
-/// A running GHASH: H^8 to H as factors, of which the first four are made for the first long body,
-/// and GHASH of the blocks so far. It takes 4 KiB, so lend it rather than move it.
+// After so many H^5 to H^8 are, which takes a little longer and spares a fifth of the time.
+const PAYS_FOR_EIGHT: usize = 4096;
+
+/// A running GHASH under one hash subkey: its powers H^8 to H as factors, and GHASH of the blocks so
+/// far. It takes 4 KiB, so lend it rather than move it.
 ///
 /// Nothing that it does branches, or reads a place in memory, by the subkey or the data: only by
-/// lengths, and by whether a long body came.
+/// lengths. H alone is a factor from the start, so a short message costs little; the other powers
+/// are made once, when as many bytes came as pay for them, all messages under the subkey together.
 #[derive(Drop)]
 pub struct Ghash {
     factors: [Factor; 8],
-    all_powers: bool,
+    // How many of the factors are made, from the last on: 1, 4 or 8.
+    made: usize,
+    // How many bytes came, up to the end of the type.
+    taken: usize,
     y: u128,
 }
 
@@ -33,25 +41,22 @@ impl Ghash {
     pub fn new(h: u128) -> Ghash
         ensures { Holds result h [] }
     {
-        let first = factor_of(h);
-        let square = multiply(&first, h);
-        let cube = multiply(&first, square);
-        let fourth = multiply(&first, cube);
-        let none = no_factor();
-        Ghash {
-            factors: [
-                none,
-                none,
-                none,
-                none,
-                factor_of(fourth),
-                factor_of(cube),
-                factor_of(square),
-                first,
-            ],
-            all_powers: false,
+        let mut hash = Ghash {
+            factors: [no_factor(); 8],
+            made: 1,
+            taken: 0,
             y: 0,
-        }
+        };
+        hash.factors[7] = factor_of(h);
+        hash
+    }
+
+    /// Starts again with no block, under the same hash subkey: what is made of the subkey stays for
+    /// the next message.
+    pub fn restart(&mut self)
+        ensures { (h : ℕ) (blocks : List ℕ) → Holds self.old h blocks → Holds self.new h [] }
+    {
+        self.y = 0;
     }
 
     /// Adds the blocks of `body`, of any length, with zeros after it up to a whole block.
@@ -68,17 +73,53 @@ impl Ghash {
         }
     }
 
-    // Makes the higher powers, once, where a body is long.
+    // Makes the powers that are paid for, with `size` bytes more.
     fn prepare(&mut self, size: usize)
         ensures { (h : ℕ) (blocks : List ℕ) → Holds self.old h blocks → Holds self.new h blocks }
     {
-        if size >= LONG && !self.all_powers {
-            self.make_higher_powers();
+        self.taken = self.taken.saturating_add(size);
+        if self.made == 1 && self.taken >= PAYS_FOR_FOUR {
+            self.make_four_powers();
+        }
+        self.prepare_eight();
+    }
+
+    // Makes the last four powers, where they are paid for.
+    fn prepare_eight(&mut self)
+        ensures { (h : ℕ) (blocks : List ℕ) → Holds self.old h blocks → Holds self.new h blocks }
+    {
+        if self.made == 4 && self.taken >= PAYS_FOR_EIGHT {
+            self.make_eight_powers();
         }
     }
 
-    // Makes the first four factors.
-    fn make_higher_powers(&mut self)
+    // Makes H^4 to H^2.
+    #[inline(never)]
+    fn make_four_powers(&mut self)
+        ensures { (h : ℕ) (blocks : List ℕ) → Holds self.old h blocks → Holds self.new h blocks }
+    {
+        let first = self.multiply_by_subkey(ONE);
+        let square = self.multiply_by_subkey(first);
+        let cube = self.multiply_by_subkey(square);
+        let fourth = self.multiply_by_subkey(cube);
+        let none = no_factor();
+        self.factors = [
+            none,
+            none,
+            none,
+            none,
+            factor_of(fourth),
+            factor_of(cube),
+            factor_of(square),
+            self.factors[7],
+        ];
+        self.made = 4;
+    }
+
+    // Makes H^8 to H^5.
+    #[inline(never)]
+    fn make_eight_powers(&mut self)
+        requires { self.old.made ≡ 4 }
         ensures { (h : ℕ) (blocks : List ℕ) → Holds self.old h blocks → Holds self.new h blocks }
     {
         let fourth = multiply(&self.factors[4], ONE);
@@ -96,7 +137,7 @@ impl Ghash {
             self.factors[6],
             self.factors[7],
         ];
-        self.all_powers = true;
+        self.made = 8;
     }
 
     // Adds a piece, as eight blocks at once where it can.
@@ -105,7 +146,7 @@ impl Ghash {
         ensures { (h : ℕ) (blocks : List ℕ)
             → Holds self.old h blocks → Holds self.new h (blocks ++ padded_blocks piece.now) }
     {
-        if self.all_powers && piece.len() == 128 {
+        if self.made == 8 && piece.len() == 128 {
             self.y = self.after_eight(piece);
         } else {
             self.add_short(piece);
@@ -128,7 +169,7 @@ impl Ghash {
         ensures { (h : ℕ) (blocks : List ℕ)
             → Holds self.old h blocks → Holds self.new h (blocks ++ padded_blocks piece.now) }
     {
-        if piece.len() == 64 {
+        if self.made >= 4 && piece.len() == 64 {
             self.y = self.after_four(piece);
         } else {
             self.add_each(piece);
@@ -138,8 +179,9 @@ impl Ghash {
     // GHASH after eight blocks more: eight steps of Horner's rule at once.
     #[inline(always)]
     fn after_eight(&self, piece: &[u8]) -> u128
-        requires { length piece.now ≡ 128 }
-        ensures { (h : ℕ) (blocks : List ℕ) → Holds self.now h blocks → self.now.all_powers ≡ true
+        requires made { 8 ≤ self.now.made }
+        requires size { length piece.now ≡ 128 }
+        ensures { (h : ℕ) (blocks : List ℕ) → Holds self.now h blocks
             → result ≡ ghash h (blocks ++ padded_blocks piece.now) }
     {
         let first = u128::from_be_bytes(loaded(piece, 0).to_array());
@@ -161,7 +203,8 @@ impl Ghash {
     // The same with four.
     #[inline(always)]
     fn after_four(&self, piece: &[u8]) -> u128
-        requires { length piece.now ≡ 64 }
+        requires made { 4 ≤ self.now.made }
+        requires size { length piece.now ≡ 64 }
         ensures { (h : ℕ) (blocks : List ℕ) → Holds self.now h blocks
             → result ≡ ghash h (blocks ++ padded_blocks piece.now) }
     {

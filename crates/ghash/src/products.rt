@@ -17,7 +17,8 @@
 //! since splats of single bytes take three times as long; `from_ref` lends a factor, where an array
 //! of one would copy it.
 ghost use Rattle.ghash.specs.Field.{prod, shifted_factor};
-ghost use Rattle.ghash.specs.Places.{byte_rows, IsBlock, IsFactor, xor_sum, sum_of_products};
+ghost use Rattle.ghash.specs.Places.{byte_rows, IsBlock, xor_sum, sum_of_products};
+ghost use Rattle.ghash.specs.FactorState.{IsFactor};
 ghost use Rattle.std.specs.Int.{w128, byte_at, from_be_bytes, to_be_bytes};
 ghost use Rattle.std.specs.Prelude.{◌≡◌, ◌≤◌, ◌<◌, ◌+◌, ◌-◌, ◌*◌, ◌^◌, ◌/◌, ◌%◌, ℕ, List, [], ◌++◌, bit_and, bit_xor, length, map, get_or};
 ghost use Rattle.std.specs.Simd.Lanes.{Each1, Each2};
