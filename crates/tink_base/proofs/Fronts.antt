@@ -19,3 +19,7 @@ gave_front bytes copied behind at n f size is = record { left = ap Some whole; f
   where
     whole : drop at bytes ≡ take n (copied ++ behind) ++ drop (at + n) bytes
     whole = rw (take_at copied behind n size, is) (sym (ap (λ (l : List ℕ). take n (drop at bytes) ++ l) (sym (drop-drop n at bytes)) ∙ take-append-drop n (drop at bytes)))
+
+-- what is left of a list, cut behind its next bytes
+pub front_and_left : (bytes copied : List ℕ) (at n : ℕ) → copied ≡ take n (drop at bytes) → drop at bytes ≡ copied ++ drop (at + n) bytes
+front_and_left bytes copied at n is = rw is (sym (ap (λ (l : List ℕ). take n (drop at bytes) ++ l) (sym (drop-drop n at bytes)) ∙ take-append-drop n (drop at bytes)))

@@ -1,8 +1,8 @@
--- What a source, a sink and a store in memory are, and what they tell.
-use Rattle.std.specs.Prelude.{ℕ, ◌+◌, ◌-◌, ◌^◌, ◌≤◌, List, length, min, Some, refl}
+-- What a source, a sink, a store and an entropy in memory are, and what they tell.
+use Rattle.std.specs.Prelude.{ℕ, ◌+◌, ◌-◌, ◌^◌, ◌≤◌, ◌==◌, List, length, min, Some, refl}
 use Rattle.std.specs.Coded.{Coded, code_by, coded×, coded_ℕ, coded_list}
 use Rattle.std.specs.FinMap as map
-use Rattle.tink_spec.specs.Outside.{SourceState, SinkState}
+use Rattle.tink_spec.specs.Outside.{SourceState, SinkState, EntropyState}
 use Rattle.tink_spec.specs.Files.{Files, StoreState}
 
 -- the bytes that are left, how many a read gives at the most, the numbers of the calls that fail,
@@ -27,6 +27,14 @@ pub record SinkInMemory : Type 0 where
 -- the files, the numbers of the calls that fail, from 1, and how many calls and faults there were
 pub record StoreInMemory : Type 0 where
   pub files : Files
+  pub fails : List ℕ
+  pub calls : ℕ
+  pub faults : ℕ
+
+-- the bytes that are left, the numbers of the calls that fail, from 1, and how many calls and faults
+-- there were
+pub record EntropyInMemory : Type 0 where
+  pub left : List ℕ
   pub fails : List ℕ
   pub calls : ℕ
   pub faults : ℕ
@@ -56,3 +64,7 @@ IsFull s = s.room ≤ length s.written
 
 abbrev pub told_store : StoreInMemory → StoreState
 told_store s = record { files = Some s.files; faults = s.faults }
+
+-- it is steady exactly where no call is listed
+abbrev pub told_entropy : EntropyInMemory → EntropyState
+told_entropy s = record { left = Some s.left; faults = s.faults; steady = length s.fails == 0 }

@@ -18,7 +18,7 @@ pub enum ReadAllFault {
 }
 
 /// How many bytes one read asks for at the most.
-const PIECE: usize = 4096;
+const PIECE: usize = 1 << 16;
 
 /// Reads all bytes up to the end, of which there may be `limit`, at most 2^30.
 ///
@@ -46,10 +46,15 @@ pub fn read_all<S: Source>(
         GaveUpTo (S.state source.old) (S.state source.new) limit }
 {
     let mut all = Vec::new(alloc);
-    let mut buffer = [0u8; PIECE];
+    // on the heap, since a call pays for its locals whether it reads much or little
+    let mut buffer = match vec![in alloc; 0u8; PIECE.min(limit + 1)] {
+        Ok(buffer) => buffer,
+        Err(_) => return Err(ReadAllFault::NoMemory),
+    };
+    let piece = buffer.as_mut_slice();
     loop {
-        let room = PIECE.min(limit + 1 - all.len());
-        let n = match source.read(&mut buffer[..room]) {
+        let room = piece.len().min(limit + 1 - all.len());
+        let n = match source.read(&mut piece[..room]) {
             Ok(n) => n,
             Err(Failed) => return Err(ReadAllFault::Failed),
         };
@@ -59,7 +64,7 @@ pub fn read_all<S: Source>(
         if n > limit - all.len() {
             return Err(ReadAllFault::TooLong);
         }
-        match all.extend_from_slice(&buffer[..n]) {
+        match all.extend_from_slice(&piece[..n]) {
             Ok(()) => {}
             Err(_) => return Err(ReadAllFault::NoMemory),
         }

@@ -1,13 +1,13 @@
 //! The outside of the program as traits, with objects in memory that meet them, and the small
 //! types that every crate above uses.
 //!
-//! A trait tells in its ghost `state` what an object holds and how often it has failed. Random bytes
-//! come with the commands that draw them.
+//! A trait tells in its ghost `state` what an object holds and how often it has failed.
 #![tactic(auto)]
 
 mod all;
 mod bytes;
 mod constants;
+mod entropy;
 mod faults;
 mod files;
 mod hash;
@@ -16,11 +16,13 @@ mod memory;
 mod sink;
 mod source;
 mod store;
+mod stream;
 mod text;
 
 pub use all::{ReadAllFault, read_all, write_all};
 pub use bytes::Bytes;
 pub use constants::{CRUNCHY, DESTROYED, DISABLED, ENABLED, LEGACY, RAW, TINK};
+pub use entropy::Entropy;
 pub use faults::{Failed, NoMemory};
 pub use files::MemStore;
 pub use hash::Hash;
@@ -28,6 +30,7 @@ pub use memory::{MemSink, MemSource};
 pub use sink::Sink;
 pub use source::Source;
 pub use store::{Created, Loaded, Store, StoreError};
+pub use stream::MemEntropy;
 pub use text::Text;
 
 #[cfg(test)]

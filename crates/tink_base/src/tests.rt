@@ -1,8 +1,10 @@
 //! That calls which take memory answer, and the numbers of outside tables.
 
+ghost use Rattle.std.specs.Prelude.{◌≡◌, ◌≤◌, ℕ, List, length, IsTrue, Some};
+
 use crate::{
-    Bytes, Created, Hash, Loaded, MemSink, MemSource, MemStore, ReadAllFault, Source, Store,
-    StoreError, Text, read_all, write_all,
+    Bytes, Created, Entropy, Failed, Hash, Loaded, MemEntropy, MemSink, MemSource, MemStore,
+    ReadAllFault, Source, Store, StoreError, Text, read_all, write_all,
 };
 use std::test::Fail;
 
@@ -93,4 +95,36 @@ fn keeps_files_that_stand(rt: HostRuntime) -> Result<(), Fail> {
     assert_eq!(rt; store.get("b"), Some(b"new".as_slice()));
     assert_eq!(rt; store.get("c"), None);
     Ok(())
+}
+
+// Call 2 fails, and so does a call for more bytes than are left.
+#[test]
+fn fills_from_a_stream(rt: HostRuntime) -> Result<(), Fail> {
+    let mut fails = Vec::new(rt.alloc());
+    fails.push(2)?;
+    let mut entropy = MemEntropy::new(b"random".to_vec(rt.alloc())?, fails);
+    let mut out = [0u8; 4];
+    assert_eq!(rt; entropy.fill(&mut out), Ok(()));
+    assert_eq!(rt; &out, b"rand");
+    assert_eq!(rt; entropy.fill(&mut out[..2]), Err(Failed), "listed");
+    assert_eq!(rt; entropy.fill(&mut out), Err(Failed), "short");
+    assert_eq!(rt; entropy.left(), 2);
+    assert_eq!(rt; entropy.fill(&mut out[..2]), Ok(()));
+    assert_eq!(rt; &out, b"omnd");
+    let mut steady = MemEntropy::new(b"byte".to_vec(rt.alloc())?, Vec::new(rt.alloc()));
+    assert_eq!(rt; &four_bytes(&mut steady), b"byte");
+    Ok(())
+}
+
+/// Four bytes of a steady entropy that has them: that it can't fail is proved, by the trait's
+/// clauses alone.
+fn four_bytes<E: Entropy>(entropy: &mut E) -> [u8; 4]
+    requires steady { IsTrue (E.state entropy.old).steady }
+    requires enough { (left : List ℕ) × ((E.state entropy.old).left ≡ Some left) × (4 ≤ length left) }
+{
+    let mut out = [0u8; 4];
+    match entropy.fill(&mut out) {
+        Ok(()) => out,
+        Err(Failed) => unreachable!(),
+    }
 }

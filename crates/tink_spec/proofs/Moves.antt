@@ -1,7 +1,7 @@
--- One call of a source or a sink after another.
-use Rattle.std.proofs.Common.{◌≡◌, List, [], ◌++◌, ℕ, refl, sym, ◌∙◌, ap, subst, arith, append_assoc, append-nil}
-use Rattle.std.specs.Prelude.{Option, Some, None, option_map}
-use Rattle.tink_spec.specs.Outside.{SourceState, SinkState, Gave, Took}
+-- One call of a source, a sink or an entropy after another.
+use Rattle.std.proofs.Common.{◌≡◌, List, [], ◌++◌, ℕ, refl, sym, ◌∙◌, ap, subst, arith, append_assoc, append-nil, length, length-append, ◌+◌, ◌<◌, inl, inr}
+use Rattle.std.specs.Prelude.{Option, Some, None, IfSome, IsTrue, option_map}
+use Rattle.tink_spec.specs.Outside.{SourceState, SinkState, EntropyState, Gave, Took, Drew, RanShort, Rose}
 
 prepend_twice : (p q : List ℕ) (o : Option (List ℕ)) → option_map (λ rest. p ++ rest) (option_map (λ rest. q ++ rest) o) ≡ option_map (λ rest. (p ++ q) ++ rest) o
 prepend_twice p q None = refl
@@ -44,3 +44,29 @@ took_more old mid new p q first second = record {
 
 pub took_same : (old new : SinkState) → old ≡ new → Took old new []
 took_same old new same = subst (λ (s : SinkState). Took old s []) same (took_nothing old)
+
+-- an entropy that isn't called gives nothing
+pub drew_nothing : (s : EntropyState) → Drew s s []
+drew_nothing s = record { left = nothing_before s.left; faults = omega arith; steady = refl }
+
+pub drew_more : (old mid new : EntropyState) (p q : List ℕ) → Drew old mid p → Drew mid new q → Drew old new (p ++ q)
+drew_more old mid new p q first second = record {
+  left = first.left ∙ ap (λ (o : Option (List ℕ)). option_map (λ rest. p ++ rest) o) second.left ∙ prepend_twice p q new.left;
+  faults = omega arith;
+  steady = second.steady ∙ first.steady;
+}
+
+-- what an entropy lacks after some bytes were drawn, it lacked before
+pub ran_short_later : (old mid new : EntropyState) (p : List ℕ) (asked : ℕ) → Drew old mid p → RanShort mid new asked → RanShort old new (length p + asked)
+ran_short_later old mid new p asked first second = record {
+  rose = later second.rose;
+  short = λ steady. subst (λ (o : Option (List ℕ)). IfSome o (λ left. length left < length p + asked)) (sym first.left)
+      (behind mid.left (second.short (subst IsTrue (sym first.steady) steady)));
+}
+  where
+    later : Rose mid.faults new.faults → Rose old.faults new.faults
+    later (inl before) = inl (omega (arith, first.faults))
+    later (inr last) = inr last
+    behind : (o : Option (List ℕ)) → IfSome o (λ left. length left < asked) → IfSome (option_map (λ rest. p ++ rest) o) (λ left. length left < length p + asked)
+    behind None less = tt
+    behind (Some rest) less = rw length-append (omega (arith, less))

@@ -4,8 +4,10 @@
 --   faults    how often a call of the object has failed. The count never falls, and stands still
 --             at 2 ^ 64 - 1.
 --   Rose, Stood   what a count of faults does in a call that failed, and in every other call
---   Gave, Took   what went out of a source, or into a sink, between two moments
-use Rattle.std.specs.Prelude.{◌≡◌, ◌⊎◌, ℕ, ◌<◌, ◌≤◌, ◌^◌, ◌-◌, List, [], ◌++◌, length, Option, IfSome, option_map}
+--   Gave, Took, Drew   what went out of a source, into a sink, or out of an entropy, between two
+--             moments
+--   RanShort  why an entropy fails
+use Rattle.std.specs.Prelude.{◌≡◌, ◌⊎◌, ℕ, ◌<◌, ◌≤◌, ◌^◌, ◌-◌, List, [], ◌++◌, length, Option, IfSome, option_map, Bool, IsTrue}
 
 -- a count of faults has risen, or stands at its last value
 abbrev pub Rose : ℕ → ℕ → Type 0
@@ -24,6 +26,13 @@ pub record SourceState : Type 0 where
 pub record SinkState : Type 0 where
   pub written : Option (List ℕ)
   pub faults : ℕ
+
+-- an entropy, a source of random bytes: the bytes that are left, where it tells, and its faults
+pub record EntropyState : Type 0 where
+  pub left : Option (List ℕ)
+  pub faults : ℕ
+  -- it fails only where fewer bytes are left than it is asked for
+  pub steady : Bool
 
 -- the source gave exactly these bytes
 pub record Gave (old new : SourceState) (piece : List ℕ) : Type 0 where
@@ -58,3 +67,15 @@ pub record TookPrefix (old new : SinkState) (bytes : List ℕ) : Type 0 where
   pub some : 0 < length rest
   pub whole : front ++ rest ≡ bytes
   pub took : Took old new front
+
+-- the entropy gave exactly these bytes
+pub record Drew (old new : EntropyState) (piece : List ℕ) : Type 0 where
+  pub left : old.left ≡ option_map (λ rest. piece ++ rest) new.left
+  pub faults : old.faults ≤ new.faults
+  pub steady : new.steady ≡ old.steady
+
+-- the entropy failed where so many bytes were asked for: its count of faults rose, and if it is
+-- steady, fewer were left, where it tells
+pub record RanShort (old new : EntropyState) (asked : ℕ) : Type 0 where
+  pub rose : Rose old.faults new.faults
+  pub short : IsTrue old.steady → IfSome old.left (λ left. length left < asked)
