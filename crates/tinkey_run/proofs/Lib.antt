@@ -1,5 +1,4 @@
 pub mod HmacKeyExamples
 pub mod HmacKeyLemmas
 pub mod Laws
-pub mod Plans
 pub mod WordLemmas

@@ -1,11 +1,11 @@
 -- What is promised of every run, over its plan, the objects before and after, and its status.
 use Rattle.std.specs.Prelude.{◌≡◌, ◌≢◌, ◌⊎◌, ℕ, ◌+◌, ◌<◌, ◌≤◌, List, [], ◌++◌, length, Option, Some, None}
 use Rattle.tink_spec.specs.Files.{Files, StoreState, KeptFiles, Holds, HoldsLonger}
-use Rattle.tink_spec.specs.Outside.{Rose, Gave, Took, TookPrefix}
+use Rattle.tink_spec.specs.Outside.{Rose, Stood, Gave, Took, TookPrefix}
 use Rattle.tinkey_run.specs.declared.status.Status.{Status}
 use Rattle.tinkey_run.specs.declared.status.Status.TheVariants as status
 use Rattle.tinkey_run.specs.Plan.{Plan, ends, writes, allocates, loads, reads_all, Told, Answer, answer, IsStated}
-use Rattle.tinkey_run.specs.Ends.{World}
+use Rattle.tinkey_run.specs.Ends.{World, Ends}
 
 -- the objects tell these bytes
 pub record Tells (w : World) (told : Told) : Type 0 where
@@ -30,6 +30,13 @@ pub record HasCause (old : World) (s : Status) (new : World) : Type 0 where
   pub read : s ≡ status.ReadFault → Rose old.source.faults new.source.faults
   pub write : s ≡ status.WriteFault → Rose old.sink.faults new.sink.faults
   pub store : s ≡ status.StoreFault → Rose old.store.faults new.store.faults
+
+-- No fault is hidden: where the status isn't the fault of an object, no call of that object has
+-- failed. Of the diagnostic sink nothing is said.
+pub record ShowsFaults (old : World) (s : Status) (new : World) : Type 0 where
+  pub read : s ≢ status.ReadFault → Stood old.source.faults new.source.faults
+  pub write : s ≢ status.WriteFault → Stood old.sink.faults new.sink.faults
+  pub store : s ≢ status.StoreFault → Stood old.store.faults new.store.faults
 
 -- these bytes are the first of those, and at least one isn't there
 pub record IsFront (front whole : List ℕ) : Type 0 where
@@ -68,8 +75,8 @@ pub record Leaves (p : Plan) (old : World) (s : Status) (new : World) : Type 0 w
   pub took : Took old.sink new.sink written
   pub is : IsLeft p old.store.files s taken written
 
--- What stands: no file has changed. The sink has gained nothing, unless the run is Done or the write failed; then it has
--- gained the first bytes of the answer's output, and the answer's status is Done.
+-- What stands: no file has changed. The sink has gained nothing, unless the run is Done or the write
+-- failed; then it has gained the first bytes of the answer's output, and the answer's status is Done.
 pub record Stands (p : Plan) (old : World) (s : Status) (new : World) : Type 0 where
   pub files : KeptFiles old.store new.store
   pub kept : s ≢ status.Done → s ≢ status.WriteFault → Took old.sink new.sink []
@@ -79,3 +86,15 @@ pub record Stands (p : Plan) (old : World) (s : Status) (new : World) : Type 0 w
 -- Completeness: where no count of faults rose, the status is a stated one, or NoMemory.
 pub record Completes (old : World) (s : Status) (new : World) : Type 0 where
   pub stated : (Rose old.source.faults new.source.faults → ⊥) → (Rose old.sink.faults new.sink.faults → ⊥) → (Rose old.store.faults new.store.faults → ⊥) → s ≢ status.NoMemory → IsStated s
+
+-- All that is promised of a run of the plan: the stated answer, the causes of faults, that none is
+-- hidden, what was taken and written, what stands, and completeness. Each follows from `ends`, which
+-- has each way in which a run may end.
+pub record Promised (p : Plan) (old : World) (s : Status) (new : World) : Type 0 where
+  pub answer : Answers p old s new
+  pub cause : HasCause old s new
+  pub shown : ShowsFaults old s new
+  pub leaves : Leaves p old s new
+  pub stands : Stands p old s new
+  pub complete : Completes old s new
+  pub ends : Ends p old s new

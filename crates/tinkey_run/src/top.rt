@@ -3,7 +3,7 @@
 ghost use Rattle.std.specs.Prelude.{◌≡◌, map, string_bytes};
 ghost use Rattle.tinkey_run.specs.Ends.{Ends, world};
 ghost use Rattle.tinkey_run.specs.Commands.{plan_of, command_plan};
-ghost use Rattle.tinkey_run.specs.Promises.{Answers, HasCause, Leaves, Stands, Completes};
+ghost use Rattle.tinkey_run.specs.Promises.{Promised};
 ghost use Rattle.tinkey_run.specs.Status.{Reports};
 ghost use Rattle.tinkey_run.specs.Words.{seen_command};
 
@@ -17,12 +17,11 @@ use tink_base::{Sink, Source, Store};
 
 /// Does what the words after the program's name ask for, and tells on `diag` what went wrong.
 ///
-/// Each clause is over the plan of the words: `answer` is the stated answer, over objects that tell;
-/// `cause` and `leaves` say when a fault comes and what was taken and written then; `stands` says
-/// what the sink holds after any status; `line` is the diagnostic line; `complete` says that the
-/// status is the stated one where nothing fails and memory suffices. `ends`, from which they follow,
-/// has each way in which a run may end.
-#[tactic(auto, using(crate::proofs::Plans::run_answers, crate::proofs::Plans::run_has_cause, crate::proofs::Plans::run_leaves, crate::proofs::Plans::run_stands, crate::proofs::Plans::run_completes))]
+/// `promised` is over the plan of the words, in its parts: `answer` is the stated answer, over objects
+/// that tell; `cause`, `shown` and `leaves` say when a fault comes, that none is hidden, and what was
+/// taken and written; `stands` says what the sink holds after any status; `complete` says that the
+/// status is a stated one where nothing fails and memory suffices; `ends`, from which they follow,
+/// has each way in which a run may end. `line` is the diagnostic line.
 pub fn run<S: Source, K: Sink, G: Sink, D: Store>(
     alloc: Global,
     words: &[String],
@@ -31,19 +30,10 @@ pub fn run<S: Source, K: Sink, G: Sink, D: Store>(
     diag: &mut G,
     store: &mut D,
 ) -> Status
-    ensures answer { Answers (plan_of (map string_bytes words.now)) (world (S.state source.old) (K.state sink.old) (D.state store.old))
-        result (world (S.state source.new) (K.state sink.new) (D.state store.new)) }
-    ensures cause { HasCause (world (S.state source.old) (K.state sink.old) (D.state store.old))
-        result (world (S.state source.new) (K.state sink.new) (D.state store.new)) }
-    ensures leaves { Leaves (plan_of (map string_bytes words.now)) (world (S.state source.old) (K.state sink.old) (D.state store.old))
-        result (world (S.state source.new) (K.state sink.new) (D.state store.new)) }
-    ensures stands { Stands (plan_of (map string_bytes words.now)) (world (S.state source.old) (K.state sink.old) (D.state store.old))
-        result (world (S.state source.new) (K.state sink.new) (D.state store.new)) }
+    ensures promised { Promised (plan_of (map string_bytes words.now))
+        (world (S.state source.old) (K.state sink.old) (D.state store.old)) result
+        (world (S.state source.new) (K.state sink.new) (D.state store.new)) }
     ensures line { Reports result (G.state diag.old) (G.state diag.new) }
-    ensures complete { Completes (world (S.state source.old) (K.state sink.old) (D.state store.old))
-        result (world (S.state source.new) (K.state sink.new) (D.state store.new)) }
-    ensures ends { Ends (plan_of (map string_bytes words.now)) (world (S.state source.old) (K.state sink.old) (D.state store.old))
-        result (world (S.state source.new) (K.state sink.new) (D.state store.new)) }
 {
     let status = obey(alloc, words, source, sink, store);
     report(diag, status);
@@ -58,8 +48,9 @@ fn obey<S: Source, K: Sink, D: Store>(
     sink: &mut K,
     store: &mut D,
 ) -> Status
-    ensures { Ends (plan_of (map string_bytes words.now)) (world (S.state source.old) (K.state sink.old) (D.state store.old))
-        result (world (S.state source.new) (K.state sink.new) (D.state store.new)) }
+    ensures { Ends (plan_of (map string_bytes words.now))
+        (world (S.state source.old) (K.state sink.old) (D.state store.old)) result
+        (world (S.state source.new) (K.state sink.new) (D.state store.new)) }
 {
     match parse(words) {
         Ok(command) => dispatch(alloc, command, source, sink, store),
@@ -75,8 +66,9 @@ fn dispatch<S: Source, K: Sink, D: Store>(
     sink: &mut K,
     store: &mut D,
 ) -> Status
-    ensures { Ends (command_plan (seen_command command.entry)) (world (S.state source.old) (K.state sink.old) (D.state store.old))
-        result (world (S.state source.new) (K.state sink.new) (D.state store.new)) }
+    ensures { Ends (command_plan (seen_command command.entry))
+        (world (S.state source.old) (K.state sink.old) (D.state store.old)) result
+        (world (S.state source.new) (K.state sink.new) (D.state store.new)) }
 {
     match command {
         Command::ListKeyset => list_keyset(alloc, source, sink),

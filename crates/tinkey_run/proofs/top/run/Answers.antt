@@ -1,0 +1,5 @@
+use Rattle.tinkey_run.proofs.Laws.{promised}
+use Rattle.tinkey_run.proofs.top.run.Goals as goal
+
+pub returns-clause-promised : goal.returns-clause-promised
+returns-clause-promised g c = promised _ _ _ _ c.obey-status.ensures
