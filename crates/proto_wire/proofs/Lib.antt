@@ -5,3 +5,4 @@ pub mod Pieces
 pub mod Places
 pub mod Spellings
 pub mod Varints
+pub mod Writing

@@ -1,7 +1,7 @@
-//! Protobuf fields: a part of a message is cut into its fields, and fields give numbers, bytes and
-//! embedded messages.
+//! Protobuf fields: a part of a message is cut into its fields, fields give numbers, bytes and
+//! embedded messages, and a writer writes them.
 //!
-//! The rules of reading stand in `tink_spec`. Groups are refused, and fields are not written yet.
+//! The rules of reading stand in `tink_spec`. Groups are refused.
 #![tactic(auto)]
 
 mod cutting;
@@ -10,10 +10,14 @@ pub mod laws;
 mod list;
 mod number;
 mod reading;
+mod writer;
 
 pub use cutting::fields;
 pub use field::{Field, FieldsError, Kind, Wire};
 pub use list::Fields;
+pub use writer::Writer;
 
 #[cfg(test)]
 mod tests;
+#[cfg(test)]
+mod writer_tests;
