@@ -67,6 +67,7 @@ ran_short_later old mid new p asked first second = record {
     later : Rose mid.faults new.faults → Rose old.faults new.faults
     later (inl before) = inl (omega (arith, first.faults))
     later (inr last) = inr last
+
     behind : (o : Option (List ℕ)) → IfSome o (λ left. length left < asked) → IfSome (option_map (λ rest. p ++ rest) o) (λ left. length left < length p + asked)
     behind None less = tt
     behind (Some rest) less = rw length-append (omega (arith, less))
