@@ -1,4 +1,6 @@
 pub mod HmacKeyExamples
 pub mod HmacKeyLemmas
-pub mod Laws
+pub mod PromiseLemmas
+pub mod StepLemmas
+pub mod TagLemmas
 pub mod WordLemmas

@@ -8,7 +8,7 @@ use Rattle.tinkey_run.specs.declared.words.CommandName.{CommandName}
 use Rattle.tinkey_run.specs.Words.{Options, is_equals, own_value, next_word, options_of}
 
 -- a word, and those behind it
-rest_of_words : {A : Type 0} (words : List A) (i : ℕ) (word : A) → i < length words → word ≡ get_or words i word → drop i words ≡ word ∷ drop (i + 1) words
+pub rest_of_words : {A : Type 0} (words : List A) (i : ℕ) (word : A) → i < length words → word ≡ get_or words i word → drop i words ≡ word ∷ drop (i + 1) words
 rest_of_words {A} words i word lt is = rw add-one (drop-cons words i word lt ∙ ap (λ (w : A). w ∷ drop (suc i) words) (sym is))
 
 -- a word at fault is where the options are at fault

@@ -44,6 +44,7 @@ abbrev pub hashed : Message → Option Hash → Result HmacKey Rule
 hashed m None = Err broken.Hash
 hashed m (Some hash) = sized m hash
 
+-- the key that a message is, or the first rule that it breaks
 abbrev pub checked : Message → Result HmacKey Rule
 checked m =
     if not (m.version == 0) then Err broken.Version
@@ -59,6 +60,7 @@ abbrev pub and_checked : Result Message Rule → Result HmacKey Rule
 and_checked (Ok m) = checked m
 and_checked (Err rule) = Err rule
 
+-- the key of the bytes of a message, or the first rule that they break
 unfoldable pub hmac_key_of : List ℕ → Result HmacKey Rule
 hmac_key_of value = and_checked (formed (cut 0 value >>= message_of))
 

@@ -4,6 +4,8 @@ pub mod HmacKey
 pub mod Plan
 pub mod Promises
 pub mod Status
+pub mod Steps
+pub mod TagAnswers
 pub mod TagSteps
 pub mod Tags
 pub mod Words

@@ -14,6 +14,7 @@ IsStated status.StoreFault = ⊥
 IsStated status.NoMemory = ⊥
 IsStated _ = Unit {0}
 
+-- the steps of a command, in the order of refusals
 pub data Plan : Type 0 where
   -- this is the answer
   ends : (s : Status) → IsStated s → Plan

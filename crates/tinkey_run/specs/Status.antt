@@ -9,6 +9,7 @@ use Rattle.tinkey_run.specs.declared.rule.Rule.TheVariants as broken
 use Rattle.tinkey_run.specs.declared.status.Status.{Status}
 use Rattle.tinkey_run.specs.declared.status.Status.TheVariants as status
 
+-- the exit code
 abbrev pub code_of : Status → ℕ
 code_of status.Done = 0
 code_of (status.Usage word) = 2
@@ -24,11 +25,13 @@ code_of status.KeysetTooLong = 6
 code_of status.InputTooLong = 6
 code_of status.NoMemory = 7
 
+-- the text of a keyset's fault
 unfoldable pub fault_text : KeysetFault → List ℕ
 fault_text faults.Empty = codes "keyset has no key"
 fault_text faults.Unbuilt = codes "keyset form not built yet"
 fault_text faults.NoPrimary = codes "no key has the primary id"
 
+-- the name of a rule of key messages
 unfoldable pub rule_text : Rule → List ℕ
 rule_text broken.Form = codes "form"
 rule_text broken.Version = codes "version"
@@ -36,6 +39,7 @@ rule_text broken.Hash = codes "hash"
 rule_text broken.KeySize = codes "key size"
 rule_text broken.TagSize = codes "tag size"
 
+-- what the line says, behind the program's name
 unfoldable pub text_of : Status → List ℕ
 text_of status.Done = []
 text_of (status.Usage word) = codes "usage: word " ++ decimal word

@@ -1,10 +1,12 @@
 -- What the steps of tagging answer, by the definitions of tags.
-use Rattle.std.specs.Prelude.{◌≡◌, ◌≤◌, Result, Ok, Err}
+use Rattle.std.specs.Prelude.{◌≡◌, ◌≤◌, ℕ, Option, Some, Result, Ok, Err}
 use Rattle.tink_base.specs.declared.hash.Hash.TheVariants.{Sha256}
 use Rattle.tinkey_run.specs.declared.hmac_key.HmacKey.{HmacKey}
 use Rattle.tinkey_run.specs.declared.tag.TagFault.{TagFault}
 use Rattle.tinkey_run.specs.declared.tag.TagFault.TheVariants as faults
 use Rattle.tinkey_run.specs.Tags.{Unfit, no_manager, bad_key}
+use Rattle.tinkey_run.specs.declared.status.Status.{Status}
+use Rattle.tinkey_run.specs.declared.status.Status.TheVariants as status
 
 -- a key whose hash function is built, and whose tag fits its digest
 pub record IsBuilt (key : HmacKey) : Type 0 where
@@ -17,3 +19,10 @@ GivesKeyForTags (Ok key) read = read ≡ Ok key
 GivesKeyForTags (Err faults.NoManager) read = read ≡ Err no_manager
 GivesKeyForTags (Err (faults.BadKey rule)) read = read ≡ Err (bad_key rule)
 GivesKeyForTags (Err faults.NoMemory) read = Unit {0}
+
+-- the status says why the record of this place can't serve. Of want of memory nothing is said.
+abbrev pub IsUnfit : ℕ → Option Unfit → Status → Type 0
+IsUnfit i why (status.NoManager place) = (place ≡ i) × (why ≡ Some no_manager)
+IsUnfit i why (status.BadKey place rule) = (place ≡ i) × (why ≡ Some (bad_key rule))
+IsUnfit i why status.NoMemory = Unit {0}
+IsUnfit i why _ = ⊥

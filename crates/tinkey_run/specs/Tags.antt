@@ -48,5 +48,6 @@ abbrev pub built_key : Result HmacKey Rule → Result HmacKey Unfit
 built_key (Err rule) = Err (bad_key rule)
 built_key (Ok key) = if is_sha256 key.hash then Ok key else Err (bad_key broken.Hash)
 
+-- the key for tags of a record, or why it gives none
 unfoldable pub key_for_tags : Record → Result HmacKey Unfit
 key_for_tags r = if bytes_eq r.url hmac_url then built_key (hmac_key_of r.value) else Err no_manager

@@ -33,6 +33,7 @@ pub record Options : Type 0 where
   pub keyset_format : Option Format
   pub waiting : Option OptionName
 
+-- an equals sign
 abbrev pub is_equals : ℕ → Bool
 is_equals b = b == 61
 
@@ -40,12 +41,14 @@ is_equals b = b == 61
 unfoldable pub own_value : List ℕ → Option (List ℕ × List ℕ)
 own_value word = if nat_lt (position_or_len is_equals word) (length word) then Some (before_first is_equals word, after_first is_equals word) else None
 
+-- the command of this name
 unfoldable pub command_of : List ℕ → Option CommandName
 command_of name =
     if bytes_eq name (codes "list-keyset") then Some commands.ListKeyset
     else (if bytes_eq name (codes "tag") then Some commands.Tag
     else None)
 
+-- the option of this name
 unfoldable pub option_of : List ℕ → Option OptionName
 option_of name =
     if bytes_eq name (codes "--in-format") then Some options.InFormat
@@ -53,6 +56,7 @@ option_of name =
     else (if bytes_eq name (codes "--keyset-format") then Some options.KeysetFormat
     else None))
 
+-- the form of this name
 unfoldable pub format_of : List ℕ → Option Format
 format_of value = if bytes_eq value (codes "binary") then Some formats.Binary else None
 
@@ -77,6 +81,7 @@ new_option command None place given = Err place
 new_option command (Some name) place given =
     if takes command name then (if is_given name given then Err place else Ok name) else Err place
 
+-- the options with a form, which the word of this place has to name
 abbrev pub with_format : Option Format → ℕ → (Format → Options) → Result Options ℕ
 with_format None place next = Err place
 with_format (Some format) place next = Ok (next format)
@@ -93,11 +98,12 @@ abbrev pub option_word : CommandName → Option (List ℕ × List ℕ) → List 
 option_word command None word place given = new_option command (option_of word) place given >>= (λ name. Ok (record given { waiting = Some name }))
 option_word command (Some own) word place given = new_option command (option_of own.0) place given >>= (λ name. with_value name own.1 place given)
 
--- one more word, of this place
+-- one more word, of this place: the value of the option that waits, or an option's word
 abbrev pub word_after : Option OptionName → CommandName → List ℕ → ℕ → Options → Result Options ℕ
 word_after (Some name) command word place given = with_value name word place given
 word_after None command word place given = option_word command (own_value word) word place given
 
+-- one more word, of this place, behind the options so far
 abbrev pub next_word : CommandName → List ℕ → ℕ → Options → Result Options ℕ
 next_word command word place given = word_after given.waiting command word place given
 
@@ -130,10 +136,12 @@ abbrev pub complete : CommandName → ℕ → Options → Result Asked ℕ
 complete commands.ListKeyset count given = if is_some given.in_format then Ok list_keyset else Err count
 complete commands.Tag count given = tag_of given.keyset given.keyset_format count
 
+-- the command, where its name is known, with its options
 abbrev pub asked_of : Option CommandName → List (List ℕ) → Result Asked ℕ
 asked_of None words = Err 0
 asked_of (Some command) words = given_in command words >>= complete command (1 + length words)
 
+-- what the words ask for, or the place of the word at fault
 unfoldable pub words_of : List (List ℕ) → Result Asked ℕ
 words_of [] = Err 0
 words_of (name ∷ words) = asked_of (command_of name) words
@@ -143,6 +151,7 @@ abbrev pub seen_command : Command → Asked
 seen_command asks.ListKeyset = list_keyset
 seen_command (asks.Tag name) = tag name.now
 
+-- options and the one that waits, as they are seen
 abbrev pub seen_options : Given → Option OptionName → Options
 seen_options given waiting = record {
   in_format = given.in_format;
@@ -151,9 +160,11 @@ seen_options given waiting = record {
   waiting = waiting;
 }
 
+-- the options of the words so far
 abbrev pub seen_progress : Progress → Options
 seen_progress progress = seen_options progress.given progress.waiting
 
+-- options none of which waits
 abbrev pub seen_given : Given → Options
 seen_given given = seen_options given None
 

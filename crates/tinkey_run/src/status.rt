@@ -4,6 +4,7 @@ ghost use Rattle.std.specs.Prelude.{◌≡◌};
 
 use crate::Rule;
 use keyset_model::KeysetFault;
+use tink_base::NoMemory;
 
 /// How a run ends, with the place where it was refused.
 ///
@@ -56,5 +57,15 @@ impl Status {
             Status::KeysetTooLong | Status::InputTooLong => 6,
             Status::NoMemory => 7,
         }
+    }
+}
+
+impl From<NoMemory> for Status {
+    ghost use Rattle.tinkey_run.specs.declared.status.Status.TheVariants as status;
+
+    ghost from_gives = { λ _ s. s ≡ status.NoMemory };
+
+    fn from(_error: NoMemory) -> Status {
+        Status::NoMemory
     }
 }

@@ -1,24 +1,21 @@
-//! tag, one function a step of its plan.
+//! tag.
 
-ghost use Rattle.std.specs.Prelude.{◌≡◌, ◌≤◌, ◌^◌, [], ◌∷◌, ◌++◌, length, take, IfOk, if◌then◌else◌};
-ghost use Rattle.tinkey_run.specs.Ends.{Ends, World};
-ghost use Rattle.tinkey_run.specs.Commands.{tag_plan, tag_bytes_plan, tag_keyset_plan, tag_record_plan, tag_input_plan, tag_body_plan};
+ghost use Rattle.std.specs.Prelude.{◌≡◌, ◌≤◌, [], ◌∷◌, ◌++◌, length, take, Some, None, IfOk, IfErr, OnOk, if◌then◌else◌};
 ghost use Rattle.mac_prf.specs.Hmac.{hmac};
+ghost use Rattle.tinkey_run.specs.Ends.{World};
+ghost use Rattle.tinkey_run.specs.Steps.{Passes};
+ghost use Rattle.tinkey_run.specs.Commands.{tag_output, checks_fit};
 ghost use Rattle.tinkey_run.specs.Tags.{output_prefix, tag_under, key_for_tags};
-ghost use Rattle.tinkey_run.specs.TagSteps.{GivesKeyForTags, IsBuilt};
+ghost use Rattle.tinkey_run.specs.TagAnswers.{unfit, unfit_record, tag_answer};
+ghost use Rattle.tinkey_run.specs.TagSteps.{GivesKeyForTags, IsBuilt, IsUnfit};
 
 use crate::hmac_key::{HmacKey, KeyFault, read_hmac_key};
-use crate::output::{KEYSET_LIMIT, refusal, write_output};
+use crate::steps::{load_keyset, read_input};
 use crate::{Rule, Status};
-use keyset_model::{Keyset, Record, read_binary};
+use keyset_model::{Keyset, Record};
 use mac_prf::Hmac;
 use std::alloc::{AllocError, Global};
-use tink_base::{
-    Hash, LEGACY, Loaded, RAW, ReadAllFault, Sink, Source, Store, StoreError, TINK, read_all,
-};
-
-/// How many bytes a whole input may have.
-const INPUT_LIMIT: usize = 16_777_216;
+use tink_base::{Bytes, ENABLED, Hash, LEGACY, NoMemory, RAW, Source, Store, TINK};
 
 /// The type URL of keys for HMAC.
 const HMAC_URL: &str = "type.googleapis.com/google.crypto.tink.HmacKey";
@@ -34,80 +31,67 @@ pub(crate) enum TagFault {
     NoMemory,
 }
 
-/// tag: the tag of the input under the keyset in the file of this name.
-pub(crate) fn tag<S: Source, K: Sink, D: Store>(
+/// tag: the tag of the whole input under the keyset in the file of this name.
+pub(crate) fn tag<S: Source, D: Store>(
     alloc: Global,
     name: &str,
     source: &mut S,
-    sink: &mut K,
     store: &mut D,
-) -> Status
-    ensures { (w : World) → Ends (tag_plan name.now) (record w { source = S.state source.old; sink = K.state sink.old; store = D.state store.old })
-        result (record w { source = S.state source.new; sink = K.state sink.new; store = D.state store.new }) }
+) -> Result<Bytes, Status>
+    ensures { (w : World) → Passes (tag_output name.now)
+        (record w { source = S.state source.old; store = D.state store.old }) result
+        (record w { source = S.state source.new; store = D.state store.new }) }
 {
-    match store.load(alloc, name, KEYSET_LIMIT) {
-        Ok(found) => match found {
-            Loaded::Absent => Status::InMissing,
-            Loaded::TooLong => Status::KeysetTooLong,
-            Loaded::Bytes(bytes) => tag_bytes(alloc, bytes.as_slice(), source, sink),
-        },
-        Err(e) => match e {
-            StoreError::Failed => Status::StoreFault,
-            StoreError::NoMemory => Status::NoMemory,
-        },
-    }
+    let keyset = load_keyset(alloc, name, store)?;
+    check_fit(alloc, &keyset)?;
+    let data = read_input(alloc, source)?;
+    let tag = tag_under_primary(alloc, &keyset, data.as_slice())?;
+    Ok(tag)
 }
 
-/// The tag of the input under the keyset of these bytes.
-fn tag_bytes<S: Source, K: Sink>(
-    alloc: Global,
-    bytes: &[u8],
-    source: &mut S,
-    sink: &mut K,
-) -> Status
-    requires size_bound { length bytes.now ≤ 2 ^ 30 }
-    ensures { (w : World) → Ends (tag_bytes_plan bytes.now) (record w { source = S.state source.old; sink = K.state sink.old })
-        result (record w { source = S.state source.new; sink = K.state sink.new }) }
+/// Refuses the first record that is ENABLED and gives no key for tags.
+fn check_fit(alloc: Global, keyset: &Keyset) -> Result<(), Status>
+    ensures passes { (w : World) → Passes (checks_fit keyset.now) w result w }
+    ensures fit { OnOk result (unfit keyset.now ≡ None) }
 {
-    match read_binary(alloc, bytes) {
-        Ok(keyset) => tag_keyset(alloc, &keyset, source, sink),
-        Err(e) => refusal(e),
+    for i in 0..keyset.len() {
+        check_record(alloc, i, keyset.record_at(i))?;
     }
+    Ok(())
 }
 
-/// The tag of the input under the primary record of this keyset.
-fn tag_keyset<S: Source, K: Sink>(
-    alloc: Global,
-    keyset: &Keyset,
-    source: &mut S,
-    sink: &mut K,
-) -> Status
-    ensures { (w : World) → Ends (tag_keyset_plan keyset.now) (record w { source = S.state source.old; sink = K.state sink.old })
-        result (record w { source = S.state source.new; sink = K.state sink.new }) }
+/// Refuses the record, of this place, where it is ENABLED and gives no key for tags.
+fn check_record(alloc: Global, i: usize, under: &Record) -> Result<(), Status>
+    ensures fit { OnOk result (unfit_record under.now ≡ None) }
+    ensures refused { IfErr result (λ status. IsUnfit i (unfit_record under.now) status) }
 {
-    match keyset.find(keyset.primary()) {
-        Some(i) => tag_record(alloc, i, keyset.record_at(i), source, sink),
-        None => write_output(sink, b""),
+    if under.status != ENABLED {
+        return Ok(());
     }
-}
-
-/// The tag of the input under this record, of this place.
-fn tag_record<S: Source, K: Sink>(
-    alloc: Global,
-    i: usize,
-    under: &Record,
-    source: &mut S,
-    sink: &mut K,
-) -> Status
-    ensures { (w : World) → Ends (tag_record_plan i under.now) (record w { source = S.state source.old; sink = K.state sink.old })
-        result (record w { source = S.state source.new; sink = K.state sink.new }) }
-{
     match key_of(alloc, under) {
-        Ok(key) => tag_input(alloc, &key, under, source, sink),
+        Ok(_) => Ok(()),
         Err(e) => match e {
-            TagFault::NoManager => Status::NoManager(i),
-            TagFault::BadKey(rule) => Status::BadKey(i, rule),
-            TagFault::NoMemory => Status::NoMemory,
+            TagFault::NoManager => Err(Status::NoManager(i)),
+            TagFault::BadKey(rule) => Err(Status::BadKey(i, rule)),
+            TagFault::NoMemory => Err(Status::NoMemory),
+        },
+    }
+}
+
+/// The tag of the body under the primary record, which can serve.
+fn tag_under_primary(alloc: Global, keyset: &Keyset, body: &[u8]) -> Result<Bytes, NoMemory>
+    requires fit { unfit keyset.now ≡ None }
+    ensures { IfOk result (λ tag. tag_answer keyset.now body.now ≡ Some tag) }
+{
+    let under = keyset.primary_record();
+    match key_of(alloc, under) {
+        Ok(key) => match tag_of(alloc, &key, under, body) {
+            Ok(tag) => Ok(Bytes::own(tag)),
+            Err(_) => Err(NoMemory),
+        },
+        Err(e) => match e {
+            TagFault::NoMemory => Err(NoMemory),
+            TagFault::NoManager | TagFault::BadKey(_) => unreachable!(),
         },
     }
 }
@@ -133,44 +117,6 @@ fn key_of(alloc: Global, under: &Record) -> Result<HmacKey, TagFault>
             KeyFault::Bad(rule) => Err(TagFault::BadKey(rule)),
             KeyFault::NoMemory => Err(TagFault::NoMemory),
         },
-    }
-}
-
-/// The tag of the input under this key of this record.
-fn tag_input<S: Source, K: Sink>(
-    alloc: Global,
-    key: &HmacKey,
-    under: &Record,
-    source: &mut S,
-    sink: &mut K,
-) -> Status
-    requires built { IsBuilt key.now }
-    ensures { (w : World) → Ends (tag_input_plan key.now under.now) (record w { source = S.state source.old; sink = K.state sink.old })
-        result (record w { source = S.state source.new; sink = K.state sink.new }) }
-{
-    match read_all(alloc, source, INPUT_LIMIT) {
-        Ok(body) => tag_body(alloc, key, under, &body, sink),
-        Err(ReadAllFault::TooLong) => Status::InputTooLong,
-        Err(ReadAllFault::Failed) => Status::ReadFault,
-        Err(ReadAllFault::NoMemory) => Status::NoMemory,
-    }
-}
-
-/// The tag of these bytes.
-fn tag_body<K: Sink>(
-    alloc: Global,
-    key: &HmacKey,
-    under: &Record,
-    body: &[u8],
-    sink: &mut K,
-) -> Status
-    requires built { IsBuilt key.now }
-    ensures { (w : World) → Ends (tag_body_plan key.now under.now body.now) (record w { sink = K.state sink.old })
-        result (record w { sink = K.state sink.new }) }
-{
-    match tag_of(alloc, key, under, body) {
-        Ok(tag) => write_output(sink, &tag),
-        Err(_) => Status::NoMemory,
     }
 }
 

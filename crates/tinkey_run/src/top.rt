@@ -10,6 +10,7 @@ ghost use Rattle.tinkey_run.specs.Words.{seen_command};
 use crate::Status;
 use crate::list::list_keyset;
 use crate::report::report;
+use crate::steps::finish;
 use crate::tag::tag;
 use crate::words::{Command, parse};
 use std::alloc::Global;
@@ -71,7 +72,7 @@ fn dispatch<S: Source, K: Sink, D: Store>(
         (world (S.state source.new) (K.state sink.new) (D.state store.new)) }
 {
     match command {
-        Command::ListKeyset => list_keyset(alloc, source, sink),
-        Command::Tag(name) => tag(alloc, name, source, sink, store),
+        Command::ListKeyset => finish(sink, list_keyset(alloc, source)),
+        Command::Tag(name) => finish(sink, tag(alloc, name, source, store)),
     }
 }
