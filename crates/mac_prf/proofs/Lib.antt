@@ -1,2 +1,3 @@
 pub mod HmacExamples
 pub mod HmacLemmas
+pub mod ByteLemmas

@@ -5,7 +5,8 @@ ghost use Rattle.tink_base.specs.Hash.{hash_size};
 ghost use Rattle.mac_prf.specs.Hmac.{block_size, digest};
 ghost use Rattle.mac_prf.specs.HasherState.{hash_under, IsAfter};
 
-use sha2::{Digest, Sha256};
+use sha1::Sha1;
+use sha2::{Digest, Sha224, Sha256, Sha384, Sha512};
 use tink_base::Hash;
 
 /// The bytes of the longest block, that of SHA-384 and SHA-512.
@@ -27,18 +28,24 @@ pub fn block_len(hash: Hash) -> usize
 /// A hasher under one of the hash functions.
 #[derive(Drop)]
 pub enum Hasher {
+    Sha1(Sha1),
+    Sha224(Sha224),
     Sha256(Sha256),
+    Sha384(Sha384),
+    Sha512(Sha512),
 }
 
 impl Hasher {
     /// A hasher of the empty message.
     pub fn new(hash: Hash) -> Hasher
-        requires built { hash ≡ Hash.Sha256 }
         ensures { IsAfter result hash [] }
     {
         match hash {
+            Hash::Sha1 => Hasher::Sha1(Sha1::new()),
+            Hash::Sha224 => Hasher::Sha224(Sha224::new()),
             Hash::Sha256 => Hasher::Sha256(Sha256::new()),
-            _ => unreachable!(),
+            Hash::Sha384 => Hasher::Sha384(Sha384::new()),
+            Hash::Sha512 => Hasher::Sha512(Sha512::new()),
         }
     }
 
@@ -47,7 +54,11 @@ impl Hasher {
         ensures { result ≡ hash_under self.now }
     {
         match self {
+            Hasher::Sha1(_) => Hash::Sha1,
+            Hasher::Sha224(_) => Hash::Sha224,
             Hasher::Sha256(_) => Hash::Sha256,
+            Hasher::Sha384(_) => Hash::Sha384,
+            Hasher::Sha512(_) => Hash::Sha512,
         }
     }
 
@@ -58,7 +69,11 @@ impl Hasher {
             IsAfter self.old hash m → IsAfter self.new hash (m ++ piece.now) }
     {
         match self {
+            Hasher::Sha1(hasher) => hasher.update(piece),
+            Hasher::Sha224(hasher) => hasher.update(piece),
             Hasher::Sha256(hasher) => hasher.update(piece),
+            Hasher::Sha384(hasher) => hasher.update(piece),
+            Hasher::Sha512(hasher) => hasher.update(piece),
         }
     }
 
@@ -69,7 +84,11 @@ impl Hasher {
             IsAfter self hash m → out.new ≡ take (length out.old) (digest hash m) }
     {
         match self {
+            Hasher::Sha1(hasher) => out.copy_from_slice(&hasher.finalize()[..out.len()]),
+            Hasher::Sha224(hasher) => out.copy_from_slice(&hasher.finalize()[..out.len()]),
             Hasher::Sha256(hasher) => out.copy_from_slice(&hasher.finalize()[..out.len()]),
+            Hasher::Sha384(hasher) => out.copy_from_slice(&hasher.finalize()[..out.len()]),
+            Hasher::Sha512(hasher) => out.copy_from_slice(&hasher.finalize()[..out.len()]),
         }
     }
 }

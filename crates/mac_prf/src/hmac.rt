@@ -32,10 +32,9 @@ impl Hmac {
 
     /// Begins with the empty message, under `key` (RFC 2104, 2).
     ///
-    /// `hash` is SHA-256, the only one that is built so far. `key` may have any length, also none:
-    /// one longer than a block is replaced by its digest.
+    /// `key` may have any length, also none: one longer than a block of `hash` is replaced by its
+    /// digest.
     pub fn new(hash: Hash, key: &[u8]) -> Hmac
-        requires built { hash ≡ Hash.Sha256 }
         ensures holds { Holds result hash key.now [] }
         ensures under { hash_of result ≡ hash }
     {
@@ -75,7 +74,6 @@ impl Hmac {
 // The key, or its digest where it is longer than a block, with zeros after it up to the longest
 // block: the key's own block is at the front.
 fn key_in_a_block(hash: Hash, key: &[u8]) -> [u8; LONGEST_BLOCK]
-    requires built { hash ≡ Hash.Sha256 }
     ensures { take (block_size hash) result ≡ block_key hash key.now }
 {
     if key.len() > block_len(hash) {
@@ -101,7 +99,6 @@ fn with_zeros(key: &[u8]) -> [u8; LONGEST_BLOCK]
 
 // A hasher that has taken the block's key XOR a pad.
 fn after_pad(hash: Hash, mut block: [u8; LONGEST_BLOCK], pad: u8) -> Hasher
-    requires built { hash ≡ Hash.Sha256 }
     ensures { IsAfter result hash (xored (take (block_size hash) block) pad) }
 {
     let padded = &mut block[..block_len(hash)];

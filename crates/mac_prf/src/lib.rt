@@ -1,4 +1,4 @@
-//! Tags of messages that come in pieces: HMAC (RFC 2104), so far with SHA-256.
+//! Tags of messages that come in pieces: HMAC (RFC 2104) with SHA-1 and SHA-2.
 #![tactic(auto)]
 
 mod hasher;

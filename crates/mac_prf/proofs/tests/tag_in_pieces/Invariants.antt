@@ -1,7 +1,6 @@
 use Rattle.std.proofs.Common.{◌≡◌}
-use Rattle.tink_base.specs.declared.hash.Hash.TheVariants.{Sha256}
 use Rattle.mac_prf.specs.HmacState.{hash_of}
 use Rattle.mac_prf.proofs.tests.tag_in_pieces.Given as goal
 
 abbrev pub invariant-loop-piece : goal.invariant-loop-piece
-invariant-loop-piece l = hash_of l.hmac ≡ Sha256
+invariant-loop-piece l = hash_of l.hmac ≡ l.fn.hash
