@@ -1,3 +1,4 @@
+pub mod GrammarLemmas
 pub mod HmacKeyExamples
 pub mod HmacKeyLemmas
 pub mod PromiseLemmas
