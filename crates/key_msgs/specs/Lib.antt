@@ -1,0 +1,5 @@
+pub mod Contents
+pub mod KeyTypes
+pub mod Keys
+pub mod Reading
+pub mod Rules

@@ -1,0 +1,20 @@
+//! Keys of Tink's symmetric key types: their messages, read and written, and the templates by which
+//! new ones are made.
+#![tactic(auto)]
+
+mod key;
+mod key_type;
+mod layout;
+mod making;
+mod message;
+mod primitive;
+mod reading;
+mod rule;
+mod rules;
+
+pub use key::{KeyFault, KeyKind, url_of};
+pub use key_type::{KeyType, primitive_of};
+pub use layout::Layout;
+pub use primitive::Primitive;
+pub use reading::read_key;
+pub use rule::Rule;
