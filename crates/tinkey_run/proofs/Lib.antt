@@ -1,7 +1,9 @@
+pub mod FitLemmas
 pub mod GrammarLemmas
 pub mod HmacKeyExamples
 pub mod HmacKeyLemmas
 pub mod PromiseLemmas
+pub mod SpellingLemmas
 pub mod StepLemmas
 pub mod TagLemmas
 pub mod WordLemmas

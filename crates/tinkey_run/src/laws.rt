@@ -1,6 +1,6 @@
 //! Laws of the definitions. These functions do nothing: their contracts are the laws.
 
-ghost use Rattle.tinkey_run.specs.Grammar.{PlacesAreDecided};
+ghost use Rattle.tinkey_run.specs.Grammar.{PlacesAreDecided, WordsAreSpelled};
 ghost use Rattle.tinkey_run.specs.TagAnswers.{FitKeysetsTag};
 
 /// A keyset without a fault, each ENABLED record of which gives a key for tags, has a tag for all
@@ -12,4 +12,10 @@ pub fn fit_keysets_tag()
 /// The place of a word at fault depends on the words up to it alone.
 pub fn places_are_decided()
     ensures { PlacesAreDecided }
+{}
+
+/// Words are accepted as what they ask exactly where they are a command's word, and then options that
+/// fit its row, each as `--name value` or `--name=value`, in any order.
+pub fn words_are_spelled()
+    ensures { WordsAreSpelled }
 {}
