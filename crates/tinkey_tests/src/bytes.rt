@@ -1,0 +1,85 @@
+//! Bytes as text, in the cells of tables.
+
+use std::alloc::Global;
+use std::test::Fail;
+
+/// A keyset of 90 bytes: one AES-GCM key of 16 zero bytes, with the id 16909060 and the prefix type
+/// TINK, as protoc encodes it by tink.proto.
+pub(crate) const GCM_KEYSET: &[u8; 90] =
+    b"\x08\x84\x86\x88\x08\x12\x53\x0a\x48\x0a\x30type.googleapis.com/google.crypto.tink.AesGcmKey\x12\x12\x1a\x10\0\0\0\0\0\0\0\0\0\0\0\0\0\0\0\0\x18\x01\x10\x01\x18\x84\x86\x88\x08\x20\x01";
+
+/// Its listing, of 165 bytes.
+const GCM_LISTING: &str = "primary_key_id: 16909060
+key_info {
+  type_url: \"type.googleapis.com/google.crypto.tink.AesGcmKey\"
+  status: ENABLED
+  key_id: 16909060
+  output_prefix_type: TINK
+}
+";
+
+/// A keyset of 98 bytes: the key of 20 bytes 0x0b of RFC 4231's first case for HMAC with SHA-256,
+/// with tags of 16 bytes, the id 16909060 and the prefix type RAW, as protoc encodes it by Tink's
+/// messages.
+const HMAC_KEYSET: &[u8; 98] =
+    b"\x08\x84\x86\x88\x08\x12\x5b\x0a\x50\x0a\x2etype.googleapis.com/google.crypto.tink.HmacKey\x12\x1c\x12\x04\x08\x03\x10\x10\x1a\x14\x0b\x0b\x0b\x0b\x0b\x0b\x0b\x0b\x0b\x0b\x0b\x0b\x0b\x0b\x0b\x0b\x0b\x0b\x0b\x0b\x18\x01\x10\x01\x18\x84\x86\x88\x08\x20\x03";
+
+/// The bytes that a cell spells, one item after another, with spaces between them.
+///
+/// An item is hexadecimal digits (`0a2b`), a byte with its count (`20x0b`), or a name from the list
+/// in `named`, whole (`GCM`) or from a place to another (`GCM[5..]`, `GCM[..5]`, `GCM[9..57]`).
+pub(crate) fn bytes_of(alloc: Global, cell: &str) -> Result<Vec<u8>, Fail> {
+    let mut bytes = Vec::new(alloc);
+    for item in cell.split_whitespace() {
+        push_item(alloc, &mut bytes, item)?;
+    }
+    Ok(bytes)
+}
+
+/// Appends the bytes of one item.
+fn push_item(alloc: Global, bytes: &mut Vec<u8>, item: &str) -> Result<(), Fail> {
+    if let Some((count, byte)) = item.split_once('x') {
+        let byte = hex::decode(alloc, byte)?;
+        let byte = byte.first().filter(|_| byte.len() == 1).ok_or("one byte")?;
+        bytes.extend_from_slice(&vec![in alloc; *byte; count.parse::<usize>()?]?)?;
+    } else if let Some((name, range)) = item.split_once('[') {
+        bytes.extend_from_slice(cut(name, range)?)?;
+    } else if let Some(whole) = named(item) {
+        bytes.extend_from_slice(whole)?;
+    } else {
+        bytes.extend_from_slice(&hex::decode(alloc, item)?)?;
+    }
+    Ok(())
+}
+
+/// The bytes that have this name.
+fn named(name: &str) -> Option<&'static [u8]> {
+    if name == "GCM" {
+        Some(GCM_KEYSET)
+    } else if name == "HMAC" {
+        Some(HMAC_KEYSET)
+    } else if name == "LISTING" {
+        Some(GCM_LISTING.as_bytes())
+    } else {
+        None
+    }
+}
+
+/// The named bytes from a place to another: the range is what follows `[`, as `9..57]`.
+fn cut(name: &str, range: &str) -> Result<&'static [u8], Fail> {
+    let whole = named(name).ok_or("a name")?;
+    let range = range.strip_suffix(']').ok_or("a ]")?;
+    let (from, to) = range.split_once("..").ok_or("a ..")?;
+    let from = place(from, 0)?;
+    let to = place(to, whole.len())?;
+    Ok(whole.get(from..to).ok_or("places in the bytes")?)
+}
+
+/// The place that is written, or this one where none is.
+fn place(text: &str, otherwise: usize) -> Result<usize, Fail> {
+    if text.is_empty() {
+        Ok(otherwise)
+    } else {
+        Ok(text.parse::<usize>()?)
+    }
+}

@@ -1,0 +1,20 @@
+//! Tests of the top call over objects in memory: what a user gets, what hostile bytes get, and what
+//! failing objects get. There is no code here but tests.
+//!
+//! A test is a table of text with a row for each case, and one reader reads them all (`rows.rt`).
+#![tactic(auto)]
+
+#[cfg(test)]
+mod bytes;
+#[cfg(test)]
+mod faults;
+#[cfg(test)]
+mod list_keyset;
+#[cfg(test)]
+mod objects;
+#[cfg(test)]
+mod rows;
+#[cfg(test)]
+mod tag;
+#[cfg(test)]
+mod words;

@@ -1,0 +1,212 @@
+//! `list-keyset`: what a user gets, and what hostile bytes get.
+
+use crate::bytes::GCM_KEYSET;
+use crate::rows::{Column, Row, rows_of, run_row, run_table};
+use std::alloc::Global;
+use std::test::Fail;
+
+const PIECES: &str = "input: GCM
+status: 0 Done
+output: LISTING
+
+shows | words | piece
+one byte at a time | list-keyset --in-format binary | 1
+seven bytes | list-keyset --in-format binary | 7
+64 bytes | list-keyset --in-format binary | 64
+all at once | list-keyset --in-format binary | 4096
+the option in one word | list-keyset --in-format=binary | 4096
+";
+
+#[test]
+fn lists_a_keyset_whatever_the_pieces(rt: HostRuntime) -> Result<(), Fail> {
+    run_table(rt.alloc(), PIECES, 5)
+}
+
+// Other spellings of the same keyset, by the encoding guide of Protocol Buffers.
+const SPELLINGS: &str = "words: list-keyset --in-format binary
+status: 0 Done
+output: LISTING
+
+shows | input
+an unknown field at the end | GCM 2807
+key data in two parts, which are merged | GCM[..5] 12550a320a30 GCM[11..59] 0a16 GCM[59..]
+a primary id of ten bytes, whose low 32 bits count | 0884868888f0ffffffff01 GCM[5..]
+two primary ids, the last of which counts | 0807 GCM
+";
+
+#[test]
+fn lists_each_spelling_of_a_keyset(rt: HostRuntime) -> Result<(), Fail> {
+    run_table(rt.alloc(), SPELLINGS, 4)
+}
+
+// Each case is worked out by hand from the encoding guide of Protocol Buffers and tink.proto, and the
+// texts are those of docs/SPECIFICATION.md.
+const FAULTS: &str = "words: list-keyset --in-format binary
+
+shows | input | status | line
+no byte | | 3 Keyset(Empty) | tinkey: keyset has no key
+an unknown field alone | 2807 | 3 Keyset(Empty) | tinkey: keyset has no key
+another primary id | 0805 GCM[5..] | 3 Keyset(NoPrimary) | tinkey: no key has the primary id
+a second key | GCM 1200 | 3 Keyset(Unbuilt) | tinkey: keyset form not built yet
+an empty key | 1200 | 3 Keyset(Unbuilt) | tinkey: keyset form not built yet
+field number 0 | 00 | 3 BadProto(0) | tinkey: bad protobuf at byte 0
+a tag alone | 08 | 3 BadProto(0) | tinkey: bad protobuf at byte 0
+a varint of eleven bytes | 088080808080808080808001 | 3 BadProto(0) | tinkey: bad protobuf at byte 0
+a varint without an end | 088080 | 3 BadProto(0) | tinkey: bad protobuf at byte 0
+a payload past the end | 08848688081201 | 3 BadProto(5) | tinkey: bad protobuf at byte 5
+a payload of 2^64 - 1 bytes | 12ffffffffffffffffff01 | 3 BadProto(0) | tinkey: bad protobuf at byte 0
+a primary id of four bytes | 0d00000000 | 3 BadProto(0) | tinkey: bad protobuf at byte 0
+a primary id of eight bytes | GCM 090000000000000000 | 3 BadProto(90) | tinkey: bad protobuf at byte 90
+a primary id of bytes | 0a00 | 3 BadProto(0) | tinkey: bad protobuf at byte 0
+a key that is a number | GCM 1001 | 3 BadProto(90) | tinkey: bad protobuf at byte 90
+four bytes of which three are there | 2d000000 | 3 BadProto(0) | tinkey: bad protobuf at byte 0
+eight bytes of which seven are there | 2900000000000000 | 3 BadProto(0) | tinkey: bad protobuf at byte 0
+wire type 3 | GCM 2b | 3 BadProto(90) | tinkey: bad protobuf at byte 90
+wire type 4 | GCM 2c | 3 BadProto(90) | tinkey: bad protobuf at byte 90
+wire type 6 | GCM 2e | 3 BadProto(90) | tinkey: bad protobuf at byte 90
+wire type 7 | GCM 2f | 3 BadProto(90) | tinkey: bad protobuf at byte 90
+field number 2^29 - 1 | f8ffffff0f00 | 3 Keyset(Empty) | tinkey: keyset has no key
+field number 2^29 | 808080801000 | 3 BadProto(0) | tinkey: bad protobuf at byte 0
+a type URL that isn't UTF-8 | 12050a030a01ff | 3 BadProto(0) | tinkey: bad protobuf at byte 0
+a fault behind a fault | 12010000 | 3 BadProto(3) | tinkey: bad protobuf at byte 3
+";
+
+#[test]
+fn names_the_first_fault_of_the_bytes(rt: HostRuntime) -> Result<(), Fail> {
+    run_table(rt.alloc(), FAULTS, 25)
+}
+
+// The input is the first bytes of the keyset, from a size to another. The first 4 bytes are a primary
+// id without its end, the fifth ends it, and then the key's payload runs past the end until the last
+// byte is there.
+const FRONTS: &str = "words: list-keyset --in-format binary
+
+shows | input | status | line | output
+no byte | 0 to 0 | 3 Keyset(Empty) | tinkey: keyset has no key |
+a primary id without its end | 1 to 4 | 3 BadProto(0) | tinkey: bad protobuf at byte 0 |
+a primary id alone | 5 to 5 | 3 Keyset(Empty) | tinkey: keyset has no key |
+a key without its end | 6 to 89 | 3 BadProto(5) | tinkey: bad protobuf at byte 5 |
+the keyset | 90 to 90 | 0 Done | | LISTING
+";
+
+#[test]
+fn names_the_fault_of_every_front(rt: HostRuntime) -> Result<(), Fail> {
+    let alloc = rt.alloc();
+    let mut next = 0usize;
+    for row in &rows_of(alloc, FRONTS, 5)? {
+        let (least, most) = row
+            .cell(Column::Input)
+            .split_once(" to ")
+            .ok_or("two sizes")?;
+        assert_eq!(rt; least.parse::<usize>()?, next, "{least} follows");
+        let most = most.parse::<usize>()?;
+        for size in next..=most {
+            let shows = format!(in alloc; "the first {size} bytes")?;
+            let input = format!(in alloc; "GCM[..{size}]")?;
+            let front = row.with(Column::Shows, &shows);
+            run_row(alloc, &front.with(Column::Input, &input))?;
+        }
+        next = most.saturating_add(1);
+    }
+    assert_eq!(rt; next, 91, "sizes");
+    Ok(())
+}
+
+// How a run ends that a letter stands for in the table below; r is the listing with `RAW` at its end.
+const LETTERS: &str = "words: list-keyset --in-format binary
+
+shows | status | line | output
+a | 3 BadProto(0) | tinkey: bad protobuf at byte 0 |
+b | 3 BadProto(2) | tinkey: bad protobuf at byte 2 |
+c | 3 BadProto(5) | tinkey: bad protobuf at byte 5 |
+f | 3 BadProto(6) | tinkey: bad protobuf at byte 6 |
+g | 3 BadProto(18) | tinkey: bad protobuf at byte 18 |
+h | 3 BadProto(26) | tinkey: bad protobuf at byte 26 |
+i | 3 BadProto(74) | tinkey: bad protobuf at byte 74 |
+j | 3 BadProto(89) | tinkey: bad protobuf at byte 89 |
+d | 0 Done | | LISTING
+r | 0 Done | | LISTING[..158] 5241570a LISTING[163..]
+e | 3 Keyset(Empty) | tinkey: keyset has no key |
+u | 3 Keyset(Unbuilt) | tinkey: keyset form not built yet |
+n | 3 Keyset(NoPrimary) | tinkey: no key has the primary id |
+";
+
+// The place of a byte outside the type URL and the key, and a letter for each of its bits, the lowest
+// one first. The table was worked out by a reader of these messages that was written apart from this
+// program.
+const CHANGED_BITS: &str = "words: list-keyset --in-format binary
+
+shows | input | status
+the tag of the primary id | 0 | aaaannnf
+the primary id | 1 | nnnnnnnb
+the primary id | 2 | nnnnnnnf
+the primary id | 3 | nnnnnnnf
+the primary id | 4 | nnnnnnnf
+the tag of the key | 5 | ccceceeg
+the size of the key | 6 | juccichc
+the tag of the key data | 7 | cccccuuc
+the size of the key data | 8 | cccccccc
+the tag of the type URL | 9 | cccccuuc
+the size of the type URL | 10 | cccccccc
+the tag of the key message | 59 | cccccddc
+the size of the key message | 60 | cccccccc
+the key message's tag | 61 | dddddddd
+the key message's size | 62 | dddddddd
+the tag of the key material type | 79 | cccccuuc
+the key material type | 80 | uduuuuuc
+the tag of the status | 81 | cccucuuc
+the status | 82 | uuuuuuuc
+the tag of the key id | 83 | cccucnnc
+the key id | 84 | nnnnnnnc
+the key id | 85 | nnnnnnnc
+the key id | 86 | nnnnnnnc
+the key id | 87 | nnnnnnnc
+the tag of the output prefix type | 88 | cccuucuc
+the output prefix type | 89 | uruuuuuc
+";
+
+#[test]
+fn names_the_fault_of_every_changed_bit(rt: HostRuntime) -> Result<(), Fail> {
+    let ends = rows_of(rt.alloc(), LETTERS, 13)?;
+    for row in &rows_of(rt.alloc(), CHANGED_BITS, 26)? {
+        assert_eq!(rt;
+            row.cell(Column::Status).len(),
+            8,
+            "letters of byte {}",
+            row.cell(Column::Input)
+        );
+        let mut bit = 1;
+        for letter in row.cell(Column::Status).chars() {
+            let end = ends
+                .iter()
+                .find(|end| end.cell(Column::Shows).starts_with(letter));
+            run_changed(rt.alloc(), row, bit, end.ok_or("a letter")?)?;
+            bit = bit.wrapping_mul(2);
+        }
+    }
+    Ok(())
+}
+
+/// Runs over the keyset with this bit of the row's byte changed, which has to end so.
+fn run_changed(alloc: Global, row: &Row<'_>, bit: u8, end: &Row<'_>) -> Result<(), Fail> {
+    let place = row.cell(Column::Input).parse::<usize>()?;
+    let changed = *GCM_KEYSET.get(place).ok_or("a place")? ^ bit;
+    let behind = place.saturating_add(1);
+    let shows = format!(in alloc; "bit {bit} of {}, byte {place}", row.cell(Column::Shows))?;
+    let input = format!(in alloc; "GCM[..{place}] {changed:02x} GCM[{behind}..]")?;
+    let changed = end.with(Column::Shows, &shows);
+    run_row(alloc, &changed.with(Column::Input, &input))
+}
+
+// The keyset with an unknown field of bytes behind it.
+const LIMIT: &str = "words: list-keyset --in-format binary
+
+shows | input | status | line | output
+1,048,576 bytes | GCM 2aa2ff3f 1048482x00 | 0 Done | | LISTING
+one byte more | GCM 2aa3ff3f 1048483x00 | 6 KeysetTooLong | tinkey: keyset too long |
+";
+
+#[test]
+fn takes_a_keyset_up_to_its_limit(rt: HostRuntime) -> Result<(), Fail> {
+    run_table(rt.alloc(), LIMIT, 2)
+}

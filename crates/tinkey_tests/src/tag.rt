@@ -1,0 +1,148 @@
+//! `tag`: tags of the input under a keyset in a file, and the keys that are taken. The input is
+//! `Hi There` where a table says 4869205468657265.
+
+use crate::bytes::bytes_of;
+use crate::rows::{Column, rows_of, run_row, run_table};
+use std::alloc::Global;
+use std::test::Fail;
+
+// RFC 4231's first case, the first 16 bytes, behind each output prefix; the tag for LEGACY is that of
+// the input with one byte 0 behind it, by OpenSSL's `dgst -sha256 -mac HMAC`.
+const PREFIXES: &str = "words: tag --keyset k --keyset-format binary
+input: 4869205468657265
+status: 0 Done
+
+shows | file | output
+RAW | HMAC[..97] 03 | b0344c61d8db38535ca8afceaf0bf12b
+TINK | HMAC[..97] 01 | 0101020304 b0344c61d8db38535ca8afceaf0bf12b
+LEGACY | HMAC[..97] 02 | 0001020304 f67dd14688b85b4183637af0166514ef
+CRUNCHY | HMAC[..97] 04 | 0001020304 b0344c61d8db38535ca8afceaf0bf12b
+";
+
+#[test]
+fn tags_under_each_output_prefix(rt: HostRuntime) -> Result<(), Fail> {
+    for row in &rows_of(rt.alloc(), PREFIXES, 4)? {
+        for piece in ["1", "7", "4096"] {
+            run_row(rt.alloc(), &row.with(Column::Piece, piece))?;
+        }
+    }
+    Ok(())
+}
+
+// Reads fail from the first on, so nothing behind the read of the input is reached. The texts are
+// those of docs/SPECIFICATION.md.
+const REFUSALS: &str = "input: 4869205468657265
+fails: read 1
+
+shows | words | file | status | line
+no option | tag | none | 2 Usage(1) | tinkey: usage: word 1
+the format is missing | tag --keyset k | none | 2 Usage(3) | tinkey: usage: word 3
+an empty name | tag --keyset= --keyset-format=binary | none | 2 Usage(1) | tinkey: usage: word 1
+an option of another command | tag --in-format binary | none | 2 Usage(1) | tinkey: usage: word 1
+the file is missing | tag --keyset k --keyset-format binary | none | 4 InMissing | tinkey: input file missing
+a file that is no message | tag --keyset k --keyset-format binary | 08 | 3 BadProto(0) | tinkey: bad protobuf at byte 0
+an empty keyset | tag --keyset k --keyset-format binary | | 3 Keyset(Empty) | tinkey: keyset has no key
+a key for AES-GCM | tag --keyset k --keyset-format binary | GCM | 3 NoManager(0) | tinkey: key 0 has no manager for this command
+the input | tag --keyset k --keyset-format binary | HMAC | 5 ReadFault | tinkey: read fault
+the name in one word | tag --keyset-format=binary --keyset=other | HMAC | 4 InMissing | tinkey: input file missing
+";
+
+#[test]
+fn refuses_in_the_order_of_the_steps(rt: HostRuntime) -> Result<(), Fail> {
+    run_table(rt.alloc(), REFUSALS, 10)
+}
+
+/// The keyset whose one key has this message, of at most 64 bytes, in place of its own, as a cell.
+fn with_message(alloc: Global, message: &str) -> Result<String, Fail> {
+    let size = bytes_of(alloc, message)?.len();
+    if size > 64 {
+        return Err(Fail::new("a message of more than 64 bytes"));
+    }
+    let key_data = size + 52;
+    let key = size + 63;
+    let cell = format!(in alloc;
+        "HMAC[..5] 12{key:02x} 0a{key_data:02x} HMAC[9..57] 12{size:02x} {message} HMAC[87..]"
+    )?;
+    Ok(cell)
+}
+
+/// Runs each row of a table of this many, whose files are key messages.
+fn run_messages(alloc: Global, table: &str, count: usize) -> Result<(), Fail> {
+    for row in &rows_of(alloc, table, count)? {
+        let file = with_message(alloc, row.cell(Column::File))?;
+        run_row(alloc, &row.with(Column::File, &file))?;
+    }
+    Ok(())
+}
+
+// The message of the key, and the rule that it breaks first, by Tink's HmacKey: version 1, params 2
+// with hash 1 and tag_size 2, key_value 3. The tags are RFC 4231's and, under the keys of 16 and 33
+// bytes, of OpenSSL's `dgst -sha256 -mac HMAC`.
+const MESSAGES: &str = "words: tag --keyset k --keyset-format binary
+input: 4869205468657265
+
+shows | file | status | line | output
+the smallest key and tag | 12040803100a 1a10 16x0b | 0 Done | | 492ce020fe2534a5789d
+the longest tag | 120408031020 1a21 33x0b | 0 Done | | a374e61e6e8c44af4deaac69f065e5da96e165784134452a6927e8de7aa585d1
+a version that is written | 0800 120408031010 1a14 20x0b | 0 Done | | b0344c61d8db38535ca8afceaf0bf12b
+the params in two fields | 12020803 12021010 1a14 20x0b | 0 Done | | b0344c61d8db38535ca8afceaf0bf12b
+unknown fields | 220100 1206080310101807 1a14 20x0b | 0 Done | | b0344c61d8db38535ca8afceaf0bf12b
+the last hash counts | 120408091010 12020803 1a14 20x0b | 0 Done | | b0344c61d8db38535ca8afceaf0bf12b
+a field that can't be cut | 120408031010 07 1a14 20x0b | 3 BadKey(0, Form) | tinkey: key 0 is not valid: form |
+params that can't be cut | 120108 1a14 20x0b | 3 BadKey(0, Form) | tinkey: key 0 is not valid: form |
+a version of bytes | 0a00 120408031010 1a14 20x0b | 3 BadKey(0, Form) | tinkey: key 0 is not valid: form |
+params that are a number | 1003 1a14 20x0b | 3 BadKey(0, Form) | tinkey: key 0 is not valid: form |
+a hash of bytes | 12040a001010 1a14 20x0b | 3 BadKey(0, Form) | tinkey: key 0 is not valid: form |
+a tag size of four bytes | 120708031510000000 1a14 20x0b | 3 BadKey(0, Form) | tinkey: key 0 is not valid: form |
+a key value that is a number | 1800 120408031010 1a14 20x0b | 3 BadKey(0, Form) | tinkey: key 0 is not valid: form |
+version 1 | 0801 120408031010 1a14 20x0b | 3 BadKey(0, Version) | tinkey: key 0 is not valid: version |
+no params | 1a14 20x0b | 3 BadKey(0, Hash) | tinkey: key 0 is not valid: hash |
+hash 0 | 120408001010 1a14 20x0b | 3 BadKey(0, Hash) | tinkey: key 0 is not valid: hash |
+hash 6 | 120408061010 1a14 20x0b | 3 BadKey(0, Hash) | tinkey: key 0 is not valid: hash |
+a key of 15 bytes | 120408031010 1a0f 15x0b | 3 BadKey(0, KeySize) | tinkey: key 0 is not valid: key size |
+a tag of 9 bytes | 120408031009 1a14 20x0b | 3 BadKey(0, TagSize) | tinkey: key 0 is not valid: tag size |
+a tag of 33 bytes | 120408031021 1a14 20x0b | 3 BadKey(0, TagSize) | tinkey: key 0 is not valid: tag size |
+SHA-512, which isn't built yet | 120408041040 1a14 20x0b | 3 BadKey(0, Hash) | tinkey: key 0 is not valid: hash |
+SHA-512 with a tag of 65 bytes | 120408041041 1a14 20x0b | 3 BadKey(0, TagSize) | tinkey: key 0 is not valid: tag size |
+form and version | 0801 120108 1a14 20x0b | 3 BadKey(0, Form) | tinkey: key 0 is not valid: form |
+version and hash | 0801 120408001010 1a14 20x0b | 3 BadKey(0, Version) | tinkey: key 0 is not valid: version |
+hash, key size and tag size | 120408001009 1a0f 15x0b | 3 BadKey(0, Hash) | tinkey: key 0 is not valid: hash |
+";
+
+#[test]
+fn names_the_first_rule_that_a_key_breaks(rt: HostRuntime) -> Result<(), Fail> {
+    run_messages(rt.alloc(), MESSAGES, 25)
+}
+
+// The same with messages that lack what a rule is about, and an empty input.
+const SHORT_MESSAGES: &str = "words: tag --keyset k --keyset-format binary
+
+shows | file | status | line
+a field number of 0 | 07 | 3 BadKey(0, Form) | tinkey: key 0 is not valid: form
+nothing but a version | 0801 | 3 BadKey(0, Version) | tinkey: key 0 is not valid: version
+no field | | 3 BadKey(0, Hash) | tinkey: key 0 is not valid: hash
+no key value | 120408031010 | 3 BadKey(0, KeySize) | tinkey: key 0 is not valid: key size
+no tag size | 12020803 1a10 16x0b | 3 BadKey(0, TagSize) | tinkey: key 0 is not valid: tag size
+";
+
+#[test]
+fn tells_each_rule_by_its_text(rt: HostRuntime) -> Result<(), Fail> {
+    run_messages(rt.alloc(), SHORT_MESSAGES, 5)
+}
+
+// A file of the keyset and an unknown field, and an input of zero bytes. The reads of the longest input
+// are 4096, of 4096 bytes each; the next one, which looks for the end, fails, so that no long tag is
+// computed.
+const LIMITS: &str = "words: tag --keyset k --keyset-format binary
+
+shows | file | input | fails | status | line | output
+a file of 1,048,576 bytes | HMAC 2a9aff3f 1048474x00 | 4869205468657265 | none 0 | 0 Done | | b0344c61d8db38535ca8afceaf0bf12b
+a file of one byte more | HMAC 2a9bff3f 1048475x00 | 4869205468657265 | none 0 | 6 KeysetTooLong | tinkey: keyset too long |
+an input of 16,777,216 bytes | HMAC | 16777216x00 | read 4097 | 5 ReadFault | tinkey: read fault |
+an input of one byte more | HMAC | 16777217x00 | read 4098 | 6 InputTooLong | tinkey: input too long |
+";
+
+#[test]
+fn takes_a_file_and_an_input_up_to_their_limits(rt: HostRuntime) -> Result<(), Fail> {
+    run_table(rt.alloc(), LIMITS, 4)
+}
