@@ -1,17 +1,11 @@
 -- What the steps of tagging answer, by the definitions of tags.
-use Rattle.std.specs.Prelude.{◌≡◌, ◌≤◌, ℕ, Option, Some, Result, Ok, Err}
-use Rattle.tink_base.specs.declared.hash.Hash.TheVariants.{Sha256}
+use Rattle.std.specs.Prelude.{◌≡◌, ℕ, Option, Some, Result, Ok, Err}
 use Rattle.tinkey_run.specs.declared.hmac_key.HmacKey.{HmacKey}
 use Rattle.tinkey_run.specs.declared.tag.TagFault.{TagFault}
 use Rattle.tinkey_run.specs.declared.tag.TagFault.TheVariants as faults
 use Rattle.tinkey_run.specs.Tags.{Unfit, no_manager, bad_key}
 use Rattle.tinkey_run.specs.declared.status.Status.{Status}
 use Rattle.tinkey_run.specs.declared.status.Status.TheVariants as status
-
--- a key whose hash function is built, and whose tag fits its digest
-pub record IsBuilt (key : HmacKey) : Type 0 where
-  pub hash : key.hash ≡ Sha256
-  pub fits : key.tag_size ≤ 32
 
 -- The key is what the definition gives, or the refusal is. Of want of memory nothing is said.
 abbrev pub GivesKeyForTags : Result HmacKey TagFault → Result HmacKey Unfit → Type 0

@@ -1,15 +1,12 @@
 -- Tags under a record of a keyset, after Tink's wire format: an output prefix that tells the key id,
 -- and then the tag of the data.
-use Rattle.std.specs.Prelude.{ℕ, List, [], ◌∷◌, ◌++◌, take, ◌==◌, if◌then◌else◌, Bool, true, false, Result, Ok, Err, codes}
+use Rattle.std.specs.Prelude.{ℕ, List, [], ◌∷◌, ◌++◌, take, ◌==◌, if◌then◌else◌, Result, Ok, Err, codes}
 use Rattle.std.specs.Int.{w32, to_be_bytes}
 use Rattle.std.specs.Str.{bytes_eq}
-use Rattle.tink_base.specs.declared.hash.Hash.{Hash}
-use Rattle.tink_base.specs.declared.hash.Hash.TheVariants.{Sha256}
 use Rattle.keyset_model.specs.declared.record.Record.{Record}
 use Rattle.mac_prf.specs.Hmac.{hmac}
 use Rattle.tinkey_run.specs.declared.hmac_key.HmacKey.{HmacKey}
 use Rattle.tinkey_run.specs.declared.rule.Rule.{Rule}
-use Rattle.tinkey_run.specs.declared.rule.Rule.TheVariants as broken
 use Rattle.tinkey_run.specs.HmacKey.{hmac_key_of}
 
 -- the output prefix: none for RAW, else 1 for TINK and 0 for LEGACY and CRUNCHY, and the key id as
@@ -38,16 +35,11 @@ pub data Unfit : Type 0 where
   -- its key message breaks this rule first
   bad_key : Rule → Unfit
 
--- the one hash function that is built
-abbrev pub is_sha256 : Hash → Bool
-is_sha256 Sha256 = true
-is_sha256 _ = false
-
--- a key of another hash function isn't built yet, and breaks the rule of the hash
-abbrev pub built_key : Result HmacKey Rule → Result HmacKey Unfit
-built_key (Err rule) = Err (bad_key rule)
-built_key (Ok key) = if is_sha256 key.hash then Ok key else Err (bad_key broken.Hash)
+-- a key that breaks a rule is refused for it
+abbrev pub unless_broken : Result HmacKey Rule → Result HmacKey Unfit
+unless_broken (Err rule) = Err (bad_key rule)
+unless_broken (Ok key) = Ok key
 
 -- the key for tags of a record, or why it gives none
 unfoldable pub key_for_tags : Record → Result HmacKey Unfit
-key_for_tags r = if bytes_eq r.url hmac_url then built_key (hmac_key_of r.value) else Err no_manager
+key_for_tags r = if bytes_eq r.url hmac_url then unless_broken (hmac_key_of r.value) else Err no_manager

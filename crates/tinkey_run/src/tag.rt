@@ -1,13 +1,15 @@
 //! tag.
 
 ghost use Rattle.std.specs.Prelude.{◌≡◌, ◌≤◌, [], ◌∷◌, ◌++◌, length, take, Some, None, IfOk, IfErr, OnOk, if◌then◌else◌};
+ghost use Rattle.tink_base.specs.Hash.{hash_size};
 ghost use Rattle.mac_prf.specs.Hmac.{hmac};
 ghost use Rattle.tinkey_run.specs.Ends.{World};
 ghost use Rattle.tinkey_run.specs.Steps.{Passes};
 ghost use Rattle.tinkey_run.specs.Commands.{tag_output, checks_fit};
+ghost use Rattle.tinkey_run.specs.HmacKey.{IsValid};
 ghost use Rattle.tinkey_run.specs.Tags.{output_prefix, tag_under, key_for_tags};
 ghost use Rattle.tinkey_run.specs.TagAnswers.{unfit, unfit_record, tag_answer};
-ghost use Rattle.tinkey_run.specs.TagSteps.{GivesKeyForTags, IsBuilt, IsUnfit};
+ghost use Rattle.tinkey_run.specs.TagSteps.{GivesKeyForTags, IsUnfit};
 
 use crate::hmac_key::{HmacKey, KeyFault, read_hmac_key};
 use crate::steps::{load_keyset, read_input};
@@ -15,10 +17,13 @@ use crate::{Rule, Status};
 use keyset_model::{Keyset, Record};
 use mac_prf::Hmac;
 use std::alloc::{AllocError, Global};
-use tink_base::{Bytes, ENABLED, Hash, LEGACY, NoMemory, RAW, Source, Store, TINK};
+use tink_base::{Bytes, ENABLED, LEGACY, NoMemory, RAW, Source, Store, TINK};
 
 /// The type URL of keys for HMAC.
 const HMAC_URL: &str = "type.googleapis.com/google.crypto.tink.HmacKey";
+
+/// How many bytes the longest tag has, a whole digest of SHA-512.
+const LONGEST_TAG: usize = 64;
 
 /// Why a record gives no key for tags.
 #[derive(Clone, Copy, Debug, PartialEq, Eq)]
@@ -100,19 +105,13 @@ fn tag_under_primary(alloc: Global, keyset: &Keyset, body: &[u8]) -> Result<Byte
 #[tactic(auto, unfolding(crate::specs::Tags::key_for_tags, crate::specs::Tags::hmac_url))]
 fn key_of(alloc: Global, under: &Record) -> Result<HmacKey, TagFault>
     ensures key { GivesKeyForTags result (key_for_tags under.now) }
-    ensures built { IfOk result IsBuilt }
+    ensures valid { IfOk result IsValid }
 {
     if under.url.as_str() != HMAC_URL {
         return Err(TagFault::NoManager);
     }
     match read_hmac_key(alloc, under.value.as_slice()) {
-        Ok(key) => {
-            if key.hash == Hash::Sha256 {
-                Ok(key)
-            } else {
-                Err(TagFault::BadKey(Rule::Hash))
-            }
-        }
+        Ok(key) => Ok(key),
         Err(e) => match e {
             KeyFault::Bad(rule) => Err(TagFault::BadKey(rule)),
             KeyFault::NoMemory => Err(TagFault::NoMemory),
@@ -123,12 +122,13 @@ fn key_of(alloc: Global, under: &Record) -> Result<HmacKey, TagFault>
 /// The prefix of the record, and the tag of the bytes under its key.
 #[tactic(auto, unfolding(crate::specs::Tags::tag_under))]
 fn tag_of(alloc: Global, key: &HmacKey, under: &Record, body: &[u8]) -> Result<Vec<u8>, AllocError>
-    requires built { IsBuilt key.now }
+    requires valid { IsValid key.now }
     ensures { IfOk result (λ tag. tag.items ≡ tag_under key.now under.now body.now) }
 {
     let mut output = prefix_of(alloc, under)?;
-    let mut whole = [0; 32];
-    let tag = &mut whole[..key.tag_size as usize];
+    let mut whole = [0; LONGEST_TAG];
+    let tag = &mut whole[..key.hash.size()];
+    let tag = &mut tag[..key.tag_size as usize];
     mac(key, under.prefix == LEGACY, body, tag);
     output.extend_from_slice(tag)?;
     Ok(output)
@@ -136,11 +136,10 @@ fn tag_of(alloc: Global, key: &HmacKey, under: &Record, body: &[u8]) -> Result<V
 
 /// The first bytes of the HMAC of the bytes, and of one byte 0 behind them where `zero` says so.
 fn mac(key: &HmacKey, zero: bool, body: &[u8], out: &mut [u8])
-    requires built { IsBuilt key.now }
-    requires room { length out.old ≤ 32 }
+    requires room { length out.old ≤ hash_size key.now.hash }
     ensures { out.new ≡ take (length out.old) (hmac key.now.hash key.now.key (if zero then body.now ++ 0 ∷ [] else body.now)) }
 {
-    let mut hmac = Hmac::new(Hash::Sha256, key.key.as_slice());
+    let mut hmac = Hmac::new(key.hash, key.key.as_slice());
     hmac.update(body);
     if zero {
         hmac.update(&[0]);

@@ -76,14 +76,18 @@ fn run_messages(alloc: Global, table: &str, count: usize) -> Result<(), Fail> {
 }
 
 // The message of the key, and the rule that it breaks first, by Tink's HmacKey: version 1, params 2
-// with hash 1 and tag_size 2, key_value 3. The tags are RFC 4231's and, under the keys of 16 and 33
-// bytes, of OpenSSL's `dgst -sha256 -mac HMAC`.
+// with hash 1 and tag_size 2, key_value 3. The tags are RFC 4231's, of SHA-1 RFC 2202's, and under the
+// keys of 16 and 33 bytes those of OpenSSL's `dgst -sha256 -mac HMAC`.
 const MESSAGES: &str = "words: tag --keyset k --keyset-format binary
 input: 4869205468657265
 
 shows | file | status | line | output
 the smallest key and tag | 12040803100a 1a10 16x0b | 0 Done | | 492ce020fe2534a5789d
 the longest tag | 120408031020 1a21 33x0b | 0 Done | | a374e61e6e8c44af4deaac69f065e5da96e165784134452a6927e8de7aa585d1
+SHA-1 | 120408011014 1a14 20x0b | 0 Done | | b617318655057264e28bc0b6fb378c8ef146be00
+SHA-224 | 12040805101c 1a14 20x0b | 0 Done | | 896fb1128abbdf196832107cd49df33f47b4b1169912ba4f53684b22
+SHA-384 | 120408021030 1a14 20x0b | 0 Done | | afd03944d84895626b0825f4ab46907f15f9dadbe4101ec682aa034c7cebc59cfaea9ea9076ede7f4af152e8b2fa9cb6
+SHA-512 | 120408041040 1a14 20x0b | 0 Done | | 87aa7cdea5ef619d4ff0b4241a1d6cb02379f4e2ce4ec2787ad0b30545e17cdedaa833b7d6b8a702038b274eaea3f4e4be9d914eeb61f1702e696c203a126854
 a version that is written | 0800 120408031010 1a14 20x0b | 0 Done | | b0344c61d8db38535ca8afceaf0bf12b
 the params in two fields | 12020803 12021010 1a14 20x0b | 0 Done | | b0344c61d8db38535ca8afceaf0bf12b
 unknown fields | 220100 1206080310101807 1a14 20x0b | 0 Done | | b0344c61d8db38535ca8afceaf0bf12b
@@ -102,7 +106,6 @@ hash 6 | 120408061010 1a14 20x0b | 3 BadKey(0, Hash) | tinkey: key 0 is not vali
 a key of 15 bytes | 120408031010 1a0f 15x0b | 3 BadKey(0, KeySize) | tinkey: key 0 is not valid: key size |
 a tag of 9 bytes | 120408031009 1a14 20x0b | 3 BadKey(0, TagSize) | tinkey: key 0 is not valid: tag size |
 a tag of 33 bytes | 120408031021 1a14 20x0b | 3 BadKey(0, TagSize) | tinkey: key 0 is not valid: tag size |
-SHA-512, which isn't built yet | 120408041040 1a14 20x0b | 3 BadKey(0, Hash) | tinkey: key 0 is not valid: hash |
 SHA-512 with a tag of 65 bytes | 120408041041 1a14 20x0b | 3 BadKey(0, TagSize) | tinkey: key 0 is not valid: tag size |
 form and version | 0801 120108 1a14 20x0b | 3 BadKey(0, Form) | tinkey: key 0 is not valid: form |
 version and hash | 0801 120408001010 1a14 20x0b | 3 BadKey(0, Version) | tinkey: key 0 is not valid: version |
@@ -111,7 +114,7 @@ hash, key size and tag size | 120408001009 1a0f 15x0b | 3 BadKey(0, Hash) | tink
 
 #[test]
 fn names_the_first_rule_that_a_key_breaks(rt: HostRuntime) -> Result<(), Fail> {
-    run_messages(rt.alloc(), MESSAGES, 25)
+    run_messages(rt.alloc(), MESSAGES, 28)
 }
 
 // The same with messages that lack what a rule is about, and an empty input.
