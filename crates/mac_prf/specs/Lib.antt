@@ -1,4 +1,6 @@
 pub mod Hmac
+pub mod Cmac
 pub mod HasherState
 pub mod HmacState
+pub mod CmacState
 pub mod Laws

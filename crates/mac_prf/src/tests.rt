@@ -3,6 +3,8 @@
 ghost use Rattle.std.specs.Prelude.{◌<◌, ◌≤◌, length};
 ghost use Rattle.tink_base.specs.Hash.{hash_size};
 
+mod cmac;
+
 use crate::Hmac;
 use std::alloc::Global;
 use std::process::Abort;

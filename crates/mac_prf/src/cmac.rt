@@ -1,0 +1,142 @@
+//! CMAC (SP 800-38B, which RFC 4493 repeats) over AES, of a message that comes in pieces.
+
+ghost use Rattle.std.specs.Prelude.{◌≡◌, ◌≢◌, ◌↔◌, ◌+◌, ◌-◌, ◌<◌, ◌≤◌, ℕ, List, [], ◌∷◌, ◌++◌, length, replicate, take, IfOk, IsErr};
+ghost use Rattle.aes_core.specs.Bytes.{xor_bytes};
+ghost use Rattle.mac_prf.specs.Cmac.{cmac, doubled_block, masked};
+
+use aes_core::{Aes, KeySize};
+use ghash::dbl;
+
+/// CMAC under one key, of a message that comes in pieces: `new`, an `update` for each piece, and
+/// `finish`.
+///
+/// No call takes memory. No running time is promised, nor that a key leaves memory.
+#[derive(Drop)]
+pub struct Cmac {
+    aes: Aes,
+    // C i of the whole blocks before those bytes that are held.
+    chained: [u8; 16],
+    // The last bytes of the message, since the last block is masked. What comes after them counts
+    // for nothing.
+    held: [u8; 16],
+    // How many bytes are held: none only of the empty message.
+    size: usize,
+    ghost within: { size ≤ 16 },
+}
+
+impl Cmac {
+    ghost use Rattle.mac_prf.specs.CmacState.{Holds, Keeps};
+
+    /// Begins with the empty message, under `key`.
+    ///
+    /// `KeySize` comes exactly where the key has neither 16 nor 32 bytes.
+    pub fn new(key: &[u8]) -> Result<Cmac, KeySize>
+        ensures holds { IfOk result (λ state. Holds state key.now []) }
+        ensures key_size { IsErr result ↔ ((length key.now ≢ 16) × (length key.now ≢ 32)) }
+    {
+        let aes = Aes::new(key)?;
+        Ok(Cmac {
+            aes,
+            chained: [0; 16],
+            held: [0; 16],
+            size: 0,
+        })
+    }
+
+    /// Adds `body` to the message. How a message is cut into pieces doesn't change its tag.
+    pub fn update(&mut self, body: &[u8])
+        ensures { (key m : List ℕ) → Holds self.old key m → Holds self.new key (m ++ body.now) }
+    {
+        for piece in body.chunks(16) {
+            self.add(piece);
+        }
+    }
+
+    // Adds at most a block to the message.
+    fn add(&mut self, piece: &[u8])
+        requires { length piece.now ≤ 16 }
+        ensures { (key m : List ℕ) → Holds self.old key m → Holds self.new key (m ++ piece.now) }
+    {
+        let room = 16 - self.size;
+        if piece.len() <= room {
+            self.hold(piece);
+        } else {
+            let (front, back) = piece.split_at(room);
+            self.hold(front);
+            self.chain();
+            self.hold(back);
+        }
+    }
+
+    // Holds these bytes too.
+    fn hold(&mut self, bytes: &[u8])
+        requires { self.old.size + length bytes.now ≤ 16 }
+        ensures keeps { (key m : List ℕ) →
+            Keeps self.old key m → Keeps self.new key (m ++ bytes.now) }
+        ensures size { self.new.size ≡ self.old.size + length bytes.now }
+    {
+        let end = self.size + bytes.len();
+        self.held[self.size..end].copy_from_slice(bytes);
+        self.size = end;
+    }
+
+    // Chains the block that is held, which isn't the last one.
+    fn chain(&mut self)
+        requires { self.old.size ≡ 16 }
+        ensures keeps { (key m : List ℕ) → Keeps self.old key m → Keeps self.new key m }
+        ensures size { self.new.size ≡ 0 }
+    {
+        self.chained = self.aes.encrypt_block(&xor(&self.chained, &self.held));
+        self.size = 0;
+    }
+
+    /// The tag of the message, all 16 bytes of it (SP 800-38B, 6.2).
+    pub fn finish(self) -> [u8; 16]
+        ensures { (key m : List ℕ) → Holds self key m → result ≡ cmac key m }
+    {
+        let last = self.masked_block();
+        self.aes.encrypt_block(&xor(&self.chained, &last))
+    }
+
+    // The last block, masked (SP 800-38B, 6.2, step 4).
+    fn masked_block(&self) -> [u8; 16]
+        ensures { (key m : List ℕ) → Keeps self.now key m
+            → result ≡ masked key (take self.now.size self.now.held) }
+    {
+        let subkey1 = doubled(&self.aes.encrypt_block(&[0; 16]));
+        if self.size == 16 {
+            xor(&subkey1, &self.held)
+        } else {
+            xor(&doubled(&subkey1), &padded(&self.held[..self.size]))
+        }
+    }
+}
+
+// The doubling of a block, by which each subkey follows (SP 800-38B, 6.1).
+fn doubled(block: &[u8; 16]) -> [u8; 16]
+    ensures { result ≡ doubled_block block.now }
+{
+    dbl(u128::from_be_bytes(*block)).to_be_bytes()
+}
+
+// The part of a block, a bit 1 after it, and zeros (SP 800-38B, 6.2, step 4).
+fn padded(part: &[u8]) -> [u8; 16]
+    requires { length part.now < 16 }
+    ensures { result ≡ part.now ++ 0x80 ∷ replicate (15 - length part.now) 0 }
+{
+    let mut block = [0; 16];
+    block[..part.len()].copy_from_slice(part);
+    block[part.len()] = 0x80;
+    block
+}
+
+// The XOR of two blocks.
+fn xor(block: &[u8; 16], mask: &[u8; 16]) -> [u8; 16]
+    ensures { result ≡ xor_bytes block.now mask.now }
+{
+    let mut sum = *block;
+    for i in 0..16 {
+        sum[i] ^= mask[i];
+    }
+    sum
+}
