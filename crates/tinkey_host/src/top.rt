@@ -1,0 +1,55 @@
+//! What `main` does.
+
+ghost use Rattle.std.specs.Prelude.{◌≡◌, map, string_bytes};
+ghost use Rattle.std.specs.Process.{exit_status};
+ghost use Rattle.tinkey_run.specs.Ends.{world};
+ghost use Rattle.tinkey_host.specs.Program.{HasRun};
+
+use crate::args::{NoWords, words};
+use crate::{DirStore, StdSink, StdSource};
+use std::alloc::Global;
+use std::process::ExitCode;
+use tink_base::{Sink, Source, Store};
+use tinkey_run::run;
+
+/// The exit code where memory for the words is refused, as where a run's memory is.
+const OUT_OF_MEMORY: u8 = 7;
+
+/// The exit code where a word isn't UTF-8.
+const NO_WORDS: u8 = 8;
+
+/// Obeys the words after the program's name, over standard input, output and error and the files.
+///
+/// The answer is 8 where one of these words isn't UTF-8, and 7 where memory for them is refused;
+/// nothing is done then. In all other cases it is the exit code of the run.
+pub fn program(rt: &HostRuntime) -> ExitCode {
+    match words(rt, rt.alloc()) {
+        Ok(words) => obey(
+            rt.alloc(),
+            &words,
+            &mut StdSource::new(rt.stdin()),
+            &mut StdSink::new(rt.stdout()),
+            &mut StdSink::new(rt.stderr()),
+            &mut DirStore::new(rt),
+        ),
+        Err(NoWords::NotText) => ExitCode::from(NO_WORDS),
+        Err(NoWords::NoMemory) => ExitCode::from(OUT_OF_MEMORY),
+    }
+}
+
+/// Runs the words over these objects: what is read comes from `source`, the output goes to `sink`
+/// and the diagnostic line to `diag`. The answer is the exit code of the run's status.
+pub fn obey<S: Source, K: Sink, G: Sink, D: Store>(
+    alloc: Global,
+    words: &[String],
+    source: &mut S,
+    sink: &mut K,
+    diag: &mut G,
+    store: &mut D,
+) -> ExitCode
+    ensures { HasRun (map string_bytes words.now) (world (S.state source.old) (K.state sink.old) (D.state store.old))
+        (world (S.state source.new) (K.state sink.new) (D.state store.new)) (G.state diag.old) (G.state diag.new) (exit_status result) }
+{
+    let status = run(alloc, words, source, sink, diag, store);
+    ExitCode::from(status.code())
+}
