@@ -1,0 +1,3 @@
+pub mod OnLiterals
+mod GcmExamples
+pub mod GcmLemmas

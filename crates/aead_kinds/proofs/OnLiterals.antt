@@ -1,0 +1,10 @@
+-- What has to unfold so that AES-GCM of numerals computes.
+use Rattle.std.specs.Prelude.{⊤}
+use Rattle.aes_core.specs.Counter.{ctr_on_literals}
+use Rattle.ghash.proofs.OnLiterals.{ghash_on_literals}
+use Rattle.aead_kinds.specs.Gcm.{hash_subkey, hashed, gcm_text, gcm_tag, gcm_seal, gcm_open}
+
+unfoldable pub gcm_on_literals : ⊤
+unfolding
+    ctr_on_literals ghash_on_literals hash_subkey hashed gcm_text gcm_tag gcm_seal gcm_open
+gcm_on_literals = tt

@@ -1,0 +1,15 @@
+-- The laws of AES-GCM, over its definitions alone.
+use Rattle.std.specs.Prelude.{◌≡◌, ◌↔◌, ℕ, ◌+◌, Some, List, length, take}
+use Rattle.aes_core.specs.Bytes.{IsBytes}
+use Rattle.aead_kinds.specs.Gcm.{gcm_open, gcm_seal}
+
+-- bytes open to a plaintext exactly where they are its sealing under their own first 12 bytes
+abbrev pub GcmOpensSealings : Type 0
+GcmOpensSealings = (key bytes plain ad : List ℕ)
+    → gcm_open key bytes ad ≡ Some plain ↔ bytes ≡ gcm_seal key (take 12 bytes) plain ad
+
+-- sealed bytes are bytes, and 16 more than IV and plaintext have
+abbrev pub GcmSealsBytes : Type 0
+GcmSealsBytes = (key iv plain ad : List ℕ) → IsBytes key → IsBytes iv → IsBytes plain
+    → (length (gcm_seal key iv plain ad) ≡ length iv + length plain + 16)
+    × IsBytes (gcm_seal key iv plain ad)
