@@ -3,3 +3,4 @@ pub mod KeyTypes
 pub mod Keys
 pub mod Reading
 pub mod Rules
+pub mod Templates

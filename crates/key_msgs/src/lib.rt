@@ -11,6 +11,7 @@ mod primitive;
 mod reading;
 mod rule;
 mod rules;
+mod template;
 
 pub use key::{KeyFault, KeyKind, url_of};
 pub use key_type::{KeyType, primitive_of};
@@ -18,3 +19,4 @@ pub use layout::Layout;
 pub use primitive::Primitive;
 pub use reading::read_key;
 pub use rule::Rule;
+pub use template::{Template, TemplateFault, make_key, template_at, template_named};

@@ -1,0 +1,300 @@
+//! The templates by which new keys are made.
+
+ghost use Rattle.std.specs.Prelude.{◌≡◌, length, Some, option_map, slice_get, IfOk};
+ghost use Rattle.key_msgs.specs.KeyTypes.{primitive_of_type, url_of_type};
+ghost use Rattle.key_msgs.specs.Templates.{templates, seen, type_made, random_of, made, FindsTemplate, is_asymmetric};
+
+use crate::{KeyKind, KeyType, Primitive};
+use std::alloc::Global;
+use tink_base::{Bytes, Hash, NoMemory, RAW, TINK};
+
+/// What a template makes. Sizes are in bytes; what isn't named is fixed.
+#[derive(Clone, Copy)]
+pub(crate) enum Recipe {
+    /// An AesGcmKey of this size.
+    Gcm(u32),
+    /// An AesEaxKey of this size, with IVs of 16.
+    Eax(u32),
+    /// An AesCtrHmacAeadKey of an AES key of the first size and tags of the second, with IVs of 16
+    /// and an HMAC key of 32 for SHA-256.
+    CtrHmac(u32, u32),
+    /// An AesSivKey of 64.
+    Siv,
+    /// An HmacKey of this size for this hash function, with tags of this size.
+    Hmac(u32, Hash, u32),
+    /// An AesCmacKey of 32, with tags of 16.
+    Cmac,
+    /// An HkdfPrfKey of 32 for SHA-256, with no salt.
+    HkdfPrf,
+    /// An HmacPrfKey of this size for this hash function.
+    HmacPrf(u32, Hash),
+    /// An AesCmacPrfKey of 32.
+    CmacPrf,
+    /// An AesGcmHkdfStreamingKey of this size, which derived keys have too, for SHA-256 and segments
+    /// of the second size.
+    GcmStream(u32, u32),
+    /// An AesCtrHmacStreamingKey likewise, with tags of 32 for SHA-256.
+    CtrStream(u32, u32),
+}
+
+/// A row of the table of templates.
+#[derive(Clone, Copy)]
+pub struct Template {
+    name: &'static str,
+    prefix: u32,
+    recipe: Recipe,
+}
+
+impl Template {
+    /// The name of the template.
+    pub fn name(&self) -> &'static str
+        ensures { result.now ≡ (seen self.now).name }
+    {
+        self.name
+    }
+
+    /// The output prefix type of the keys that it makes, `TINK` or `RAW`.
+    pub fn prefix(&self) -> u32
+        ensures { result ≡ (seen self.now).prefix }
+    {
+        self.prefix
+    }
+
+    /// The type of the keys that it makes.
+    fn key_type(&self) -> KeyType
+        ensures { result ≡ type_made (seen self.now) }
+    {
+        match self.recipe {
+            Recipe::Gcm(_) => KeyType::AesGcm,
+            Recipe::Eax(_) => KeyType::AesEax,
+            Recipe::CtrHmac(_, _) => KeyType::AesCtrHmac,
+            Recipe::Siv => KeyType::AesSiv,
+            Recipe::Hmac(_, _, _) => KeyType::Hmac,
+            Recipe::Cmac => KeyType::AesCmac,
+            Recipe::HkdfPrf => KeyType::HkdfPrf,
+            Recipe::HmacPrf(_, _) => KeyType::HmacPrf,
+            Recipe::CmacPrf => KeyType::CmacPrf,
+            Recipe::GcmStream(_, _) => KeyType::GcmStream,
+            Recipe::CtrStream(_, _) => KeyType::CtrStream,
+        }
+    }
+
+    /// The primitive of the keys that it makes.
+    pub fn primitive(&self) -> Primitive
+        ensures { result ≡ primitive_of_type (type_made (seen self.now)) }
+    {
+        self.key_type().primitive()
+    }
+
+    /// How many random bytes a key takes.
+    pub fn random_len(&self) -> usize
+        ensures { result ≡ random_of (seen self.now) }
+    {
+        match self.recipe {
+            Recipe::Gcm(size)
+            | Recipe::Eax(size)
+            | Recipe::Hmac(size, _, _)
+            | Recipe::HmacPrf(size, _)
+            | Recipe::GcmStream(size, _)
+            | Recipe::CtrStream(size, _) => size as usize,
+            Recipe::CtrHmac(size, _) => size as usize + 32,
+            Recipe::Siv => 64,
+            Recipe::Cmac | Recipe::HkdfPrf | Recipe::CmacPrf => 32,
+        }
+    }
+
+    /// The type URL of the keys that it makes.
+    pub fn url(&self) -> &'static str
+        ensures { result.now ≡ url_of_type (type_made (seen self.now)) }
+    {
+        self.key_type().url()
+    }
+}
+
+fn tink(name: &'static str, recipe: Recipe) -> Option<Template>
+    ensures { option_map seen result ≡ Some (record { name = name.now; prefix = 1; recipe = recipe }) }
+{
+    Some(Template {
+        name,
+        prefix: TINK,
+        recipe,
+    })
+}
+
+fn raw(name: &'static str, recipe: Recipe) -> Option<Template>
+    ensures { option_map seen result ≡ Some (record { name = name.now; prefix = 3; recipe = recipe }) }
+{
+    Some(Template {
+        name,
+        prefix: RAW,
+        recipe,
+    })
+}
+
+/// The template of this row, counted from 0: `None` exactly from 32 on. No memory is taken.
+pub fn template_at(row: usize) -> Option<Template>
+    ensures { option_map seen result ≡ slice_get templates row }
+{
+    match row {
+        0 => tink("AES128_GCM", Recipe::Gcm(16)),
+        1 => raw("AES128_GCM_RAW", Recipe::Gcm(16)),
+        2 => tink("AES256_GCM", Recipe::Gcm(32)),
+        3 => raw("AES256_GCM_RAW", Recipe::Gcm(32)),
+        4 => tink("AES128_EAX", Recipe::Eax(16)),
+        5 => raw("AES128_EAX_RAW", Recipe::Eax(16)),
+        6 => tink("AES256_EAX", Recipe::Eax(32)),
+        7 => raw("AES256_EAX_RAW", Recipe::Eax(32)),
+        8 => tink("AES128_CTR_HMAC_SHA256", Recipe::CtrHmac(16, 16)),
+        9 => raw("AES128_CTR_HMAC_SHA256_RAW", Recipe::CtrHmac(16, 16)),
+        10 => tink("AES256_CTR_HMAC_SHA256", Recipe::CtrHmac(32, 32)),
+        11 => raw("AES256_CTR_HMAC_SHA256_RAW", Recipe::CtrHmac(32, 32)),
+        12 => tink("AES256_SIV", Recipe::Siv),
+        13 => raw("AES256_SIV_RAW", Recipe::Siv),
+        14 => tink("HMAC_SHA256_128BITTAG", Recipe::Hmac(32, Hash::Sha256, 16)),
+        15 => tink("HMAC_SHA256_256BITTAG", Recipe::Hmac(32, Hash::Sha256, 32)),
+        16 => tink("HMAC_SHA512_128BITTAG", Recipe::Hmac(64, Hash::Sha512, 16)),
+        17 => tink("HMAC_SHA512_256BITTAG", Recipe::Hmac(64, Hash::Sha512, 32)),
+        18 => tink("HMAC_SHA512_512BITTAG", Recipe::Hmac(64, Hash::Sha512, 64)),
+        19 => tink("AES256_CMAC", Recipe::Cmac),
+        20 => raw("HKDF_SHA256", Recipe::HkdfPrf),
+        21 => raw("HMAC_SHA256_PRF", Recipe::HmacPrf(32, Hash::Sha256)),
+        22 => raw("HMAC_SHA512_PRF", Recipe::HmacPrf(64, Hash::Sha512)),
+        23 => raw("AES_CMAC_PRF", Recipe::CmacPrf),
+        24 => raw("AES128_GCM_HKDF_4KB", Recipe::GcmStream(16, 4096)),
+        25 => raw("AES128_GCM_HKDF_1MB", Recipe::GcmStream(16, 1_048_576)),
+        26 => raw("AES256_GCM_HKDF_4KB", Recipe::GcmStream(32, 4096)),
+        27 => raw("AES256_GCM_HKDF_1MB", Recipe::GcmStream(32, 1_048_576)),
+        28 => raw("AES128_CTR_HMAC_SHA256_4KB", Recipe::CtrStream(16, 4096)),
+        29 => raw("AES128_CTR_HMAC_SHA256_1MB", Recipe::CtrStream(16, 1_048_576)),
+        30 => raw("AES256_CTR_HMAC_SHA256_4KB", Recipe::CtrStream(32, 4096)),
+        31 => raw("AES256_CTR_HMAC_SHA256_1MB", Recipe::CtrStream(32, 1_048_576)),
+        _ => None,
+    }
+}
+
+/// Why a name gives no template.
+#[derive(Clone, Copy, Debug, PartialEq, Eq)]
+pub enum TemplateFault {
+    /// The name is that of a template of Tink for asymmetric keys.
+    Asymmetric,
+    /// No template is known by the name.
+    Unknown,
+}
+
+/// The template of this name. No memory is taken.
+///
+/// `Asymmetric` comes exactly where the name is that of one of ten templates of Tink for asymmetric
+/// keys, and `Unknown` exactly where it is neither such a name nor one of the table.
+pub fn template_named(name: &str) -> Result<Template, TemplateFault>
+    ensures { FindsTemplate name.now result }
+{
+    for row in 0..32 {
+        if let Some(template) = template_at(row) {
+            if template.name() == name {
+                return Ok(template);
+            }
+        }
+    }
+    if is_asymmetric(name) {
+        Err(TemplateFault::Asymmetric)
+    } else {
+        Err(TemplateFault::Unknown)
+    }
+}
+
+/// One of Tink's templates for asymmetric keys has this name.
+fn is_asymmetric(name: &str) -> bool
+    ensures { result ≡ is_asymmetric name.now }
+{
+    name == "ECDSA_P256"
+        || name == "ECDSA_P384"
+        || name == "ECDSA_P521"
+        || name == "ED25519"
+        || name == "ECIES_P256_HKDF_HMAC_SHA256_AES128_GCM"
+        || name == "ECIES_P256_HKDF_HMAC_SHA256_AES128_CTR_HMAC_SHA256"
+        || name == "RSA_SSA_PKCS1_3072_SHA256_F4"
+        || name == "RSA_SSA_PKCS1_4096_SHA512_F4"
+        || name == "RSA_SSA_PSS_3072_SHA256_SHA256_32_F4"
+        || name == "RSA_SSA_PSS_4096_SHA512_SHA512_64_F4"
+}
+
+/// The key of the template whose key material is `random`, of the template's `random_len` bytes. An
+/// AES-CTR key comes before its HMAC key.
+pub fn make_key(alloc: Global, template: &Template, random: &[u8]) -> Result<KeyKind, NoMemory>
+    requires size { length random.now ≡ random_of (seen template.now) }
+    ensures { IfOk result (λ key. key ≡ made (seen template.now) random.now) }
+{
+    match template.recipe {
+        Recipe::Gcm(_) => {
+            let key = Bytes::copy(alloc, random)?;
+            Ok(KeyKind::AesGcm { key })
+        }
+        Recipe::Eax(_) => {
+            let key = Bytes::copy(alloc, random)?;
+            Ok(KeyKind::AesEax { key, iv_size: 16 })
+        }
+        Recipe::CtrHmac(size, tag_size) => {
+            let aes = Bytes::copy(alloc, &random[..size as usize])?;
+            let mac = Bytes::copy(alloc, &random[size as usize..])?;
+            Ok(KeyKind::AesCtrHmac {
+                aes,
+                iv_size: 16,
+                hash: Hash::Sha256,
+                mac,
+                tag_size,
+            })
+        }
+        Recipe::Siv => {
+            let key = Bytes::copy(alloc, random)?;
+            Ok(KeyKind::AesSiv { key })
+        }
+        Recipe::Hmac(_, hash, tag_size) => {
+            let key = Bytes::copy(alloc, random)?;
+            Ok(KeyKind::Hmac {
+                key,
+                hash,
+                tag_size,
+            })
+        }
+        Recipe::Cmac => {
+            let key = Bytes::copy(alloc, random)?;
+            Ok(KeyKind::AesCmac { key, tag_size: 16 })
+        }
+        Recipe::HkdfPrf => {
+            let key = Bytes::copy(alloc, random)?;
+            Ok(KeyKind::HkdfPrf {
+                key,
+                hash: Hash::Sha256,
+                salt: Bytes::own(Vec::new(alloc)),
+            })
+        }
+        Recipe::HmacPrf(_, hash) => {
+            let key = Bytes::copy(alloc, random)?;
+            Ok(KeyKind::HmacPrf { key, hash })
+        }
+        Recipe::CmacPrf => {
+            let key = Bytes::copy(alloc, random)?;
+            Ok(KeyKind::CmacPrf { key })
+        }
+        Recipe::GcmStream(derived, segment) => {
+            let key = Bytes::copy(alloc, random)?;
+            Ok(KeyKind::GcmStream {
+                key,
+                segment,
+                derived,
+                hash: Hash::Sha256,
+            })
+        }
+        Recipe::CtrStream(derived, segment) => {
+            let key = Bytes::copy(alloc, random)?;
+            Ok(KeyKind::CtrStream {
+                key,
+                segment,
+                derived,
+                hash: Hash::Sha256,
+                mac_hash: Hash::Sha256,
+                tag_size: 32,
+            })
+        }
+    }
+}
