@@ -31,35 +31,58 @@ pub record OnlyStore (old new : World) : Type 0 where
   pub source : old.source ≡ new.source
   pub sink : old.sink ≡ new.sink
 
--- Where an object failed, its count of faults rose; with each other end that count stood, so that no
--- fault is passed over or told as something else.
+-- Where an object failed, its count of faults rose; with each other end that count stood, so that
+-- no fault is passed over or told as something else.
 
 -- all of the output was written, or the first bytes of it where the sink failed
 pub data EndsWriting (output : List ℕ) (old : World) (s : Status) (new : World) : Type 0 where
-  wrote : s ≡ status.Done → OnlySink old new → Stood old.sink.faults new.sink.faults → Took old.sink new.sink output → EndsWriting output old s new
-  write_failed : s ≡ status.WriteFault → OnlySink old new → Rose old.sink.faults new.sink.faults → TookPrefix old.sink new.sink output → EndsWriting output old s new
+  wrote : s ≡ status.Done → OnlySink old new → Stood old.sink.faults new.sink.faults →
+      Took old.sink new.sink output → EndsWriting output old s new
+  write_failed : s ≡ status.WriteFault → OnlySink old new → Rose old.sink.faults new.sink.faults →
+      TookPrefix old.sink new.sink output → EndsWriting output old s new
 
 -- the file was loaded, and then it went on; or it is missing, or longer than the limit; or the store
 -- failed, or memory was wanting
-pub data EndsLoading (name : List ℕ) (limit : ℕ) (absent long : Status) (Then : List ℕ → World → Status → World → Type 0) (old : World) (s : Status) (new : World) : Type 0 where
-  loaded : (bytes : List ℕ) (store : StoreState) → KeptFiles old.store store → Stood old.store.faults store.faults → length bytes ≤ limit → Holds old.store name (Some bytes) → Then bytes (record old { store = store }) s new → EndsLoading name limit absent long Then old s new
-  load_absent : s ≡ absent → OnlyStore old new → KeptFiles old.store new.store → Stood old.store.faults new.store.faults → Holds old.store name None → EndsLoading name limit absent long Then old s new
-  load_long : s ≡ long → OnlyStore old new → KeptFiles old.store new.store → Stood old.store.faults new.store.faults → HoldsLonger old.store name limit → EndsLoading name limit absent long Then old s new
-  load_failed : s ≡ status.StoreFault → OnlyStore old new → KeptFiles old.store new.store → Rose old.store.faults new.store.faults → EndsLoading name limit absent long Then old s new
-  load_starved : s ≡ status.NoMemory → OnlyStore old new → KeptFiles old.store new.store → Stood old.store.faults new.store.faults → EndsLoading name limit absent long Then old s new
+pub data EndsLoading (name : List ℕ) (limit : ℕ) (absent long : Status)
+    (Then : List ℕ → World → Status → World → Type 0)
+    (old : World) (s : Status) (new : World) : Type 0 where
+  loaded : (bytes : List ℕ) (store : StoreState) → KeptFiles old.store store →
+      Stood old.store.faults store.faults → length bytes ≤ limit →
+      Holds old.store name (Some bytes) → Then bytes (record old { store = store }) s new →
+      EndsLoading name limit absent long Then old s new
+  load_absent : s ≡ absent → OnlyStore old new → KeptFiles old.store new.store →
+      Stood old.store.faults new.store.faults → Holds old.store name None →
+      EndsLoading name limit absent long Then old s new
+  load_long : s ≡ long → OnlyStore old new → KeptFiles old.store new.store →
+      Stood old.store.faults new.store.faults → HoldsLonger old.store name limit →
+      EndsLoading name limit absent long Then old s new
+  load_failed : s ≡ status.StoreFault → OnlyStore old new → KeptFiles old.store new.store →
+      Rose old.store.faults new.store.faults → EndsLoading name limit absent long Then old s new
+  load_starved : s ≡ status.NoMemory → OnlyStore old new → KeptFiles old.store new.store →
+      Stood old.store.faults new.store.faults → EndsLoading name limit absent long Then old s new
 
 -- all bytes were read, and then it went on; or one byte more than the limit was taken; or the source
 -- failed, or memory was wanting, within the limit
-pub data EndsReading (limit : ℕ) (long : Status) (Then : List ℕ → World → Status → World → Type 0) (old : World) (s : Status) (new : World) : Type 0 where
-  read : (all : List ℕ) (source : SourceState) → Gave old.source source all → Stood old.source.faults source.faults → length all ≤ limit → IsAtEnd source → Then all (record old { source = source }) s new → EndsReading limit long Then old s new
-  too_long : s ≡ long → OnlySource old new → Stood old.source.faults new.source.faults → GaveCount old.source new.source (limit + 1) → EndsReading limit long Then old s new
-  read_failed : s ≡ status.ReadFault → OnlySource old new → Rose old.source.faults new.source.faults → GaveUpTo old.source new.source limit → EndsReading limit long Then old s new
-  read_starved : s ≡ status.NoMemory → OnlySource old new → Stood old.source.faults new.source.faults → GaveUpTo old.source new.source limit → EndsReading limit long Then old s new
+pub data EndsReading (limit : ℕ) (long : Status) (Then : List ℕ → World → Status → World → Type 0)
+    (old : World) (s : Status) (new : World) : Type 0 where
+  read : (all : List ℕ) (source : SourceState) → Gave old.source source all →
+      Stood old.source.faults source.faults → length all ≤ limit → IsAtEnd source →
+      Then all (record old { source = source }) s new → EndsReading limit long Then old s new
+  too_long : s ≡ long → OnlySource old new → Stood old.source.faults new.source.faults →
+      GaveCount old.source new.source (limit + 1) → EndsReading limit long Then old s new
+  read_failed : s ≡ status.ReadFault → OnlySource old new →
+      Rose old.source.faults new.source.faults → GaveUpTo old.source new.source limit →
+      EndsReading limit long Then old s new
+  read_starved : s ≡ status.NoMemory → OnlySource old new →
+      Stood old.source.faults new.source.faults → GaveUpTo old.source new.source limit →
+      EndsReading limit long Then old s new
 
 -- how a run of the plan may end, step by step
 abbrev pub Ends : Plan → World → Status → World → Type 0
 Ends (ends stated_status stated) old s new = (s ≡ stated_status) × (old ≡ new)
 Ends (writes output) old s new = EndsWriting output old s new
 Ends (allocates next) old s new = Ends next old s new ⊎ ((s ≡ status.NoMemory) × (old ≡ new))
-Ends (loads name limit absent long a l next) old s new = EndsLoading name limit absent long (λ bytes. Ends (next bytes)) old s new
-Ends (reads_all limit long stated next) old s new = EndsReading limit long (λ all. Ends (next all)) old s new
+Ends (loads name limit absent long a l next) old s new =
+    EndsLoading name limit absent long (λ bytes. Ends (next bytes)) old s new
+Ends (reads_all limit long stated next) old s new =
+    EndsReading limit long (λ all. Ends (next all)) old s new

@@ -27,8 +27,10 @@ pub record Row : Type 0 where
 
 -- the row of each command
 abbrev pub row_of : CommandName → Row
-row_of commands.ListKeyset = record { word = codes "list-keyset"; required = options.InFormat ∷ []; optional = [] }
-row_of commands.Tag = record { word = codes "tag"; required = options.Keyset ∷ options.KeysetFormat ∷ []; optional = [] }
+row_of commands.ListKeyset =
+    record { word = codes "list-keyset"; required = options.InFormat ∷ []; optional = [] }
+row_of commands.Tag =
+    record { word = codes "tag"; required = options.Keyset ∷ options.KeysetFormat ∷ []; optional = [] }
 
 -- the name of an option, as a word
 unfoldable pub name_of : OptionName → List ℕ
@@ -52,13 +54,15 @@ pub record Spelling : Type 0 where
 abbrev pub spelled_as : Bool → List ℕ → List ℕ → List (List ℕ)
 spelled_as joined name value = if joined then (name ++ (61 ∷ value)) ∷ [] else name ∷ value ∷ []
 
+-- the words of an option as it is spelled
 abbrev pub spelled : Spelling → List (List ℕ)
 spelled s = spelled_as s.joined (name_of s.name) s.value
 
 -- one of them is this option with this value
 abbrev pub IsGivenAs : OptionName → List ℕ → List Spelling → Type 0
 IsGivenAs name value [] = ⊥
-IsGivenAs name value (s ∷ given) = ((s.name ≡ name) × (s.value ≡ value)) ⊎ IsGivenAs name value given
+IsGivenAs name value (s ∷ given) =
+    ((s.name ≡ name) × (s.value ≡ value)) ⊎ IsGivenAs name value given
 
 -- one of them is this option
 abbrev pub IsGiven : OptionName → List Spelling → Type 0
@@ -85,7 +89,8 @@ pub record Fits (row : Row) (given : List Spelling) : Type 0 where
 -- what the command asks with these options
 abbrev pub Asks : CommandName → List Spelling → Asked → Type 0
 Asks commands.ListKeyset given asked = asked ≡ list_keyset
-Asks commands.Tag given asked = (name : List ℕ) × (asked ≡ tag name) × IsGivenAs options.Keyset name given
+Asks commands.Tag given asked =
+    (name : List ℕ) × (asked ≡ tag name) × IsGivenAs options.Keyset name given
 
 -- the words spell a command that asks so
 pub record Spells (words : List (List ℕ)) (asked : Asked) : Type 0 where
@@ -97,4 +102,5 @@ pub record Spells (words : List (List ℕ)) (asked : Asked) : Type 0 where
 
 -- the words are accepted as what they ask exactly where they spell it
 abbrev pub WordsAreSpelled : Type 0
-WordsAreSpelled = (words : List (List ℕ)) (asked : Asked) → (words_of words ≡ Ok asked) ↔ Spells words asked
+WordsAreSpelled =
+    (words : List (List ℕ)) (asked : Asked) → (words_of words ≡ Ok asked) ↔ Spells words asked

@@ -23,7 +23,8 @@ pub data Plan : Type 0 where
   -- from here on memory may be wanting
   allocates : (next : Plan) → Plan
   -- a file is loaded; one that is missing, or of more bytes than the limit, is answered so
-  loads : (name : List ℕ) (limit : ℕ) (absent long : Status) → IsStated absent → IsStated long → (next : List ℕ → Plan) → Plan
+  loads : (name : List ℕ) (limit : ℕ) (absent long : Status) → IsStated absent → IsStated long →
+      (next : List ℕ → Plan) → Plan
   -- the whole source is read; one of more bytes than the limit is answered so
   reads_all : (limit : ℕ) (long : Status) → IsStated long → (next : List ℕ → Plan) → Plan
 
@@ -45,7 +46,8 @@ refused told s = record { status = s; input = told.input; output = [] }
 -- the answer after a load
 abbrev pub load_answer : Option (List ℕ) → ℕ → Answer → Answer → (List ℕ → Answer) → Answer
 load_answer None limit absent long next = absent
-load_answer (Some bytes) limit absent long next = if nat_le (length bytes) limit then next bytes else long
+load_answer (Some bytes) limit absent long next =
+    if nat_le (length bytes) limit then next bytes else long
 
 -- the stated answer over what is told
 abbrev pub answer : Plan → Told → Answer
@@ -53,7 +55,8 @@ answer (ends s stated) told = refused told s
 answer (writes output) told = record { status = status.Done; input = told.input; output = output }
 answer (allocates next) told = answer next told
 answer (loads name limit absent long a l next) told =
-    load_answer (map.get told.files name) limit (refused told absent) (refused told long) (λ bytes. answer (next bytes) told)
+    load_answer (map.get told.files name) limit (refused told absent) (refused told long)
+    (λ bytes. answer (next bytes) told)
 answer (reads_all limit long stated next) told =
     if nat_le (length told.input) limit then answer (next told.input) (record told { input = [] })
     else record { status = long; input = drop (limit + 1) told.input; output = [] }

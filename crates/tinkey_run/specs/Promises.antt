@@ -52,19 +52,24 @@ over_files files = record { files = files; faults = 0 }
 -- taken and written. Where it is left at a step, the steps before it have gone on, and later steps
 -- have taken and written nothing.
 abbrev pub IsLeft : Plan → Option Files → Status → List ℕ → List ℕ → Type 0
-IsLeft (ends stated_status stated) files s taken written = (s ≡ stated_status) × (taken ≡ []) × (written ≡ [])
+IsLeft (ends stated_status stated) files s taken written =
+    (s ≡ stated_status) × (taken ≡ []) × (written ≡ [])
 IsLeft (writes output) files s taken written =
-    (taken ≡ []) × (((s ≡ status.Done) × (written ≡ output)) ⊎ ((s ≡ status.WriteFault) × IsFront written output))
+    (taken ≡ []) × (((s ≡ status.Done) × (written ≡ output))
+    ⊎ ((s ≡ status.WriteFault) × IsFront written output))
 IsLeft (allocates next) files s taken written =
     ((s ≡ status.NoMemory) × (taken ≡ []) × (written ≡ [])) ⊎ IsLeft next files s taken written
 IsLeft (loads name limit absent long a l next) files s taken written =
     ((taken ≡ []) × (written ≡ []) × (((s ≡ absent) × Holds (over_files files) name None)
-    ⊎ ((s ≡ long) × HoldsLonger (over_files files) name limit) ⊎ (s ≡ status.StoreFault) ⊎ (s ≡ status.NoMemory)))
-    ⊎ ((bytes : List ℕ) × Holds (over_files files) name (Some bytes) × (length bytes ≤ limit) × IsLeft (next bytes) files s taken written)
+    ⊎ ((s ≡ long) × HoldsLonger (over_files files) name limit)
+    ⊎ (s ≡ status.StoreFault) ⊎ (s ≡ status.NoMemory)))
+    ⊎ ((bytes : List ℕ) × Holds (over_files files) name (Some bytes) × (length bytes ≤ limit)
+    × IsLeft (next bytes) files s taken written)
 IsLeft (reads_all limit long stated next) files s taken written =
     ((written ≡ []) × (((s ≡ long) × (length taken ≡ limit + 1))
     ⊎ (((s ≡ status.ReadFault) ⊎ (s ≡ status.NoMemory)) × (length taken ≤ limit))))
-    ⊎ ((all : List ℕ) × (more : List ℕ) × (all ++ more ≡ taken) × (length all ≤ limit) × IsLeft (next all) files s more written)
+    ⊎ ((all : List ℕ) × (more : List ℕ) × (all ++ more ≡ taken) × (length all ≤ limit)
+    × IsLeft (next all) files s more written)
 
 -- What was taken and written, whatever the status: a fault comes before each refusal that the files
 -- and the bytes taken decide, and what was written is what the plan gives out for them.
@@ -80,12 +85,16 @@ pub record Leaves (p : Plan) (old : World) (s : Status) (new : World) : Type 0 w
 pub record Stands (p : Plan) (old : World) (s : Status) (new : World) : Type 0 where
   pub files : KeptFiles old.store new.store
   pub kept : s ≢ status.Done → s ≢ status.WriteFault → Took old.sink new.sink []
-  pub front : s ≡ status.WriteFault → (told : Told) → Tells old told → TookPrefix old.sink new.sink (answer p told).output
-  pub last : s ≡ status.WriteFault → (told : Told) → Tells old told → (answer p told).status ≡ status.Done
+  pub front : s ≡ status.WriteFault → (told : Told) → Tells old told →
+      TookPrefix old.sink new.sink (answer p told).output
+  pub last : s ≡ status.WriteFault → (told : Told) → Tells old told →
+      (answer p told).status ≡ status.Done
 
 -- Completeness: where no count of faults rose, the status is a stated one, or NoMemory.
 pub record Completes (old : World) (s : Status) (new : World) : Type 0 where
-  pub stated : (Rose old.source.faults new.source.faults → ⊥) → (Rose old.sink.faults new.sink.faults → ⊥) → (Rose old.store.faults new.store.faults → ⊥) → s ≢ status.NoMemory → IsStated s
+  pub stated : (Rose old.source.faults new.source.faults → ⊥) →
+      (Rose old.sink.faults new.sink.faults → ⊥) → (Rose old.store.faults new.store.faults → ⊥) →
+      s ≢ status.NoMemory → IsStated s
 
 -- All that is promised of a run of the plan: the stated answer, the causes of faults, that none is
 -- hidden, what was taken and written, what stands, and completeness. Each follows from `ends`, which

@@ -47,7 +47,8 @@ text_of (status.BadProto at) = codes "bad protobuf at byte " ++ decimal at
 text_of (status.Keyset fault) = fault_text fault
 text_of status.KeysetTooLong = codes "keyset too long"
 text_of (status.NoManager i) = codes "key " ++ decimal i ++ codes " has no manager for this command"
-text_of (status.BadKey i rule) = codes "key " ++ decimal i ++ codes " is not valid: " ++ rule_text rule
+text_of (status.BadKey i rule) =
+    codes "key " ++ decimal i ++ codes " is not valid: " ++ rule_text rule
 text_of status.InMissing = codes "input file missing"
 text_of status.InputTooLong = codes "input too long"
 text_of status.ReadFault = codes "read fault"

@@ -1,5 +1,5 @@
--- The steps that commands share. Each is a word with the rest of the plan behind it, which takes what
--- the step gives; the refusals of a step are its own.
+-- The steps that commands share. Each is a word with the rest of the plan behind it, which takes
+-- what the step gives; the refusals of a step are its own.
 use Rattle.std.specs.Prelude.{ℕ, List, Result, Ok, Err}
 use Rattle.keyset_model.specs.Keyset.{Keys}
 use Rattle.keyset_model.specs.Reading.{Refusal, Wire, Fault, reads_binary}
@@ -36,7 +36,9 @@ keyset_in bytes next = allocates (with_keyset (reads_binary bytes) next)
 
 -- the keyset in the file of this name
 abbrev pub loads_keyset : List ℕ → (Keys → Plan) → Plan
-loads_keyset name next = loads name keyset_limit status.InMissing status.KeysetTooLong tt tt (λ bytes. keyset_in bytes next)
+loads_keyset name next =
+    loads name keyset_limit status.InMissing status.KeysetTooLong tt tt
+    (λ bytes. keyset_in bytes next)
 
 -- the keyset that the whole input is
 abbrev pub reads_keyset : (Keys → Plan) → Plan
@@ -53,5 +55,6 @@ works_out value next = allocates (next value)
 -- What a step leaves to the rest of the plan. Where it gives a value, each end of the rest is an end
 -- of the whole, for any rest; where it gives a status, the whole has ended with that.
 abbrev pub Passes : {A : Type 0} → ((A → Plan) → Plan) → World → Result A Status → World → Type 0
-Passes {A = A} step old (Ok value) new = (next : A → Plan) (s : Status) (last : World) → Ends (next value) new s last → Ends (step next) old s last
+Passes {A = A} step old (Ok value) new = (next : A → Plan) (s : Status) (last : World) →
+    Ends (next value) new s last → Ends (step next) old s last
 Passes {A = A} step old (Err s) new = (next : A → Plan) → Ends (step next) old s new

@@ -20,7 +20,9 @@ unfit_record r = if r.status == 1 then refused_key (key_for_tags r) else None
 
 -- each record that can't serve, by its place, of records the first of which has this place
 abbrev pub unfit_records : ℕ → List Record → List (ℕ × Unfit)
-unfit_records place records = filter_map (λ x. option_map (λ why. (x.0, why)) (unfit_record x.1)) (enumerate_from place records)
+unfit_records place records =
+    filter_map (λ x. option_map (λ why. (x.0, why)) (unfit_record x.1))
+    (enumerate_from place records)
 
 -- the first record that can't serve, and why
 unfoldable pub unfit : Keys → Option (ℕ × Unfit)
@@ -42,4 +44,6 @@ tag_answer keys data' = tag_with (primary_of keys) data'
 
 -- a keyset without a fault of which each record can serve has an answer for all data
 abbrev pub FitKeysetsTag : Type 0
-FitKeysetsTag = (keys : Keys) → fault_of keys ≡ None → unfit keys ≡ None → (data' : List ℕ) → IsSome (tag_answer keys data')
+FitKeysetsTag =
+    (keys : Keys) → fault_of keys ≡ None → unfit keys ≡ None → (data' : List ℕ) →
+    IsSome (tag_answer keys data')

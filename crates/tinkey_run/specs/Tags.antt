@@ -22,7 +22,8 @@ tagged_data r data' = if r.prefix == 2 then data' ++ 0 ∷ [] else data'
 
 -- the first bytes of the tag, as many as the key says, behind the prefix
 unfoldable pub tag_under : HmacKey → Record → List ℕ → List ℕ
-tag_under key r data' = output_prefix r ++ take key.tag_size (hmac key.hash key.key (tagged_data r data'))
+tag_under key r data' =
+    output_prefix r ++ take key.tag_size (hmac key.hash key.key (tagged_data r data'))
 
 -- the type URL of keys for HMAC
 unfoldable pub hmac_url : List ℕ

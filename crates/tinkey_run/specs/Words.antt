@@ -39,7 +39,9 @@ is_equals b = b == 61
 
 -- a word that has a value of its own, `--name=value`, as name and value
 unfoldable pub own_value : List ℕ → Option (List ℕ × List ℕ)
-own_value word = if nat_lt (position_or_len is_equals word) (length word) then Some (before_first is_equals word, after_first is_equals word) else None
+own_value word =
+    if nat_lt (position_or_len is_equals word) (length word)
+    then Some (before_first is_equals word, after_first is_equals word) else None
 
 -- the command of this name
 unfoldable pub command_of : List ℕ → Option CommandName
@@ -89,14 +91,24 @@ with_format (Some format) place next = Ok (next format)
 -- the option with its value, which stands in the word of this place and is of its form; the name of
 -- a file isn't empty
 abbrev pub with_value : OptionName → List ℕ → ℕ → Options → Result Options ℕ
-with_value options.InFormat value place given = with_format (format_of value) place (λ format. record given { in_format = Some format; waiting = None })
-with_value options.Keyset value place given = if length value == 0 then Err place else Ok (record given { keyset = Some value; waiting = None })
-with_value options.KeysetFormat value place given = with_format (format_of value) place (λ format. record given { keyset_format = Some format; waiting = None })
+with_value options.InFormat value place given =
+    with_format (format_of value) place
+    (λ format. record given { in_format = Some format; waiting = None })
+with_value options.Keyset value place given =
+    if length value == 0 then Err place
+    else Ok (record given { keyset = Some value; waiting = None })
+with_value options.KeysetFormat value place given =
+    with_format (format_of value) place
+    (λ format. record given { keyset_format = Some format; waiting = None })
 
 -- an option's word of this place: its value is its own, or is the next word
-abbrev pub option_word : CommandName → Option (List ℕ × List ℕ) → List ℕ → ℕ → Options → Result Options ℕ
-option_word command None word place given = new_option command (option_of word) place given >>= (λ name. Ok (record given { waiting = Some name }))
-option_word command (Some own) word place given = new_option command (option_of own.0) place given >>= (λ name. with_value name own.1 place given)
+abbrev pub option_word : CommandName → Option (List ℕ × List ℕ) → List ℕ → ℕ → Options →
+    Result Options ℕ
+option_word command None word place given =
+    new_option command (option_of word) place given
+    >>= (λ name. Ok (record given { waiting = Some name }))
+option_word command (Some own) word place given =
+    new_option command (option_of own.0) place given >>= (λ name. with_value name own.1 place given)
 
 -- one more word, of this place: the value of the option that waits, or an option's word
 abbrev pub word_after : Option OptionName → CommandName → List ℕ → ℕ → Options → Result Options ℕ
@@ -115,7 +127,8 @@ ended None place given = Ok given
 -- the options of these words, the first of which has this place, behind those so far
 abbrev pub options_of : CommandName → ℕ → Options → List (List ℕ) → Result Options ℕ
 options_of command place given [] = ended given.waiting place given
-options_of command place given (word ∷ words) = next_word command word place given >>= (λ more. options_of command (place + 1) more words)
+options_of command place given (word ∷ words) =
+    next_word command word place given >>= (λ more. options_of command (place + 1) more words)
 
 -- no option yet
 abbrev pub no_options : Options
@@ -133,7 +146,8 @@ tag_of (Some name) (Some format) count = Ok (tag name)
 
 -- the command with its options, all that it requires among so many words
 abbrev pub complete : CommandName → ℕ → Options → Result Asked ℕ
-complete commands.ListKeyset count given = if is_some given.in_format then Ok list_keyset else Err count
+complete commands.ListKeyset count given =
+    if is_some given.in_format then Ok list_keyset else Err count
 complete commands.Tag count given = tag_of given.keyset given.keyset_format count
 
 -- the command, where its name is known, with its options

@@ -14,8 +14,8 @@ pub fn places_are_decided()
     ensures { PlacesAreDecided }
 {}
 
-/// Words are accepted as what they ask exactly where they are a command's word, and then options that
-/// fit its row, each as `--name value` or `--name=value`, in any order.
+/// Words are accepted as what they ask exactly where they are a command's word, and then options
+/// that fit its row, each as `--name value` or `--name=value`, in any order.
 pub fn words_are_spelled()
     ensures { WordsAreSpelled }
 {}

@@ -3,8 +3,8 @@
 //! A command has a plan, the list of its steps in the order of refusals (`specs/Plan.antt`). Two
 //! meanings of a plan are defined once: the stated answer, and how a run may end whatever fails
 //! (`specs/Ends.antt`). Steps that commands share are one function and one word of plans each
-//! (`specs/Steps.antt`), and what a keyset answers is said apart from plans (`specs/TagAnswers.antt`).
-//! Each command's function is proved against its plan, and each promise of `run` follows for every
+//! (`specs/Steps.antt`), and what a keyset answers is said apart from plans
+//! (`specs/TagAnswers.antt`). Each command's function is proved against its plan, and each promise of `run` follows for every
 //! plan (`specs/Promises.antt`, `proofs/PromiseLemmas.antt`).
 #![tactic(auto)]
 

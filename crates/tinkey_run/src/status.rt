@@ -8,8 +8,8 @@ use tink_base::NoMemory;
 
 /// How a run ends, with the place where it was refused.
 ///
-/// Places of words and bytes count from 0. The texts and the exit codes stand in `specs/Status.antt`
-/// and in docs/SPECIFICATION.md.
+/// Places of words and bytes count from 0. The texts and the exit codes stand in
+/// `specs/Status.antt` and in docs/SPECIFICATION.md.
 #[derive(Clone, Copy, Debug, PartialEq, Eq)]
 pub enum Status {
     /// The command was done.

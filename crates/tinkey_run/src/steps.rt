@@ -43,7 +43,8 @@ pub(crate) fn load_keyset<D: Store>(
 /// The keyset that the whole input is.
 pub(crate) fn read_keyset<S: Source>(alloc: Global, source: &mut S) -> Result<Keyset, Status>
     ensures { (w : World) → Passes reads_keyset
-        (record w { source = S.state source.old }) result (record w { source = S.state source.new }) }
+        (record w { source = S.state source.old }) result
+        (record w { source = S.state source.new }) }
 {
     match read_all(alloc, source, KEYSET_LIMIT) {
         Ok(bytes) => keyset_of(alloc, &bytes),
@@ -80,7 +81,8 @@ fn refusal(e: ReadError) -> Status
 /// The whole input.
 pub(crate) fn read_input<S: Source>(alloc: Global, source: &mut S) -> Result<Bytes, Status>
     ensures { (w : World) → Passes reads_input
-        (record w { source = S.state source.old }) result (record w { source = S.state source.new }) }
+        (record w { source = S.state source.old }) result
+        (record w { source = S.state source.new }) }
 {
     match read_all(alloc, source, INPUT_LIMIT) {
         Ok(data) => Ok(Bytes::own(data)),

@@ -137,7 +137,8 @@ fn tag_of(alloc: Global, key: &HmacKey, under: &Record, body: &[u8]) -> Result<V
 /// The first bytes of the HMAC of the bytes, and of one byte 0 behind them where `zero` says so.
 fn mac(key: &HmacKey, zero: bool, body: &[u8], out: &mut [u8])
     requires room { length out.old ≤ hash_size key.now.hash }
-    ensures { out.new ≡ take (length out.old) (hmac key.now.hash key.now.key (if zero then body.now ++ 0 ∷ [] else body.now)) }
+    ensures { out.new ≡ take (length out.old)
+        (hmac key.now.hash key.now.key (if zero then body.now ++ 0 ∷ [] else body.now)) }
 {
     let mut hmac = Hmac::new(key.hash, key.key.as_slice());
     hmac.update(body);

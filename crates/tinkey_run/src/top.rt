@@ -18,11 +18,11 @@ use tink_base::{Sink, Source, Store};
 
 /// Does what the words after the program's name ask for, and tells on `diag` what went wrong.
 ///
-/// `promised` is over the plan of the words, in its parts: `answer` is the stated answer, over objects
-/// that tell; `cause`, `shown` and `leaves` say when a fault comes, that none is hidden, and what was
-/// taken and written; `stands` says what the sink holds after any status; `complete` says that the
-/// status is a stated one where nothing fails and memory suffices; `ends`, from which they follow,
-/// has each way in which a run may end. `line` is the diagnostic line.
+/// `promised` is over the plan of the words, in its parts: `answer` is the stated answer, over
+/// objects that tell; `cause`, `shown` and `leaves` say when a fault comes, that none is hidden, and
+/// what was taken and written; `stands` says what the sink holds after any status; `complete` says
+/// that the status is a stated one where nothing fails and memory suffices; `ends`, from which they
+/// follow, has each way in which a run may end. `line` is the diagnostic line.
 pub fn run<S: Source, K: Sink, G: Sink, D: Store>(
     alloc: Global,
     words: &[String],

@@ -142,7 +142,8 @@ fn next_word<'a>(
     word: &'a str,
     place: usize,
 ) -> Result<Progress<'a>, usize>
-    ensures { Reads seen_progress result (next_word command word.now place (seen_progress so_far.entry)) }
+    ensures { Reads seen_progress result
+        (next_word command word.now place (seen_progress so_far.entry)) }
 {
     match so_far.waiting {
         Some(name) => with_value(name, word, place, so_far.given),
@@ -157,7 +158,8 @@ fn option_word<'a>(
     place: usize,
     given: Given<'a>,
 ) -> Result<Progress<'a>, usize>
-    ensures { Reads seen_progress result (option_word command (own_value word.now) word.now place (seen_given given.entry)) }
+    ensures { Reads seen_progress result
+        (option_word command (own_value word.now) word.now place (seen_given given.entry)) }
 {
     match own_value(word) {
         Some((name, value)) => match new_option(command, name, place, given) {
@@ -253,7 +255,8 @@ fn with_value<'a>(
     place: usize,
     given: Given<'a>,
 ) -> Result<Progress<'a>, usize>
-    ensures { Reads seen_progress result (with_value name value.now place (seen_given given.entry)) }
+    ensures { Reads seen_progress result
+        (with_value name value.now place (seen_given given.entry)) }
 {
     let mut more = given;
     match name {
