@@ -19,6 +19,7 @@ payload_of kinds.Four source field = four
 abbrev pub seen : List ℕ → Field → WireField
 seen source field = record { number = field.number; at = field.at; payload = payload_of field.kind source field }
 
+-- several fields of ours, as fields of the wire
 abbrev pub seen_all : List ℕ → List Field → List WireField
 seen_all source fields = map (seen source) fields
 

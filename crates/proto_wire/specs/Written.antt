@@ -23,6 +23,7 @@ groups_of (suc more) value =
 abbrev pub varint_of : ℕ → List ℕ
 varint_of value = groups_of 9 value
 
+-- what is asked to be written
 pub data Entry : Type 0 where
   -- a number of 32 bits, left out where it is 0
   uint32 : (number value : ℕ) → Entry
@@ -43,11 +44,13 @@ number_field number value = tag_of number 0 ++ varint_of value
 abbrev pub bytes_field : ℕ → List ℕ → List ℕ
 bytes_field number of = tag_of number 2 ++ (varint_of (length of) ++ of)
 
+-- the bytes of an entry: a tag and a payload, or none
 abbrev pub written : Entry → List ℕ
 written (uint32 number value) = if value == 0 then [] else number_field number value
 written (content number of) = if length of == 0 then [] else bytes_field number of
 written (message number payload) = bytes_field number payload
 
+-- those of several, joined
 abbrev pub written_all : List Entry → List ℕ
 written_all [] = []
 written_all (entry ∷ entries) = written entry ++ written_all entries
@@ -60,6 +63,7 @@ bytes_from at number of = record {
   payload = bytes (at + length (tag_of number 2) + length (varint_of (length of))) of;
 }
 
+-- the field that an entry is from this place on, or none
 abbrev pub fields_of : ℕ → Entry → List WireField
 fields_of at (uint32 number value) =
     if value == 0 then [] else record { number = number; at = at; payload = varint value } ∷ []
@@ -67,6 +71,7 @@ fields_of at (content number of) =
     if length of == 0 then [] else bytes_from at number of ∷ []
 fields_of at (message number payload) = bytes_from at number payload ∷ []
 
+-- those of several
 abbrev pub fields_of_all : ℕ → List Entry → List WireField
 fields_of_all at [] = []
 fields_of_all at (entry ∷ entries) =

@@ -52,9 +52,11 @@ store_code =
 abbrev pub next : ℕ → ℕ
 next count = min (count + 1) (2 ^ 64 - 1)
 
+-- what a source in memory tells
 abbrev pub told_source : SourceInMemory → SourceState
 told_source s = record { left = Some s.left; faults = s.faults }
 
+-- what a sink in memory tells
 abbrev pub told_sink : SinkInMemory → SinkState
 told_sink s = record { written = Some s.written; faults = s.faults }
 
@@ -62,6 +64,7 @@ told_sink s = record { written = Some s.written; faults = s.faults }
 abbrev pub IsFull : SinkInMemory → Type 0
 IsFull s = s.room ≤ length s.written
 
+-- what a store in memory tells
 abbrev pub told_store : StoreInMemory → StoreState
 told_store s = record { files = Some s.files; faults = s.faults }
 

@@ -12,6 +12,7 @@ Loads store name limit loaded.Absent = Holds store name None
 Loads store name limit loaded.TooLong = HoldsLonger store name limit
 Loads store name limit (loaded.Bytes bytes) = (length bytes ≤ limit) × Holds store name (Some bytes)
 
+-- what a create did: a new file with the bytes, or nothing, as the name was there
 abbrev pub Creates : StoreState → StoreState → List ℕ → List ℕ → Created → Type 0
 Creates old new name bytes created.Made = Added old new name bytes
 Creates old new name bytes created.Exists = KeptFiles old new × HoldsSome old name

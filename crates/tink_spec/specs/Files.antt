@@ -17,6 +17,7 @@ pub record StoreState : Type 0 where
   pub files : Option Files
   pub faults : ℕ
 
+-- the files are as before
 pub record KeptFiles (old new : StoreState) : Type 0 where
   pub files : old.files ≡ new.files
   pub faults : old.faults ≤ new.faults
@@ -33,11 +34,13 @@ HoldsLonger store name limit = IfSome store.files (λ files. (bytes : List ℕ) 
 abbrev pub HoldsSome : StoreState → List ℕ → Type 0
 HoldsSome store name = IfSome store.files (λ files. (bytes : List ℕ) × (map.get files name ≡ Some bytes))
 
+-- one file is new, with these bytes, and all others are as before
 pub record Added (old new : StoreState) (name bytes : List ℕ) : Type 0 where
   pub absent : Holds old name None
   pub files : new.files ≡ option_map (λ files. map.insert files name bytes) old.files
   pub faults : old.faults ≤ new.faults
 
+-- the same with the first of the bytes
 pub record AddedFront (old new : StoreState) (name bytes : List ℕ) : Type 0 where
   pub front : List ℕ
   pub rest : List ℕ

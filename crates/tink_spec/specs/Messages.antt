@@ -7,14 +7,17 @@ use Rattle.std.specs.Prelude.{ℕ, ◌%◌, ◌^◌, List, [], ◌∷◌, ◌++�
 use Rattle.std.specs.Str.{is_utf8}
 use Rattle.tink_spec.specs.Wire.{Payload, varint, bytes, WireField, cut}
 
+-- the payload is a number
 abbrev pub is_varint : Payload → Bool
 is_varint (varint value) = true
 is_varint _ = false
 
+-- the payload is bytes
 abbrev pub is_bytes : Payload → Bool
 is_bytes (bytes start content) = true
 is_bytes _ = false
 
+-- the payload is bytes that are UTF-8
 abbrev pub is_text : Payload → Bool
 is_text (bytes start content) = is_utf8 content
 is_text _ = false

@@ -17,6 +17,7 @@ IsVarint [] = ⊥
 IsVarint (b ∷ []) = b < 128
 IsVarint (b ∷ c ∷ bytes) = (128 ≤ b) × IsVarint (c ∷ bytes)
 
+-- the bytes are a varint, of at most ten bytes, and these are its low 64 bits
 pub record SpellsNumber (bytes : List ℕ) (value : ℕ) : Type 0 where
   pub form : IsVarint bytes
   pub short : length bytes ≤ 10
@@ -29,6 +30,7 @@ varint_front (b ∷ bytes) =
     if nat_lt b 128 then Some (b ∷ [], bytes)
     else option_map (λ cut. (b ∷ cut.0, cut.1)) (varint_front bytes)
 
+-- the number of the varint in front, and the bytes behind it
 unfoldable pub number_front : List ℕ → Option (ℕ × List ℕ)
 number_front bytes = option_and_then (λ cut.
     if nat_le (length cut.0) 10 then Some (groups cut.0 % 2 ^ 64, cut.1) else None) (varint_front bytes)

@@ -23,6 +23,7 @@ pub data Payload : Type 0 where
   -- four bytes, which no message here reads
   four : Payload
 
+-- a field of a message: its number, its place and its payload
 pub record WireField : Type 0 where
   pub number : ℕ
   -- the place of the tag's first byte
