@@ -1,20 +1,30 @@
--- What real streams and files tell: how often they have failed, and no bytes.
+-- What real streams, files and random bytes tell: how often they have failed, and no bytes.
 use Rattle.std.specs.Prelude.{ℕ, None, false}
 use Rattle.tink_spec.specs.Outside.{SourceState, SinkState, EntropyState}
 use Rattle.tink_spec.specs.Files.{StoreState}
+use Rattle.tinkey_host.specs.declared.streams.StdSource.{StdSource}
+use Rattle.tinkey_host.specs.declared.streams.StdSink.{StdSink}
 
--- a stream that is read, with so many faults
-abbrev pub untold_source : ℕ → SourceState
-untold_source faults = record { left = None; faults = faults }
+-- a stream that is read
+abbrev pub told_source : {R : Type 0} → StdSource R → SourceState
+told_source source = record { left = None; faults = source.faults }
+
+-- the stream beneath it
+abbrev pub stream_read : {R : Type 0} → StdSource R → R
+stream_read source = source.input
 
 -- a stream that is written
-abbrev pub untold_sink : ℕ → SinkState
-untold_sink faults = record { written = None; faults = faults }
+abbrev pub told_sink : {W : Type 0} → StdSink W → SinkState
+told_sink sink = record { written = None; faults = sink.faults }
 
--- the random bytes of the system, which may fail whatever is asked
-abbrev pub untold_entropy : ℕ → EntropyState
-untold_entropy faults = record { left = None; faults = faults; steady = false }
+-- the stream beneath it
+abbrev pub stream_written : {W : Type 0} → StdSink W → W
+stream_written sink = sink.output
 
--- the files
+-- the files, with so many faults
 abbrev pub untold_store : ℕ → StoreState
 untold_store faults = record { files = None; faults = faults }
+
+-- the random bytes of the system, with so many faults, which may fail whatever is asked
+abbrev pub untold_entropy : ℕ → EntropyState
+untold_entropy faults = record { left = None; faults = faults; steady = false }

@@ -3,4 +3,4 @@ use Rattle.tinkey_host.proofs.streams.read_through_signals.Given as goal
 
 -- what was interrupted moved nothing
 abbrev pub invariant-loop : goal.invariant-loop
-invariant-loop g l = Keeps (g.R.Read.remaining l.initial.input) (g.R.Read.remaining l.input)
+invariant-loop g l = Keeps (g.R.Read.remaining l.initial.stream) (g.R.Read.remaining l.stream)

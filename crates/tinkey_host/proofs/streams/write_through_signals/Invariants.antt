@@ -3,4 +3,4 @@ use Rattle.tinkey_host.proofs.streams.write_through_signals.Given as goal
 
 -- what was interrupted moved nothing
 abbrev pub invariant-loop : goal.invariant-loop
-invariant-loop g l = Keeps (g.W.Write.contents l.initial.output) (g.W.Write.contents l.output)
+invariant-loop g l = Keeps (g.W.Write.contents l.initial.stream) (g.W.Write.contents l.stream)
