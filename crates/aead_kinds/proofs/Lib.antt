@@ -1,3 +1,4 @@
 pub mod OnLiterals
 mod GcmExamples
 pub mod GcmLemmas
+pub mod InPlaceLemmas

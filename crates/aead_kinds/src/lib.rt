@@ -2,4 +2,7 @@
 //! bytes, an IV of 12 bytes and a tag of 16.
 #![tactic(auto)]
 
+mod gcm;
 pub mod laws;
+
+pub use gcm::{Gcm, gcm_open_in_place, gcm_seal_in_place};

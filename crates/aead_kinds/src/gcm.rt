@@ -1,0 +1,214 @@
+//! AES-GCM in place (SP 800-38D, 7), with an IV of 12 bytes and a tag of 16.
+//!
+//! No branch and no place in memory depends on the key or on a byte of text, associated data or tag,
+//! but for the answer whether the tag is the right one.
+
+ghost use Rattle.std.specs.Prelude.{◌≡◌, ◌≢◌, ◌↔◌, ◌*◌, ◌^◌, ◌≤◌, [], ◌∷◌, ◌++◌, length, IfOk, IsErr, IsTrue};
+ghost use Rattle.std.specs.Bool.{OnFalse, OnTrue};
+ghost use Rattle.std.specs.Int.{w64, to_be_bytes};
+ghost use Rattle.aead_kinds.specs.Gcm.{first_counter, gcm_tag, gcm_text, incremented};
+ghost use Rattle.aead_kinds.specs.GcmState.{RunsUnder};
+
+use aes_core::{Aes, CtrKind, KeySize};
+use ghash::Ghash;
+use std::marker::Model;
+
+/// AES-GCM under one key, for many messages: it keeps the expanded key, and what GHASH makes of the
+/// hash subkey. Contracts see it as the bytes of the key.
+///
+/// It takes about 4 KiB, so lend it rather than move it. A key stays in memory as long as it does.
+#[derive(Drop)]
+pub struct Gcm {
+    aes: Aes,
+    hash: Ghash,
+}
+
+impl Model for Gcm {
+    ghost use Rattle.std.specs.Prelude.{ℕ, List};
+    ghost use Rattle.aead_kinds.specs.GcmState.{RunsUnder};
+
+    ghost Value = { List ℕ };
+
+    ghost view = { λ gcm. gcm.aes };
+
+    ghost invariant = { λ gcm. RunsUnder gcm.hash gcm.aes };
+}
+
+impl Gcm {
+    /// Expands a key of 16 or 32 bytes.
+    ///
+    /// The answer is `KeySize` exactly where `key` has another length, 24 bytes among them.
+    pub fn new(key: &[u8]) -> Result<Gcm, KeySize>
+        ensures key { IfOk result (λ gcm. gcm ≡ key.now) }
+        ensures key_size { IsErr result ↔ ((length key.now ≢ 16) × (length key.now ≢ 32)) }
+    {
+        let aes = Aes::new(key)?;
+        let hash = hash_under(&aes);
+        Ok(Gcm { aes, hash })
+    }
+
+    /// Encrypts `body` in place and answers the tag (SP 800-38D, 7.1).
+    ///
+    /// `body` has at most 2^31 bytes, and `ad` at most 2^30. No IV may serve twice under one key:
+    /// this is for the caller to see to. No memory is taken.
+    pub fn seal_in_place(&mut self, iv: &[u8; 12], ad: &[u8], body: &mut [u8]) -> [u8; 16]
+        requires ad_bound { length ad.now ≤ 2 ^ 30 }
+        requires body_bound { length body.old ≤ 2 ^ 31 }
+        ensures text { body.new ≡ gcm_text self.old iv.now body.old }
+        ensures tag { result ≡ gcm_tag self.old iv.now ad.now body.new }
+        ensures key { self.new ≡ self.old }
+    {
+        seal_with(&self.aes, &mut self.hash, iv, ad, body)
+    }
+
+    /// Decrypts `body` in place, where the tag is the right one (SP 800-38D, 7.2).
+    ///
+    /// `body` holds the ciphertext, of at most 2^31 bytes, and `ad` has at most 2^30. The answer is
+    /// `false` exactly where `tag` isn't that of IV, `ad` and ciphertext; nothing was decrypted
+    /// then. No memory is taken.
+    pub fn open_in_place(
+        &mut self,
+        iv: &[u8; 12],
+        ad: &[u8],
+        body: &mut [u8],
+        tag: &[u8; 16],
+    ) -> bool
+        requires ad_bound { length ad.now ≤ 2 ^ 30 }
+        requires body_bound { length body.old ≤ 2 ^ 31 }
+        ensures authentic { IsTrue result ↔ (gcm_tag self.old iv.now ad.now body.old ≡ tag.now) }
+        ensures opened { OnTrue result (body.new ≡ gcm_text self.old iv.now body.old) }
+        ensures kept { OnFalse result (body.new ≡ body.old) }
+        ensures key { self.new ≡ self.old }
+    {
+        open_with(&self.aes, &mut self.hash, iv, ad, body, tag)
+    }
+}
+
+/// Encrypts `body` in place and answers the tag (SP 800-38D, 7.1), as `Gcm::seal_in_place` does. For
+/// many messages under one key that takes less time.
+pub fn gcm_seal_in_place(key: &Aes, iv: &[u8; 12], ad: &[u8], body: &mut [u8]) -> [u8; 16]
+    requires ad_bound { length ad.now ≤ 2 ^ 30 }
+    requires body_bound { length body.old ≤ 2 ^ 31 }
+    ensures text { body.new ≡ gcm_text key.now iv.now body.old }
+    ensures tag { result ≡ gcm_tag key.now iv.now ad.now body.new }
+{
+    seal_with(key, &mut hash_under(key), iv, ad, body)
+}
+
+/// Decrypts `body` in place, where the tag is the right one (SP 800-38D, 7.2), as
+/// `Gcm::open_in_place` does.
+///
+/// The answer is `false` exactly where `tag` isn't that of IV, `ad` and ciphertext; nothing was
+/// decrypted then. No memory is taken.
+pub fn gcm_open_in_place(
+    key: &Aes,
+    iv: &[u8; 12],
+    ad: &[u8],
+    body: &mut [u8],
+    tag: &[u8; 16],
+) -> bool
+    requires ad_bound { length ad.now ≤ 2 ^ 30 }
+    requires body_bound { length body.old ≤ 2 ^ 31 }
+    ensures authentic { IsTrue result ↔ (gcm_tag key.now iv.now ad.now body.old ≡ tag.now) }
+    ensures opened { OnTrue result (body.new ≡ gcm_text key.now iv.now body.old) }
+    ensures kept { OnFalse result (body.new ≡ body.old) }
+{
+    open_with(key, &mut hash_under(key), iv, ad, body, tag)
+}
+
+// GHASH of no block under H, the cipher of the block of zeros.
+fn hash_under(aes: &Aes) -> Ghash
+    ensures { RunsUnder result aes.now }
+{
+    Ghash::new(u128::from_be_bytes(aes.encrypt_block(&[0; 16])))
+}
+
+fn seal_with(aes: &Aes, hash: &mut Ghash, iv: &[u8; 12], ad: &[u8], body: &mut [u8]) -> [u8; 16]
+    requires runs { RunsUnder hash.old aes.now }
+    requires ad_bound { length ad.now ≤ 2 ^ 30 }
+    requires body_bound { length body.old ≤ 2 ^ 31 }
+    ensures text { body.new ≡ gcm_text aes.now iv.now body.old }
+    ensures tag { result ≡ gcm_tag aes.now iv.now ad.now body.new }
+    ensures runs { RunsUnder hash.new aes.now }
+{
+    crypt(aes, iv, body);
+    tag_of(aes, hash, iv, ad, body)
+}
+
+fn open_with(
+    aes: &Aes,
+    hash: &mut Ghash,
+    iv: &[u8; 12],
+    ad: &[u8],
+    body: &mut [u8],
+    tag: &[u8; 16],
+) -> bool
+    requires runs { RunsUnder hash.old aes.now }
+    requires ad_bound { length ad.now ≤ 2 ^ 30 }
+    requires body_bound { length body.old ≤ 2 ^ 31 }
+    ensures authentic { IsTrue result ↔ (gcm_tag aes.now iv.now ad.now body.old ≡ tag.now) }
+    ensures opened { OnTrue result (body.new ≡ gcm_text aes.now iv.now body.old) }
+    ensures kept { OnFalse result (body.new ≡ body.old) }
+    ensures runs { RunsUnder hash.new aes.now }
+{
+    let anew = tag_of(aes, hash, iv, ad, body);
+    let same = is_same(&anew, tag);
+    if same {
+        crypt(aes, iv, body);
+    }
+    same
+}
+
+// Encrypts or decrypts from the counter behind the first one, which is the tag's.
+fn crypt(aes: &Aes, iv: &[u8; 12], body: &mut [u8])
+    ensures { body.new ≡ gcm_text aes.now iv.now body.old }
+{
+    aes.ctr_xor(&counter_block(iv, 2), CtrKind::Low32, body);
+}
+
+// The tag of associated data and ciphertext.
+fn tag_of(aes: &Aes, hash: &mut Ghash, iv: &[u8; 12], ad: &[u8], text: &[u8]) -> [u8; 16]
+    requires runs { RunsUnder hash.old aes.now }
+    requires ad_bound { length ad.now ≤ 2 ^ 30 }
+    requires text_bound { length text.now ≤ 2 ^ 31 }
+    ensures tag { result ≡ gcm_tag aes.now iv.now ad.now text.now }
+    ensures runs { RunsUnder hash.new aes.now }
+{
+    hash.restart();
+    hash.absorb(ad);
+    hash.absorb(text);
+    hash.absorb(&length_block(ad.len(), text.len()));
+    let mut tag = hash.finish().to_be_bytes();
+    aes.ctr_xor(&counter_block(iv, 1), CtrKind::Low32, &mut tag);
+    tag
+}
+
+// The counter block of this IV whose last byte is that number.
+fn counter_block(iv: &[u8; 12], last: u8) -> [u8; 16]
+    ensures { result ≡ iv.now ++ 0 ∷ 0 ∷ 0 ∷ last ∷ [] }
+{
+    let mut block = [0; 16];
+    block[..12].copy_from_slice(iv);
+    block[15] = last;
+    block
+}
+
+// The lengths of associated data and text, which are counted in bytes here, and in bits there.
+fn length_block(ad: usize, text: usize) -> [u8; 16]
+    requires ad_bound { ad ≤ 2 ^ 30 }
+    requires text_bound { text ≤ 2 ^ 31 }
+    ensures { result ≡ to_be_bytes w64 (8 * ad) ++ to_be_bytes w64 (8 * text) }
+{
+    let mut block = [0; 16];
+    block[..8].copy_from_slice(&(8 * ad as u64).to_be_bytes());
+    block[8..].copy_from_slice(&(8 * text as u64).to_be_bytes());
+    block
+}
+
+// Whether two tags are the same: all their bits are compared at once.
+fn is_same(a: &[u8; 16], b: &[u8; 16]) -> bool
+    ensures { IsTrue result ↔ (a.now ≡ b.now) }
+{
+    let difference = u128::from_be_bytes(*a) ^ u128::from_be_bytes(*b);
+    difference == 0
+}
