@@ -2,22 +2,27 @@
 
 ghost use Rattle.std.specs.Prelude.{◌≡◌, ◌⊎◌, length};
 
+use aead_kinds::Gcm;
 use aes_core::{Aes, CtrKind};
 use ghash::Ghash;
 use mac_prf::Hmac;
 use tink_base::Hash;
 
 /// Their names, in the order in which they are printed.
-pub const NAMES: [&str; 5] = [
+pub const NAMES: [&str; 6] = [
     "aes128-ctr",
     "aes256-ctr",
     "aes128-chain",
     "ghash",
+    "aes128-gcm",
     "hmac-sha256",
 ];
 
 /// A subkey of GHASH: the cipher of the block of zeros under the key of zeros.
 const SUBKEY: u128 = 0x66e9_4bd4_ef8a_2c3b_884c_fa59_ca34_2b2e;
+
+/// How many bytes a text that AES-GCM seals has at the most.
+const LONGEST_GCM: usize = 1 << 31;
 
 /// A kernel that is ready to run.
 #[derive(Drop)]
@@ -28,6 +33,8 @@ pub enum Kernel {
     Chain(Aes),
     /// GHASH under one subkey.
     Ghash(Ghash),
+    /// Sealing by AES-GCM, under one key.
+    Gcm(Gcm),
     /// HMAC with SHA-256, the key included.
     Hmac,
 }
@@ -40,6 +47,7 @@ impl Kernel {
             "aes256-ctr" => Some(Kernel::Counter(new_aes(&[0; 32]))),
             "aes128-chain" => Some(Kernel::Chain(new_aes(&[0; 16]))),
             "ghash" => Some(Kernel::Ghash(new_ghash(SUBKEY))),
+            "aes128-gcm" => Some(Kernel::Gcm(new_gcm(&[0; 16]))),
             "hmac-sha256" => Some(Kernel::Hmac),
             _ => None,
         }
@@ -51,6 +59,7 @@ impl Kernel {
             Kernel::Counter(aes) => count(aes, text),
             Kernel::Chain(aes) => chain(aes, text),
             Kernel::Ghash(ghash) => hash(ghash, text),
+            Kernel::Gcm(gcm) => seal(gcm, text),
             Kernel::Hmac => tag(text),
         }
     }
@@ -64,6 +73,16 @@ fn new_aes(key: &[u8]) -> Aes
 {
     match Aes::new(key) {
         Ok(aes) => aes,
+        Err(_) => unreachable!(),
+    }
+}
+
+#[inline(never)]
+fn new_gcm(key: &[u8]) -> Gcm
+    requires { (length key.now ≡ 16) ⊎ (length key.now ≡ 32) }
+{
+    match Gcm::new(key) {
+        Ok(gcm) => gcm,
         Err(_) => unreachable!(),
     }
 }
@@ -90,6 +109,12 @@ fn chain(aes: &Aes, text: &[u8]) -> u8 {
 fn hash(ghash: &mut Ghash, text: &[u8]) -> u8 {
     ghash.absorb(text);
     (ghash.finish() & 0xff) as u8
+}
+
+#[inline(never)]
+fn seal(gcm: &mut Gcm, text: &mut [u8]) -> u8 {
+    let size = text.len().min(LONGEST_GCM);
+    gcm.seal_in_place(&[0; 12], &[], &mut text[..size])[0]
 }
 
 #[inline(never)]
