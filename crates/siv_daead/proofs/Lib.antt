@@ -1,0 +1,3 @@
+pub mod OnLiterals
+mod SivExamples
+pub mod SivLemmas

@@ -1,0 +1,2 @@
+pub mod Siv
+pub mod Laws
