@@ -20,3 +20,6 @@ pub use primitive::Primitive;
 pub use reading::read_key;
 pub use rule::Rule;
 pub use template::{Template, TemplateFault, make_key, template_at, template_named};
+
+#[cfg(test)]
+mod tests;
