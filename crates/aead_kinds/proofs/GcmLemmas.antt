@@ -1,6 +1,6 @@
 -- What AES-GCM gives has its length, consists of bytes and opens again.
-use Rattle.std.proofs.Common.{◌≡◌, ℕ, zero, suc, ◌+◌, ◌-◌, ◌<◌, ◌≤◌, cond, nat_lt, Some, None, List, [], ◌∷◌, ◌++◌, length, take, drop, sym, ap, ◌∙◌, arith}
-use Rattle.std.proofs.lemmas.Bool.{cond-false, cond-true, cond_both, le-ltb, ltb-false}
+use Rattle.std.proofs.Common.{◌≡◌, ℕ, zero, suc, ◌+◌, ◌-◌, ◌<◌, ◌≤◌, cond, nat_lt, Some, None, List, [], ◌∷◌, ◌++◌, length, take, drop, refl, sym, ap, ◌∙◌, arith}
+use Rattle.std.proofs.lemmas.Bool.{cond-false, cond-true, cond_both, le-ltb, lt-ltb, ltb-false}
 use Rattle.std.proofs.lemmas.List.{append_assoc, drop-drop, drop_at, length-append, length-take, take-append-drop, take_at}
 use Rattle.std.proofs.lemmas.List.Elements.{All-append, All-from_recursion, All-nil}
 use Rattle.std.proofs.lemmas.Option.{none-some, same_Some}
@@ -71,7 +71,27 @@ opens key bytes ad long same =
     (le-ltb (length bytes) 28 long)
     ∙ cond-true (is_authentic key bytes ad) plain None (decides.1 same)
 
--- and only there
+-- where they are too short, or the test fails, they don't
+pub closed-short : (key bytes ad : List ℕ) → length bytes < 28 → gcm_open key bytes ad ≡ None
+unfolding gcm_open
+closed-short key bytes ad short =
+    cond-true (nat_lt (length bytes) 28) None
+    (cond (is_authentic key bytes ad) (Some (gcm_text key (iv_of bytes) (text_of bytes))) None)
+    (lt-ltb (length bytes) 28 short)
+
+pub closed : (key bytes ad : List ℕ) → 28 ≤ length bytes
+    → (tag_of bytes ≡ gcm_tag key (iv_of bytes) ad (text_of bytes) → ⊥)
+    → gcm_open key bytes ad ≡ None
+unfolding gcm_open
+closed key bytes ad long other =
+    let decides = bytes_eq-Decides (tag_of bytes) (gcm_tag key (iv_of bytes) ad (text_of bytes)) in
+    let plain = Some (gcm_text key (iv_of bytes) (text_of bytes)) in
+    cond-false (nat_lt (length bytes) 28) None (cond (is_authentic key bytes ad) plain None)
+    (le-ltb (length bytes) 28 long)
+    ∙ cond_both (is_authentic key bytes ad) plain None (λ o. o ≡ None)
+    (λ same. absurd (other (decides.0 same))) (λ e. refl)
+
+-- a plaintext comes only where both hold
 pub opened : (key bytes plain ad : List ℕ) → gcm_open key bytes ad ≡ Some plain
     → (28 ≤ length bytes) × (tag_of bytes ≡ gcm_tag key (iv_of bytes) ad (text_of bytes))
     × (gcm_text key (iv_of bytes) (text_of bytes) ≡ plain)

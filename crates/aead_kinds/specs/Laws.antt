@@ -1,9 +1,17 @@
--- The laws of AES-GCM, over its definitions alone.
+-- The laws of sealing and opening, over the definitions alone.
 use Rattle.std.specs.Prelude.{◌≡◌, ◌↔◌, ℕ, ◌+◌, Some, List, length, take}
 use Rattle.aes_core.specs.Bytes.{IsBytes}
+use Rattle.aead_kinds.specs.Aead.{iv_size_of, open_key, seal_of}
 use Rattle.aead_kinds.specs.Gcm.{gcm_open, gcm_seal}
+use Rattle.aead_kinds.specs.declared.aead.AeadKey.{AeadKey}
 
--- bytes open to a plaintext exactly where they are its sealing under their own first 12 bytes
+-- under a key of any kind, bytes open to a plaintext exactly where they are its sealing under the IV
+-- at their own front
+abbrev pub OpensSealings : Type 0
+OpensSealings = (key : AeadKey) (bytes plain ad : List ℕ)
+    → open_key key bytes ad ≡ Some plain ↔ bytes ≡ seal_of key (take (iv_size_of key) bytes) plain ad
+
+-- the same of AES-GCM, whose IV has 12 bytes
 abbrev pub GcmOpensSealings : Type 0
 GcmOpensSealings = (key bytes plain ad : List ℕ)
     → gcm_open key bytes ad ≡ Some plain ↔ bytes ≡ gcm_seal key (take 12 bytes) plain ad

@@ -1,3 +1,4 @@
+pub mod Aead
 pub mod Gcm
 pub mod GcmState
 pub mod Laws

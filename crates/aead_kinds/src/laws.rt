@@ -1,9 +1,14 @@
 //! Laws of the definitions. Each is the contract of a function that does nothing.
 
-ghost use Rattle.aead_kinds.specs.Laws.{GcmOpensSealings, GcmSealsBytes};
+ghost use Rattle.aead_kinds.specs.Laws.{GcmOpensSealings, GcmSealsBytes, OpensSealings};
 
-/// Bytes open under a key and associated data to a plaintext exactly where they are what sealing
-/// makes of it, with their first 12 bytes as the IV.
+/// Bytes open under a key of any kind and associated data to a plaintext exactly where they are what
+/// sealing makes of it, with the IV at their own front.
+pub fn opens_sealings()
+    ensures { OpensSealings }
+{}
+
+/// The same of AES-GCM alone, whose IV has 12 bytes.
 pub fn gcm_opens_sealings()
     ensures { GcmOpensSealings }
 {}

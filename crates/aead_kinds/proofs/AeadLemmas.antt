@@ -1,0 +1,85 @@
+-- What sealing and opening give, of the parts that the code works on.
+use Rattle.std.proofs.Common.{◌≡◌, ℕ, ◌+◌, ◌-◌, ◌≤◌, Some, None, List, ◌++◌, length, take, drop, sym, ap, ◌∙◌, arith}
+use Rattle.std.proofs.lemmas.List.{drop-drop, drop_at, length-append, length-drop, length-take-le, take-append-le, take_at}
+use Rattle.std.proofs.lemmas.Slice.{take-put_mid}
+use borrow.Rule.Slice.PartMut.{post_of, put_mid}
+use Rattle.aead_kinds.specs.Gcm.{gcm_open, gcm_seal, gcm_tag, gcm_text, iv_of, tag_of, text_of}
+use Rattle.aead_kinds.proofs.GcmLemmas.{closed, opens}
+
+-- ---- opening
+
+-- the parts of bytes, as they are cut off: the IV at the front, and then the tag at the back
+pub record AreParts (bytes iv rest text tag : List ℕ) : Type 0 where
+  pub front : iv ≡ take 12 bytes
+  pub behind : rest ≡ drop 12 bytes
+  pub middle : text ≡ take (length rest - 16) rest
+  pub back : tag ≡ drop (length rest - 16) rest
+  pub long : 28 ≤ length bytes
+
+text_is : (bytes iv rest text tag : List ℕ) → AreParts bytes iv rest text tag
+    → text ≡ text_of bytes
+text_is bytes iv rest text tag parts =
+    let size : length (drop 12 bytes) - 16 ≡ length bytes - 28
+    = omega (arith, length-drop 12 bytes) in
+    parts.middle ∙ ap (λ r. take (length r - 16) r) parts.behind
+    ∙ ap (λ n. take n (drop 12 bytes)) size
+
+tag_is : (bytes iv rest text tag : List ℕ) → AreParts bytes iv rest text tag → tag ≡ tag_of bytes
+tag_is bytes iv rest text tag parts =
+    let before : ℕ = length (drop 12 bytes) - 16 in
+    let size : 12 + before ≡ length bytes - 16
+    = omega (arith, length-drop 12 bytes, parts.long) in
+    parts.back ∙ ap (λ r. drop (length r - 16) r) parts.behind
+    ∙ drop-drop before 12 bytes ∙ ap (λ n. drop n bytes) size
+
+anew_is : (key bytes ad iv rest text tag : List ℕ) → AreParts bytes iv rest text tag
+    → gcm_tag key iv ad text ≡ gcm_tag key (iv_of bytes) ad (text_of bytes)
+anew_is key bytes ad iv rest text tag parts =
+    ap (λ v. gcm_tag key v ad text) parts.front
+    ∙ ap (λ t. gcm_tag key (iv_of bytes) ad t) (text_is bytes iv rest text tag parts)
+
+pub parts-open : (key bytes ad iv rest text tag : List ℕ) → AreParts bytes iv rest text tag
+    → gcm_tag key iv ad text ≡ tag → gcm_open key bytes ad ≡ Some (gcm_text key iv text)
+parts-open key bytes ad iv rest text tag parts same =
+    opens key bytes ad parts.long
+    (sym (tag_is bytes iv rest text tag parts) ∙ sym same
+    ∙ anew_is key bytes ad iv rest text tag parts)
+    ∙ ap (λ v. Some (gcm_text key v (text_of bytes))) (sym parts.front)
+    ∙ ap (λ t. Some (gcm_text key iv t)) (sym (text_is bytes iv rest text tag parts))
+
+pub parts-closed : (key bytes ad iv rest text tag : List ℕ) → AreParts bytes iv rest text tag
+    → (gcm_tag key iv ad text ≡ tag → ⊥) → gcm_open key bytes ad ≡ None
+parts-closed key bytes ad iv rest text tag parts other =
+    closed key bytes ad parts.long
+    (λ same. other (anew_is key bytes ad iv rest text tag parts ∙ sym same
+    ∙ sym (tag_is bytes iv rest text tag parts)))
+
+-- ---- sealing
+
+-- what a write of all that stands behind the first 12 bytes leaves in a vector of that length
+pub written_behind : (items slice new : List ℕ) (len : ℕ) → slice ≡ items → len ≡ length items
+    → 12 ≤ length items → length new ≡ length items - 12
+    → take len (put_mid 12 (length slice - 12) slice new
+    ++ drop (length (put_mid 12 (length slice - 12) slice new)) items)
+    ≡ take 12 items ++ new
+written_behind items slice new len e l long size =
+    let all : List ℕ = put_mid 12 (length slice - 12) slice new in
+    let post : List ℕ = post_of 12 (length slice - 12) slice in
+    let same : length slice ≡ length items = ap (λ xs. length xs) e in
+    let front : length (take 12 slice) ≡ 12 = length-take-le 12 slice (omega (arith, same)) in
+    let within : len ≤ length all
+    = omega (arith, length-append (take 12 slice) (new ++ post), length-append new post, front) in
+    take-append-le len all (drop (length all) items) within
+    ∙ take-put_mid 12 (length slice - 12) slice new len (omega arith) (omega (arith, same))
+    ∙ ap (λ xs. take 12 xs ++ new) e
+
+-- what stands behind the IV was encrypted in its place, and the tag appended
+pub sealed_in_place : (key iv plain ad body text tag all : List ℕ) → length iv ≡ 12
+    → body ≡ drop 12 (iv ++ plain) → text ≡ gcm_text key iv body → tag ≡ gcm_tag key iv ad text
+    → all ≡ take 12 (iv ++ plain) ++ text ++ tag → all ≡ gcm_seal key iv plain ad
+unfolding gcm_seal
+sealed_in_place key iv plain ad body text tag all h body_is text_is tag_is all_is =
+    let same : text ≡ gcm_text key iv plain
+    = text_is ∙ ap (λ b. gcm_text key iv b) (body_is ∙ drop_at iv plain 12 h) in
+    all_is ∙ ap (λ front. front ++ text ++ tag) (take_at iv plain 12 h)
+    ∙ ap (λ t. iv ++ text ++ t) tag_is ∙ ap (λ t. iv ++ t ++ gcm_tag key iv ad t) same

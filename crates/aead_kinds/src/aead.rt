@@ -1,0 +1,149 @@
+//! Sealing and opening under a key of any kind.
+
+ghost use Rattle.std.specs.Prelude.{◌≡◌, ◌⊎◌, ◌↔◌, ◌+◌, ◌^◌, ◌≤◌, length, IfOk, IsTrue};
+ghost use Rattle.std.specs.Option.{option_map};
+ghost use Rattle.aead_kinds.specs.Aead.{IsFit, iv_size_of, open_key, seal_of};
+ghost use Rattle.aead_kinds.specs.Gcm.{gcm_open, gcm_seal};
+
+use crate::gcm::{gcm_open_in_place, gcm_seal_in_place};
+use aes_core::Aes;
+use std::alloc::Global;
+use tink_base::NoMemory;
+
+/// The bytes of an IV of AES-GCM.
+const GCM_IV: usize = 12;
+
+/// The bytes of its tag.
+const TAG: usize = 16;
+
+/// A key of some kind of AEAD.
+#[derive(Clone, Copy)]
+pub enum AeadKey<'k> {
+    /// AES-GCM (SP 800-38D) with an IV of 12 bytes and a tag of 16.
+    Gcm { key: &'k [u8] },
+}
+
+impl AeadKey<'_> {
+    /// Whether the key's sizes are those of its kind: an AES-GCM key has 16 or 32 bytes.
+    pub fn fits(&self) -> bool
+        ensures { IsTrue result ↔ IsFit self.now }
+    {
+        match self {
+            AeadKey::Gcm { key } => key.len() == 16 || key.len() == 32,
+        }
+    }
+
+    /// How many bytes an IV has: 12 for AES-GCM.
+    pub fn iv_size(&self) -> usize
+        ensures { result ≡ iv_size_of self.now }
+    {
+        match self {
+            AeadKey::Gcm { .. } => GCM_IV,
+        }
+    }
+}
+
+/// Seals `plain`: the IV, the ciphertext and the tag, joined.
+///
+/// `plain` and `ad` have at most 2^30 bytes each. No IV may serve twice under one key: this is for
+/// the caller to see to.
+pub fn seal(
+    alloc: Global,
+    key: &AeadKey<'_>,
+    iv: &[u8],
+    plain: &[u8],
+    ad: &[u8],
+) -> Result<Vec<u8>, NoMemory>
+    requires fits { IsFit key.now }
+    requires iv_size { length iv.now ≡ iv_size_of key.now }
+    requires plain_bound { length plain.now ≤ 2 ^ 30 }
+    requires ad_bound { length ad.now ≤ 2 ^ 30 }
+    ensures { IfOk result (λ v. v.items ≡ seal_of key.now iv.now plain.now ad.now) }
+{
+    match key {
+        AeadKey::Gcm { key } => gcm_sealed(alloc, key, iv, plain, ad),
+    }
+}
+
+/// Opens IV, ciphertext and tag, joined.
+///
+/// `bytes` have at most 2^30 + 96, and `ad` at most 2^30. The answer is `None` exactly where `bytes`
+/// are shorter than IV and tag, or the tag isn't the one computed anew; nothing was decrypted then.
+pub fn open(
+    alloc: Global,
+    key: &AeadKey<'_>,
+    bytes: &[u8],
+    ad: &[u8],
+) -> Result<Option<Vec<u8>>, NoMemory>
+    requires fits { IsFit key.now }
+    requires bytes_bound { length bytes.now ≤ 2 ^ 30 + 96 }
+    requires ad_bound { length ad.now ≤ 2 ^ 30 }
+    ensures { IfOk result (λ o. option_map (λ v. v.items) o ≡ open_key key.now bytes.now ad.now) }
+{
+    match key {
+        AeadKey::Gcm { key } => gcm_opened(alloc, key, bytes, ad),
+    }
+}
+
+fn gcm_sealed(
+    alloc: Global,
+    key: &[u8],
+    iv: &[u8],
+    plain: &[u8],
+    ad: &[u8],
+) -> Result<Vec<u8>, NoMemory>
+    requires fits { (length key.now ≡ 16) ⊎ (length key.now ≡ 32) }
+    requires iv_size { length iv.now ≡ 12 }
+    requires plain_bound { length plain.now ≤ 2 ^ 30 }
+    requires ad_bound { length ad.now ≤ 2 ^ 30 }
+    ensures { IfOk result (λ v. v.items ≡ gcm_seal key.now iv.now plain.now ad.now) }
+{
+    let mut sealed = Vec::with_capacity(alloc, GCM_IV + plain.len() + TAG)?;
+    sealed.extend_from_slice(iv)?;
+    sealed.extend_from_slice(plain)?;
+    let tag = match iv.first_chunk::<GCM_IV>() {
+        Some(iv) => {
+            let body = &mut sealed.as_mut_slice()[GCM_IV..];
+            gcm_seal_in_place(&expanded(key), iv, ad, body)
+        }
+        None => unreachable!(),
+    };
+    sealed.extend_from_slice(&tag)?;
+    Ok(sealed)
+}
+
+fn gcm_opened(
+    alloc: Global,
+    key: &[u8],
+    bytes: &[u8],
+    ad: &[u8],
+) -> Result<Option<Vec<u8>>, NoMemory>
+    requires fits { (length key.now ≡ 16) ⊎ (length key.now ≡ 32) }
+    requires bytes_bound { length bytes.now ≤ 2 ^ 30 + 96 }
+    requires ad_bound { length ad.now ≤ 2 ^ 30 }
+    ensures { IfOk result (λ o. option_map (λ v. v.items) o ≡ gcm_open key.now bytes.now ad.now) }
+{
+    let Some((iv, rest)) = bytes.split_first_chunk::<GCM_IV>() else {
+        return Ok(None);
+    };
+    let Some((text, tag)) = rest.split_last_chunk::<TAG>() else {
+        return Ok(None);
+    };
+    let mut body = text.to_vec(alloc)?;
+    if gcm_open_in_place(&expanded(key), iv, ad, body.as_mut_slice(), tag) {
+        Ok(Some(body))
+    } else {
+        Ok(None)
+    }
+}
+
+// The expansion of a key that fits.
+fn expanded(key: &[u8]) -> Aes
+    requires { (length key.now ≡ 16) ⊎ (length key.now ≡ 32) }
+    ensures { result ≡ key.now }
+{
+    match Aes::new(key) {
+        Ok(aes) => aes,
+        Err(_) => unreachable!(),
+    }
+}
