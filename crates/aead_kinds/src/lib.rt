@@ -8,3 +8,6 @@ pub mod laws;
 
 pub use aead::{AeadKey, open, seal};
 pub use gcm::{Gcm, gcm_open_in_place, gcm_seal_in_place};
+
+#[cfg(test)]
+mod tests;
