@@ -2,6 +2,7 @@
 use Rattle.std.specs.Prelude.{◌≡◌, ◌↔◌, ℕ, ◌+◌, Some, List, length, take}
 use Rattle.aes_core.specs.Bytes.{IsBytes}
 use Rattle.aead_kinds.specs.Aead.{iv_size_of, open_key, seal_of}
+use Rattle.aead_kinds.specs.Eax.{eax_open, eax_seal}
 use Rattle.aead_kinds.specs.Gcm.{gcm_open, gcm_seal}
 use Rattle.aead_kinds.specs.declared.aead.AeadKey.{AeadKey}
 
@@ -21,3 +22,14 @@ abbrev pub GcmSealsBytes : Type 0
 GcmSealsBytes = (key iv plain ad : List ℕ) → IsBytes key → IsBytes iv → IsBytes plain
     → (length (gcm_seal key iv plain ad) ≡ length iv + length plain + 16)
     × IsBytes (gcm_seal key iv plain ad)
+
+-- the same two of EAX, whose IV has the size that the key gives, in bytes
+abbrev pub EaxOpensSealings : Type 0
+EaxOpensSealings = (key : List ℕ) (iv_size : ℕ) (bytes plain ad : List ℕ)
+    → eax_open key iv_size bytes ad ≡ Some plain
+    ↔ bytes ≡ eax_seal key (take iv_size bytes) plain ad
+
+abbrev pub EaxSealsBytes : Type 0
+EaxSealsBytes = (key iv plain ad : List ℕ) → IsBytes key → IsBytes iv → IsBytes plain
+    → (length (eax_seal key iv plain ad) ≡ length iv + length plain + 16)
+    × IsBytes (eax_seal key iv plain ad)

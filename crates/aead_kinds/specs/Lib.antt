@@ -1,4 +1,6 @@
 pub mod Aead
+pub mod Eax
+pub mod EncryptThenTag
 pub mod Gcm
 pub mod GcmState
 pub mod Laws

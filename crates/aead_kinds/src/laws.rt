@@ -1,6 +1,8 @@
 //! Laws of the definitions. Each is the contract of a function that does nothing.
 
-ghost use Rattle.aead_kinds.specs.Laws.{GcmOpensSealings, GcmSealsBytes, OpensSealings};
+ghost use Rattle.aead_kinds.specs.Laws.{EaxOpensSealings, EaxSealsBytes, GcmOpensSealings, GcmSealsBytes, OpensSealings};
+
+use mac_prf::laws::cmac_has_a_block;
 
 /// Bytes open under a key of any kind and associated data to a plaintext exactly where they are what
 /// sealing makes of it, with the IV at their own front.
@@ -17,3 +19,15 @@ pub fn gcm_opens_sealings()
 pub fn gcm_seals_bytes()
     ensures { GcmSealsBytes }
 {}
+
+/// The same of EAX, whose IV has the size that the key gives.
+pub fn eax_opens_sealings()
+    ensures { EaxOpensSealings }
+{}
+
+/// What EAX seals has 16 bytes more than IV and plaintext, each below 256 where those are.
+pub fn eax_seals_bytes()
+    ensures { EaxSealsBytes }
+{
+    cmac_has_a_block();
+}
