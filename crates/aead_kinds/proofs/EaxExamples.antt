@@ -1,5 +1,5 @@
--- Examples that the EAX paper prints (appendix G): an empty message, and one longer than a block. Each
--- is computed from the definitions alone.
+-- Two of the EAX paper's printed test vectors: an empty message, and one longer than a block. Each is
+-- computed from the definitions alone.
 use Rattle.std.proofs.Common.{◌≡◌, ℕ, Some, None, List, [], ◌++◌, take, refl}
 use Rattle.std.specs.Int.{w64, w128, to_be_bytes}
 use Rattle.aead_kinds.specs.Eax.{eax_open, eax_seal}

@@ -1,8 +1,10 @@
 pub mod OnLiterals
 mod GcmExamples
 mod EaxExamples
+mod CtrHmacExamples
 pub mod GcmLemmas
 pub mod EncryptThenTagLemmas
+pub mod CtrHmacLemmas
 pub mod EaxLemmas
 pub mod InPlaceLemmas
 pub mod AeadLemmas

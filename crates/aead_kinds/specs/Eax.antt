@@ -1,10 +1,11 @@
 -- EAX (Bellare, Rogaway and Wagner, The EAX Mode of Operation, 2004) over AES, on lists of bytes, with
--- whole tags of 16 bytes. The names are those of the paper's figure 1: N is the IV's there too.
+-- whole tags of 16 bytes. K, M and C are the paper's; the IV is its nonce, and the associated data its
+-- header.
 --
 --   omac         OMAC^t_K
 --   eax_text     C of M, and M of C
---   eax_tag      T
---   eax_seal     IV, C and T joined
+--   eax_tag      Tag
+--   eax_seal     IV, C and Tag joined
 --   eax_open     M of those bytes, or none, which stands for INVALID
 use Rattle.std.specs.Prelude.{ℕ, Option, List, ◌++◌}
 use Rattle.std.specs.Int.{w128, to_be_bytes}
@@ -22,7 +23,7 @@ omac t key m = cmac key (to_be_bytes w128 t ++ m)
 unfoldable pub eax_text : List ℕ → List ℕ → List ℕ → List ℕ
 eax_text key iv text = ctr key (omac 0 key iv) All128 text
 
--- T: OMAC^0 of the IV, OMAC^1 of the associated data, the paper's header, and OMAC^2 of C, added
+-- Tag: the sum of OMAC^0 of the IV, OMAC^1 of the associated data and OMAC^2 of C
 unfoldable pub eax_tag : List ℕ → List ℕ → List ℕ → List ℕ → List ℕ
 eax_tag key iv ad text = xor_bytes (xor_bytes (omac 0 key iv) (omac 1 key ad)) (omac 2 key text)
 

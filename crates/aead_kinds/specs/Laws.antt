@@ -1,7 +1,10 @@
 -- The laws of sealing and opening, over the definitions alone.
-use Rattle.std.specs.Prelude.{◌≡◌, ◌↔◌, ℕ, ◌+◌, Some, List, length, take}
+use Rattle.std.specs.Prelude.{◌≡◌, ◌↔◌, ℕ, ◌+◌, ◌≤◌, Some, List, length, take}
 use Rattle.aes_core.specs.Bytes.{IsBytes}
 use Rattle.aead_kinds.specs.Aead.{iv_size_of, open_key, seal_of}
+use Rattle.tink_base.specs.Hash.{hash_size}
+use Rattle.tink_base.specs.declared.hash.Hash.{Hash}
+use Rattle.aead_kinds.specs.CtrHmac.{ctr_hmac_open, ctr_hmac_seal}
 use Rattle.aead_kinds.specs.Eax.{eax_open, eax_seal}
 use Rattle.aead_kinds.specs.Gcm.{gcm_open, gcm_seal}
 use Rattle.aead_kinds.specs.declared.aead.AeadKey.{AeadKey}
@@ -33,3 +36,17 @@ abbrev pub EaxSealsBytes : Type 0
 EaxSealsBytes = (key iv plain ad : List ℕ) → IsBytes key → IsBytes iv → IsBytes plain
     → (length (eax_seal key iv plain ad) ≡ length iv + length plain + 16)
     × IsBytes (eax_seal key iv plain ad)
+
+-- the same two of AES-CTR-HMAC, whose tag has at least a byte and at most a digest's
+abbrev pub CtrHmacOpensSealings : Type 0
+CtrHmacOpensSealings = (aes : List ℕ) (iv_size : ℕ) (hash : Hash) (mac : List ℕ) (tag_size : ℕ)
+    (bytes plain ad : List ℕ) → 1 ≤ tag_size → tag_size ≤ hash_size hash
+    → ctr_hmac_open aes iv_size hash mac tag_size bytes ad ≡ Some plain
+    ↔ bytes ≡ ctr_hmac_seal aes hash mac tag_size (take iv_size bytes) plain ad
+
+abbrev pub CtrHmacSealsBytes : Type 0
+CtrHmacSealsBytes = (aes : List ℕ) (hash : Hash) (mac : List ℕ) (tag_size : ℕ)
+    (iv plain ad : List ℕ) → 1 ≤ tag_size → tag_size ≤ hash_size hash
+    → IsBytes aes → IsBytes iv → IsBytes plain
+    → (length (ctr_hmac_seal aes hash mac tag_size iv plain ad) ≡ length iv + length plain + tag_size)
+    × IsBytes (ctr_hmac_seal aes hash mac tag_size iv plain ad)

@@ -1,4 +1,5 @@
 pub mod Aead
+pub mod CtrHmac
 pub mod Eax
 pub mod EncryptThenTag
 pub mod Gcm

@@ -1,6 +1,6 @@
 //! Laws of the definitions. Each is the contract of a function that does nothing.
 
-ghost use Rattle.aead_kinds.specs.Laws.{EaxOpensSealings, EaxSealsBytes, GcmOpensSealings, GcmSealsBytes, OpensSealings};
+ghost use Rattle.aead_kinds.specs.Laws.{CtrHmacOpensSealings, CtrHmacSealsBytes, EaxOpensSealings, EaxSealsBytes, GcmOpensSealings, GcmSealsBytes, OpensSealings};
 
 use mac_prf::laws::cmac_has_a_block;
 
@@ -31,3 +31,14 @@ pub fn eax_seals_bytes()
 {
     cmac_has_a_block();
 }
+
+/// The same of AES-CTR-HMAC, whose tag has at least a byte and at most as many as a digest.
+pub fn ctr_hmac_opens_sealings()
+    ensures { CtrHmacOpensSealings }
+{}
+
+/// What AES-CTR-HMAC seals has as many bytes more than IV and plaintext as its tag, each below 256
+/// where those are.
+pub fn ctr_hmac_seals_bytes()
+    ensures { CtrHmacSealsBytes }
+{}
