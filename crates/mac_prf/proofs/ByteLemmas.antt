@@ -10,7 +10,7 @@ use Rattle.sha2.specs.Sha256 as s256
 use Rattle.sha2.specs.Sha512 as s512
 use Rattle.mac_prf.specs.Hmac.{digest, hmac}
 
-abbrev IsByte : ℕ → Type 0
+abbrev pub IsByte : ℕ → Type 0
 IsByte byte = byte < 256
 
 bytes-word32 : (n : ℕ) → All IsByte (to_be_bytes w32 n)

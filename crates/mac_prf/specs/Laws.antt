@@ -3,6 +3,7 @@ use Rattle.std.specs.Prelude.{◌≡◌, ℕ, List, length}
 use Rattle.tink_base.specs.declared.hash.Hash.{Hash}
 use Rattle.tink_base.specs.Hash.{hash_size}
 use Rattle.mac_prf.specs.Hmac.{hmac}
+use Rattle.mac_prf.specs.Hkdf.{hkdf}
 use Rattle.mac_prf.specs.Cmac.{cmac}
 use Rattle.aes_core.specs.Bytes.{IsBytes}
 
@@ -18,3 +19,8 @@ TagsAreBytes = (hash : Hash) (key m : List ℕ) → IsBytes (hmac hash key m)
 abbrev pub CmacHasABlock : Type 0
 CmacHasABlock = (key m : List ℕ) → IsBytes key
     → (length (cmac key m) ≡ 16) × IsBytes (cmac key m)
+
+-- what HKDF derives has the length that is asked for, and consists of bytes
+abbrev pub HkdfGivesBytes : Type 0
+HkdfGivesBytes = (hash : Hash) (ikm salt info : List ℕ) (size : ℕ)
+    → (length (hkdf hash ikm salt info size) ≡ size) × IsBytes (hkdf hash ikm salt info size)

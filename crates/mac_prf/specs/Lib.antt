@@ -1,4 +1,5 @@
 pub mod Hmac
+pub mod Hkdf
 pub mod Cmac
 pub mod HasherState
 pub mod HmacState

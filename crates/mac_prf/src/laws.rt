@@ -1,6 +1,6 @@
 //! Laws of the definitions alone, under all five hash functions and under AES.
 
-ghost use Rattle.mac_prf.specs.Laws.{CmacHasABlock, TagsAreBytes, TagsHaveTheirSize};
+ghost use Rattle.mac_prf.specs.Laws.{CmacHasABlock, HkdfGivesBytes, TagsAreBytes, TagsHaveTheirSize};
 
 use aes_core::laws::cipher_has_a_block;
 
@@ -20,3 +20,9 @@ pub fn cmac_has_a_block()
 {
     cipher_has_a_block();
 }
+
+/// What HKDF derives has the length that is asked for and consists of bytes, of any secret, salt
+/// and info.
+pub fn hkdf_gives_bytes()
+    ensures { HkdfGivesBytes }
+{}

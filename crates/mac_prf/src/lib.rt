@@ -1,13 +1,15 @@
 //! Tags of messages that come in pieces: HMAC (RFC 2104) with SHA-1 and SHA-2,
-//! and CMAC (SP 800-38B) over AES.
+//! and CMAC (SP 800-38B) over AES; and HKDF (RFC 5869), which derives keys.
 #![tactic(auto)]
 
 mod cmac;
+mod derive;
 mod hasher;
 mod hmac;
 pub mod laws;
 
 pub use cmac::Cmac;
+pub use derive::{TooLong, hkdf};
 pub use hmac::Hmac;
 
 #[cfg(test)]

@@ -4,6 +4,7 @@ ghost use Rattle.std.specs.Prelude.{◌<◌, ◌≤◌, length};
 ghost use Rattle.tink_base.specs.Hash.{hash_size};
 
 mod cmac;
+mod derive;
 
 use crate::Hmac;
 use std::alloc::Global;

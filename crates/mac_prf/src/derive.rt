@@ -1,0 +1,91 @@
+//! HKDF (RFC 5869): many bytes for keys out of one secret.
+
+ghost use Rattle.std.specs.Prelude.{◌≡◌, ◌↔◌, ◌*◌, ◌<◌, ◌≤◌, [], ◌∷◌, ◌++◌, length, take, IsErr, OnErr, OnOk};
+ghost use Rattle.tink_base.specs.Hash.{hash_size};
+ghost use Rattle.mac_prf.specs.Hmac.{hmac};
+ghost use Rattle.mac_prf.specs.Hkdf.{expand as expanded, extract as extracted, hkdf as derived};
+
+use crate::hasher::LONGEST_DIGEST;
+use crate::hmac::Hmac;
+use tink_base::Hash;
+
+/// More bytes are asked for than HKDF gives: 255 digests (RFC 5869, 2.3).
+#[derive(Clone, Copy, Debug, PartialEq, Eq)]
+pub struct TooLong;
+
+/// Fills `out` with the bytes that HKDF derives from the secret `ikm` under `salt`, for the use that
+/// `info` names (RFC 5869, 2).
+///
+/// Each of the three may have any length, also none: an empty salt stands for a digest's size of
+/// zeros (2.2). `TooLong` comes exactly where `out` has more than 255 times the bytes of a digest of
+/// `hash`; `out` is then as before. No memory is taken. No running time is promised, nor that a
+/// secret leaves memory.
+pub fn hkdf(hash: Hash, ikm: &[u8], salt: &[u8], info: &[u8], out: &mut [u8]) -> Result<(), TooLong>
+    ensures derived { OnOk result
+        (out.new ≡ derived hash ikm.now salt.now info.now (length out.old)) }
+    ensures too_long { IsErr result ↔ (255 * hash_size hash < length out.old) }
+    ensures kept { OnErr result (out.new ≡ out.old) }
+{
+    if out.len() > 255 * hash.size() {
+        return Err(TooLong);
+    }
+    let mut longest = [0; LONGEST_DIGEST];
+    let prk = &mut longest[..hash.size()];
+    extract(hash, salt, ikm, prk);
+    expand(hash, prk, info, out);
+    Ok(())
+}
+
+// PRK, into `prk` (RFC 5869, 2.2).
+fn extract(hash: Hash, salt: &[u8], ikm: &[u8], prk: &mut [u8])
+    requires { length prk.old ≡ hash_size hash }
+    ensures { prk.new ≡ extracted hash salt.now ikm.now }
+{
+    let zeros = [0; LONGEST_DIGEST];
+    let salt = if salt.is_empty() {
+        &zeros[..hash.size()]
+    } else {
+        salt
+    };
+    let mut hmac = Hmac::new(hash, salt);
+    hmac.update(ikm);
+    hmac.finish(prk);
+}
+
+// The first bytes of T, all of `out` (RFC 5869, 2.3). Each block but the last stands whole in
+// `out`, so the next one finds it there.
+fn expand(hash: Hash, prk: &[u8], info: &[u8], out: &mut [u8])
+    requires { length out.old ≤ 255 * hash_size hash }
+    ensures { out.new ≡ expanded hash prk.now info.now (length out.old) }
+{
+    let size = hash.size();
+    let mut number = 0;
+    let mut written = 0;
+    while written < out.len() {
+        number += 1;
+        let (done, rest) = out.split_at_mut(written);
+        let part = size.min(rest.len());
+        write_block(
+            hash,
+            prk,
+            &done[written.saturating_sub(size)..],
+            info,
+            number,
+            &mut rest[..part],
+        );
+        written += part;
+    }
+}
+
+// The first bytes of the block of this number, all of `out` (RFC 5869, 2.3).
+fn write_block(hash: Hash, prk: &[u8], before: &[u8], info: &[u8], number: u8, out: &mut [u8])
+    requires { length out.old ≤ hash_size hash }
+    ensures { out.new ≡ take (length out.old)
+        (hmac hash prk.now (before.now ++ info.now ++ number ∷ [])) }
+{
+    let mut hmac = Hmac::new(hash, prk);
+    hmac.update(before);
+    hmac.update(info);
+    hmac.update(&[number]);
+    hmac.finish(out);
+}
