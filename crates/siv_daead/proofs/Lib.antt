@@ -1,3 +1,4 @@
 pub mod OnLiterals
 mod SivExamples
 pub mod SivLemmas
+pub mod BlockLemmas

@@ -1,13 +1,14 @@
 -- What AES-SIV gives has its length, consists of bytes and opens again.
-use Rattle.std.proofs.Common.{◌≡◌, ℕ, suc, ◌+◌, ◌-◌, ◌≤◌, cond, nat_lt, Some, None, List, ◌++◌, length, sym, ap, ◌∙◌, arith}
-use Rattle.std.proofs.lemmas.Bool.{cond-false, cond-true, cond_both, le-ltb, ltb-false}
+use Rattle.std.proofs.Common.{◌≡◌, ℕ, suc, ◌+◌, ◌-◌, ◌<◌, ◌≤◌, ◌≢◌, cond, nat_lt, Some, None, List, ◌++◌, length, sym, ap, ◌∙◌, arith, refl}
+use Rattle.std.proofs.lemmas.Bool.{cond-false, cond-true, cond_both, le-ltb, lt-ltb, ltb-false}
 use Rattle.std.proofs.lemmas.List.{drop_at, length-append, take-append-drop, take_at}
 use Rattle.std.proofs.lemmas.Option.{none-some, same_Some}
 use Rattle.std.proofs.lemmas.Slice.Eq.{bytes_eq-Decides}
 use Rattle.aes_core.specs.Bytes.{xor_bytes}
 use Rattle.aes_core.specs.declared.counter.CtrKind.TheVariants.{All128}
+use Rattle.aes_core.proofs.BlockXor.{length-xor_bytes}
 use Rattle.aes_core.proofs.CounterMode.{ctr-ctr, length-cipher, length-ctr}
-use Rattle.mac_prf.specs.Cmac.{block_count, chain, cmac, message_block}
+use Rattle.mac_prf.specs.Cmac.{block_count, chain, cmac, doubled_block, message_block, zero_block}
 use Rattle.siv_daead.specs.Siv.{ctr_key, datum_block, first_counter, is_authentic, mac_key, mac_text, plain_of, s2v, siv_of, siv_open, siv_seal, siv_text, text_of}
 
 pub length-cmac : (key m : List ℕ) → length (cmac key m) ≡ 16
@@ -17,6 +18,12 @@ length-cmac key m =
     let count : block_count m ≡ suc before = omega arith in
     ap (λ n. length (chain key m n)) count
     ∙ length-cipher key (xor_bytes (chain key m before) (message_block key m (suc before)))
+
+pub length-datum_block : (key ad : List ℕ) → length (datum_block key ad) ≡ 16
+unfolding datum_block
+length-datum_block key ad =
+    length-xor_bytes (doubled_block (cmac key zero_block)) (cmac key ad)
+    (omega (arith, length-cmac key ad))
 
 pub length-s2v : (key ad plain : List ℕ) → length (s2v key ad plain) ≡ 16
 unfolding s2v
@@ -53,6 +60,19 @@ opens key bytes ad long same =
     cond-false (nat_lt (length bytes) 16) None (cond (is_authentic key bytes ad) plain None)
     (le-ltb (length bytes) 16 long)
     ∙ cond-true (is_authentic key bytes ad) plain None (decides.1 same)
+
+pub open-short : (key bytes ad : List ℕ) → length bytes < 16 → siv_open key bytes ad ≡ None
+unfolding siv_open
+open-short key bytes ad short = cond-true _ _ _ (lt-ltb (length bytes) 16 short)
+
+pub open-other : (key bytes ad : List ℕ) → 16 ≤ length bytes
+    → siv_of bytes ≢ s2v (mac_key key) ad (plain_of key bytes) → siv_open key bytes ad ≡ None
+unfolding siv_open
+open-other key bytes ad long other =
+    let decides = bytes_eq-Decides (siv_of bytes) (s2v (mac_key key) ad (plain_of key bytes)) in
+    cond-false _ _ _ (le-ltb (length bytes) 16 long)
+    ∙ cond_both (is_authentic key bytes ad) (Some (plain_of key bytes)) None (λ o. o ≡ None)
+    (λ same. absurd (other (decides.0 same))) (λ no. refl)
 
 -- and only there
 pub opened : (key bytes plain ad : List ℕ) → siv_open key bytes ad ≡ Some plain

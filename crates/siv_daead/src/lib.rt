@@ -2,4 +2,10 @@
 //! which may be empty, and with keys of 32 and 64 bytes.
 #![tactic(auto)]
 
+mod blocks;
 pub mod laws;
+mod siv;
+#[cfg(test)]
+mod tests;
+
+pub use siv::{siv_open, siv_seal};
