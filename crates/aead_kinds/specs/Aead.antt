@@ -1,5 +1,5 @@
--- What a key of each kind of AEAD gives: one case for each kind. Each definition is the kind's own, of
--- the file that is named after its standard.
+-- What a key of each kind of AEAD gives, by one case for each kind. What stands in a case is that
+-- kind's own definition, of the file that is named after it.
 --
 --   IsFit         the key's sizes are those of its kind
 --   iv_size_of    the bytes of an IV

@@ -1,7 +1,7 @@
 //! AES-GCM in place (SP 800-38D, 7), with an IV of 12 bytes and a tag of 16.
 //!
 //! No branch and no place in memory depends on the key or on a byte of text, associated data or tag,
-//! but for the answer whether the tag is the right one.
+//! but for the answer whether the tag is the right one: so it is written, and no clause says it.
 
 ghost use Rattle.std.specs.Prelude.{◌≡◌, ◌≢◌, ◌↔◌, ◌*◌, ◌^◌, ◌≤◌, [], ◌∷◌, ◌++◌, length, IfOk, IsErr, IsTrue};
 ghost use Rattle.std.specs.Bool.{OnFalse, OnTrue};
