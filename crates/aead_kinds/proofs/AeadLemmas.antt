@@ -56,22 +56,22 @@ parts-closed key bytes ad iv rest text tag parts other =
 
 -- ---- sealing
 
--- what a write of all that stands behind the first 12 bytes leaves in a vector of that length
-pub written_behind : (items slice new : List ℕ) (len : ℕ) → slice ≡ items → len ≡ length items
-    → 12 ≤ length items → length new ≡ length items - 12
-    → take len (put_mid 12 (length slice - 12) slice new
-    ++ drop (length (put_mid 12 (length slice - 12) slice new)) items)
-    ≡ take 12 items ++ new
-written_behind items slice new len e l long size =
-    let all : List ℕ = put_mid 12 (length slice - 12) slice new in
-    let post : List ℕ = post_of 12 (length slice - 12) slice in
+-- what a write of all that stands behind the first bytes leaves in a vector of that length
+pub written_behind : (n : ℕ) (items slice new : List ℕ) (len : ℕ) → slice ≡ items → len ≡ length items
+    → n ≤ length items → length new ≡ length items - n
+    → take len (put_mid n (length slice - n) slice new
+    ++ drop (length (put_mid n (length slice - n) slice new)) items)
+    ≡ take n items ++ new
+written_behind n items slice new len e l long size =
+    let all : List ℕ = put_mid n (length slice - n) slice new in
+    let post : List ℕ = post_of n (length slice - n) slice in
     let same : length slice ≡ length items = ap (λ xs. length xs) e in
-    let front : length (take 12 slice) ≡ 12 = length-take-le 12 slice (omega (arith, same)) in
+    let front : length (take n slice) ≡ n = length-take-le n slice (omega (arith, same)) in
     let within : len ≤ length all
-    = omega (arith, length-append (take 12 slice) (new ++ post), length-append new post, front) in
+    = omega (arith, length-append (take n slice) (new ++ post), length-append new post, front) in
     take-append-le len all (drop (length all) items) within
-    ∙ take-put_mid 12 (length slice - 12) slice new len (omega arith) (omega (arith, same))
-    ∙ ap (λ xs. take 12 xs ++ new) e
+    ∙ take-put_mid n (length slice - n) slice new len (omega arith) (omega (arith, same))
+    ∙ ap (λ xs. take n xs ++ new) e
 
 -- what stands behind the IV was encrypted in its place, and the tag appended
 pub sealed_in_place : (key iv plain ad body text tag all : List ℕ) → length iv ≡ 12

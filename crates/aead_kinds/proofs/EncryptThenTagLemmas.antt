@@ -2,7 +2,7 @@
 -- the tag has its size.
 use Rattle.std.proofs.Common.{◌≡◌, ℕ, ◌+◌, ◌-◌, ◌<◌, ◌≤◌, cond, nat_lt, Some, None, List, [], ◌∷◌, ◌++◌, length, take, drop, refl, sym, ap, ◌∙◌, arith}
 use Rattle.std.proofs.lemmas.Bool.{cond-false, cond-true, cond_both, le-ltb, lt-ltb, ltb-false}
-use Rattle.std.proofs.lemmas.List.{append_assoc, drop-drop, drop_at, length-append, length-take, take-append-drop, take_at}
+use Rattle.std.proofs.lemmas.List.{append_assoc, drop-drop, drop_at, length-append, length-drop, length-take, take-append-drop, take_at}
 use Rattle.std.proofs.lemmas.List.Elements.{All-append, All-cons, All-head, All-nil, All-tail}
 use Rattle.std.proofs.lemmas.Nat.{xor_of_8}
 use Rattle.std.proofs.lemmas.Option.{none-some, same_Some}
@@ -190,3 +190,66 @@ bytes-xor_bytes (x ∷ a) (y ∷ b) ha hb =
     All-cons (λ n. n < 256) (bit_xor x y) (xor_bytes a b)
     (xor_of_8 x y (All-head (λ n. n < 256) x a ha) (All-head (λ n. n < 256) y b hb))
     (bytes-xor_bytes a b (All-tail (λ n. n < 256) x a ha) (All-tail (λ n. n < 256) y b hb))
+
+-- what stands behind the IV was encrypted in its place, and the tag appended
+pub sealed_in_place_by : (crypt : List ℕ → List ℕ → List ℕ)
+    (tag : List ℕ → List ℕ → List ℕ → List ℕ) (iv plain ad body text made all : List ℕ)
+    → body ≡ drop (length iv) (iv ++ plain) → text ≡ crypt iv body → made ≡ tag iv ad text
+    → all ≡ take (length iv) (iv ++ plain) ++ text ++ made → all ≡ sealed_by crypt tag iv plain ad
+unfolding sealed_by
+sealed_in_place_by crypt tag iv plain ad body text made all body_is text_is made_is all_is =
+    let same : text ≡ crypt iv plain
+    = text_is ∙ ap (λ b. crypt iv b) (body_is ∙ drop_at iv plain (length iv) refl) in
+    all_is ∙ ap (λ front. front ++ text ++ made) (take_at iv plain (length iv) refl)
+    ∙ ap (λ t. iv ++ text ++ t) made_is ∙ ap (λ t. iv ++ t ++ tag iv ad t) same
+
+-- ---- opening, of the parts that the code cuts off
+
+-- the IV at the front, and then the tag at the back
+pub record AreCut (v t : ℕ) (bytes iv rest text made : List ℕ) : Type 0 where
+  pub front : iv ≡ take v bytes
+  pub behind : rest ≡ drop v bytes
+  pub middle : text ≡ take (length rest - t) rest
+  pub back : made ≡ drop (length rest - t) rest
+  pub long : v + t ≤ length bytes
+
+cut-text : (v t : ℕ) (bytes iv rest text made : List ℕ) → AreCut v t bytes iv rest text made
+    → text ≡ text_of v t bytes
+cut-text v t bytes iv rest text made cut =
+    let size : length (drop v bytes) - t ≡ length bytes - (v + t)
+    = omega (arith, length-drop v bytes) in
+    cut.middle ∙ ap (λ r. take (length r - t) r) cut.behind ∙ ap (λ n. take n (drop v bytes)) size
+
+cut-tag : (v t : ℕ) (bytes iv rest text made : List ℕ) → AreCut v t bytes iv rest text made
+    → made ≡ tag_of t bytes
+cut-tag v t bytes iv rest text made cut =
+    let before : ℕ = length (drop v bytes) - t in
+    let size : v + before ≡ length bytes - t
+    = omega (arith, length-drop v bytes, cut.long) in
+    cut.back ∙ ap (λ r. drop (length r - t) r) cut.behind
+    ∙ drop-drop before v bytes ∙ ap (λ n. drop n bytes) size
+
+cut-anew : (tag : List ℕ → List ℕ → List ℕ → List ℕ) (v t : ℕ) (bytes ad iv rest text made : List ℕ)
+    → AreCut v t bytes iv rest text made
+    → tag iv ad text ≡ tag (iv_of v bytes) ad (text_of v t bytes)
+cut-anew tag v t bytes ad iv rest text made cut =
+    ap (λ w. tag w ad text) cut.front
+    ∙ ap (λ c. tag (iv_of v bytes) ad c) (cut-text v t bytes iv rest text made cut)
+
+pub cut-opens : (crypt : List ℕ → List ℕ → List ℕ) (tag : List ℕ → List ℕ → List ℕ → List ℕ)
+    (v t : ℕ) (bytes ad iv rest text made : List ℕ) → AreCut v t bytes iv rest text made
+    → tag iv ad text ≡ made → opened_by crypt tag v t bytes ad ≡ Some (crypt iv text)
+cut-opens crypt tag v t bytes ad iv rest text made cut same =
+    authentic-opens crypt tag v t bytes ad cut.long
+    (sym (cut-tag v t bytes iv rest text made cut) ∙ sym same
+    ∙ cut-anew tag v t bytes ad iv rest text made cut)
+    ∙ ap (λ w. Some (crypt w (text_of v t bytes))) (sym cut.front)
+    ∙ ap (λ c. Some (crypt iv c)) (sym (cut-text v t bytes iv rest text made cut))
+
+pub cut-closed : (crypt : List ℕ → List ℕ → List ℕ) (tag : List ℕ → List ℕ → List ℕ → List ℕ)
+    (v t : ℕ) (bytes ad iv rest text made : List ℕ) → AreCut v t bytes iv rest text made
+    → (tag iv ad text ≡ made → ⊥) → opened_by crypt tag v t bytes ad ≡ None
+cut-closed crypt tag v t bytes ad iv rest text made cut other =
+    other_tag-closed crypt tag v t bytes ad cut.long
+    (λ same. other (cut-anew tag v t bytes ad iv rest text made cut ∙ sym same
+    ∙ sym (cut-tag v t bytes iv rest text made cut)))

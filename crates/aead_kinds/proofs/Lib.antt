@@ -8,3 +8,4 @@ pub mod CtrHmacLemmas
 pub mod EaxLemmas
 pub mod InPlaceLemmas
 pub mod AeadLemmas
+pub mod SchemeLemmas

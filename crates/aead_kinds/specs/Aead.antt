@@ -5,20 +5,37 @@
 --   iv_size_of    the bytes of an IV
 --   seal_of       IV, ciphertext and tag, joined, of IV, plaintext and associated data
 --   open_key      the plaintext of those bytes, or none where they aren't authentic
-use Rattle.std.specs.Prelude.{◌≡◌, ◌⊎◌, ℕ, Option, List, length}
+use Rattle.std.specs.Prelude.{◌≡◌, ◌⊎◌, ◌≤◌, ℕ, Option, List, length}
+use Rattle.tink_base.specs.Hash.{hash_size}
+use Rattle.aead_kinds.specs.CtrHmac.{ctr_hmac_open, ctr_hmac_seal}
+use Rattle.aead_kinds.specs.Eax.{eax_open, eax_seal}
 use Rattle.aead_kinds.specs.Gcm.{gcm_open, gcm_seal}
 use Rattle.aead_kinds.specs.declared.aead.AeadKey.{AeadKey}
-use Rattle.aead_kinds.specs.declared.aead.AeadKey.TheVariants.{Gcm}
+use Rattle.aead_kinds.specs.declared.aead.AeadKey.TheVariants.{CtrHmac, Eax, Gcm}
 
--- AES-GCM takes keys of 128 and 256 bits
+-- AES takes keys of 128 and 256 bits here. An IV of EAX has 12 or 16 bytes; one of AES-CTR-HMAC 12 to
+-- 16, its key of HMAC at least 16, and its tag from 10 up to a digest's.
 abbrev pub IsFit : AeadKey → Type 0
 IsFit (Gcm key) = (length key.now ≡ 16) ⊎ (length key.now ≡ 32)
+IsFit (Eax key iv_size) =
+    ((length key.now ≡ 16) ⊎ (length key.now ≡ 32)) × ((iv_size ≡ 12) ⊎ (iv_size ≡ 16))
+IsFit (CtrHmac aes iv_size hash mac tag_size) =
+    ((length aes.now ≡ 16) ⊎ (length aes.now ≡ 32)) × (12 ≤ iv_size) × (iv_size ≤ 16)
+    × (16 ≤ length mac.now) × (10 ≤ tag_size) × (tag_size ≤ hash_size hash)
 
 abbrev pub iv_size_of : AeadKey → ℕ
 iv_size_of (Gcm key) = 12
+iv_size_of (Eax key iv_size) = iv_size
+iv_size_of (CtrHmac aes iv_size hash mac tag_size) = iv_size
 
 abbrev pub seal_of : AeadKey → List ℕ → List ℕ → List ℕ → List ℕ
 seal_of (Gcm key) iv plain ad = gcm_seal key.now iv plain ad
+seal_of (Eax key iv_size) iv plain ad = eax_seal key.now iv plain ad
+seal_of (CtrHmac aes iv_size hash mac tag_size) iv plain ad =
+    ctr_hmac_seal aes.now hash mac.now tag_size iv plain ad
 
 abbrev pub open_key : AeadKey → List ℕ → List ℕ → Option (List ℕ)
 open_key (Gcm key) bytes ad = gcm_open key.now bytes ad
+open_key (Eax key iv_size) bytes ad = eax_open key.now iv_size bytes ad
+open_key (CtrHmac aes iv_size hash mac tag_size) bytes ad =
+    ctr_hmac_open aes.now iv_size hash mac.now tag_size bytes ad

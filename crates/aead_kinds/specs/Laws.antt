@@ -1,5 +1,5 @@
 -- The laws of sealing and opening, over the definitions alone.
-use Rattle.std.specs.Prelude.{◌≡◌, ◌↔◌, ℕ, ◌+◌, ◌≤◌, Some, List, length, take}
+use Rattle.std.specs.Prelude.{⊤, ◌≡◌, ◌↔◌, ℕ, ◌+◌, ◌≤◌, Some, List, length, take}
 use Rattle.aes_core.specs.Bytes.{IsBytes}
 use Rattle.aead_kinds.specs.Aead.{iv_size_of, open_key, seal_of}
 use Rattle.tink_base.specs.Hash.{hash_size}
@@ -8,11 +8,18 @@ use Rattle.aead_kinds.specs.CtrHmac.{ctr_hmac_open, ctr_hmac_seal}
 use Rattle.aead_kinds.specs.Eax.{eax_open, eax_seal}
 use Rattle.aead_kinds.specs.Gcm.{gcm_open, gcm_seal}
 use Rattle.aead_kinds.specs.declared.aead.AeadKey.{AeadKey}
+use Rattle.aead_kinds.specs.declared.aead.AeadKey.TheVariants.{CtrHmac, Eax, Gcm}
+
+-- the tag has at least a byte, and is no longer than what it is cut from
+abbrev pub HasTag : AeadKey → Type 0
+HasTag (Gcm key) = ⊤
+HasTag (Eax key iv_size) = ⊤
+HasTag (CtrHmac aes iv_size hash mac tag_size) = (1 ≤ tag_size) × (tag_size ≤ hash_size hash)
 
 -- under a key of any kind, bytes open to a plaintext exactly where they are its sealing under the IV
 -- at their own front
 abbrev pub OpensSealings : Type 0
-OpensSealings = (key : AeadKey) (bytes plain ad : List ℕ)
+OpensSealings = (key : AeadKey) (bytes plain ad : List ℕ) → HasTag key
     → open_key key bytes ad ≡ Some plain ↔ bytes ≡ seal_of key (take (iv_size_of key) bytes) plain ad
 
 -- the same of AES-GCM, whose IV has 12 bytes

@@ -5,3 +5,4 @@ pub mod EncryptThenTag
 pub mod Gcm
 pub mod GcmState
 pub mod Laws
+pub mod SchemeState

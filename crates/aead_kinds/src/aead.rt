@@ -6,9 +6,10 @@ ghost use Rattle.aead_kinds.specs.Aead.{IsFit, iv_size_of, open_key, seal_of};
 ghost use Rattle.aead_kinds.specs.Gcm.{gcm_open, gcm_seal};
 
 use crate::gcm::{gcm_open_in_place, gcm_seal_in_place};
+use crate::scheme::Scheme;
 use aes_core::Aes;
 use std::alloc::Global;
-use tink_base::NoMemory;
+use tink_base::{Hash, NoMemory};
 
 /// The bytes of an IV of AES-GCM.
 const GCM_IV: usize = 12;
@@ -20,25 +21,61 @@ const TAG: usize = 16;
 #[derive(Clone, Copy)]
 pub enum AeadKey<'k> {
     /// AES-GCM (SP 800-38D) with an IV of 12 bytes and a tag of 16.
-    Gcm { key: &'k [u8] },
+    Gcm {
+        key: &'k [u8],
+    },
+    /// EAX (Bellare, Rogaway and Wagner) with a tag of 16 bytes.
+    Eax {
+        key: &'k [u8],
+        iv_size: usize,
+    },
+    /// AES-CTR-HMAC by Tink's wire format: counter mode under `aes`, and the first bytes of HMAC
+    /// under `mac`.
+    CtrHmac {
+        aes: &'k [u8],
+        iv_size: usize,
+        hash: Hash,
+        mac: &'k [u8],
+        tag_size: usize,
+    },
 }
 
 impl AeadKey<'_> {
-    /// Whether the key's sizes are those of its kind: an AES-GCM key has 16 or 32 bytes.
+    /// Whether the key's sizes are those of its kind: an AES key has 16 or 32 bytes, an IV of EAX 12
+    /// or 16, one of AES-CTR-HMAC 12 to 16, its key of HMAC at least 16, and its tag 10 up to a
+    /// digest's.
     pub fn fits(&self) -> bool
         ensures { IsTrue result ↔ IsFit self.now }
     {
         match self {
             AeadKey::Gcm { key } => key.len() == 16 || key.len() == 32,
+            AeadKey::Eax { key, iv_size } => {
+                (key.len() == 16 || key.len() == 32) && (*iv_size == 12 || *iv_size == 16)
+            }
+            AeadKey::CtrHmac {
+                aes,
+                iv_size,
+                hash,
+                mac,
+                tag_size,
+            } => {
+                (aes.len() == 16 || aes.len() == 32)
+                    && 12 <= *iv_size
+                    && *iv_size <= 16
+                    && 16 <= mac.len()
+                    && 10 <= *tag_size
+                    && *tag_size <= hash.size()
+            }
         }
     }
 
-    /// How many bytes an IV has: 12 for AES-GCM.
+    /// How many bytes an IV has: 12 for AES-GCM, and else as many as the key says.
     pub fn iv_size(&self) -> usize
         ensures { result ≡ iv_size_of self.now }
     {
         match self {
             AeadKey::Gcm { .. } => GCM_IV,
+            AeadKey::Eax { iv_size, .. } | AeadKey::CtrHmac { iv_size, .. } => *iv_size,
         }
     }
 }
@@ -47,6 +84,7 @@ impl AeadKey<'_> {
 ///
 /// `plain` and `ad` have at most 2^30 bytes each. No IV may serve twice under one key: this is for
 /// the caller to see to.
+#[tactic(auto, unfolding(crate::specs::Eax::eax_seal, crate::specs::CtrHmac::ctr_hmac_seal))]
 pub fn seal(
     alloc: Global,
     key: &AeadKey<'_>,
@@ -62,6 +100,23 @@ pub fn seal(
 {
     match key {
         AeadKey::Gcm { key } => gcm_sealed(alloc, key, iv, plain, ad),
+        AeadKey::Eax { key, .. } => Scheme::Eax { key }.seal(alloc, iv, plain, ad),
+        AeadKey::CtrHmac {
+            aes,
+            hash,
+            mac,
+            tag_size,
+            ..
+        } => {
+            let (hash, tag_size) = (*hash, *tag_size);
+            Scheme::CtrHmac {
+                aes,
+                hash,
+                mac,
+                tag_size,
+            }
+            .seal(alloc, iv, plain, ad)
+        }
     }
 }
 
@@ -69,6 +124,7 @@ pub fn seal(
 ///
 /// `bytes` have at most 2^30 + 96, and `ad` at most 2^30. The answer is `None` exactly where `bytes`
 /// are shorter than IV and tag, or the tag isn't the one computed anew; nothing was decrypted then.
+#[tactic(auto, unfolding(crate::specs::Eax::eax_open, crate::specs::CtrHmac::ctr_hmac_open))]
 pub fn open(
     alloc: Global,
     key: &AeadKey<'_>,
@@ -82,6 +138,23 @@ pub fn open(
 {
     match key {
         AeadKey::Gcm { key } => gcm_opened(alloc, key, bytes, ad),
+        AeadKey::Eax { key, iv_size } => Scheme::Eax { key }.open(alloc, *iv_size, bytes, ad),
+        AeadKey::CtrHmac {
+            aes,
+            iv_size,
+            hash,
+            mac,
+            tag_size,
+        } => {
+            let (hash, tag_size) = (*hash, *tag_size);
+            Scheme::CtrHmac {
+                aes,
+                hash,
+                mac,
+                tag_size,
+            }
+            .open(alloc, *iv_size, bytes, ad)
+        }
     }
 }
 
@@ -137,8 +210,8 @@ fn gcm_opened(
     }
 }
 
-// The expansion of a key that fits.
-fn expanded(key: &[u8]) -> Aes
+/// The expansion of a key that fits.
+pub(crate) fn expanded(key: &[u8]) -> Aes
     requires { (length key.now ≡ 16) ⊎ (length key.now ≡ 32) }
     ensures { result ≡ key.now }
 {

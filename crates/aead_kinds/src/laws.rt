@@ -5,7 +5,8 @@ ghost use Rattle.aead_kinds.specs.Laws.{CtrHmacOpensSealings, CtrHmacSealsBytes,
 use mac_prf::laws::cmac_has_a_block;
 
 /// Bytes open under a key of any kind and associated data to a plaintext exactly where they are what
-/// sealing makes of it, with the IV at their own front.
+/// sealing makes of it, with the IV at their own front. For AES-CTR-HMAC the tag has at least a byte and
+/// at most as many as a digest.
 pub fn opens_sealings()
     ensures { OpensSealings }
 {}

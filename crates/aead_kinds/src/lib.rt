@@ -1,10 +1,13 @@
-//! Authenticated encryption with associated data: AES-GCM (SP 800-38D), with keys of 16 and 32
-//! bytes, an IV of 12 bytes and a tag of 16.
+//! Authenticated encryption with associated data, under AES keys of 16 and 32 bytes: AES-GCM
+//! (SP 800-38D), EAX (Bellare, Rogaway and Wagner), and AES-CTR-HMAC by Tink's wire format.
 #![tactic(auto)]
 
 mod aead;
+mod ctr_hmac;
+mod eax;
 mod gcm;
 pub mod laws;
+mod scheme;
 
 pub use aead::{AeadKey, open, seal};
 pub use gcm::{Gcm, gcm_open_in_place, gcm_seal_in_place};

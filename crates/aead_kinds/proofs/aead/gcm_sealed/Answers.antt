@@ -36,7 +36,7 @@ returns c =
     = ap (λ xs. length xs) text_is ∙ length-gcm_text key iv body
     ∙ ap (λ xs. length xs) (take_rest slice 12 ∙ ap (λ xs. drop 12 xs) same)
     ∙ length-drop 12 items in
-    let written = written_behind items slice text len same
+    let written = written_behind 12 items slice text len same
     (sym (c.as_mut_slice.ensures.len) ∙ ap (λ xs. length xs) same) (omega (arith, long)) size in
     sealed_in_place key iv plain ad body text tag c.extend_from_slice-3.new.self.items
     c.requires.iv_size body_is text_is tag_is

@@ -1,0 +1,47 @@
+//! What AES-CTR-HMAC makes of texts, by Tink's wire format.
+//!
+//! No branch and no place in memory depends on a key or on a byte of text or associated data.
+
+ghost use Rattle.std.specs.Prelude.{◌≡◌, ◌⊎◌, ◌-◌, ◌^◌, ◌≤◌, ◌++◌, length, replicate};
+ghost use Rattle.tink_base.specs.Hash.{hash_size};
+ghost use Rattle.aead_kinds.specs.CtrHmac.{ctr_hmac_tag, ctr_hmac_text};
+
+use crate::aead::expanded;
+use aes_core::CtrKind;
+use mac_prf::Hmac;
+use tink_base::Hash;
+
+/// Encrypts or decrypts `body` in place: counter mode from the IV with zeros after it, where all 128
+/// bits count.
+#[tactic(auto, unfolding(crate::specs::CtrHmac::ctr_hmac_text))]
+pub(crate) fn crypt(aes: &[u8], iv: &[u8], body: &mut [u8])
+    requires fits { (length aes.now ≡ 16) ⊎ (length aes.now ≡ 32) }
+    requires iv_bound { length iv.now ≤ 16 }
+    ensures { body.new ≡ ctr_hmac_text aes.now iv.now body.old }
+{
+    expanded(aes).ctr_xor(&counter_block(iv), CtrKind::All128, body);
+}
+
+/// Writes the tag of IV, associated data and ciphertext: as many of its first bytes as `tag` has.
+pub(crate) fn write_tag(hash: Hash, mac: &[u8], iv: &[u8], ad: &[u8], text: &[u8], tag: &mut [u8])
+    requires ad_bound { length ad.now ≤ 2 ^ 30 }
+    requires tag_bound { length tag.old ≤ hash_size hash }
+    ensures { tag.new ≡ ctr_hmac_tag hash mac.now (length tag.old) iv.now ad.now text.now }
+{
+    let mut hmac = Hmac::new(hash, mac);
+    hmac.update(ad);
+    hmac.update(iv);
+    hmac.update(text);
+    hmac.update(&(8 * ad.len() as u64).to_be_bytes());
+    hmac.finish(tag);
+}
+
+// The IV, with zeros after it.
+fn counter_block(iv: &[u8]) -> [u8; 16]
+    requires { length iv.now ≤ 16 }
+    ensures { result ≡ iv.now ++ replicate (16 - length iv.now) 0 }
+{
+    let mut block = [0; 16];
+    block[..iv.len()].copy_from_slice(iv);
+    block
+}
