@@ -26,6 +26,15 @@ pub record Contents : Type 0 where
 -- a message with nothing in it
 abbrev pub nothing : Contents
 nothing = record {
-  version = 0; iv_size = 0; segment = 0; derived = 0; hash = 0; tag_size = 0;
-  salt = []; key = []; mac_hash = 0; mac_tag_size = 0; mac = [];
+  version = 0;
+  iv_size = 0;
+  segment = 0;
+  derived = 0;
+  hash = 0;
+  tag_size = 0;
+  salt = [];
+  key = [];
+  mac_hash = 0;
+  mac_tag_size = 0;
+  mac = [];
 }

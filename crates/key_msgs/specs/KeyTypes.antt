@@ -14,8 +14,15 @@ use Rattle.key_msgs.specs.declared.primitive.Primitive.TheVariants.{Aead, Daead,
 -- a message with no field but version = 1, which each has
 abbrev pub no_fields : Layout
 no_fields = record {
-  params = 0; iv_size = 0; segment = 0; derived = 0; hash = 0; tag_size = 0; salt = 0;
-  hmac_params = 0; key_value = 0;
+  params = 0;
+  iv_size = 0;
+  segment = 0;
+  derived = 0;
+  hash = 0;
+  tag_size = 0;
+  salt = 0;
+  hmac_params = 0;
+  key_value = 0;
 }
 
 pub record Row : Type 0 where
@@ -24,29 +31,62 @@ pub record Row : Type 0 where
   pub fields : Layout
 
 abbrev pub row_of : KeyType → Row
-row_of types.AesGcm = record { name = codes "AesGcmKey"; primitive = Aead;
-  fields = record no_fields { key_value = 3 } }
-row_of types.AesEax = record { name = codes "AesEaxKey"; primitive = Aead;
-  fields = record no_fields { params = 2; iv_size = 1; key_value = 3 } }
+row_of types.AesGcm = record {
+  name = codes "AesGcmKey";
+  primitive = Aead;
+  fields = record no_fields { key_value = 3 };
+}
+row_of types.AesEax = record {
+  name = codes "AesEaxKey";
+  primitive = Aead;
+  fields = record no_fields { params = 2; iv_size = 1; key_value = 3 };
+}
 -- aes_ctr_key = 2 and hmac_key = 3 are messages of their own
-row_of types.AesCtrHmac = record { name = codes "AesCtrHmacAeadKey"; primitive = Aead;
-  fields = no_fields }
-row_of types.AesSiv = record { name = codes "AesSivKey"; primitive = Daead;
-  fields = record no_fields { key_value = 2 } }
-row_of types.Hmac = record { name = codes "HmacKey"; primitive = Mac;
-  fields = record no_fields { params = 2; hash = 1; tag_size = 2; key_value = 3 } }
-row_of types.AesCmac = record { name = codes "AesCmacKey"; primitive = Mac;
-  fields = record no_fields { key_value = 2; params = 3; tag_size = 1 } }
-row_of types.HkdfPrf = record { name = codes "HkdfPrfKey"; primitive = Prf;
-  fields = record no_fields { params = 2; hash = 1; salt = 2; key_value = 3 } }
-row_of types.HmacPrf = record { name = codes "HmacPrfKey"; primitive = Prf;
-  fields = record no_fields { params = 2; hash = 1; key_value = 3 } }
-row_of types.CmacPrf = record { name = codes "AesCmacPrfKey"; primitive = Prf;
-  fields = record no_fields { key_value = 2 } }
-row_of types.GcmStream = record { name = codes "AesGcmHkdfStreamingKey"; primitive = Stream;
-  fields = record no_fields { params = 2; segment = 1; derived = 2; hash = 3; key_value = 3 } }
-row_of types.CtrStream = record { name = codes "AesCtrHmacStreamingKey"; primitive = Stream;
-  fields = record no_fields { params = 2; segment = 1; derived = 2; hash = 3; hmac_params = 4; key_value = 3 } }
+row_of types.AesCtrHmac = record {
+  name = codes "AesCtrHmacAeadKey";
+  primitive = Aead;
+  fields = no_fields;
+}
+row_of types.AesSiv = record {
+  name = codes "AesSivKey";
+  primitive = Daead;
+  fields = record no_fields { key_value = 2 };
+}
+row_of types.Hmac = record {
+  name = codes "HmacKey";
+  primitive = Mac;
+  fields = record no_fields { params = 2; hash = 1; tag_size = 2; key_value = 3 };
+}
+row_of types.AesCmac = record {
+  name = codes "AesCmacKey";
+  primitive = Mac;
+  fields = record no_fields { key_value = 2; params = 3; tag_size = 1 };
+}
+row_of types.HkdfPrf = record {
+  name = codes "HkdfPrfKey";
+  primitive = Prf;
+  fields = record no_fields { params = 2; hash = 1; salt = 2; key_value = 3 };
+}
+row_of types.HmacPrf = record {
+  name = codes "HmacPrfKey";
+  primitive = Prf;
+  fields = record no_fields { params = 2; hash = 1; key_value = 3 };
+}
+row_of types.CmacPrf = record {
+  name = codes "AesCmacPrfKey";
+  primitive = Prf;
+  fields = record no_fields { key_value = 2 };
+}
+row_of types.GcmStream = record {
+  name = codes "AesGcmHkdfStreamingKey";
+  primitive = Stream;
+  fields = record no_fields { params = 2; segment = 1; derived = 2; hash = 3; key_value = 3 };
+}
+row_of types.CtrStream = record {
+  name = codes "AesCtrHmacStreamingKey";
+  primitive = Stream;
+  fields = record no_fields { params = 2; segment = 1; derived = 2; hash = 3; hmac_params = 4; key_value = 3 };
+}
 
 -- the inner messages of AesCtrHmacAeadKey; an AesCtrKey is no key type by itself
 abbrev pub aes_ctr_fields : Layout

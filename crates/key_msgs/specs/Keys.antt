@@ -51,8 +51,14 @@ contents_of (kinds.CmacPrf key) = record nothing { key = key }
 contents_of (kinds.GcmStream key segment derived hash) =
     record nothing { key = key; segment = segment; derived = derived; hash = hash_number hash }
 contents_of (kinds.CtrStream key segment derived hash mac_hash tag_size) =
-    record nothing { key = key; segment = segment; derived = derived; hash = hash_number hash;
-      mac_hash = hash_number mac_hash; mac_tag_size = tag_size }
+    record nothing {
+      key = key;
+      segment = segment;
+      derived = derived;
+      hash = hash_number hash;
+      mac_hash = hash_number mac_hash;
+      mac_tag_size = tag_size;
+    }
 
 -- a hash function that has one of Tink's numbers
 abbrev pub known_hash : Option Hash → Result Hash Rule

@@ -37,8 +37,16 @@ plain layout fields = do
   mac_tag_size ← number_in 2 hmac
   key ← bytes_in layout.key_value fields
   Ok (record nothing {
-    version = version; iv_size = iv_size; segment = segment; derived = derived; hash = hash;
-    tag_size = tag_size; salt = salt.1; key = key.1; mac_hash = mac_hash; mac_tag_size = mac_tag_size;
+    version = version;
+    iv_size = iv_size;
+    segment = segment;
+    derived = derived;
+    hash = hash;
+    tag_size = tag_size;
+    salt = salt.1;
+    key = key.1;
+    mac_hash = mac_hash;
+    mac_tag_size = mac_tag_size;
   })
 
 -- aes_ctr_key is field 2 and hmac_key field 3
@@ -51,7 +59,9 @@ ctr_hmac fields = do
   mac ← plain hmac_fields mac_message
   Ok (record aes {
     version = max version (max aes.version mac.version);
-    mac_hash = mac.hash; mac_tag_size = mac.tag_size; mac = mac.key;
+    mac_hash = mac.hash;
+    mac_tag_size = mac.tag_size;
+    mac = mac.key;
   })
 
 abbrev pub contents_in : KeyType → List WireField → Result Contents ℕ

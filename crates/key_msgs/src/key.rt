@@ -12,9 +12,14 @@ use tink_base::{Bytes, Hash, NoMemory};
 #[derive(Drop)]
 pub enum KeyKind {
     /// AesGcmKey
-    AesGcm { key: Bytes },
+    AesGcm {
+        key: Bytes,
+    },
     /// AesEaxKey
-    AesEax { key: Bytes, iv_size: u32 },
+    AesEax {
+        key: Bytes,
+        iv_size: u32,
+    },
     /// AesCtrHmacAeadKey: the keys of AES-CTR and of HMAC.
     AesCtrHmac {
         aes: Bytes,
@@ -24,7 +29,9 @@ pub enum KeyKind {
         tag_size: u32,
     },
     /// AesSivKey
-    AesSiv { key: Bytes },
+    AesSiv {
+        key: Bytes,
+    },
     /// HmacKey
     Hmac {
         key: Bytes,
@@ -32,7 +39,10 @@ pub enum KeyKind {
         tag_size: u32,
     },
     /// AesCmacKey
-    AesCmac { key: Bytes, tag_size: u32 },
+    AesCmac {
+        key: Bytes,
+        tag_size: u32,
+    },
     /// HkdfPrfKey
     HkdfPrf {
         key: Bytes,
@@ -40,9 +50,14 @@ pub enum KeyKind {
         salt: Bytes,
     },
     /// HmacPrfKey
-    HmacPrf { key: Bytes, hash: Hash },
+    HmacPrf {
+        key: Bytes,
+        hash: Hash,
+    },
     /// AesCmacPrfKey
-    CmacPrf { key: Bytes },
+    CmacPrf {
+        key: Bytes,
+    },
     /// AesGcmHkdfStreamingKey: the hash is that of HKDF.
     GcmStream {
         key: Bytes,

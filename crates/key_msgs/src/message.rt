@@ -30,16 +30,16 @@ impl<'a> Model for Message<'a> {
     ghost Value = { Contents };
 
     ghost view = { λ m. record {
-        version = m.version;
-        iv_size = m.iv_size;
-        segment = m.segment;
-        derived = m.derived;
-        hash = m.hash;
-        tag_size = m.tag_size;
-        salt = m.salt.now;
-        key = m.key.now;
-        mac_hash = m.mac_hash;
-        mac_tag_size = m.mac_tag_size;
-        mac = m.mac.now;
+      version = m.version;
+      iv_size = m.iv_size;
+      segment = m.segment;
+      derived = m.derived;
+      hash = m.hash;
+      tag_size = m.tag_size;
+      salt = m.salt.now;
+      key = m.key.now;
+      mac_hash = m.mac_hash;
+      mac_tag_size = m.mac_tag_size;
+      mac = m.mac.now;
     } };
 }

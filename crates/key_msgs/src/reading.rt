@@ -129,11 +129,7 @@ fn read_ctr_hmac<'a>(
 }
 
 /// The key of these contents, or the first rule that they break.
-fn check(
-    alloc: Global,
-    key_type: KeyType,
-    message: &Message<'_>,
-) -> Result<KeyKind, KeyFault>
+fn check(alloc: Global, key_type: KeyType, message: &Message<'_>) -> Result<KeyKind, KeyFault>
     ensures key { GivesKey result (checked key_type message.now) }
     ensures valid { IfOk result IsValid }
 {

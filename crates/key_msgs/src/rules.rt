@@ -41,11 +41,8 @@ fn hash_fits(key_type: KeyType, message: &Message<'_>) -> bool
         KeyType::HkdfPrf => message.hash == 3 || message.hash == 4,
         KeyType::GcmStream => is_hkdf_hash(message.hash),
         KeyType::CtrStream => is_hkdf_hash(message.hash) && is_hash(message.mac_hash),
-        KeyType::AesGcm
-        | KeyType::AesEax
-        | KeyType::AesSiv
-        | KeyType::AesCmac
-        | KeyType::CmacPrf => true,
+        KeyType::AesGcm | KeyType::AesEax | KeyType::AesSiv | KeyType::AesCmac | KeyType::CmacPrf =>
+            true,
     }
 }
 

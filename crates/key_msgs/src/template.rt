@@ -165,9 +165,15 @@ pub fn template_at(row: usize) -> Option<Template>
         26 => raw("AES256_GCM_HKDF_4KB", Recipe::GcmStream(32, 4096)),
         27 => raw("AES256_GCM_HKDF_1MB", Recipe::GcmStream(32, 1_048_576)),
         28 => raw("AES128_CTR_HMAC_SHA256_4KB", Recipe::CtrStream(16, 4096)),
-        29 => raw("AES128_CTR_HMAC_SHA256_1MB", Recipe::CtrStream(16, 1_048_576)),
+        29 => raw(
+            "AES128_CTR_HMAC_SHA256_1MB",
+            Recipe::CtrStream(16, 1_048_576),
+        ),
         30 => raw("AES256_CTR_HMAC_SHA256_4KB", Recipe::CtrStream(32, 4096)),
-        31 => raw("AES256_CTR_HMAC_SHA256_1MB", Recipe::CtrStream(32, 1_048_576)),
+        31 => raw(
+            "AES256_CTR_HMAC_SHA256_1MB",
+            Recipe::CtrStream(32, 1_048_576),
+        ),
         _ => None,
     }
 }

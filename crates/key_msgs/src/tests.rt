@@ -3,8 +3,10 @@
 
 ghost use Rattle.std.specs.Prelude.{◌<◌};
 
-use crate::{KeyFault, KeyKind, Primitive, Rule, TemplateFault};
-use crate::{make_key, primitive_of, read_key, template_at, template_named, url_of};
+use crate::{
+    KeyFault, KeyKind, Primitive, Rule, TemplateFault, make_key, primitive_of, read_key,
+    template_at, template_named, url_of,
+};
 use std::alloc::{AllocError, Global};
 use std::test::Fail;
 
@@ -107,8 +109,15 @@ fn the_first_broken_rule_is_named(rt: HostRuntime) -> Result<(), Fail> {
 fn urls_name_primitives(rt: HostRuntime) -> Result<(), Fail> {
     let siv = "type.googleapis.com/google.crypto.tink.AesSivKey";
     assert_eq!(rt; primitive_of(siv), Some(Primitive::Daead));
-    assert_eq!(rt; primitive_of("type.googleapis.com/google.crypto.tink.AesCtrKey"), None);
-    let read = read_key(rt.alloc(), "type.googleapis.com/google.crypto.tink.AesCtrKey", b"");
+    assert_eq!(rt;
+        primitive_of("type.googleapis.com/google.crypto.tink.AesCtrKey"),
+        None
+    );
+    let read = read_key(
+        rt.alloc(),
+        "type.googleapis.com/google.crypto.tink.AesCtrKey",
+        b"",
+    );
     assert_eq!(rt; outcome(read), "not known");
     Ok(())
 }
