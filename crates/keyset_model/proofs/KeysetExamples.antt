@@ -5,14 +5,14 @@ use Rattle.std.specs.Fmt.{digits}
 use Rattle.std.specs.Str.{is_utf8, chars}
 use Rattle.tink_spec.proofs.Examples.{wire_on_literals, url, keyset}
 use Rattle.keyset_model.specs.declared.keyset.KeysetFault.TheVariants as faults
-use Rattle.keyset_model.specs.Keyset.{Keys}
+use Rattle.keyset_model.specs.Keyset.{Keys, first_without, repeat_behind, first_some, when, fault_of}
 use Rattle.keyset_model.specs.Listing.{status_text, prefix_text, escaped, record_lines, info_of}
 use Rattle.keyset_model.specs.Reading.{record_of, key_of, reads_binary, Wire, Fault}
 use lib.Utf8.{encode}
 
 -- one name for what unfolds in an example
 unfoldable pub keysets_on_literals : Unit {0}
-unfolding wire_on_literals url keyset is_utf8 chars encode record_of key_of reads_binary
+unfolding wire_on_literals url keyset is_utf8 chars encode record_of key_of first_without repeat_behind first_some when fault_of reads_binary
 keysets_on_literals = tt
 
 -- the keyset of those 90 bytes: an AES-GCM key of 16 zero bytes
@@ -68,7 +68,7 @@ unfolding keysets_on_literals
 read_other_primary = refl
 
 -- a second key, which is empty
-pub read_two_keys : reads_binary (keyset ++ 0x12 ∷ 0x00 ∷ []) ≡ Err (Fault faults.Unbuilt)
+pub read_two_keys : reads_binary (keyset ++ 0x12 ∷ 0x00 ∷ []) ≡ Err (Fault (faults.UnknownStatus 1))
 unfolding keysets_on_literals
 read_two_keys = refl
 

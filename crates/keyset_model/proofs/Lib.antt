@@ -1,4 +1,6 @@
+pub mod Exits
 pub mod KeyLemmas
 pub mod KeysetExamples
 pub mod PrimaryLemmas
 pub mod ReadingLemmas
+pub mod WellFormedLemmas

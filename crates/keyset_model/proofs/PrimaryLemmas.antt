@@ -1,50 +1,49 @@
 -- The primary record of a keyset.
-use Rattle.std.proofs.Common.{◌≡◌, ◌∙◌, ap, sym, refl, Bool, true, false, ℕ, ◌≤◌, List, [], ◌∷◌, length, Option, Some, None, arith}
-use Rattle.std.specs.Prelude.{not, ◌&&◌, ◌==◌, find, is_none, nat_lt, slice_get, position, if◌then◌else◌}
-use Rattle.std.specs.List.{list_all, list_any, position_or_len}
+use Rattle.std.proofs.Common.{◌≡◌, ◌∙◌, ap, sym, refl, Bool, true, false, ℕ, ◌≤◌, List, [], ◌∷◌, length, Some, None, arith}
+use Rattle.std.specs.Prelude.{find, nat_lt, slice_get, position}
+use Rattle.std.specs.List.{list_any, position_or_len}
 use Rattle.std.proofs.lemmas.Bool.Decides.{nat_tests}
 use Rattle.std.proofs.lemmas.List.Folds.{find_at}
 use Rattle.std.proofs.lemmas.Option.{slice_get_past}
-use Rattle.keyset_model.specs.declared.keyset.KeysetFault.{KeysetFault}
-use Rattle.keyset_model.specs.declared.keyset.KeysetFault.TheVariants as faults
 use Rattle.keyset_model.specs.declared.record.Record.{Record}
-use Rattle.keyset_model.specs.Keyset.{Keys, is_built, has_id, primary_of, fault_of}
+use Rattle.keyset_model.specs.Keyset.{Keys, is_primary, primary_of, fault_of}
+use Rattle.keyset_model.specs.WellFormed.{FaultlessKeysets}
+use Rattle.keyset_model.proofs.WellFormedLemmas.{whole-faultless, all_known, all_data, least_records, most_records}
 
--- an element is found where one passes
-found_here : {A : Type 0} (p : A → Bool) (x : A) (xs : List A) (b : Bool) → p x ≡ b → is_none (find p xs) ≡ not (list_any p xs) → is_none (find p (x ∷ xs)) ≡ not (list_any p (x ∷ xs))
-found_here p x xs true is later = rw is refl
-found_here p x xs false is later = rw is later
+-- an element that is found passes the test
+passes_here : {A : Type 0} (p : A → Bool) (x y : A) (xs : List A) (b : Bool) → p x ≡ b → find p (x ∷ xs) ≡ Some y → (find p xs ≡ Some y → p y ≡ true) → p y ≡ true
+passes_here p x y xs true test found later = let same : Some x ≡ Some y = rw test at found in cc
+passes_here p x y xs false test found later = later (rw test at found)
 
-pub is_none-find : {A : Type 0} (p : A → Bool) (xs : List A) → is_none (find p xs) ≡ not (list_any p xs)
-is_none-find p [] = refl
-is_none-find p (x ∷ xs) = found_here p x xs (p x) refl (is_none-find p xs)
+found_passes : {A : Type 0} (p : A → Bool) (xs : List A) (y : A) → find p xs ≡ Some y → p y ≡ true
+found_passes p [] y found = cc
+found_passes p (x ∷ xs) y found = passes_here p x y xs _ refl found (found_passes p xs y)
 
--- an element that is found passes each test that all of them pass
-passes_here : {A : Type 0} (p q : A → Bool) (x y : A) (xs : List A) (a b : Bool) → p x ≡ a → q x ≡ b → list_all p (x ∷ xs) ≡ true → find q (x ∷ xs) ≡ Some y → (list_all p xs ≡ true → find q xs ≡ Some y → p y ≡ true) → p y ≡ true
-passes_here p q x y xs false b here test all found later = let clash : false ≡ true = rw here at all in cc
-passes_here p q x y xs true true here test all found later = let same : Some x ≡ Some y = rw test at found in cc
-passes_here p q x y xs true false here test all found later = later (rw here at all) (rw test at found)
+-- where one passes, one is found
+found_here : {A : Type 0} (p : A → Bool) (x : A) (xs : List A) (b : Bool) → p x ≡ b → list_any p (x ∷ xs) ≡ true → (list_any p xs ≡ true → (y : A) × (find p xs ≡ Some y)) → (y : A) × (find p (x ∷ xs) ≡ Some y)
+found_here p x xs true test any later = (x, rw test refl)
+found_here p x xs false test any later = let there = later (rw test at any) in (there.0, rw test there.1)
 
-pub found_passes : {A : Type 0} (p q : A → Bool) (xs : List A) (y : A) → list_all p xs ≡ true → find q xs ≡ Some y → p y ≡ true
-found_passes p q [] y all found = cc
-found_passes p q (x ∷ xs) y all found = passes_here p q x y xs (p x) (q x) refl refl all found (found_passes p q xs y)
+found_there : {A : Type 0} (p : A → Bool) (xs : List A) → list_any p xs ≡ true → (y : A) × (find p xs ≡ Some y)
+found_there p [] any = let clash : false ≡ true = any in cc
+found_there p (x ∷ xs) any = found_here p x xs _ refl any (found_there p xs)
 
--- without a fault each record is built, and there is a primary record
-sound : (a b c d : Bool) → (if a then Some faults.Empty else (if not (b && c) then Some faults.Unbuilt else (if d then Some faults.NoPrimary else None))) ≡ None → (c ≡ true) × (d ≡ false)
-sound true b c d is = cc
-sound false false c d is = cc
-sound false true false d is = cc
-sound false true true true is = cc
-sound false true true false is = (refl, refl)
+-- a record that is primary is ENABLED and has the primary id
+primary_status : (primary : ℕ) (r : Record) → is_primary primary r ≡ true → r.status ≡ 1
+primary_status primary r is = grind (arith, nat_tests)
 
-pub faultless : (keys : Keys) → fault_of keys ≡ None → (list_all is_built keys.records ≡ true) × (is_none (primary_of keys) ≡ false)
-faultless keys is = sound (length keys.records == 0) (length keys.records == 1) (list_all is_built keys.records) (is_none (primary_of keys)) is
+primary_id : (primary : ℕ) (r : Record) → is_primary primary r ≡ true → r.id ≡ primary
+primary_id primary r is = grind (arith, nat_tests)
 
-pub primary_built : (keys : Keys) (r : Record) → fault_of keys ≡ None → primary_of keys ≡ Some r → is_built r ≡ true
-primary_built keys r is found = found_passes is_built (has_id keys.primary) keys.records r (faultless keys is).0 found
+pub primary_enabled : (keys : Keys) (r : Record) → primary_of keys ≡ Some r → r.status ≡ 1
+primary_enabled keys r found = primary_status keys.primary r (found_passes (is_primary keys.primary) keys.records r found)
+
+-- without a fault there is a primary record
+pub primary_there : (keys : Keys) → fault_of keys ≡ None → (r : Record) × (primary_of keys ≡ Some r)
+primary_there keys is = found_there (is_primary keys.primary) keys.records (whole-faultless keys is).primary
 
 pub primary_missing : (keys : Keys) → fault_of keys ≡ None → primary_of keys ≡ None → ⊥
-primary_missing keys is none = let there = (faultless keys is).1 in let clash : true ≡ false = rw none at there in cc
+primary_missing keys is none = let there = primary_there keys is in let clash : None ≡ Some there.0 = sym none ∙ there.1 in cc
 
 -- what a position is of
 at_place : {A : Type 0} (p : A → Bool) (xs : List A) (i : ℕ) (b : Bool) → nat_lt (position_or_len p xs) (length xs) ≡ b → Some i ≡ position p xs → i ≡ position_or_len p xs
@@ -61,9 +60,15 @@ no_place p xs false is place = grind (arith, nat_tests)
 pub no_position : {A : Type 0} (p : A → Bool) (xs : List A) → None ≡ position p xs → find p xs ≡ None
 no_position p xs place = find_at p xs ∙ slice_get_past xs _ (no_place p xs _ refl place)
 
--- a record that is built is ENABLED
-built_enabled : (r : Record) → is_built r ≡ true → r.status ≡ 1
-built_enabled r is = grind (arith, nat_tests)
-
-pub primary_enabled : (keys : Keys) (r : Record) → fault_of keys ≡ None → primary_of keys ≡ Some r → r.status ≡ 1
-primary_enabled keys r is found = built_enabled r (primary_built keys r is found)
+pub faultless_keysets : FaultlessKeysets
+faultless_keysets keys faultless =
+    let there = primary_there keys faultless in
+    let passes = found_passes (is_primary keys.primary) keys.records there.0 there.1 in
+    record {
+      least = least_records keys faultless;
+      most = most_records keys faultless;
+      known = all_known keys faultless;
+      has_data = all_data keys faultless;
+      own_ids = (whole-faultless keys faultless).own_ids;
+      primary = (there.0, there.1, primary_id keys.primary there.0 passes, primary_status keys.primary there.0 passes);
+    }

@@ -14,13 +14,15 @@ use Rattle.proto_wire.specs.declared.field.Field.{Field}
 use Rattle.proto_wire.specs.declared.field.FieldsError.{FieldsError}
 use Rattle.proto_wire.specs.declared.field.FieldsError.TheVariants as fields_errors
 use Rattle.keyset_model.specs.declared.keyset.Keyset.{Keyset}
+use Rattle.keyset_model.specs.declared.keyset.KeysetFault.{KeysetFault}
 use Rattle.keyset_model.specs.declared.keyset.KeysetFault.TheVariants as faults
 use Rattle.keyset_model.specs.declared.reading.ReadError.{ReadError}
 use Rattle.keyset_model.specs.declared.reading.ReadError.TheVariants as errors
 use Rattle.keyset_model.specs.declared.record.Record.{Record}
-use Rattle.keyset_model.specs.Keyset.{Keys, HasSizes, built}
+use Rattle.keyset_model.specs.Keyset.{Keys, HasSizes, fault_of, unless_fault, built}
 use Rattle.keyset_model.specs.Reading.{key_of, is_at_fault, fault_at, records_in, Refusal, without_fault, reads_binary, GivesKeyset}
 use Rattle.keyset_model.specs.Steps.{GivesRecord, IsRead, KeepsRead, IsFaultAt, of_fields_error}
+use Rattle.keyset_model.proofs.Exits.{here, on, fails, more}
 use Rattle.keyset_model.proofs.KeyLemmas.{seen_from}
 
 -- a fault inside a key is one at its tag
@@ -63,13 +65,13 @@ all_behind P (x ∷ xs) ys front back = (front.0, all_behind P xs ys front.1 bac
 -- from there on add
 pub record RecordsSoFar (source : List ℕ) (message : List Field) (i : ℕ) (kept : List Record) : Type 0 where
   pub records : List Record
-  pub first : kept ≡ take 2 records
+  pub first : kept ≡ take 1001 records
   pub fault : fault_at (seen_all source message) ≡ fault_at (seen_all source (drop i message))
   pub all : records_in (seen_all source message) ≡ records ++ records_in (seen_all source (drop i message))
   pub sizes : AllByRecursion HasSizes kept
 
 -- these records are read next, and these are kept then
-reads_on : (source : List ℕ) (message : List Field) (i : ℕ) (kept more keeps : List Record) (field : Field) → (before : RecordsSoFar source message i kept) → slice_get message i ≡ Some field → IsRead more (seen source field ∷ []) → keeps ≡ take 2 (before.records ++ more) → AllByRecursion HasSizes keeps → RecordsSoFar source message (i + 1) keeps
+reads_on : (source : List ℕ) (message : List Field) (i : ℕ) (kept more keeps : List Record) (field : Field) → (before : RecordsSoFar source message i kept) → slice_get message i ≡ Some field → IsRead more (seen source field ∷ []) → keeps ≡ take 1001 (before.records ++ more) → AllByRecursion HasSizes keeps → RecordsSoFar source message (i + 1) keeps
 reads_on source message i kept more keeps field before there read first sizes =
     let records = before.records in
     let rest : List WireField = seen_all source (drop (i + 1) message) in
@@ -95,20 +97,20 @@ take_short {A} n xs y short =
 take_full : {A : Type 0} (n : ℕ) (xs : List A) (y : A) → (length (take n xs) < n → ⊥) → take n xs ≡ take n (xs ++ (y ∷ []))
 take_full n xs y full = sym (take-append-le n xs (y ∷ []) (omega (arith, length-take n xs)))
 
-pub so_far_keeps : (source : List ℕ) (message : List Field) (i : ℕ) (kept : List Record) (key : Record) (field : Field) → RecordsSoFar source message i kept → slice_get message i ≡ Some field → IsRead (key ∷ []) (seen source field ∷ []) → HasSizes key → length kept < 2 → RecordsSoFar source message (i + 1) (kept ++ (key ∷ []))
+pub so_far_keeps : (source : List ℕ) (message : List Field) (i : ℕ) (kept : List Record) (key : Record) (field : Field) → RecordsSoFar source message i kept → slice_get message i ≡ Some field → IsRead (key ∷ []) (seen source field ∷ []) → HasSizes key → length kept < 1001 → RecordsSoFar source message (i + 1) (kept ++ (key ∷ []))
 so_far_keeps source message i kept key field before there read sizes short =
-    let more = take_short 2 before.records key (rw before.first at short) in
+    let more = take_short 1001 before.records key (rw before.first at short) in
     reads_on source message i kept (key ∷ []) (kept ++ (key ∷ [])) field before there read
     (ap (λ (l : List Record). l ++ (key ∷ [])) before.first ∙ more) (all_behind HasSizes kept (key ∷ []) before.sizes (sizes, tt))
 
-pub so_far_leaves : (source : List ℕ) (message : List Field) (i : ℕ) (kept : List Record) (key : Record) (field : Field) → RecordsSoFar source message i kept → slice_get message i ≡ Some field → IsRead (key ∷ []) (seen source field ∷ []) → (length kept < 2 → ⊥) → RecordsSoFar source message (i + 1) kept
+pub so_far_leaves : (source : List ℕ) (message : List Field) (i : ℕ) (kept : List Record) (key : Record) (field : Field) → RecordsSoFar source message i kept → slice_get message i ≡ Some field → IsRead (key ∷ []) (seen source field ∷ []) → (length kept < 1001 → ⊥) → RecordsSoFar source message (i + 1) kept
 so_far_leaves source message i kept key field before there read full =
-    let same = take_full 2 before.records key (rw before.first at full) in
+    let same = take_full 1001 before.records key (rw before.first at full) in
     reads_on source message i kept (key ∷ []) kept field before there read (before.first ∙ same) before.sizes
 
 pub so_far_passes : (source : List ℕ) (message : List Field) (i : ℕ) (kept : List Record) (field : Field) → RecordsSoFar source message i kept → slice_get message i ≡ Some field → IsRead [] (seen source field ∷ []) → RecordsSoFar source message (i + 1) kept
 so_far_passes source message i kept field before there read =
-    reads_on source message i kept [] kept field before there read (before.first ∙ ap (λ (l : List Record). take 2 l) (sym (append-nil before.records))) before.sizes
+    reads_on source message i kept [] kept field before there read (before.first ∙ ap (λ (l : List Record). take 1001 l) (sym (append-nil before.records))) before.sizes
 
 pub so_far_fails : {T : Type 0} (r : Result T ReadError) (error : ReadError) (source : List ℕ) (message : List Field) (i : ℕ) (records : List Record) (field : Field) → IsErrAnd r (λ e. e ≡ error) → RecordsSoFar source message i records → slice_get message i ≡ Some field → IsFaultAt error (fault_at (seen source field ∷ [])) → IfErr r (λ e. IsFaultAt e (fault_at (seen_all source message)))
 so_far_fails (Ok all) error source message i records field is before there fault = absurd is
@@ -156,32 +158,33 @@ reading_fails bytes fields (errors.Wire wire) is fault = rw (is, fault) refl
 reading_fails bytes fields (errors.Fault wrong) is fault = absurd fault
 reading_fails bytes fields errors.NoMemory is fault = tt
 
--- a keyset of two records has the fault of any longer one
-many : (keys : Keys) → 2 ≤ length keys.records → built keys ≡ Err faults.Unbuilt
-many keys two =
-    let some : (length keys.records == 0) ≡ false = grind (arith, nat_tests) in
-    let more : (length keys.records == 1) ≡ false = grind (arith, nat_tests) in
-    rw (some, more) refl
+-- 1,001 records have the fault of any longer list, which has too many
+many : (keys : Keys) → 1001 ≤ length keys.records → built keys ≡ Err faults.TooMany
+unfolding fault_of
+many keys long =
+    let some : false ≡ (length keys.records == 0) = grind (arith, nat_tests) in
+    ap (λ (fault : Option KeysetFault). unless_fault fault keys)
+    (sym (on _ (fails faults.Empty some) (here _ (more (length keys.records) faults.TooMany (omega arith)))))
 
 bool_cases : (b : Bool) → (b ≡ true) ⊎ (b ≡ false)
 bool_cases true = inl refl
 bool_cases false = inr refl
 
-built_first : (primary : ℕ) (kept records : List Record) → kept ≡ take 2 records → (nat_le 2 (length records)) ≡ true ⊎ (nat_le 2 (length records) ≡ false) → built (record { primary = primary; records = records }) ≡ built (record { primary = primary; records = kept })
+built_first : (primary : ℕ) (kept records : List Record) → kept ≡ take 1001 records → (nat_le 1001 (length records)) ≡ true ⊎ (nat_le 1001 (length records) ≡ false) → built (record { primary = primary; records = records }) ≡ built (record { primary = primary; records = kept })
 built_first primary kept records first (inl long) =
-    let two : 2 ≤ length records = grind (arith, nat_tests) in
-    let kept_two : 2 ≤ length kept = omega (arith, ap length first, length-take 2 records) in
-    many (record { primary = primary; records = records }) two ∙ sym (many (record { primary = primary; records = kept }) kept_two)
+    let all_long : 1001 ≤ length records = grind (arith, nat_tests) in
+    let kept_long : 1001 ≤ length kept = omega (arith, ap length first, length-take 1001 records) in
+    many (record { primary = primary; records = records }) all_long ∙ sym (many (record { primary = primary; records = kept }) kept_long)
 built_first primary kept records first (inr short) =
-    let few : length records ≤ 2 = grind (arith, nat_tests) in
-    ap (λ (l : List Record). built (record { primary = primary; records = l })) (sym (first ∙ take_all 2 records few))
+    let few : length records ≤ 1001 = grind (arith, nat_tests) in
+    ap (λ (l : List Record). built (record { primary = primary; records = l })) (sym (first ∙ take_all 1001 records few))
 
 -- the keyset, or its fault, of what was read
 pub builds : (bytes : List ℕ) (fields : List WireField) (primary : ℕ) (kept : List Record) → cut 0 bytes ≡ Ok fields → number_in 1 fields ≡ Ok primary → KeepsRead kept fields → reads_binary bytes ≡ without_fault (built (record { primary = primary; records = kept }))
 unfolding reads_binary
 builds bytes fields primary kept is number read =
     let last : last_number (of_number 1 fields) ≡ primary = let all = primary_read fields read.faultless in cc in
-    let same = built_first primary kept (records_in fields) read.first (bool_cases (nat_le 2 (length (records_in fields)))) in
+    let same = built_first primary kept (records_in fields) read.first (bool_cases (nat_le 1001 (length (records_in fields)))) in
     rw (is, read.faultless, last, same) refl
 
 pub sizes_of : (key : Option Record) → IfSome key HasSizes → AllByRecursion HasSizes (option_to_list key)

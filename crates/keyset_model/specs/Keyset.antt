@@ -1,11 +1,17 @@
 -- Keysets (tink.proto): a primary id and a list of records.
 --
---   Keys        a primary id and records, whatever they are
---   primary_of  the record whose id is the primary id, if there is one
---   fault_of    the first fault, by which they are no keyset, or none
---   built       the keyset, or that fault
-use Rattle.std.specs.Prelude.{ℕ, ◌≤◌, ◌^◌, List, length, Bool, not, ◌&&◌, ◌==◌, nat_lt, nat_le, Option, Some, None, is_none, Result, Ok, Err, find, if◌then◌else◌}
-use Rattle.std.specs.List.{list_all}
+--   Keys          a primary id and records, whatever they are
+--   is_primary    the record is ENABLED and has the primary id
+--   primary_of    the first such record, if there is one
+--   first_without the place of the first record that fails a test
+--   repeat_behind the places of the first record that has the id of one before it
+--   fault_of      the first of nine faults, by which they are no keyset, or none
+--   built         the keyset, or that fault
+--
+-- Places are counted from 0.
+use Rattle.std.specs.Prelude.{ℕ, ◌≤◌, ◌^◌, List, [], ◌∷◌, ◌++◌, length, Bool, not, ◌&&◌, ◌||◌, ◌==◌, nat_lt, nat_le, Option, Some, None, option_map, Result, Ok, Err, find, position, if◌then◌else◌}
+use Rattle.std.specs.Option.{option_or}
+use Rattle.std.specs.List.{list_any}
 use Rattle.keyset_model.specs.declared.record.Record.{Record}
 use Rattle.keyset_model.specs.declared.keyset.KeysetFault.{KeysetFault}
 use Rattle.keyset_model.specs.declared.keyset.KeysetFault.TheVariants as faults
@@ -27,28 +33,84 @@ pub record IsKnown (record' : Record) : Type 0 where
   pub least_prefix : 1 ≤ record'.prefix
   pub most_prefix : record'.prefix ≤ 4
 
--- the record is ENABLED, its prefix type and material are known and it has a URL
-abbrev pub is_built : Record → Bool
-is_built r =
-    r.status == 1 && nat_le 1 r.prefix && nat_le r.prefix 4
-    && nat_le 1 r.material && nat_le r.material 4 && nat_lt 0 (length r.url)
+abbrev pub is_enabled : Record → Bool
+is_enabled r = r.status == 1
+
+abbrev pub is_destroyed : Record → Bool
+is_destroyed r = r.status == 3
+
+-- the status has a name
+abbrev pub has_status : Record → Bool
+has_status r = nat_le 1 r.status && nat_le r.status 3
+
+-- the output prefix type has a name
+abbrev pub has_prefix : Record → Bool
+has_prefix r = nat_le 1 r.prefix && nat_le r.prefix 4
+
+-- the key material type has a number up to 4, and 0 only in a DESTROYED record
+abbrev pub has_material : Record → Bool
+has_material r = nat_le r.material 4 && (nat_le 1 r.material || is_destroyed r)
+
+-- only a DESTROYED record has no URL
+abbrev pub has_key_data : Record → Bool
+has_key_data r = nat_le 1 (length r.url) || is_destroyed r
 
 -- the record has this id
 abbrev pub has_id : ℕ → Record → Bool
 has_id id r = r.id == id
 
--- the record whose id is the primary id, the first one where there are several
+-- a record has this id
+abbrev pub is_in : List Record → ℕ → Bool
+is_in records id = list_any (has_id id) records
+
+-- the record is ENABLED and has the primary id
+abbrev pub is_primary : ℕ → Record → Bool
+is_primary primary r = has_id primary r && is_enabled r
+
+-- the first record that is ENABLED and has the primary id
 abbrev pub primary_of : Keys → Option Record
-primary_of keys = find (has_id keys.primary) keys.records
+primary_of keys = find (is_primary keys.primary) keys.records
+
+-- the place of the first record that fails the test
+unfoldable pub first_without : (Record → Bool) → List Record → Option ℕ
+first_without test records = position (λ r. not (test r)) records
+
+abbrev pub pair_with : ℕ → ℕ → ℕ × ℕ
+pair_with j i = (i, j)
+
+-- The place of the first record that has the id of one before it, behind the place of the first of
+-- those. `before` stands in front of the records that are still to be looked at.
+unfoldable pub repeat_behind : List Record → List Record → Option (ℕ × ℕ)
+repeat_behind before [] = None
+repeat_behind before (r ∷ later) = option_or
+    (option_map (pair_with (length before)) (position (has_id r.id) before))
+    (repeat_behind (before ++ r ∷ []) later)
+
+-- the first that is there
+unfoldable pub first_some : {A : Type 0} → List (Option A) → Option A
+first_some [] = None
+first_some (option ∷ later) = option_or option (first_some later)
+
+-- this one, where the test holds
+unfoldable pub when : {A : Type 0} → Bool → A → Option A
+when test value = if test then Some value else None
+
+abbrev pub duplicate : ℕ × ℕ → KeysetFault
+duplicate places = faults.DuplicateId places.0 places.1
 
 -- the first fault, in the order of `KeysetFault`
-abbrev pub fault_of : Keys → Option KeysetFault
-fault_of keys =
-    if length keys.records == 0 then Some faults.Empty
-    else (if not (length keys.records == 1 && list_all is_built keys.records)
-    then Some faults.Unbuilt
-    else (if is_none (primary_of keys) then Some faults.NoPrimary
-    else None))
+unfoldable pub fault_of : Keys → Option KeysetFault
+fault_of keys = first_some (
+    when (length keys.records == 0) faults.Empty
+    ∷ when (nat_lt 1000 (length keys.records)) faults.TooMany
+    ∷ option_map faults.UnknownStatus (first_without has_status keys.records)
+    ∷ option_map faults.UnknownPrefix (first_without has_prefix keys.records)
+    ∷ option_map faults.UnknownMaterial (first_without has_material keys.records)
+    ∷ option_map faults.MissingKeyData (first_without has_key_data keys.records)
+    ∷ option_map duplicate (repeat_behind [] keys.records)
+    ∷ when (not (is_in keys.records keys.primary)) faults.NoPrimary
+    ∷ when (not (list_any (is_primary keys.primary) keys.records)) faults.PrimaryNotEnabled
+    ∷ [])
 
 -- the keys, where no fault holds
 abbrev pub unless_fault : Option KeysetFault → Keys → Result Keys KeysetFault

@@ -2,3 +2,4 @@ pub mod Keyset
 pub mod Listing
 pub mod Reading
 pub mod Steps
+pub mod WellFormed

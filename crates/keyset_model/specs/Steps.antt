@@ -43,11 +43,11 @@ pub record IsRead (records : List Record) (fields : List WireField) : Type 0 whe
   pub faultless : fault_at fields ≡ None
   pub all : records ≡ records_in fields
 
--- no field is at fault, and these are the first records of the fields, as many as are kept while a
+-- no field is at fault, and these are the first records of the fields, as many as are held while a
 -- keyset is read: one more than it may have
 pub record KeepsRead (records : List Record) (fields : List WireField) : Type 0 where
   pub faultless : fault_at fields ≡ None
-  pub first : records ≡ take 2 (records_in fields)
+  pub first : records ≡ take 1001 (records_in fields)
 
 -- the error is the field at fault at this place
 abbrev pub IsFaultAt : ReadError → Option ℕ → Type 0

@@ -1,26 +1,41 @@
 //! Keysets, well formed by their type.
 
-ghost use Rattle.std.specs.Prelude.{◌≡◌, ◌<◌, ◌≢◌, ◌↔◌, length, Some, None, IsNone, All, slice_get, position, ◌==◌, IfSome};
+ghost use Rattle.std.specs.Prelude.{◌≡◌, ◌<◌, ◌≤◌, ◌≢◌, ◌↔◌, length, Some, None, IsNone, All, slice_get, position, ◌==◌, IfSome};
 ghost use Rattle.std.specs.List.{AllByRecursion};
-ghost use Rattle.keyset_model.specs.Keyset.{HasSizes, IsKnown, is_built, primary_of, fault_of, built};
+ghost use Rattle.keyset_model.specs.Keyset.{HasSizes, IsKnown, primary_of, fault_of, built};
 
 use crate::Record;
+use crate::faults::{fault_of, primary_place};
 use std::marker::Model;
-use tink_base::{CRUNCHY, ENABLED, TINK};
+use tink_base::ENABLED;
 
-/// Why records with a primary id are no keyset, in the order in which faults are looked for.
+/// Why records with a primary id are no keyset, in the order in which faults are looked for. Places
+/// are counted from 0, and a fault names the smallest place that has it.
 #[derive(Clone, Copy, Debug, PartialEq, Eq)]
 pub enum KeysetFault {
     /// There is no record.
     Empty,
-    /// This form isn't built yet: more than one record, or one that isn't ENABLED, has an unknown
-    /// output prefix type or an unknown key material type, or has no type URL.
-    Unbuilt,
+    /// There are more than 1,000 records.
+    TooMany,
+    /// The status of this record isn't 1 to 3.
+    UnknownStatus(usize),
+    /// The output prefix type of this record isn't 1 to 4.
+    UnknownPrefix(usize),
+    /// The key material type of this record is above 4, or 0 in a record that isn't DESTROYED.
+    UnknownMaterial(usize),
+    /// This record has no type URL, and isn't DESTROYED.
+    MissingKeyData(usize),
+    /// The second of these records has the id of the first: the smallest second place, with its
+    /// smallest first one.
+    DuplicateId(usize, usize),
     /// No record has the primary id.
     NoPrimary,
+    /// The record with the primary id isn't ENABLED.
+    PrimaryNotEnabled,
 }
 
-/// A keyset: records, one of them primary, with none of the faults of `KeysetFault`.
+/// A keyset: records, one of them primary, with none of the faults of `KeysetFault`. So there are 1
+/// to 1,000 records, no two have one id, and the primary one is ENABLED (`laws`).
 #[derive(Drop)]
 pub struct Keyset {
     primary: u32,
@@ -61,9 +76,9 @@ impl Keyset {
         self.primary
     }
 
-    /// The primary record, the first one that has the primary id.
+    /// The primary record, the ENABLED one that has the primary id.
     ///
-    /// It is there, is ENABLED and has a name for its output prefix type, as a keyset has no fault.
+    /// It is there, as a keyset has no fault.
     pub fn primary_record(&self) -> &Record
         ensures faultless { fault_of self.now ≡ None }
         ensures primary { primary_of self.now ≡ Some result.now }
@@ -71,15 +86,17 @@ impl Keyset {
         ensures known { IsKnown result.now }
         ensures sizes { HasSizes result.now }
     {
-        match self.find(self.primary) {
+        match primary_place(&self.records, self.primary) {
             Some(i) => self.record_at(i),
             None => unreachable!(),
         }
     }
 
-    /// How many records there are.
+    /// How many records there are, 1 to 1,000.
     pub fn len(&self) -> usize
-        ensures { result ≡ length self.now.records }
+        ensures count { result ≡ length self.now.records }
+        ensures least { 1 ≤ result }
+        ensures most { result ≤ 1000 }
     {
         self.records.len()
     }
@@ -102,30 +119,4 @@ impl Keyset {
     {
         self.records.iter().position(|key| key.id == id)
     }
-}
-
-/// The first fault of these records with this primary id.
-fn fault_of(primary: u32, records: &[Record]) -> Option<KeysetFault>
-    ensures { result ≡ fault_of (record { primary = primary; records = records.now }) }
-{
-    if records.is_empty() {
-        return Some(KeysetFault::Empty);
-    }
-    if records.len() != 1 || !records.iter().all(|key| is_built(key)) {
-        return Some(KeysetFault::Unbuilt);
-    }
-    if !records.iter().any(|key| key.id == primary) {
-        return Some(KeysetFault::NoPrimary);
-    }
-    None
-}
-
-/// Whether the form of this record is built.
-fn is_built(key: &Record) -> bool
-    ensures { result ≡ is_built key.now }
-{
-    key.status == ENABLED
-        && (TINK..=CRUNCHY).contains(&key.prefix)
-        && (1..=4).contains(&key.material)
-        && !key.url.as_str().is_empty()
 }

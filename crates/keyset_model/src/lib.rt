@@ -3,8 +3,10 @@
 //! A `Keyset` is well formed as its type's invariant. Writing comes with the commands that edit.
 #![tactic(auto)]
 
+mod faults;
 mod key;
 mod keyset;
+pub mod laws;
 mod listing;
 mod reading;
 mod record;

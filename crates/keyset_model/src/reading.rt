@@ -20,9 +20,9 @@ const PRIMARY_KEY_ID: u32 = 1;
 
 const KEY: u32 = 2;
 
-/// How many records are kept while a keyset is read: one more than it may have. Those behind them
-/// are read for their faults alone, so a long list of keys takes no memory.
-const KEPT: usize = 2;
+/// How many records are held while a keyset is read: one more than it may have. Those behind them
+/// are read for their faults alone and aren't held, as the keyset has too many already.
+const KEPT: usize = 1001;
 
 /// Why bytes give no keyset.
 #[derive(Clone, Copy, Debug, PartialEq, Eq)]

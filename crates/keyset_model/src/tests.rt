@@ -80,7 +80,7 @@ fn names_the_first_field_at_fault(rt: HostRuntime) {
         (
             "three keys",
             b"\x12\0\x12\0\x12\0".as_slice(),
-            ReadError::Fault(KeysetFault::Unbuilt),
+            ReadError::Fault(KeysetFault::UnknownStatus(0)),
         ),
         (
             "no key",

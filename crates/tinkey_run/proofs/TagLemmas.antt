@@ -3,7 +3,7 @@ use Rattle.std.proofs.Common.{◌≡◌, ◌∙◌, sym, refl, ap, ℕ, ◌+◌,
 use Rattle.std.specs.Prelude.{IsSome, slice_get, find, ◌==◌, if◌then◌else◌}
 use Rattle.std.proofs.lemmas.Bool.Decides.{nat_tests}
 use Rattle.std.specs.Result.{IsErrAnd}
-use Rattle.keyset_model.specs.Keyset.{Keys, has_id, primary_of, fault_of}
+use Rattle.keyset_model.specs.Keyset.{Keys, is_primary, primary_of, fault_of}
 use Rattle.keyset_model.specs.declared.record.Record.{Record}
 use Rattle.keyset_model.proofs.PrimaryLemmas.{primary_enabled, primary_missing}
 use Rattle.tinkey_run.specs.declared.hmac_key.HmacKey.{HmacKey}
@@ -52,7 +52,7 @@ gives_key r enabled fit = key_there (key_for_tags r) (behind_test (r.status == 1
 
 pub primary_key : (keys : Keys) (r : Record) → fault_of keys ≡ None → primary_of keys ≡ Some r → unfit keys ≡ None → (key : HmacKey) × (key_for_tags r ≡ Ok key)
 unfolding unfit
-primary_key keys r faultless primary fit = gives_key r (primary_enabled keys r faultless primary) (found_fits (has_id keys.primary) 0 keys.records r fit primary)
+primary_key keys r faultless primary fit = gives_key r (primary_enabled keys r primary) (found_fits (is_primary keys.primary) 0 keys.records r fit primary)
 
 -- a key that isn't there
 no_refusal : (keys : Keys) (r : Record) (why : Unfit) → fault_of keys ≡ None → primary_of keys ≡ Some r → unfit keys ≡ None → key_for_tags r ≡ Err why → ⊥

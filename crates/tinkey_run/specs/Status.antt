@@ -28,8 +28,17 @@ code_of status.NoMemory = 7
 -- the text of a keyset's fault
 unfoldable pub fault_text : KeysetFault → List ℕ
 fault_text faults.Empty = codes "keyset has no key"
-fault_text faults.Unbuilt = codes "keyset form not built yet"
+fault_text faults.TooMany = codes "keyset has too many keys"
+fault_text (faults.UnknownStatus i) = codes "key " ++ decimal i ++ codes " has an unknown status"
+fault_text (faults.UnknownPrefix i) =
+    codes "key " ++ decimal i ++ codes " has an unknown output prefix type"
+fault_text (faults.UnknownMaterial i) =
+    codes "key " ++ decimal i ++ codes " has an unknown key material type"
+fault_text (faults.MissingKeyData i) = codes "key " ++ decimal i ++ codes " has no key data"
+fault_text (faults.DuplicateId i j) =
+    codes "keys " ++ decimal i ++ codes " and " ++ decimal j ++ codes " have the same id"
 fault_text faults.NoPrimary = codes "no key has the primary id"
+fault_text faults.PrimaryNotEnabled = codes "the primary key is not enabled"
 
 -- the name of a rule of key messages
 unfoldable pub rule_text : Rule → List ℕ

@@ -1,6 +1,6 @@
 //! The diagnostic line of a status, told without memory.
 
-ghost use Rattle.std.specs.Prelude.{◌≡◌, ◌+◌, ◌≤◌, ◌++◌, length};
+ghost use Rattle.std.specs.Prelude.{◌≡◌, ◌+◌, ◌≤◌, ◌++◌, length, codes, decimal};
 ghost use Rattle.tinkey_run.specs.Status.{line_of, text_of, fault_text, rule_text, Reports};
 
 use crate::line::Line;
@@ -37,7 +37,7 @@ fn line(status: Status) -> Line
 fn push_text(line: &mut Line, status: Status)
     requires room { length line.old ≤ 16 }
     ensures text { line.new ≡ line.old ++ text_of status }
-    ensures short { length line.new ≤ 108 }
+    ensures short { length line.new ≤ 127 }
 {
     match status {
         Status::Done => {}
@@ -49,14 +49,10 @@ fn push_text(line: &mut Line, status: Status)
             line.push("bad protobuf at byte ");
             line.push_number(at);
         }
-        Status::Keyset(fault) => line.push(keyset_text(fault)),
+        Status::Keyset(fault) => push_fault(line, fault),
         Status::KeysetTooLong => line.push("keyset too long"),
         Status::InMissing => line.push("input file missing"),
-        Status::NoManager(i) => {
-            line.push("key ");
-            line.push_number(i);
-            line.push(" has no manager for this command");
-        }
+        Status::NoManager(i) => push_key(line, i, " has no manager for this command"),
         Status::BadKey(i, rule) => {
             line.push("key ");
             line.push_number(i);
@@ -71,17 +67,50 @@ fn push_text(line: &mut Line, status: Status)
     }
 }
 
-/// The text of a keyset's fault.
+/// Adds the text of a keyset's fault, for which there is room.
 #[tactic(auto, unfolding(crate::specs::Status::fault_text))]
-fn keyset_text(fault: KeysetFault) -> &'static str
-    ensures text { result.now ≡ fault_text fault }
-    ensures short { length result.now ≤ 40 }
+fn push_fault(line: &mut Line, fault: KeysetFault)
+    requires room { length line.old ≤ 16 }
+    ensures text { line.new ≡ line.old ++ fault_text fault }
+    ensures short { length line.new ≤ 127 }
 {
     match fault {
-        KeysetFault::Empty => "keyset has no key",
-        KeysetFault::Unbuilt => "keyset form not built yet",
-        KeysetFault::NoPrimary => "no key has the primary id",
+        KeysetFault::Empty => line.push("keyset has no key"),
+        KeysetFault::TooMany => line.push("keyset has too many keys"),
+        KeysetFault::UnknownStatus(i) => push_key(line, i, " has an unknown status"),
+        KeysetFault::UnknownPrefix(i) => push_key(line, i, " has an unknown output prefix type"),
+        KeysetFault::UnknownMaterial(i) => push_key(line, i, " has an unknown key material type"),
+        KeysetFault::MissingKeyData(i) => push_key(line, i, " has no key data"),
+        KeysetFault::DuplicateId(i, j) => push_keys(line, i, j),
+        KeysetFault::NoPrimary => line.push("no key has the primary id"),
+        KeysetFault::PrimaryNotEnabled => line.push("the primary key is not enabled"),
     }
+}
+
+/// Adds what is said of the key of this place.
+fn push_key(line: &mut Line, i: usize, says: &str)
+    requires room { length line.old ≤ 16 }
+    requires says_bound { length says.now ≤ 40 }
+    ensures text { line.new ≡ line.old ++ (codes "key " ++ decimal i ++ says.now) }
+    ensures short { length line.new ≤ 127 }
+{
+    line.push("key ");
+    line.push_number(i);
+    line.push(says);
+}
+
+/// Adds that the keys of these places have the same id.
+fn push_keys(line: &mut Line, i: usize, j: usize)
+    requires room { length line.old ≤ 16 }
+    ensures text { line.new ≡ line.old ++
+        (codes "keys " ++ decimal i ++ codes " and " ++ decimal j ++ codes " have the same id") }
+    ensures short { length line.new ≤ 127 }
+{
+    line.push("keys ");
+    line.push_number(i);
+    line.push(" and ");
+    line.push_number(j);
+    line.push(" have the same id");
 }
 
 /// The text of a rule.

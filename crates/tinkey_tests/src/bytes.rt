@@ -18,6 +18,38 @@ key_info {
 }
 ";
 
+/// The listing of the same keyset with a second key.
+const TWO_LISTING: &str = "primary_key_id: 16909060
+key_info {
+  type_url: \"type.googleapis.com/google.crypto.tink.AesGcmKey\"
+  status: ENABLED
+  key_id: 16909060
+  output_prefix_type: TINK
+}
+key_info {
+  type_url: \"a\"
+  status: DISABLED
+  key_id: 8
+  output_prefix_type: RAW
+}
+";
+
+/// The listing of a DESTROYED key without key data, and of a primary key of the id 0.
+const BARE_LISTING: &str = "primary_key_id: 0
+key_info {
+  type_url: \"\"
+  status: DESTROYED
+  key_id: 4294967295
+  output_prefix_type: TINK
+}
+key_info {
+  type_url: \"a\"
+  status: ENABLED
+  key_id: 0
+  output_prefix_type: CRUNCHY
+}
+";
+
 /// A keyset of 98 bytes: the key of 20 bytes 0x0b of RFC 4231's first case for HMAC with SHA-256,
 /// with tags of 16 bytes, the id 16909060 and the prefix type RAW, as protoc encodes it by Tink's
 /// messages.
@@ -26,7 +58,7 @@ const HMAC_KEYSET: &[u8; 98] =
 
 /// The bytes that a cell spells, one item after another, with spaces between them.
 ///
-/// An item is hexadecimal digits (`0a2b`), a byte with its count (`20x0b`), or a name from the list
+/// An item is hexadecimal digits (`0a2b`), digits with their count (`20x0b`), or a name from the list
 /// in `named`, whole (`GCM`) or from a place to another (`GCM[5..]`, `GCM[..5]`, `GCM[9..57]`).
 pub(crate) fn bytes_of(alloc: Global, cell: &str) -> Result<Vec<u8>, Fail> {
     let mut bytes = Vec::new(alloc);
@@ -38,16 +70,32 @@ pub(crate) fn bytes_of(alloc: Global, cell: &str) -> Result<Vec<u8>, Fail> {
 
 /// Appends the bytes of one item.
 fn push_item(alloc: Global, bytes: &mut Vec<u8>, item: &str) -> Result<(), Fail> {
-    if let Some((count, byte)) = item.split_once('x') {
-        let byte = hex::decode(alloc, byte)?;
-        let byte = byte.first().filter(|_| byte.len() == 1).ok_or("one byte")?;
-        bytes.extend_from_slice(&vec![in alloc; *byte; count.parse::<usize>()?]?)?;
+    if let Some((count, piece)) = item.split_once('x') {
+        let piece = hex::decode(alloc, piece)?;
+        push_times(alloc, bytes, count.parse::<usize>()?, &piece)?;
     } else if let Some((name, range)) = item.split_once('[') {
         bytes.extend_from_slice(cut(name, range)?)?;
     } else if let Some(whole) = named(item) {
         bytes.extend_from_slice(whole)?;
     } else {
         bytes.extend_from_slice(&hex::decode(alloc, item)?)?;
+    }
+    Ok(())
+}
+
+/// Appends these bytes so many times.
+fn push_times(
+    alloc: Global,
+    bytes: &mut Vec<u8>,
+    count: usize,
+    piece: &[u8],
+) -> Result<(), Fail> {
+    if let Some(byte) = piece.first().filter(|_| piece.len() == 1) {
+        bytes.extend_from_slice(&vec![in alloc; *byte; count]?)?;
+    } else {
+        for _ in 0..count {
+            bytes.extend_from_slice(piece)?;
+        }
     }
     Ok(())
 }
@@ -60,6 +108,10 @@ fn named(name: &str) -> Option<&'static [u8]> {
         Some(HMAC_KEYSET)
     } else if name == "LISTING" {
         Some(GCM_LISTING.as_bytes())
+    } else if name == "TWO_LISTING" {
+        Some(TWO_LISTING.as_bytes())
+    } else if name == "BARE_LISTING" {
+        Some(BARE_LISTING.as_bytes())
     } else {
         None
     }

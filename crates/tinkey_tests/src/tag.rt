@@ -52,6 +52,26 @@ fn refuses_in_the_order_of_the_steps(rt: HostRuntime) -> Result<(), Fail> {
     run_table(rt.alloc(), REFUSALS, 10)
 }
 
+// Keysets of more keys: those of the id 8 have the URL `a`, or the URL of HMAC and the key of RFC 4231's
+// first case with the prefix type TINK, or with an empty message.
+const KEYSETS: &str = "words: tag --keyset k --keyset-format binary
+input: 4869205468657265
+
+shows | file | status | line | output
+a DISABLED key that no manager has | HMAC 120d0a050a01611801100218082001 | 0 Done | | b0344c61d8db38535ca8afceaf0bf12b
+the same in front of the primary key | 120d0a050a01611801100218082001 HMAC | 0 Done | | b0344c61d8db38535ca8afceaf0bf12b
+the same ENABLED | HMAC 120d0a050a01611801100118082001 | 3 NoManager(1) | tinkey: key 1 has no manager for this command |
+the second key is primary | 0808 HMAC[5..] 1258 HMAC[7..89] 1001 1808 2001 | 0 Done | | 0100000008 b0344c61d8db38535ca8afceaf0bf12b
+a second key that isn't valid | HMAC 123a 0a32 HMAC[9..57] 1801 1001 1808 2001 | 3 BadKey(1, Hash) | tinkey: key 1 is not valid: hash |
+one id | HMAC HMAC[5..] | 3 Keyset(DuplicateId(0, 1)) | tinkey: keys 0 and 1 have the same id |
+a DISABLED primary key | HMAC[..90] 02 HMAC[91..] | 3 Keyset(PrimaryNotEnabled) | tinkey: the primary key is not enabled |
+";
+
+#[test]
+fn tags_under_the_primary_key_of_several(rt: HostRuntime) -> Result<(), Fail> {
+    run_table(rt.alloc(), KEYSETS, 7)
+}
+
 /// The keyset whose one key has this message, of at most 64 bytes, in place of its own, as a cell.
 fn with_message(alloc: Global, message: &str) -> Result<String, Fail> {
     let size = bytes_of(alloc, message)?.len();

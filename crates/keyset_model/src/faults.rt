@@ -1,0 +1,154 @@
+//! The first fault of records, by one search for each fault.
+
+ghost use Rattle.std.specs.Prelude.{◌≡◌, [], position};
+ghost use Rattle.std.specs.List.{list_any};
+ghost use Rattle.keyset_model.specs.Keyset.{fault_of, first_without, has_id, is_in, is_primary, has_status, has_prefix, has_material, has_key_data, repeat_behind};
+
+use crate::{KeysetFault, Record};
+use tink_base::{CRUNCHY, DESTROYED, ENABLED, TINK};
+
+/// How many records a keyset may have.
+const MOST_RECORDS: usize = 1000;
+
+/// The last number of a key material type that has a name (tink.proto, KeyMaterialType).
+const REMOTE: u32 = 4;
+
+/// The first fault of these records with this primary id.
+pub(crate) fn fault_of(primary: u32, records: &[Record]) -> Option<KeysetFault>
+    ensures { result ≡ fault_of (record { primary = primary; records = records.now }) }
+{
+    if records.is_empty() {
+        return Some(KeysetFault::Empty);
+    }
+    if records.len() > MOST_RECORDS {
+        return Some(KeysetFault::TooMany);
+    }
+    if let Some(i) = place_without_status(records) {
+        return Some(KeysetFault::UnknownStatus(i));
+    }
+    if let Some(i) = place_without_prefix(records) {
+        return Some(KeysetFault::UnknownPrefix(i));
+    }
+    if let Some(i) = place_without_material(records) {
+        return Some(KeysetFault::UnknownMaterial(i));
+    }
+    if let Some(i) = place_without_key_data(records) {
+        return Some(KeysetFault::MissingKeyData(i));
+    }
+    if let Some((i, j)) = repeated_id(records) {
+        return Some(KeysetFault::DuplicateId(i, j));
+    }
+    if !has_any(records, primary) {
+        return Some(KeysetFault::NoPrimary);
+    }
+    if !has_primary(records, primary) {
+        return Some(KeysetFault::PrimaryNotEnabled);
+    }
+    None
+}
+
+/// The place of the first ENABLED record with the primary id.
+pub(crate) fn primary_place(records: &[Record], primary: u32) -> Option<usize>
+    ensures { result ≡ position (is_primary primary) records.now }
+{
+    records
+        .iter()
+        .position(|key| key.id == primary && key.status == ENABLED)
+}
+
+/// The place of the first record with this id.
+pub(crate) fn place_of(records: &[Record], id: u32) -> Option<usize>
+    ensures { result ≡ position (has_id id) records.now }
+{
+    records.iter().position(|key| key.id == id)
+}
+
+/// Whether a record has this id.
+fn has_any(records: &[Record], id: u32) -> bool
+    ensures { result ≡ is_in records.now id }
+{
+    records.iter().any(|key| key.id == id)
+}
+
+/// Whether an ENABLED record has the primary id.
+fn has_primary(records: &[Record], primary: u32) -> bool
+    ensures { result ≡ list_any (is_primary primary) records.now }
+{
+    records
+        .iter()
+        .any(|key| key.id == primary && key.status == ENABLED)
+}
+
+/// The place of the first record whose status has no name.
+#[tactic(auto, unfolding(crate::specs::Keyset::first_without))]
+fn place_without_status(records: &[Record]) -> Option<usize>
+    ensures { result ≡ first_without has_status records.now }
+{
+    records.iter().position(|key| !has_status(key))
+}
+
+/// The place of the first record whose output prefix type has no name.
+#[tactic(auto, unfolding(crate::specs::Keyset::first_without))]
+fn place_without_prefix(records: &[Record]) -> Option<usize>
+    ensures { result ≡ first_without has_prefix records.now }
+{
+    records.iter().position(|key| !has_prefix(key))
+}
+
+/// The place of the first record whose key material type isn't one that its status allows.
+#[tactic(auto, unfolding(crate::specs::Keyset::first_without))]
+fn place_without_material(records: &[Record]) -> Option<usize>
+    ensures { result ≡ first_without has_material records.now }
+{
+    records.iter().position(|key| !has_material(key))
+}
+
+/// The place of the first record that has to have key data and has none.
+#[tactic(auto, unfolding(crate::specs::Keyset::first_without))]
+fn place_without_key_data(records: &[Record]) -> Option<usize>
+    ensures { result ≡ first_without has_key_data records.now }
+{
+    records.iter().position(|key| !has_key_data(key))
+}
+
+/// Whether the status has a name.
+fn has_status(key: &Record) -> bool
+    ensures { result ≡ has_status key.now }
+{
+    (ENABLED..=DESTROYED).contains(&key.status)
+}
+
+/// Whether the output prefix type has a name.
+fn has_prefix(key: &Record) -> bool
+    ensures { result ≡ has_prefix key.now }
+{
+    (TINK..=CRUNCHY).contains(&key.prefix)
+}
+
+/// Whether the key material type has a number that this record may have.
+fn has_material(key: &Record) -> bool
+    ensures { result ≡ has_material key.now }
+{
+    key.material <= REMOTE && (key.material >= 1 || key.status == DESTROYED)
+}
+
+/// Whether there is a URL, or the record is DESTROYED.
+fn has_key_data(key: &Record) -> bool
+    ensures { result ≡ has_key_data key.now }
+{
+    !key.url.as_str().is_empty() || key.status == DESTROYED
+}
+
+/// The places of the first record that has the id of one before it, the earlier place first.
+fn repeated_id(records: &[Record]) -> Option<(usize, usize)>
+    ensures { result ≡ repeat_behind [] records.now }
+{
+    for j in 0..records.len() {
+        let id = records[j].id;
+        let before = &records[..j];
+        if let Some(i) = place_of(before, id) {
+            return Some((i, j));
+        }
+    }
+    None
+}
