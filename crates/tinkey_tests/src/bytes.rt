@@ -84,12 +84,7 @@ fn push_item(alloc: Global, bytes: &mut Vec<u8>, item: &str) -> Result<(), Fail>
 }
 
 /// Appends these bytes so many times.
-fn push_times(
-    alloc: Global,
-    bytes: &mut Vec<u8>,
-    count: usize,
-    piece: &[u8],
-) -> Result<(), Fail> {
+fn push_times(alloc: Global, bytes: &mut Vec<u8>, count: usize, piece: &[u8]) -> Result<(), Fail> {
     if let Some(byte) = piece.first().filter(|_| piece.len() == 1) {
         bytes.extend_from_slice(&vec![in alloc; *byte; count]?)?;
     } else {
