@@ -13,4 +13,6 @@ pub use aead::{AeadKey, open, seal};
 pub use gcm::{Gcm, gcm_open_in_place, gcm_seal_in_place};
 
 #[cfg(test)]
+mod scheme_tests;
+#[cfg(test)]
 mod tests;
