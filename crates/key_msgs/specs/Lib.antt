@@ -4,3 +4,4 @@ pub mod Keys
 pub mod Reading
 pub mod Rules
 pub mod Templates
+pub mod Writing

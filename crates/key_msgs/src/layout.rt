@@ -1,6 +1,8 @@
 //! The field numbers of key messages (Tink, *.proto).
 
-ghost use Rattle.std.specs.Prelude.{◌≡◌};
+ghost use Rattle.std.specs.Prelude.{◌≡◌, ◌≢◌};
+ghost use Rattle.key_msgs.specs.declared.key_type.KeyType.TheVariants as types;
+ghost use Rattle.key_msgs.specs.Writing.{IsLayout};
 ghost use Rattle.key_msgs.specs.KeyTypes.{layout_of, aes_ctr_fields, hmac_fields};
 
 use crate::KeyType;
@@ -43,7 +45,8 @@ const NO_FIELDS: Layout = Layout {
 
 /// The fields of an AesCtrKey, an inner message of AesCtrHmacAeadKey.
 pub(crate) fn aes_ctr_layout() -> Layout
-    ensures { result ≡ aes_ctr_fields }
+    ensures fields { result ≡ aes_ctr_fields }
+    ensures numbers { IsLayout result }
 {
     Layout {
         params: 2,
@@ -55,7 +58,8 @@ pub(crate) fn aes_ctr_layout() -> Layout
 
 /// The fields of the type's message. An AesCtrHmacAeadKey has its key values in inner messages.
 pub(crate) fn fields_of_type(key_type: KeyType) -> Layout
-    ensures { result ≡ layout_of key_type }
+    ensures fields { result ≡ layout_of key_type }
+    ensures numbers { key_type ≢ types.AesCtrHmac → IsLayout result }
 {
     match key_type {
         KeyType::AesGcm => Layout {

@@ -1,5 +1,5 @@
-//! Keys of Tink's symmetric key types: their messages, read, and the templates by which new ones are
-//! made. Messages are not written yet.
+//! Keys of Tink's symmetric key types: their messages, read and written, and the templates by which
+//! new ones are made.
 #![tactic(auto)]
 
 mod key;
@@ -12,6 +12,7 @@ mod reading;
 mod rule;
 mod rules;
 mod template;
+mod writing;
 
 pub use key::{KeyFault, KeyKind, url_of};
 pub use key_type::{KeyType, primitive_of};
@@ -20,6 +21,9 @@ pub use primitive::Primitive;
 pub use reading::read_key;
 pub use rule::Rule;
 pub use template::{Template, TemplateFault, make_key, template_at, template_named};
+pub use writing::write_key;
 
 #[cfg(test)]
 mod tests;
+#[cfg(test)]
+mod writing_tests;

@@ -3,10 +3,8 @@
 
 ghost use Rattle.std.specs.Prelude.{◌<◌};
 
-use crate::{
-    KeyFault, KeyKind, Primitive, Rule, TemplateFault, make_key, primitive_of, read_key,
-    template_at, template_named, url_of,
-};
+use crate::{KeyFault, KeyKind, Primitive, Rule, TemplateFault};
+use crate::{primitive_of, read_key, template_at, template_named};
 use std::alloc::{AllocError, Global};
 use std::test::Fail;
 
@@ -60,7 +58,7 @@ fn digit(letter: u8) -> u8
     }
 }
 
-fn bytes_of(alloc: Global, digits: &str) -> Result<Vec<u8>, AllocError> {
+pub(crate) fn bytes_of(alloc: Global, digits: &str) -> Result<Vec<u8>, AllocError> {
     let mut bytes = Vec::new(alloc);
     for pair in digits.as_bytes().chunks_exact(2) {
         if let [high, low] = pair {
@@ -70,7 +68,7 @@ fn bytes_of(alloc: Global, digits: &str) -> Result<Vec<u8>, AllocError> {
     Ok(bytes)
 }
 
-fn outcome(key: Result<KeyKind, KeyFault>) -> &'static str {
+pub(crate) fn outcome(key: Result<KeyKind, KeyFault>) -> &'static str {
     match key {
         Ok(_) => "ok",
         Err(KeyFault::NotKnown) => "not known",

@@ -1,11 +1,11 @@
 -- What is written spells its field, so it is cut back into it.
 use Rattle.std.proofs.Common.{◌≡◌, ◌∙◌, ap, sym, refl, subst, add-zero, ℕ, zero, suc, ◌+◌, ◌-◌, ◌*◌, ◌/◌, ◌%◌, ◌^◌, ◌<◌, ◌≤◌, List, [], ◌∷◌, ◌++◌, length, take, arith, lit<, lit≤, inl, inr, Ok, Err, Result}
 use Rattle.std.proofs.lemmas.Bool.Decides.{leb_tells, eqb_tells}
-use Rattle.std.proofs.lemmas.List.{length-append, length-take, take-append-le}
+use Rattle.std.proofs.lemmas.List.{append_assoc, length-append, length-take, take-append-le}
 use Rattle.tink_spec.specs.Varint.{IsVarint, SpellsNumber, groups}
 use Rattle.tink_spec.specs.Wire.{varint, WireField, SpellsField, with_field, cut}
 use Rattle.tink_spec.specs.Messages.{joined}
-use Rattle.proto_wire.specs.Written.{groups_of, varint_of, Entry, uint32, content, message, tag_of, number_field, bytes_field, bytes_from, written, fields_of, IsFieldNumber, IsWritable}
+use Rattle.proto_wire.specs.Written.{groups_of, varint_of, Entry, uint32, content, message, tag_of, number_field, bytes_field, bytes_from, written, written_all, fields_of, IsFieldNumber, IsWritable}
 use Rattle.proto_wire.proofs.Spellings.{field_front-of}
 use Rattle.proto_wire.proofs.Cuts.{cut-step, joined-nothing}
 
@@ -177,3 +177,29 @@ pub take-kept : (old front more : List ℕ) → take (length old) front ≡ old 
 take-kept old front more kept =
     let within : length old ≤ length front = omega (arith, length-take (length old) front, ap length kept) in
     take-append-le (length old) front more within ∙ kept
+
+-- ---- several fields, and how long they are
+
+pub written_all-append : (front more : List Entry) → written_all (front ++ more) ≡ written_all front ++ written_all more
+written_all-append [] more = refl
+written_all-append (entry ∷ front) more = ap (λ (l : List ℕ). written entry ++ l) (written_all-append front more) ∙ sym (append_assoc (written entry) (written_all front) (written_all more))
+
+-- the bytes of an entry, without tag and length
+abbrev pub size_of : Entry → ℕ
+size_of (uint32 number value) = 0
+size_of (content number of) = length of
+size_of (message number payload) = length payload
+
+length-bytes_field : (number : ℕ) (of : List ℕ) → length (bytes_field number of) ≤ 20 + length of
+length-bytes_field number of = omega (arith, length-append (tag_of number 2) (varint_of (length of) ++ of), length-append (varint_of (length of)) of, groups_of-length 9 (number * 8 + 2), groups_of-length 9 (length of))
+
+pub length-written : (entry : Entry) → length (written entry) ≤ 20 + size_of entry
+length-written (uint32 number value) = elim (eqb_tells value 0) [
+  | inl none ↦ rw none.0 (lit≤ tt)
+  | inr some ↦ rw some.0 (omega (arith, length-append (tag_of number 0) (varint_of value), groups_of-length 9 (number * 8 + 0), groups_of-length 9 value))
+]
+length-written (content number of) = elim (eqb_tells (length of) 0) [
+  | inl none ↦ rw none.0 (omega arith)
+  | inr some ↦ rw some.0 (length-bytes_field number of)
+]
+length-written (message number payload) = length-bytes_field number payload

@@ -1,0 +1,246 @@
+//! Key messages, written.
+
+ghost use Rattle.std.specs.Prelude.{◌≡◌, ◌<◌, ◌≤◌, ◌^◌, ◌+◌, ◌++◌, ℕ, length, IfOk, OnOk};
+ghost use Rattle.tink_spec.specs.Wire.{greatest_number};
+ghost use Rattle.proto_wire.specs.Written.{uint32, content, message, written, written_all};
+ghost use Rattle.key_msgs.specs.Keys.{type_of, contents_of};
+ghost use Rattle.key_msgs.specs.declared.key_type.KeyType.TheVariants as types;
+ghost use Rattle.key_msgs.specs.Writing.{if_field, hmac_entries, params_entries, params_entry, plain_entries, plain_written, mac_contents, written_by, value_of, IsShort, IsLayout};
+
+use crate::key::hash_number;
+use crate::layout::{aes_ctr_layout, fields_of_type};
+use crate::message::Message;
+use crate::{KeyKind, KeyType, Layout};
+use proto_wire::Writer;
+use std::alloc::Global;
+use tink_base::NoMemory;
+
+/// What the message of a key holds.
+fn contents_of<'k>(key: &'k KeyKind) -> Message<'k>
+    ensures { result ≡ contents_of key.now }
+{
+    let nothing = Message {
+        version: 0,
+        iv_size: 0,
+        segment: 0,
+        derived: 0,
+        hash: 0,
+        tag_size: 0,
+        salt: &[],
+        key: &[],
+        mac_hash: 0,
+        mac_tag_size: 0,
+        mac: &[],
+    };
+    match key {
+        KeyKind::AesGcm { key } | KeyKind::AesSiv { key } | KeyKind::CmacPrf { key } => Message {
+            key: key.as_slice(),
+            ..nothing
+        },
+        KeyKind::AesEax { key, iv_size } => Message {
+            key: key.as_slice(),
+            iv_size: *iv_size,
+            ..nothing
+        },
+        KeyKind::AesCtrHmac {
+            aes,
+            iv_size,
+            hash,
+            mac,
+            tag_size,
+        } => Message {
+            key: aes.as_slice(),
+            iv_size: *iv_size,
+            mac_hash: hash_number(*hash),
+            mac: mac.as_slice(),
+            mac_tag_size: *tag_size,
+            ..nothing
+        },
+        KeyKind::Hmac {
+            key,
+            hash,
+            tag_size,
+        } => Message {
+            key: key.as_slice(),
+            hash: hash_number(*hash),
+            tag_size: *tag_size,
+            ..nothing
+        },
+        KeyKind::AesCmac { key, tag_size } => Message {
+            key: key.as_slice(),
+            tag_size: *tag_size,
+            ..nothing
+        },
+        KeyKind::HkdfPrf { key, hash, salt } => Message {
+            key: key.as_slice(),
+            hash: hash_number(*hash),
+            salt: salt.as_slice(),
+            ..nothing
+        },
+        KeyKind::HmacPrf { key, hash } => Message {
+            key: key.as_slice(),
+            hash: hash_number(*hash),
+            ..nothing
+        },
+        KeyKind::GcmStream {
+            key,
+            segment,
+            derived,
+            hash,
+        } => Message {
+            key: key.as_slice(),
+            segment: *segment,
+            derived: *derived,
+            hash: hash_number(*hash),
+            ..nothing
+        },
+        KeyKind::CtrStream {
+            key,
+            segment,
+            derived,
+            hash,
+            mac_hash,
+            tag_size,
+        } => Message {
+            key: key.as_slice(),
+            segment: *segment,
+            derived: *derived,
+            hash: hash_number(*hash),
+            mac_hash: hash_number(*mac_hash),
+            mac_tag_size: *tag_size,
+            ..nothing
+        },
+    }
+}
+
+/// Writes a number in the field of this number, and nothing where that is 0, which stands for a field
+/// that the message doesn't have.
+fn put_number(writer: &mut Writer, number: u32, value: u32) -> Result<(), NoMemory>
+    requires most { number ≤ greatest_number }
+    ensures { OnOk result
+        (writer.new ≡ writer.old ++ written_all (if_field number (uint32 number value))) }
+{
+    if number == 0 {
+        Ok(())
+    } else {
+        writer.uint32(number, value)
+    }
+}
+
+/// Writes an inner message, also one with no bytes, in the field of this number, and nothing where
+/// that is 0.
+fn put_message(writer: &mut Writer, number: u32, payload: &[u8]) -> Result<(), NoMemory>
+    requires most { number ≤ greatest_number }
+    requires length_bound { length payload.now < 2 ^ 31 }
+    ensures { OnOk result
+        (writer.new ≡ writer.old ++ written_all (if_field number (message number payload.now))) }
+{
+    if number == 0 {
+        Ok(())
+    } else {
+        writer.message(number, payload)
+    }
+}
+
+/// Writes bytes in the field of this number, and nothing where that is 0.
+fn put_bytes(writer: &mut Writer, number: u32, value: &[u8]) -> Result<(), NoMemory>
+    requires most { number ≤ greatest_number }
+    requires length_bound { length value.now < 2 ^ 31 }
+    ensures { OnOk result
+        (writer.new ≡ writer.old ++ written_all (if_field number (content number value.now))) }
+{
+    if number == 0 {
+        Ok(())
+    } else {
+        writer.bytes(number, value)
+    }
+}
+
+/// The message `hmac_params`.
+fn write_hmac_params(alloc: Global, message: &Message<'_>) -> Result<Vec<u8>, NoMemory>
+    ensures { IfOk result (λ bytes. bytes.items ≡ written_all (hmac_entries message.now)) }
+{
+    let mut writer = Writer::new(alloc);
+    writer.uint32(1, message.mac_hash)?;
+    writer.uint32(2, message.mac_tag_size)?;
+    Ok(writer.finish())
+}
+
+/// The message `params`.
+fn write_params(alloc: Global, layout: Layout, message: &Message<'_>) -> Result<Vec<u8>, NoMemory>
+    requires layout { IsLayout layout }
+    requires short { IsShort message.now }
+    ensures { IfOk result (λ bytes. bytes.items ≡ written_all (params_entries layout message.now)) }
+{
+    let mut writer = Writer::new(alloc);
+    put_number(&mut writer, layout.iv_size, message.iv_size)?;
+    put_number(&mut writer, layout.segment, message.segment)?;
+    put_number(&mut writer, layout.derived, message.derived)?;
+    put_number(&mut writer, layout.hash, message.hash)?;
+    put_number(&mut writer, layout.tag_size, message.tag_size)?;
+    put_bytes(&mut writer, layout.salt, message.salt)?;
+    let hmac_params = write_hmac_params(alloc, message)?;
+    put_message(&mut writer, layout.hmac_params, &hmac_params)?;
+    Ok(writer.finish())
+}
+
+/// A message with one key value, by its field numbers.
+fn write_plain(alloc: Global, layout: Layout, message: &Message<'_>) -> Result<Vec<u8>, NoMemory>
+    requires layout { IsLayout layout }
+    requires short { IsShort message.now }
+    ensures written { IfOk result (λ bytes. bytes.items ≡ plain_written layout message.now) }
+{
+    let params = write_params(alloc, layout, message)?;
+    let mut writer = Writer::new(alloc);
+    if layout.key_value < layout.params {
+        writer.bytes(layout.key_value, message.key)?;
+        put_message(&mut writer, layout.params, &params)?;
+        Ok(writer.finish())
+    } else {
+        put_message(&mut writer, layout.params, &params)?;
+        writer.bytes(layout.key_value, message.key)?;
+        Ok(writer.finish())
+    }
+}
+
+/// An AesCtrHmacAeadKey message.
+fn write_ctr_hmac(alloc: Global, message: &Message<'_>) -> Result<Vec<u8>, NoMemory>
+    requires short { IsShort message.now }
+    ensures { IfOk result (λ bytes. bytes.items ≡ written_by types.AesCtrHmac message.now) }
+{
+    let mac = Message {
+        version: 0,
+        iv_size: 0,
+        segment: 0,
+        derived: 0,
+        hash: message.mac_hash,
+        tag_size: message.mac_tag_size,
+        salt: &[],
+        key: message.mac,
+        mac_hash: 0,
+        mac_tag_size: 0,
+        mac: &[],
+    };
+    let aes_key = write_plain(alloc, aes_ctr_layout(), message)?;
+    let hmac_key = write_plain(alloc, fields_of_type(KeyType::Hmac), &mac)?;
+    let mut writer = Writer::new(alloc);
+    writer.message(2, &aes_key)?;
+    writer.message(3, &hmac_key)?;
+    Ok(writer.finish())
+}
+
+/// Writes the message of a key: its fields by number, without those that are 0 or empty and without
+/// its version, which is 0, and with all inner messages, also those with no bytes.
+///
+/// The key values and the salt have to have fewer than 2^29 bytes each, so that the sizes of all inner
+/// messages are below 2^31. An error says that memory was refused.
+pub fn write_key(alloc: Global, key: &KeyKind) -> Result<Vec<u8>, NoMemory>
+    requires short { IsShort (contents_of key.now) }
+    ensures { IfOk result (λ bytes. bytes.items ≡ value_of key.now) }
+{
+    let message = contents_of(key);
+    match key.key_type() {
+        KeyType::AesCtrHmac => write_ctr_hmac(alloc, &message),
+        key_type => write_plain(alloc, fields_of_type(key_type), &message),
+    }
+}
