@@ -1,5 +1,6 @@
 pub mod Finding
 pub mod Made
+pub mod ReadingBack
 pub mod ReadingLemmas
 pub mod Validity
 pub mod WritingLemmas

@@ -2,7 +2,8 @@
 --
 --   plain_written   a message with one key value, by its field numbers
 --   value_of        the message of a key
-use Rattle.std.specs.Prelude.{ℕ, ◌<◌, ◌≤◌, ◌^◌, List, [], ◌∷◌, ◌++◌, length, ◌==◌, nat_lt, if◌then◌else◌}
+--   KeysReadBack    it reads back to the key
+use Rattle.std.specs.Prelude.{◌≡◌, ℕ, ◌<◌, ◌≤◌, ◌^◌, List, [], ◌∷◌, ◌++◌, length, Ok, ◌==◌, nat_lt, if◌then◌else◌}
 use Rattle.tink_spec.specs.Wire.{greatest_number}
 use Rattle.proto_wire.specs.Written.{Entry, uint32, content, message, written_all}
 use Rattle.key_msgs.specs.declared.key.KeyKind.{KeyKind}
@@ -11,7 +12,8 @@ use Rattle.key_msgs.specs.declared.key_type.KeyType.TheVariants as types
 use Rattle.key_msgs.specs.declared.layout.Layout.{Layout}
 use Rattle.key_msgs.specs.Contents.{Contents, nothing}
 use Rattle.key_msgs.specs.KeyTypes.{layout_of, aes_ctr_fields, hmac_fields}
-use Rattle.key_msgs.specs.Keys.{type_of, contents_of}
+use Rattle.key_msgs.specs.Keys.{type_of, contents_of, IsValid}
+use Rattle.key_msgs.specs.Reading.{key_of}
 
 -- an entry of a message that has such a field
 abbrev pub if_field : ℕ → Entry → List Entry
@@ -63,6 +65,22 @@ value_of key = written_by (type_of key) (contents_of key)
 -- fewer than 2 ^ 29 bytes in each field, so that each message can be written
 abbrev pub IsShort : Contents → Type 0
 IsShort m = (length m.key < 2 ^ 29) × (length m.salt < 2 ^ 29) × (length m.mac < 2 ^ 29)
+
+-- numbers of 32 bits, as the fields of messages are
+pub record AreNumbers (m : Contents) : Type 0 where
+  pub version : m.version < 2 ^ 32
+  pub iv_size : m.iv_size < 2 ^ 32
+  pub segment : m.segment < 2 ^ 32
+  pub derived : m.derived < 2 ^ 32
+  pub hash : m.hash < 2 ^ 32
+  pub tag_size : m.tag_size < 2 ^ 32
+  pub mac_hash : m.mac_hash < 2 ^ 32
+  pub mac_tag_size : m.mac_tag_size < 2 ^ 32
+
+-- The message of a valid key reads back to that key, under the key's own type.
+abbrev pub KeysReadBack : Type 0
+KeysReadBack = (key : KeyKind) → IsValid key → AreNumbers (contents_of key) → IsShort (contents_of key) →
+    key_of (type_of key) (value_of key) ≡ Ok key
 
 -- field numbers, or 0
 pub record IsLayout (layout : Layout) : Type 0 where

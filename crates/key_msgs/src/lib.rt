@@ -4,6 +4,7 @@
 
 mod key;
 mod key_type;
+pub mod laws;
 mod layout;
 mod making;
 mod message;

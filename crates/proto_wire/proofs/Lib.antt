@@ -3,6 +3,7 @@ pub mod Cuts
 pub mod Merging
 pub mod Pieces
 pub mod Places
+pub mod ReadBack
 pub mod Spellings
 pub mod Varints
 pub mod Writing
