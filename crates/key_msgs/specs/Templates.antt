@@ -2,8 +2,10 @@
 --
 --   templates        the table: name, output prefix type, and what is made
 --   made             the key of a template and its random bytes
+--   MadeKeysAreValid   it keeps every rule
 --   is_asymmetric    a name of Tink's templates for asymmetric keys
-use Rattle.std.specs.Prelude.{◌≡◌, Result, Ok, Err, ℕ, ◌+◌, List, [], ◌∷◌, take, drop, Bool, true, false, ◌||◌, Option, Some, None, find, codes}
+use Rattle.std.specs.Prelude.{◌≡◌, Result, Ok, Err, ℕ, ◌+◌, List, [], ◌∷◌, length, take, drop, Bool, true, false, ◌||◌, Option, Some, None, find, codes}
+use Rattle.std.specs.List.{AllByRecursion}
 use Rattle.std.specs.Str.{bytes_eq}
 use Rattle.tink_base.specs.declared.hash.Hash.TheVariants.{Sha256, Sha512}
 use Rattle.key_msgs.specs.declared.key.KeyKind.{KeyKind}
@@ -14,20 +16,24 @@ use Rattle.key_msgs.specs.declared.template.Recipe.TheVariants.{Gcm, Eax, CtrHma
 use Rattle.key_msgs.specs.declared.template.Template.{Template}
 use Rattle.key_msgs.specs.declared.template.TemplateFault.{TemplateFault}
 use Rattle.key_msgs.specs.declared.template.TemplateFault.TheVariants as faults
-use Rattle.key_msgs.specs.Keys.{type_of}
+use Rattle.key_msgs.specs.Keys.{type_of, IsValid}
 
+-- a template: its name, the output prefix type of its keys, and what is made
 pub record Row : Type 0 where
   pub name : List ℕ
   -- TINK is 1 and RAW 3
   pub prefix : ℕ
   pub recipe : Recipe
 
+-- a template whose keys have a prefix of TINK's kind
 abbrev pub tink : List ℕ → Recipe → Row
 tink name recipe = record { name = name; prefix = 1; recipe = recipe }
 
+-- a template whose keys have no prefix
 abbrev pub raw : List ℕ → Recipe → Row
 raw name recipe = record { name = name; prefix = 3; recipe = recipe }
 
+-- the thirty-two templates, in the order in which they are listed
 abbrev pub templates : List Row
 templates =
     tink (codes "AES128_GCM") (Gcm 16)
@@ -82,9 +88,11 @@ made_by CmacPrf random = kinds.CmacPrf random
 made_by (GcmStream size segment) random = kinds.GcmStream random segment size Sha256
 made_by (CtrStream size segment) random = kinds.CtrStream random segment size Sha256 Sha256 32
 
+-- the key of a template and its random bytes
 abbrev pub made : Row → List ℕ → KeyKind
 made row random = made_by row.recipe random
 
+-- the type of the keys that a template makes
 abbrev pub type_made : Row → KeyType
 type_made row = type_of (made row [])
 
@@ -102,9 +110,11 @@ random_by CmacPrf = 32
 random_by (GcmStream size segment) = size
 random_by (CtrStream size segment) = size
 
+-- how many random bytes a template's key takes
 abbrev pub random_of : Row → ℕ
 random_of row = random_by row.recipe
 
+-- a name of Tink's templates for asymmetric keys
 abbrev pub is_asymmetric : List ℕ → Bool
 is_asymmetric name =
     bytes_eq name (codes "ECDSA_P256")
@@ -127,3 +137,8 @@ abbrev pub FindsTemplate : List ℕ → Result Template TemplateFault → Type 0
 FindsTemplate name (Ok template) = row_named name ≡ Some (seen template)
 FindsTemplate name (Err faults.Asymmetric) = (row_named name ≡ None) × (is_asymmetric name ≡ true)
 FindsTemplate name (Err faults.Unknown) = (row_named name ≡ None) × (is_asymmetric name ≡ false)
+
+-- Each template of the table, with as many random bytes as it takes, makes a key that keeps every rule.
+abbrev pub MadeKeysAreValid : Type 0
+MadeKeysAreValid = AllByRecursion (λ row.
+    (random : List ℕ) → length random ≡ random_of row → IsValid (made row random)) templates

@@ -1,9 +1,16 @@
 //! Laws of the definitions of keys. These functions do nothing: their contracts are the laws.
 
+ghost use Rattle.key_msgs.specs.Templates.{MadeKeysAreValid};
 ghost use Rattle.key_msgs.specs.Writing.{KeysReadBack};
 
 /// The message of a key that keeps the rules, with lists of fewer than 2^29 bytes, reads back to that
 /// key under the key's own type.
 pub fn key_back()
     ensures { KeysReadBack }
+{}
+
+/// Each template of the table, with as many random bytes as it takes, makes a key that keeps every
+/// rule of its type.
+pub fn made_is_valid()
+    ensures { MadeKeysAreValid }
 {}
