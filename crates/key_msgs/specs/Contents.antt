@@ -4,6 +4,8 @@
 --   Layout     the field numbers of a message that has one key value
 use Rattle.std.specs.Prelude.{ℕ, List, []}
 
+-- the known fields of a key message, those of its inner messages among them; 0 and no byte stand
+-- for what the message doesn't have
 pub record Contents : Type 0 where
   -- the greatest version of the message and its inner key messages
   pub version : ℕ

@@ -25,11 +25,13 @@ no_fields = record {
   key_value = 0;
 }
 
+-- what is known of a key type: its message's name, its primitive and its fields
 pub record Row : Type 0 where
   pub name : List ℕ
   pub primitive : Primitive
   pub fields : Layout
 
+-- the table of the key types
 abbrev pub row_of : KeyType → Row
 row_of types.AesGcm = record {
   name = codes "AesGcmKey";
@@ -92,21 +94,27 @@ row_of types.CtrStream = record {
 abbrev pub aes_ctr_fields : Layout
 aes_ctr_fields = record no_fields { params = 2; iv_size = 1; key_value = 3 }
 
+-- the HMAC key beside a cipher is an HmacKey
 abbrev pub hmac_fields : Layout
 hmac_fields = (row_of types.Hmac).fields
 
+-- the fields of a type's message
 abbrev pub layout_of : KeyType → Layout
 layout_of type = (row_of type).fields
 
+-- what keys of the type are for
 abbrev pub primitive_of_type : KeyType → Primitive
 primitive_of_type type = (row_of type).primitive
 
+-- the type URL: Tink's prefix and the message's name
 abbrev pub url_of_type : KeyType → List ℕ
 url_of_type type = codes "type.googleapis.com/google.crypto.tink." ++ (row_of type).name
 
+-- the eleven key types
 abbrev pub all_types : List KeyType
 all_types = types.AesGcm ∷ types.AesEax ∷ types.AesCtrHmac ∷ types.AesSiv ∷ types.Hmac ∷ types.AesCmac
     ∷ types.HkdfPrf ∷ types.HmacPrf ∷ types.CmacPrf ∷ types.GcmStream ∷ types.CtrStream ∷ []
 
+-- the type of a URL, compared byte by byte, or none
 unfoldable pub type_of_url : List ℕ → Option KeyType
 type_of_url url = find (λ type. bytes_eq (url_of_type type) url) all_types

@@ -24,6 +24,7 @@ hash_number Sha256 = 3
 hash_number Sha512 = 4
 hash_number Sha224 = 5
 
+-- the type of a key
 abbrev pub type_of : KeyKind → KeyType
 type_of (kinds.AesGcm key) = types.AesGcm
 type_of (kinds.AesEax key iv_size) = types.AesEax
@@ -37,6 +38,7 @@ type_of (kinds.CmacPrf key) = types.CmacPrf
 type_of (kinds.GcmStream key segment derived hash) = types.GcmStream
 type_of (kinds.CtrStream key segment derived hash mac_hash tag_size) = types.CtrStream
 
+-- what the message of a key holds; its version is 0
 abbrev pub contents_of : KeyKind → Contents
 contents_of (kinds.AesGcm key) = record nothing { key = key }
 contents_of (kinds.AesEax key iv_size) = record nothing { key = key; iv_size = iv_size }
@@ -70,6 +72,7 @@ abbrev pub with_hash : Option Hash → (Hash → Result KeyKind Rule) → Result
 with_hash None next = Err broken.Hash
 with_hash (Some hash) next = next hash
 
+-- the key of a type with these contents; a hash function without a number of Tink's breaks a rule
 abbrev pub key_from : KeyType → Contents → Result KeyKind Rule
 key_from types.AesGcm m = Ok (kinds.AesGcm m.key)
 key_from types.AesEax m = Ok (kinds.AesEax m.key m.iv_size)

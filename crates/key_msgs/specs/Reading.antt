@@ -64,6 +64,7 @@ ctr_hmac fields = do
     mac = mac.key;
   })
 
+-- what the fields of a type's message hold, or the place of a field at fault
 abbrev pub contents_in : KeyType → List WireField → Result Contents ℕ
 contents_in types.AesCtrHmac fields = ctr_hmac fields
 contents_in type fields = plain (layout_of type) fields
@@ -78,6 +79,7 @@ abbrev pub unless_broken : Option Rule → Result KeyKind Rule → Result KeyKin
 unless_broken None key = key
 unless_broken (Some rule) key = Err rule
 
+-- the key of these contents, or the first rule that they break
 abbrev pub checked : KeyType → Contents → Result KeyKind Rule
 checked type m = unless_broken (first_broken type m) (key_from type m)
 
@@ -86,6 +88,7 @@ abbrev pub and_checked : KeyType → Result Contents Rule → Result KeyKind Rul
 and_checked type (Ok m) = checked type m
 and_checked type (Err rule) = Err rule
 
+-- the key of the bytes of a message, or the first rule that the message breaks
 unfoldable pub key_of : KeyType → List ℕ → Result KeyKind Rule
 key_of type value = and_checked type (formed (cut 0 value >>= contents_in type))
 

@@ -12,9 +12,11 @@ use Rattle.key_msgs.specs.declared.rule.Rule.{Rule}
 use Rattle.key_msgs.specs.declared.rule.Rule.TheVariants as rules_of
 use Rattle.key_msgs.specs.Contents.{Contents}
 
+-- one of two numbers
 abbrev pub is_either : ℕ → ℕ → ℕ → Bool
 is_either a b n = n == a || n == b
 
+-- a number from the least to the most, both included
 abbrev pub is_within : ℕ → ℕ → ℕ → Bool
 is_within least most n = nat_le least n && nat_le n most
 
@@ -35,6 +37,7 @@ abbrev pub is_tag_of : Option Hash → ℕ → Bool
 is_tag_of None n = true
 is_tag_of (Some hash) n = is_within 10 (hash_size hash) n
 
+-- the hash functions that the key type takes
 abbrev pub hash_fits : KeyType → Contents → Bool
 hash_fits types.AesGcm m = true
 hash_fits types.AesEax m = true
@@ -48,6 +51,7 @@ hash_fits types.CmacPrf m = true
 hash_fits types.GcmStream m = is_hkdf_hash m.hash
 hash_fits types.CtrStream m = is_hkdf_hash m.hash && is_hash m.mac_hash
 
+-- the sizes of keys that the key type takes; a stream's is no less than that of its derived key
 abbrev pub key_fits : KeyType → Contents → Bool
 key_fits types.AesGcm m = is_either 16 32 (length m.key)
 key_fits types.AesEax m = is_either 16 32 (length m.key)
@@ -61,11 +65,13 @@ key_fits types.CmacPrf m = length m.key == 32
 key_fits types.GcmStream m = nat_le m.derived (length m.key)
 key_fits types.CtrStream m = nat_le m.derived (length m.key)
 
+-- the sizes of IVs that the key type takes
 abbrev pub iv_fits : KeyType → Contents → Bool
 iv_fits types.AesEax m = is_either 12 16 m.iv_size
 iv_fits types.AesCtrHmac m = is_within 12 16 m.iv_size
 iv_fits _ m = true
 
+-- the sizes of tags that the key type takes
 abbrev pub tag_fits : KeyType → Contents → Bool
 tag_fits types.AesCtrHmac m = is_tag_of (hash_of_number m.mac_hash) m.mac_tag_size
 tag_fits types.Hmac m = is_tag_of (hash_of_number m.hash) m.tag_size
@@ -73,6 +79,7 @@ tag_fits types.AesCmac m = is_within 10 16 m.tag_size
 tag_fits types.CtrStream m = is_tag_of (hash_of_number m.mac_hash) m.mac_tag_size
 tag_fits _ m = true
 
+-- the sizes of derived keys: those of AES-128 and AES-256
 abbrev pub derived_fits : KeyType → Contents → Bool
 derived_fits types.GcmStream m = is_either 16 32 m.derived
 derived_fits types.CtrStream m = is_either 16 32 m.derived
@@ -95,9 +102,11 @@ keeps type m rules_of.TagSize = tag_fits type m
 keeps type m rules_of.DerivedSize = derived_fits type m
 keeps type m rules_of.Segment = segment_fits type m
 
+-- the rules, in the order in which they are tried
 abbrev pub all_rules : List Rule
 all_rules = rules_of.Form ∷ rules_of.Version ∷ rules_of.Hash ∷ rules_of.KeySize ∷ rules_of.IvSize
     ∷ rules_of.TagSize ∷ rules_of.DerivedSize ∷ rules_of.Segment ∷ []
 
+-- the first of the rules that the contents break, or none
 abbrev pub first_broken : KeyType → Contents → Option Rule
 first_broken type m = find (λ rule. not (keeps type m rule)) all_rules
