@@ -3,8 +3,10 @@
 
 ghost use Rattle.std.specs.Prelude.{◌<◌};
 
-use crate::{KeyFault, KeyKind, Primitive, Rule, TemplateFault};
-use crate::{primitive_of, read_key, template_at, template_named};
+use crate::{
+    KeyFault, KeyKind, Primitive, Rule, TemplateFault, primitive_of, read_key, template_at,
+    template_named,
+};
 use std::alloc::{AllocError, Global};
 use std::test::Fail;
 
