@@ -1,4 +1,5 @@
--- Two of the EAX paper's printed test vectors: an empty message, and one longer than a block. Each is
+-- Two of the EAX paper's test vectors, written down from memory and checked with Python's cryptography:
+-- an empty message, and one longer than a block. Each is
 -- computed from the definitions alone.
 use Rattle.std.proofs.Common.{◌≡◌, ℕ, Some, None, List, [], ◌++◌, take, refl}
 use Rattle.std.specs.Int.{w64, w128, to_be_bytes}
