@@ -15,6 +15,7 @@ pub trait Entropy {
     fn fill(&mut self, out: &mut [u8]) -> Result<(), Failed>
         ensures fills { OnOk result (Drew (state self.old) (state self.new) out.new) }
         ensures no_fault { OnOk result (Stood (state self.old).faults (state self.new).faults) }
-        ensures failed { OnErr result (RanShort (state self.old) (state self.new) (length out.old)) }
+        ensures failed { OnErr result
+            (RanShort (state self.old) (state self.new) (length out.old)) }
         ensures kept { OnErr result (Drew (state self.old) (state self.new) []) };
 }

@@ -37,7 +37,8 @@ impl MemStore {
     /// An empty store. Its `load` and `create` fail exactly at the calls whose numbers, from 1,
     /// stand in `fails`, and change nothing then.
     pub fn new(alloc: Global, fails: Vec<u64>) -> MemStore
-        ensures { result ≡ record { files = map.empty; fails = fails.items; calls = 0; faults = 0 } }
+        ensures { result ≡
+            record { files = map.empty; fails = fails.items; calls = 0; faults = 0 } }
     {
         MemStore {
             alloc,
@@ -50,7 +51,8 @@ impl MemStore {
 
     /// Sets the file of this name. After `NoMemory` no file has changed.
     pub fn put(&mut self, name: &str, bytes: &[u8]) -> Result<(), NoMemory>
-        ensures set { OnOk result (self.new ≡ record self.old { files = map.insert self.old.files name.now bytes.now }) }
+        ensures set { OnOk result (self.new ≡
+            record self.old { files = map.insert self.old.files name.now bytes.now }) }
         ensures kept { OnErr result (self.new ≡ self.old) }
     {
         let name = Text::copy(self.alloc, name)?;
@@ -80,13 +82,17 @@ impl Store for MemStore {
     fn load(&mut self, alloc: Global, name: &str, limit: usize) -> Result<Loaded, StoreError>
         ensures loads { IfOk result (λ found. Loads (told_store self.old) name.now limit found) }
         ensures kept { KeptFiles (told_store self.old) (told_store self.new) }
-        ensures no_fault { (IsErrOf result StoreError.Failed → ⊥) → Stood self.old.faults self.new.faults }
+        ensures no_fault { (IsErrOf result StoreError.Failed → ⊥) →
+            Stood self.old.faults self.new.faults }
         ensures failed { IsErrOf result StoreError.Failed → Rose self.old.faults self.new.faults }
 
         // Exactly when it fails.
-        ensures listed { IsErrOf result StoreError.Failed ↔ Contains self.old.fails (next self.old.calls) }
-        ensures faultless { (IsErrOf result StoreError.Failed → ⊥) → self.new ≡ record self.old { calls = next self.old.calls } }
-        ensures faulty { IsErrOf result StoreError.Failed → self.new ≡ record self.old { calls = next self.old.calls; faults = next self.old.faults } }
+        ensures listed { IsErrOf result StoreError.Failed ↔
+            Contains self.old.fails (next self.old.calls) }
+        ensures faultless { (IsErrOf result StoreError.Failed → ⊥) → self.new ≡
+            record self.old { calls = next self.old.calls } }
+        ensures faulty { IsErrOf result StoreError.Failed → self.new ≡
+            record self.old { calls = next self.old.calls; faults = next self.old.faults } }
     {
         self.calls = self.calls.saturating_add(1);
         if self.fails.contains(&self.calls) {
@@ -108,16 +114,23 @@ impl Store for MemStore {
     }
 
     fn create(&mut self, _alloc: Global, name: &str, bytes: &[u8]) -> Result<Created, StoreError>
-        ensures creates { IfOk result (λ made. Creates (told_store self.old) (told_store self.new) name.now bytes.now made) }
-        ensures no_fault { (IsErrOf result StoreError.Failed → ⊥) → Stood self.old.faults self.new.faults }
+        ensures creates { IfOk result
+            (λ made. Creates (told_store self.old) (told_store self.new) name.now bytes.now made) }
+        ensures no_fault { (IsErrOf result StoreError.Failed → ⊥) →
+            Stood self.old.faults self.new.faults }
         ensures failed { IsErrOf result StoreError.Failed → Rose self.old.faults self.new.faults }
-        ensures may_add { IsErrOf result StoreError.Failed → MayAdd (told_store self.old) (told_store self.new) name.now bytes.now }
-        ensures no_memory { IsErrOf result StoreError.NoMemory → KeptFiles (told_store self.old) (told_store self.new) }
+        ensures may_add { IsErrOf result StoreError.Failed →
+            MayAdd (told_store self.old) (told_store self.new) name.now bytes.now }
+        ensures no_memory { IsErrOf result StoreError.NoMemory →
+            KeptFiles (told_store self.old) (told_store self.new) }
 
         // Exactly when it fails, and that it changes nothing then.
-        ensures listed { IsErrOf result StoreError.Failed ↔ Contains self.old.fails (next self.old.calls) }
-        ensures faultless { (IsErrOf result StoreError.Failed → ⊥) → self.new ≡ record self.old { files = self.new.files; calls = next self.old.calls } }
-        ensures faulty { IsErrOf result StoreError.Failed → self.new ≡ record self.old { calls = next self.old.calls; faults = next self.old.faults } }
+        ensures listed { IsErrOf result StoreError.Failed ↔
+            Contains self.old.fails (next self.old.calls) }
+        ensures faultless { (IsErrOf result StoreError.Failed → ⊥) → self.new ≡
+            record self.old { files = self.new.files; calls = next self.old.calls } }
+        ensures faulty { IsErrOf result StoreError.Failed → self.new ≡
+            record self.old { calls = next self.old.calls; faults = next self.old.faults } }
     {
         self.calls = self.calls.saturating_add(1);
         if self.fails.contains(&self.calls) {

@@ -18,6 +18,7 @@ mod source;
 mod store;
 mod stream;
 mod text;
+mod trials;
 
 pub use all::{ReadAllFault, read_all, write_all};
 pub use bytes::Bytes;
@@ -32,6 +33,7 @@ pub use source::Source;
 pub use store::{Created, Loaded, Store, StoreError};
 pub use stream::MemEntropy;
 pub use text::Text;
+pub use trials::Trials;
 
 #[cfg(test)]
 mod tests;

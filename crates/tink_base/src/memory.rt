@@ -35,7 +35,13 @@ impl MemSource {
     /// at the calls whose numbers, from 1, stand in `fails`.
     pub fn new(bytes: Vec<u8>, piece: usize, fails: Vec<u64>) -> MemSource
         requires piece_bound { 0 < piece }
-        ensures { result ≡ record { left = bytes.items; piece = piece; fails = fails.items; calls = 0; faults = 0 } }
+        ensures { result ≡ record {
+          left = bytes.items;
+          piece = piece;
+          fails = fails.items;
+          calls = 0;
+          faults = 0;
+        } }
     {
         MemSource {
             bytes,
@@ -53,18 +59,24 @@ impl Source for MemSource {
 
     fn read(&mut self, out: &mut [u8]) -> Result<usize, Failed>
         ensures bound { IfOk result (λ n. n ≤ length out.old) }
-        ensures gives { IfOk result (λ n. Gave (told_source self.old) (told_source self.new) (take n out.new)) }
+        ensures gives { IfOk result (λ n.
+            Gave (told_source self.old) (told_source self.new) (take n out.new)) }
         ensures rest { IfOk result (λ n. drop n out.new ≡ drop n out.old) }
-        ensures end { IfOk result (λ n. n ≡ 0 → 0 < length out.old → IsAtEnd (told_source self.new)) }
+        ensures end { IfOk result (λ n. n ≡ 0 → 0 < length out.old →
+            IsAtEnd (told_source self.new)) }
         ensures no_fault { OnOk result (Stood self.old.faults self.new.faults) }
         ensures failed { OnErr result (Rose self.old.faults self.new.faults) }
         ensures kept { OnErr result (Gave (told_source self.old) (told_source self.new) []) }
 
         // Exactly when it fails, and how many bytes it gives.
         ensures listed { IsErr result ↔ Contains self.old.fails (next self.old.calls) }
-        ensures piece { IfOk result (λ n. n ≡ min (min (length out.old) self.old.piece) (length self.old.left)) }
-        ensures faultless { OnOk result (self.new ≡ record self.old { left = self.new.left; calls = next self.old.calls }) }
-        ensures faulty { OnErr result (self.new ≡ record self.old { calls = next self.old.calls; faults = next self.old.faults }) }
+        ensures piece { IfOk result (λ n. n ≡
+            min (min (length out.old) self.old.piece) (length self.old.left)) }
+        ensures faultless { OnOk result
+            (self.new ≡ record self.old { left = self.new.left; calls = next self.old.calls }) }
+        ensures faulty { OnErr result
+            (self.new ≡ record self.old
+            { calls = next self.old.calls; faults = next self.old.faults }) }
     {
         self.calls = self.calls.saturating_add(1);
         if self.fails.contains(&self.calls) {
@@ -111,7 +123,15 @@ impl MemSink {
         fails: Vec<u64>,
     ) -> Result<MemSink, NoMemory>
         requires piece_bound { 0 < piece }
-        ensures { IfOk result (λ sink. sink ≡ record { written = []; room = room; piece = piece; fails = fails.items; calls = 0; faults = 0 }) }
+        ensures { IfOk result (λ sink. sink ≡
+            record {
+              written = [];
+              room = room;
+              piece = piece;
+              fails = fails.items;
+              calls = 0;
+              faults = 0;
+            }) }
     {
         match Vec::with_capacity(alloc, room) {
             Ok(bytes) => Ok(MemSink {
@@ -140,16 +160,24 @@ impl Sink for MemSink {
     fn write(&mut self, piece: &[u8]) -> Result<usize, Failed>
         ensures bound { IfOk result (λ n. n ≤ length piece.now) }
         ensures some { IfOk result (λ n. 0 < length piece.now → 0 < n) }
-        ensures takes { IfOk result (λ n. Took (told_sink self.old) (told_sink self.new) (take n piece.now)) }
+        ensures takes { IfOk result (λ n.
+            Took (told_sink self.old) (told_sink self.new) (take n piece.now)) }
         ensures no_fault { OnOk result (Stood self.old.faults self.new.faults) }
         ensures failed { OnErr result (Rose self.old.faults self.new.faults) }
         ensures kept { OnErr result (Took (told_sink self.old) (told_sink self.new) []) }
 
         // Exactly when it fails, and how many bytes it takes.
-        ensures listed { IsErr result ↔ (Contains self.old.fails (next self.old.calls) ⊎ (IsFull self.old × (0 < length piece.now))) }
-        ensures piece { IfOk result (λ n. n ≡ min (min (length piece.now) self.old.piece) (self.old.room - length self.old.written)) }
-        ensures faultless { OnOk result (self.new ≡ record self.old { written = self.new.written; calls = next self.old.calls }) }
-        ensures faulty { OnErr result (self.new ≡ record self.old { calls = next self.old.calls; faults = next self.old.faults }) }
+        ensures listed { IsErr result ↔
+            (Contains self.old.fails (next self.old.calls) ⊎
+            (IsFull self.old × (0 < length piece.now))) }
+        ensures piece { IfOk result (λ n. n ≡
+            min (min (length piece.now) self.old.piece) (self.old.room - length self.old.written)) }
+        ensures faultless { OnOk result
+            (self.new ≡ record self.old
+            { written = self.new.written; calls = next self.old.calls }) }
+        ensures faulty { OnErr result
+            (self.new ≡ record self.old
+            { calls = next self.old.calls; faults = next self.old.faults }) }
     {
         self.calls = self.calls.saturating_add(1);
         if self.fails.contains(&self.calls) {

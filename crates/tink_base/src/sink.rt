@@ -16,7 +16,8 @@ pub trait Sink {
     fn write(&mut self, piece: &[u8]) -> Result<usize, Failed>
         ensures bound { IfOk result (λ n. n ≤ length piece.now) }
         ensures some { IfOk result (λ n. 0 < length piece.now → 0 < n) }
-        ensures takes { IfOk result (λ n. Took (state self.old) (state self.new) (take n piece.now)) }
+        ensures takes { IfOk result (λ n.
+            Took (state self.old) (state self.new) (take n piece.now)) }
         ensures no_fault { OnOk result (Stood (state self.old).faults (state self.new).faults) }
         ensures failed { OnErr result (Rose (state self.old).faults (state self.new).faults) }
         ensures kept { OnErr result (Took (state self.old) (state self.new) []) };

@@ -47,17 +47,24 @@ pub trait Store {
     fn load(&mut self, alloc: Global, name: &str, limit: usize) -> Result<Loaded, StoreError>
         ensures loads { IfOk result (λ found. Loads (state self.old) name.now limit found) }
         ensures kept { KeptFiles (state self.old) (state self.new) }
-        ensures no_fault { (IsErrOf result StoreError.Failed → ⊥) → Stood (state self.old).faults (state self.new).faults }
-        ensures failed { IsErrOf result StoreError.Failed → Rose (state self.old).faults (state self.new).faults };
+        ensures no_fault { (IsErrOf result StoreError.Failed → ⊥) →
+            Stood (state self.old).faults (state self.new).faults }
+        ensures failed { IsErrOf result StoreError.Failed →
+            Rose (state self.old).faults (state self.new).faults };
 
     /// Makes a new file of this name with these bytes; a file that is there is never replaced.
     /// After `Failed` the file may be there with the first of the bytes, if the name was free. After
     /// `NoMemory` no file has changed. The count of faults has risen after `Failed`, and is as it was
     /// with any other answer.
     fn create(&mut self, alloc: Global, name: &str, bytes: &[u8]) -> Result<Created, StoreError>
-        ensures creates { IfOk result (λ made. Creates (state self.old) (state self.new) name.now bytes.now made) }
-        ensures no_fault { (IsErrOf result StoreError.Failed → ⊥) → Stood (state self.old).faults (state self.new).faults }
-        ensures failed { IsErrOf result StoreError.Failed → Rose (state self.old).faults (state self.new).faults }
-        ensures may_add { IsErrOf result StoreError.Failed → MayAdd (state self.old) (state self.new) name.now bytes.now }
-        ensures no_memory { IsErrOf result StoreError.NoMemory → KeptFiles (state self.old) (state self.new) };
+        ensures creates { IfOk result
+            (λ made. Creates (state self.old) (state self.new) name.now bytes.now made) }
+        ensures no_fault { (IsErrOf result StoreError.Failed → ⊥) →
+            Stood (state self.old).faults (state self.new).faults }
+        ensures failed { IsErrOf result StoreError.Failed →
+            Rose (state self.old).faults (state self.new).faults }
+        ensures may_add { IsErrOf result StoreError.Failed →
+            MayAdd (state self.old) (state self.new) name.now bytes.now }
+        ensures no_memory { IsErrOf result StoreError.NoMemory →
+            KeptFiles (state self.old) (state self.new) };
 }

@@ -33,7 +33,8 @@ impl MemEntropy {
     /// An entropy of these bytes. It fails exactly at the calls whose numbers, from 1, stand in
     /// `fails`, and where fewer bytes are left than asked.
     pub fn new(stream: Vec<u8>, fails: Vec<u64>) -> MemEntropy
-        ensures { result ≡ record { left = stream.items; fails = fails.items; calls = 0; faults = 0 } }
+        ensures { result ≡
+            record { left = stream.items; fails = fails.items; calls = 0; faults = 0 } }
     {
         MemEntropy {
             bytes: stream,
@@ -58,14 +59,21 @@ impl Entropy for MemEntropy {
     fn fill(&mut self, out: &mut [u8]) -> Result<(), Failed>
         ensures fills { OnOk result (Drew (told_entropy self.old) (told_entropy self.new) out.new) }
         ensures no_fault { OnOk result (Stood self.old.faults self.new.faults) }
-        ensures failed { OnErr result (RanShort (told_entropy self.old) (told_entropy self.new) (length out.old)) }
+        ensures failed { OnErr result
+            (RanShort (told_entropy self.old) (told_entropy self.new) (length out.old)) }
         ensures kept { OnErr result (Drew (told_entropy self.old) (told_entropy self.new) []) }
 
         // Exactly when it fails, and which bytes it gives.
-        ensures listed { IsErr result ↔ (Contains self.old.fails (next self.old.calls) ⊎ (length self.old.left < length out.old)) }
+        ensures listed { IsErr result ↔
+            (Contains self.old.fails (next self.old.calls) ⊎
+            (length self.old.left < length out.old)) }
         ensures bytes { OnOk result (out.new ≡ take (length out.old) self.old.left) }
-        ensures faultless { OnOk result (self.new ≡ record self.old { left = drop (length out.old) self.old.left; calls = next self.old.calls }) }
-        ensures faulty { OnErr result (self.new ≡ record self.old { calls = next self.old.calls; faults = next self.old.faults }) }
+        ensures faultless { OnOk result
+            (self.new ≡ record self.old
+            { left = drop (length out.old) self.old.left; calls = next self.old.calls }) }
+        ensures faulty { OnErr result
+            (self.new ≡ record self.old
+            { calls = next self.old.calls; faults = next self.old.faults }) }
     {
         self.calls = self.calls.saturating_add(1);
         if self.fails.contains(&self.calls) || self.left() < out.len() {

@@ -120,7 +120,8 @@ fn fills_from_a_stream(rt: HostRuntime) -> Result<(), Fail> {
 /// clauses alone.
 fn four_bytes<E: Entropy>(entropy: &mut E) -> [u8; 4]
     requires steady { IsTrue (E.state entropy.old).steady }
-    requires enough { (left : List ℕ) × ((E.state entropy.old).left ≡ Some left) × (4 ≤ length left) }
+    requires enough { (left : List ℕ) × ((E.state entropy.old).left ≡ Some left) ×
+        (4 ≤ length left) }
 {
     let mut out = [0u8; 4];
     match entropy.fill(&mut out) {

@@ -84,7 +84,8 @@ fn load_file(
 /// All bytes of a file, where there are at most `limit`.
 fn read_file<R: Read + Drop>(alloc: Global, file: R, limit: usize) -> Result<Loaded, StoreError>
     requires limit_bound { limit ≤ 2 ^ 30 }
-    ensures whole { IfSome (R.remaining file) (λ bytes. IfOk result (λ found. IsLoaded bytes limit found)) }
+    ensures whole { IfSome (R.remaining file)
+        (λ bytes. IfOk result (λ found. IsLoaded bytes limit found)) }
     ensures loads { IfOk result (λ found. Loads (untold_store 0) [] limit found) }
 {
     let mut bytes = Vec::new(alloc);
@@ -113,7 +114,8 @@ fn create_file(rt: &HostRuntime, name: &str, bytes: &[u8]) -> Result<Created, St
 
 /// Writes all the bytes to a new file, and waits until the system has put them away.
 fn fill_file<F: Write + OpenFile>(file: &mut F, bytes: &[u8]) -> Result<Created, StoreError>
-    ensures { IfOk result (λ made. (made ≡ Created.Made) × Appends (F.contents file.old) (F.contents file.new) bytes.now) }
+    ensures { IfOk result (λ made. (made ≡ Created.Made) ×
+        Appends (F.contents file.old) (F.contents file.new) bytes.now) }
 {
     match write_and_flush(file, bytes) {
         Ok(()) => match file.sync_all() {

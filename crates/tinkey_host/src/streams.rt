@@ -38,17 +38,25 @@ impl<R: Read> Source for StdSource<R> {
 
     fn read(&mut self, out: &mut [u8]) -> Result<usize, Failed>
         ensures bound { IfOk result (λ n. n ≤ length out.old) }
-        ensures gives { IfOk result (λ n. Gave (told_source self.old) (told_source self.new) (take n out.new)) }
+        ensures gives { IfOk result (λ n.
+            Gave (told_source self.old) (told_source self.new) (take n out.new)) }
         ensures rest { IfOk result (λ n. drop n out.new ≡ drop n out.old) }
-        ensures end { IfOk result (λ n. n ≡ 0 → 0 < length out.old → IsAtEnd (told_source self.new)) }
-        ensures no_fault { OnOk result (Stood (told_source self.old).faults (told_source self.new).faults) }
-        ensures failed { OnErr result (Rose (told_source self.old).faults (told_source self.new).faults) }
+        ensures end { IfOk result (λ n. n ≡ 0 → 0 < length out.old →
+            IsAtEnd (told_source self.new)) }
+        ensures no_fault { OnOk result
+            (Stood (told_source self.old).faults (told_source self.new).faults) }
+        ensures failed { OnErr result
+            (Rose (told_source self.old).faults (told_source self.new).faults) }
         ensures kept { OnErr result (Gave (told_source self.old) (told_source self.new) []) }
 
         // What goes out of the stream beneath.
-        ensures read { IfOk result (λ n. Consumes (R.remaining (stream_read self.old)) (R.remaining (stream_read self.new)) (take n out.new)) }
-        ensures ended { IfOk result (λ n. n ≡ 0 → 0 < length out.old → IsNoneLeft (R.remaining (stream_read self.new))) }
-        ensures unread { OnErr result (Keeps (R.remaining (stream_read self.old)) (R.remaining (stream_read self.new))) }
+        ensures read { IfOk result (λ n.
+            Consumes (R.remaining (stream_read self.old)) (R.remaining (stream_read self.new))
+            (take n out.new)) }
+        ensures ended { IfOk result (λ n. n ≡ 0 → 0 < length out.old →
+            IsNoneLeft (R.remaining (stream_read self.new))) }
+        ensures unread { OnErr result
+            (Keeps (R.remaining (stream_read self.old)) (R.remaining (stream_read self.new))) }
     {
         let mut piece = [0u8; PIECE];
         let room = out.len().min(PIECE);
@@ -91,14 +99,20 @@ impl<W: Write> Sink for StdSink<W> {
     fn write(&mut self, piece: &[u8]) -> Result<usize, Failed>
         ensures bound { IfOk result (λ n. n ≤ length piece.now) }
         ensures some { IfOk result (λ n. 0 < length piece.now → 0 < n) }
-        ensures takes { IfOk result (λ n. Took (told_sink self.old) (told_sink self.new) (take n piece.now)) }
-        ensures no_fault { OnOk result (Stood (told_sink self.old).faults (told_sink self.new).faults) }
-        ensures failed { OnErr result (Rose (told_sink self.old).faults (told_sink self.new).faults) }
+        ensures takes { IfOk result (λ n.
+            Took (told_sink self.old) (told_sink self.new) (take n piece.now)) }
+        ensures no_fault { OnOk result
+            (Stood (told_sink self.old).faults (told_sink self.new).faults) }
+        ensures failed { OnErr result
+            (Rose (told_sink self.old).faults (told_sink self.new).faults) }
         ensures kept { OnErr result (Took (told_sink self.old) (told_sink self.new) []) }
 
         // What goes into the stream beneath.
-        ensures wrote { IfOk result (λ n. Appends (W.contents (stream_written self.old)) (W.contents (stream_written self.new)) (take n piece.now)) }
-        ensures unwritten { OnErr result (Keeps (W.contents (stream_written self.old)) (W.contents (stream_written self.new))) }
+        ensures wrote { IfOk result (λ n.
+            Appends (W.contents (stream_written self.old)) (W.contents (stream_written self.new))
+            (take n piece.now)) }
+        ensures unwritten { OnErr result
+            (Keeps (W.contents (stream_written self.old)) (W.contents (stream_written self.new))) }
     {
         match write_through_signals(&mut self.output, piece) {
             Ok(n) if n > 0 || piece.is_empty() => Ok(n),
@@ -113,8 +127,10 @@ impl<W: Write> Sink for StdSink<W> {
 /// One read, tried again where a signal interrupted it.
 fn read_through_signals<R: Read>(stream: &mut R, out: &mut [u8]) -> io::Result<usize>
     ensures bound { IfOk result (λ n. n ≤ length out.old) }
-    ensures read { IfOk result (λ n. Consumes (R.remaining stream.old) (R.remaining stream.new) (take n out.new)) }
-    ensures ended { IfOk result (λ n. n ≡ 0 → 0 < length out.old → IsNoneLeft (R.remaining stream.new)) }
+    ensures read { IfOk result (λ n.
+        Consumes (R.remaining stream.old) (R.remaining stream.new) (take n out.new)) }
+    ensures ended { IfOk result (λ n. n ≡ 0 → 0 < length out.old →
+        IsNoneLeft (R.remaining stream.new)) }
     ensures unread { OnErr result (Keeps (R.remaining stream.old) (R.remaining stream.new)) }
     ensures uninterrupted { IfErr result (λ e. error_kind e ≢ ErrorKind.Interrupted) }
 {
@@ -131,7 +147,8 @@ fn read_through_signals<R: Read>(stream: &mut R, out: &mut [u8]) -> io::Result<u
 /// One write, tried again where a signal interrupted it.
 fn write_through_signals<W: Write>(stream: &mut W, piece: &[u8]) -> io::Result<usize>
     ensures bound { IfOk result (λ n. n ≤ length piece.now) }
-    ensures wrote { IfOk result (λ n. Appends (W.contents stream.old) (W.contents stream.new) (take n piece.now)) }
+    ensures wrote { IfOk result (λ n.
+        Appends (W.contents stream.old) (W.contents stream.new) (take n piece.now)) }
     ensures unwritten { OnErr result (Keeps (W.contents stream.old) (W.contents stream.new)) }
     ensures uninterrupted { IfErr result (λ e. error_kind e ≢ ErrorKind.Interrupted) }
 {

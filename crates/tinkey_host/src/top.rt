@@ -47,7 +47,8 @@ pub fn obey<S: Source, K: Sink, G: Sink, D: Store>(
     diag: &mut G,
     store: &mut D,
 ) -> ExitCode
-    ensures { HasRun (map string_bytes words.now) (world (S.state source.old) (K.state sink.old) (D.state store.old))
+    ensures { HasRun (map string_bytes words.now)
+        (world (S.state source.old) (K.state sink.old) (D.state store.old))
         (world (S.state source.new) (K.state sink.new) (D.state store.new)) (G.state diag.old) (G.state diag.new) (exit_status result) }
 {
     let status = run(alloc, words, source, sink, diag, store);

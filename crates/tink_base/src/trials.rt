@@ -1,0 +1,43 @@
+//! A count of trials: how many keys were tried to open or verify some bytes.
+
+ghost use Rattle.std.specs.Prelude.{◌≡◌};
+ghost use Rattle.tink_base.specs.Memory.{next};
+
+use std::marker::Model;
+
+/// How many keys were tried, which contracts see as that number. It stays at 2^64 - 1.
+#[derive(Drop)]
+pub struct Trials {
+    count: u64,
+}
+
+impl Model for Trials {
+    ghost use Rattle.std.specs.Prelude.{ℕ};
+
+    ghost Value = { ℕ };
+
+    ghost view = { λ t. t.count };
+}
+
+impl Trials {
+    /// No key was tried yet.
+    pub fn new() -> Trials
+        ensures { result ≡ 0 }
+    {
+        Trials { count: 0 }
+    }
+
+    /// One more key is tried.
+    pub fn tick(&mut self)
+        ensures { self.new ≡ next self.old }
+    {
+        self.count = self.count.saturating_add(1);
+    }
+
+    /// How many keys were tried.
+    pub fn spent(&self) -> u64
+        ensures { result ≡ self.now }
+    {
+        self.count
+    }
+}
