@@ -1,13 +1,14 @@
 //! Keysets, well formed by their type.
 
-ghost use Rattle.std.specs.Prelude.{◌≡◌, ◌<◌, ◌≤◌, ◌≢◌, ◌↔◌, length, Some, None, IsNone, All, slice_get, position, ◌==◌, IfSome};
+ghost use Rattle.std.specs.Prelude.{◌≡◌, ◌<◌, ◌≤◌, ◌≢◌, ◌↔◌, length, Some, None, IsNone, All, slice_get, position, ◌==◌, IfOk, IfSome};
 ghost use Rattle.std.specs.List.{AllByRecursion};
 ghost use Rattle.keyset_model.specs.Keyset.{HasSizes, IsKnown, primary_of, fault_of, built};
 
 use crate::Record;
 use crate::faults::{fault_of, primary_place};
+use std::alloc::Global;
 use std::marker::Model;
-use tink_base::ENABLED;
+use tink_base::{ENABLED, NoMemory};
 
 /// Why records with a primary id are no keyset, in the order in which faults are looked for. Places
 /// are counted from 0, and a fault names the smallest place that has it.
@@ -69,6 +70,17 @@ impl Keyset {
         }
     }
 
+    /// The same keyset once more.
+    pub fn copy(&self, alloc: Global) -> Result<Keyset, NoMemory>
+        ensures { IfOk result (λ copy. copy ≡ self.now) }
+    {
+        let records = copy_all(alloc, &self.records)?;
+        Ok(Keyset {
+            primary: self.primary,
+            records,
+        })
+    }
+
     /// The primary id.
     pub fn primary(&self) -> u32
         ensures { result ≡ self.now.primary }
@@ -119,4 +131,15 @@ impl Keyset {
     {
         self.records.iter().position(|key| key.id == id)
     }
+}
+
+/// The same records once more.
+fn copy_all(alloc: Global, records: &[Record]) -> Result<Vec<Record>, NoMemory>
+    ensures { IfOk result (λ copies. copies.items ≡ records.now) }
+{
+    let mut copies = Vec::new(alloc);
+    for key in records {
+        copies.push(key.copy(alloc)?)?;
+    }
+    Ok(copies)
 }

@@ -1,6 +1,9 @@
 //! One key of a keyset, as it is kept.
 
-use tink_base::{Bytes, Text};
+ghost use Rattle.std.specs.Prelude.{◌≡◌, IfOk};
+
+use std::alloc::Global;
+use tink_base::{Bytes, NoMemory, Text};
 
 /// A record: one key with its place in the keyset (`Key` and `KeyData` of tink.proto).
 #[derive(Drop)]
@@ -17,4 +20,20 @@ pub struct Record {
     pub value: Bytes,
     /// The key material type, as tink.proto numbers it.
     pub material: u32,
+}
+
+impl Record {
+    /// The same record once more.
+    pub fn copy(&self, alloc: Global) -> Result<Record, NoMemory>
+        ensures { IfOk result (λ r. r ≡ self.now) }
+    {
+        Ok(Record {
+            id: self.id,
+            status: self.status,
+            prefix: self.prefix,
+            url: Text::copy(alloc, self.url.as_str())?,
+            value: Bytes::copy(alloc, self.value.as_slice())?,
+            material: self.material,
+        })
+    }
 }
