@@ -1,7 +1,6 @@
 -- The fields of a keyset, one after the other, and where the reading of a keyset stops.
 use Rattle.std.proofs.Common.{◌≡◌, ◌⊎◌, ◌∙◌, ◌==◌, ℕ, ◌+◌, Bool, true, false, List, [], ◌∷◌, ◌++◌, length, take, drop, ◌<◌, ◌≤◌, inl, inr, refl, ap, sym, append_assoc, append-nil, arith, Option, Some, None, Ok, Err, Result}
-use Rattle.std.specs.Prelude.{IfSome, slice_get, slice_range, nat_le}
-use Rattle.std.specs.Option.{option_to_list}
+use Rattle.std.specs.Prelude.{slice_get, slice_range, nat_le}
 use Rattle.std.specs.List.{AllByRecursion}
 use Rattle.std.specs.Result.{IfErr, IsErrAnd, result_ok}
 use Rattle.std.proofs.Math.Seq.{take-length}
@@ -19,7 +18,7 @@ use Rattle.keyset_model.specs.declared.keyset.KeysetFault.TheVariants as faults
 use Rattle.keyset_model.specs.declared.reading.ReadError.{ReadError}
 use Rattle.keyset_model.specs.declared.reading.ReadError.TheVariants as errors
 use Rattle.keyset_model.specs.declared.record.Record.{Record}
-use Rattle.keyset_model.specs.Keyset.{Keys, HasSizes, fault_of, unless_fault, built}
+use Rattle.keyset_model.specs.Keyset.{Keys, IsWithin, fault_of, unless_fault, built}
 use Rattle.keyset_model.specs.Reading.{key_of, is_at_fault, fault_at, records_in, Refusal, without_fault, reads_binary, GivesKeyset}
 use Rattle.keyset_model.specs.Steps.{GivesRecord, IsRead, KeepsRead, IsFaultAt, of_fields_error}
 use Rattle.keyset_model.proofs.Exits.{here, on, fails, more}
@@ -68,11 +67,11 @@ pub record RecordsSoFar (source : List ℕ) (message : List Field) (i : ℕ) (ke
   pub first : kept ≡ take 1001 records
   pub fault : fault_at (seen_all source message) ≡ fault_at (seen_all source (drop i message))
   pub all : records_in (seen_all source message) ≡ records ++ records_in (seen_all source (drop i message))
-  pub sizes : AllByRecursion HasSizes kept
+  pub within : AllByRecursion (IsWithin (length source)) kept
 
 -- these records are read next, and these are kept then
-reads_on : (source : List ℕ) (message : List Field) (i : ℕ) (kept more keeps : List Record) (field : Field) → (before : RecordsSoFar source message i kept) → slice_get message i ≡ Some field → IsRead more (seen source field ∷ []) → keeps ≡ take 1001 (before.records ++ more) → AllByRecursion HasSizes keeps → RecordsSoFar source message (i + 1) keeps
-reads_on source message i kept more keeps field before there read first sizes =
+reads_on : (source : List ℕ) (message : List Field) (i : ℕ) (kept more keeps : List Record) (field : Field) → (before : RecordsSoFar source message i kept) → slice_get message i ≡ Some field → IsRead more (seen source field ∷ []) → keeps ≡ take 1001 (before.records ++ more) → AllByRecursion (IsWithin (length source)) keeps → RecordsSoFar source message (i + 1) keeps
+reads_on source message i kept more keeps field before there read first within =
     let records = before.records in
     let rest : List WireField = seen_all source (drop (i + 1) message) in
     let here = seen_from source message i field there in
@@ -84,7 +83,7 @@ reads_on source message i kept more keeps field before there read first sizes =
           ∙ ap (λ (all : List Record). records ++ all) (records_first (seen source field) rest _ _ refl refl)
           ∙ ap (λ (these : List Record). records ++ (these ++ records_in rest)) (sym read.all)
           ∙ sym (append_assoc records more (records_in rest));
-      sizes = sizes;
+      within = within;
     }
 
 -- a list is cut at a place behind its end, and one more element is kept
@@ -97,20 +96,20 @@ take_short {A} n xs y short =
 take_full : {A : Type 0} (n : ℕ) (xs : List A) (y : A) → (length (take n xs) < n → ⊥) → take n xs ≡ take n (xs ++ (y ∷ []))
 take_full n xs y full = sym (take-append-le n xs (y ∷ []) (omega (arith, length-take n xs)))
 
-pub so_far_keeps : (source : List ℕ) (message : List Field) (i : ℕ) (kept : List Record) (key : Record) (field : Field) → RecordsSoFar source message i kept → slice_get message i ≡ Some field → IsRead (key ∷ []) (seen source field ∷ []) → HasSizes key → length kept < 1001 → RecordsSoFar source message (i + 1) (kept ++ (key ∷ []))
-so_far_keeps source message i kept key field before there read sizes short =
+pub so_far_keeps : (source : List ℕ) (message : List Field) (i : ℕ) (kept : List Record) (key : Record) (field : Field) → RecordsSoFar source message i kept → slice_get message i ≡ Some field → IsRead (key ∷ []) (seen source field ∷ []) → IsWithin (length source) key → length kept < 1001 → RecordsSoFar source message (i + 1) (kept ++ (key ∷ []))
+so_far_keeps source message i kept key field before there read within short =
     let more = take_short 1001 before.records key (rw before.first at short) in
     reads_on source message i kept (key ∷ []) (kept ++ (key ∷ [])) field before there read
-    (ap (λ (l : List Record). l ++ (key ∷ [])) before.first ∙ more) (all_behind HasSizes kept (key ∷ []) before.sizes (sizes, tt))
+    (ap (λ (l : List Record). l ++ (key ∷ [])) before.first ∙ more) (all_behind (IsWithin (length source)) kept (key ∷ []) before.within (within, tt))
 
 pub so_far_leaves : (source : List ℕ) (message : List Field) (i : ℕ) (kept : List Record) (key : Record) (field : Field) → RecordsSoFar source message i kept → slice_get message i ≡ Some field → IsRead (key ∷ []) (seen source field ∷ []) → (length kept < 1001 → ⊥) → RecordsSoFar source message (i + 1) kept
 so_far_leaves source message i kept key field before there read full =
     let same = take_full 1001 before.records key (rw before.first at full) in
-    reads_on source message i kept (key ∷ []) kept field before there read (before.first ∙ same) before.sizes
+    reads_on source message i kept (key ∷ []) kept field before there read (before.first ∙ same) before.within
 
 pub so_far_passes : (source : List ℕ) (message : List Field) (i : ℕ) (kept : List Record) (field : Field) → RecordsSoFar source message i kept → slice_get message i ≡ Some field → IsRead [] (seen source field ∷ []) → RecordsSoFar source message (i + 1) kept
 so_far_passes source message i kept field before there read =
-    reads_on source message i kept [] kept field before there read (before.first ∙ ap (λ (l : List Record). take 1001 l) (sym (append-nil before.records))) before.sizes
+    reads_on source message i kept [] kept field before there read (before.first ∙ ap (λ (l : List Record). take 1001 l) (sym (append-nil before.records))) before.within
 
 pub so_far_fails : {T : Type 0} (r : Result T ReadError) (error : ReadError) (source : List ℕ) (message : List Field) (i : ℕ) (records : List Record) (field : Field) → IsErrAnd r (λ e. e ≡ error) → RecordsSoFar source message i records → slice_get message i ≡ Some field → IsFaultAt error (fault_at (seen source field ∷ [])) → IfErr r (λ e. IsFaultAt e (fault_at (seen_all source message)))
 so_far_fails (Ok all) error source message i records field is before there fault = absurd is
@@ -186,10 +185,6 @@ builds bytes fields primary kept is number read =
     let last : last_number (of_number 1 fields) ≡ primary = let all = primary_read fields read.faultless in cc in
     let same = built_first primary kept (records_in fields) read.first (bool_cases (nat_le 1001 (length (records_in fields)))) in
     rw (is, read.faultless, last, same) refl
-
-pub sizes_of : (key : Option Record) → IfSome key HasSizes → AllByRecursion HasSizes (option_to_list key)
-sizes_of None sizes = tt
-sizes_of (Some key) sizes = (sizes, tt)
 
 pub primary_never_fails : (fields : List WireField) (place : ℕ) → fault_at fields ≡ None → number_in 1 fields ≡ Err place → ⊥
 primary_never_fails fields place none refused =

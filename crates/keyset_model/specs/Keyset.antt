@@ -9,7 +9,7 @@
 --   built         the keyset, or that fault
 --
 -- Places are counted from 0.
-use Rattle.std.specs.Prelude.{ℕ, ◌≤◌, ◌^◌, List, [], ◌∷◌, ◌++◌, length, Bool, not, ◌&&◌, ◌||◌, ◌==◌, nat_lt, nat_le, Option, Some, None, option_map, Result, Ok, Err, find, position, if◌then◌else◌}
+use Rattle.std.specs.Prelude.{ℕ, ◌+◌, ◌≤◌, ◌^◌, List, [], ◌∷◌, ◌++◌, length, Bool, not, ◌&&◌, ◌||◌, ◌==◌, nat_lt, nat_le, Option, Some, None, option_map, Result, Ok, Err, find, position, if◌then◌else◌}
 use Rattle.std.specs.Option.{option_or}
 use Rattle.std.specs.List.{list_any}
 use Rattle.keyset_model.specs.declared.record.Record.{Record}
@@ -25,6 +25,16 @@ pub record Keys : Type 0 where
 pub record HasSizes (record' : Record) : Type 0 where
   pub url : length record'.url ≤ 2 ^ 30
   pub value : length record'.value ≤ 2 ^ 30
+
+-- URL and value have at most so many bytes each
+pub record IsWithin (size : ℕ) (record' : Record) : Type 0 where
+  pub url : length record'.url ≤ size
+  pub value : length record'.value ≤ size
+
+-- What can be written: URL and value have at most 2 ^ 30 bytes together, so that the sizes of all
+-- messages with them are below 2 ^ 31. A keyset read from at most 2 ^ 29 bytes has such records.
+abbrev pub IsShort : Record → Type 0
+IsShort r = length r.url + length r.value ≤ 2 ^ 30
 
 -- the status and the output prefix type have names
 pub record IsKnown (record' : Record) : Type 0 where

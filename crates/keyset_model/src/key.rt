@@ -4,7 +4,7 @@ ghost use Rattle.std.specs.Prelude.{◌≡◌, ◌≤◌, ◌^◌, length, Err, 
 ghost use Rattle.std.specs.List.{AllByRecursion};
 ghost use Rattle.tink_spec.specs.Messages.{text_in};
 ghost use Rattle.proto_wire.specs.Fields.{seen, seen_all, IsOf};
-ghost use Rattle.keyset_model.specs.Keyset.{HasSizes};
+ghost use Rattle.keyset_model.specs.Keyset.{IsWithin};
 ghost use Rattle.keyset_model.specs.Reading.{record_of, key_of};
 ghost use Rattle.keyset_model.specs.Steps.{IsTextOf, IsNoText, GivesText, message_of, GivesRecord};
 
@@ -34,7 +34,7 @@ pub fn read_key(alloc: Global, source: &[u8], field: Field) -> Result<Record, Re
     requires size_bound { length source.now ≤ 2 ^ 30 }
     requires of_source { IsOf source.now field }
     ensures key { GivesRecord result (key_of (seen source.now field)) }
-    ensures sizes { IfOk result HasSizes }
+    ensures within { IfOk result (IsWithin (length source.now)) }
 {
     if field.kind != Kind::Bytes {
         return Err(ReadError::Wire(Wire { at: field.at }));
@@ -54,7 +54,7 @@ fn read_message(alloc: Global, source: &[u8], start: usize, end: usize) -> Resul
     requires ordered { start ≤ end }
     requires within { end ≤ length source.now }
     ensures key { GivesRecord result (message_of start (slice_range source.now start end)) }
-    ensures sizes { IfOk result HasSizes }
+    ensures within { IfOk result (IsWithin (length source.now)) }
 {
     let key = fields(alloc, source, start, end)?;
     read_record(alloc, source, &key)
@@ -65,7 +65,7 @@ fn read_record(alloc: Global, source: &[u8], key: &Fields) -> Result<Record, Rea
     requires size_bound { length source.now ≤ 2 ^ 30 }
     requires of_source { AllByRecursion (IsOf source.now) key.now }
     ensures key { GivesRecord result (record_of (seen_all source.now key.now)) }
-    ensures sizes { IfOk result HasSizes }
+    ensures within { IfOk result (IsWithin (length source.now)) }
 {
     let key_data = key.merged(alloc, source, KEY_DATA)?;
     let url = text_of(source, &key_data, TYPE_URL)?;

@@ -4,7 +4,7 @@ ghost use Rattle.std.specs.Prelude.{◌≡◌, ◌≤◌, ◌^◌, [], ◌∷◌
 ghost use Rattle.std.specs.Option.{option_to_list};
 ghost use Rattle.std.specs.List.{AllByRecursion};
 ghost use Rattle.proto_wire.specs.Fields.{seen, seen_all, IsOf};
-ghost use Rattle.keyset_model.specs.Keyset.{HasSizes};
+ghost use Rattle.keyset_model.specs.Keyset.{IsWithin, IsShort};
 ghost use Rattle.keyset_model.specs.Reading.{fault_at, reads_binary, GivesKeyset};
 ghost use Rattle.keyset_model.specs.Steps.{IsRead, KeepsRead, IsFaultAt};
 ghost use Rattle.keyset_model.specs.declared.reading.ReadError.TheVariants as errors;
@@ -85,10 +85,15 @@ impl<T: Drop> From<AllocFailed<T>> for ReadError {
 ///
 /// `Wire` comes exactly where the bytes can't be cut into fields, a known field has another wire
 /// type than its own, or a type URL isn't UTF-8. `Fault` comes exactly where the message is read
-/// and has that fault first.
+/// and has that fault first. No URL and no value has more bytes than `bytes`, so what was read from
+/// at most 2^29 bytes can be written.
 pub fn read_binary(alloc: Global, bytes: &[u8]) -> Result<Keyset, ReadError>
     requires size_bound { length bytes.now ≤ 2 ^ 30 }
-    ensures { GivesKeyset result (reads_binary bytes.now) }
+    ensures keyset { GivesKeyset result (reads_binary bytes.now) }
+    ensures within { IfOk result (λ keyset.
+        AllByRecursion (IsWithin (length bytes.now)) keyset.records) }
+    ensures short { length bytes.now ≤ 2 ^ 29 → IfOk result (λ keyset.
+        AllByRecursion IsShort keyset.records) }
 {
     let message = fields(alloc, bytes, 0, bytes.len())?;
     let records = read_records(alloc, bytes, &message)?;
@@ -108,7 +113,8 @@ fn read_records(alloc: Global, source: &[u8], message: &Fields) -> Result<Vec<Re
         KeepsRead records.items (seen_all source.now message.now)) }
     ensures fault { IfErr result (λ error.
         IsFaultAt error (fault_at (seen_all source.now message.now))) }
-    ensures sizes { IfOk result (λ records. AllByRecursion HasSizes records.items) }
+    ensures within { IfOk result (λ records.
+        AllByRecursion (IsWithin (length source.now)) records.items) }
 {
     let mut records = Vec::new(alloc);
     for i in 0..message.len() {
@@ -131,7 +137,7 @@ fn read_field(alloc: Global, source: &[u8], field: Field) -> Result<Option<Recor
         IsRead (option_to_list key) (seen source.now field ∷ [])) }
     ensures fault { IfErr result (λ error.
         IsFaultAt error (fault_at (seen source.now field ∷ []))) }
-    ensures sizes { IfOk result (λ key. IfSome key HasSizes) }
+    ensures within { IfOk result (λ key. IfSome key (IsWithin (length source.now))) }
 {
     if field.number == KEY {
         let key = read_key(alloc, source, field)?;

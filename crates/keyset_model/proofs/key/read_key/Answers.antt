@@ -19,5 +19,5 @@ returns-in_default c =
     let kind : c.args.field.kind ≡ Bytes = search rules in
     record {
       key = key_in_bytes c.args.source.now c.args.field kind ∙ key_stops _ _ c.args.field.at c.in_default.not-NoMemory c.in-Err.ensures.key;
-      sizes = tt;
+      within = tt;
     }
