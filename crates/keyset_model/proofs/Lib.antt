@@ -4,3 +4,4 @@ pub mod KeysetExamples
 pub mod PrimaryLemmas
 pub mod ReadingLemmas
 pub mod WellFormedLemmas
+pub mod WritingLemmas

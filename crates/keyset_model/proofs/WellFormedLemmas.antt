@@ -201,7 +201,7 @@ pub all_data : (keys : Keys) → fault_of keys ≡ None → AllByRecursion HasDa
 all_data keys e = let w = whole-faultless keys e in
     each_of_two _ _ HasData keys.records data_of w.materials w.key_data
 
-all_at : (P : Record → Type 0) (records : List Record) (i : ℕ) (r : Record) → AllByRecursion P records → slice_get records i ≡ Some r → P r
+pub all_at : (P : Record → Type 0) (records : List Record) (i : ℕ) (r : Record) → AllByRecursion P records → slice_get records i ≡ Some r → P r
 all_at P [] i r all there = absurd (some≢none (sym there))
 all_at P (x ∷ xs) zero r all there = let same : Some x ≡ Some r = there in let is : x ≡ r = cc in subst P is all.0
 all_at P (x ∷ xs) (suc i) r all there = all_at P xs i r all.1 there

@@ -49,6 +49,10 @@ is_enabled r = r.status == 1
 abbrev pub is_destroyed : Record → Bool
 is_destroyed r = r.status == 3
 
+-- no key data: URL and value are empty and the material is 0
+abbrev pub is_bare : Record → Bool
+is_bare r = length r.url == 0 && length r.value == 0 && r.material == 0
+
 -- the status has a name
 abbrev pub has_status : Record → Bool
 has_status r = nat_le 1 r.status && nat_le r.status 3

@@ -3,3 +3,4 @@ pub mod Listing
 pub mod Reading
 pub mod Steps
 pub mod WellFormed
+pub mod Writing

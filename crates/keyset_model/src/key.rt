@@ -14,20 +14,20 @@ use std::alloc::Global;
 use tink_base::{Bytes, Text};
 
 // The field numbers of `Key`.
-const KEY_DATA: u32 = 1;
+pub(crate) const KEY_DATA: u32 = 1;
 
-const STATUS: u32 = 2;
+pub(crate) const STATUS: u32 = 2;
 
-const KEY_ID: u32 = 3;
+pub(crate) const KEY_ID: u32 = 3;
 
-const OUTPUT_PREFIX_TYPE: u32 = 4;
+pub(crate) const OUTPUT_PREFIX_TYPE: u32 = 4;
 
 // The field numbers of `KeyData`.
-const TYPE_URL: u32 = 1;
+pub(crate) const TYPE_URL: u32 = 1;
 
-const VALUE: u32 = 2;
+pub(crate) const VALUE: u32 = 2;
 
-const KEY_MATERIAL_TYPE: u32 = 3;
+pub(crate) const KEY_MATERIAL_TYPE: u32 = 3;
 
 /// The record of a field `key` of `source`. `Wire` has the place of the field's tag.
 pub fn read_key(alloc: Global, source: &[u8], field: Field) -> Result<Record, ReadError>

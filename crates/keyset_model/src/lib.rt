@@ -1,6 +1,6 @@
-//! Keysets: lists of records with a primary, their binary form read, and their listing.
+//! Keysets: lists of records with a primary, their binary form read and written, and their listing.
 //!
-//! A `Keyset` is well formed as its type's invariant. Writing comes with the commands that edit.
+//! A `Keyset` is well formed as its type's invariant. Edits stand in a crate above.
 #![tactic(auto)]
 
 mod faults;
@@ -12,8 +12,10 @@ mod reading;
 mod record;
 #[cfg(test)]
 mod tests;
+mod writing;
 
 pub use keyset::{Keyset, KeysetFault};
 pub use listing::{info_text, prefix_name, status_name};
 pub use reading::{ReadError, read_binary};
 pub use record::Record;
+pub use writing::write_binary;

@@ -16,9 +16,9 @@ use std::alloc::{AllocFailed, Global};
 use tink_base::NoMemory;
 
 // The field numbers of `Keyset`.
-const PRIMARY_KEY_ID: u32 = 1;
+pub(crate) const PRIMARY_KEY_ID: u32 = 1;
 
-const KEY: u32 = 2;
+pub(crate) const KEY: u32 = 2;
 
 /// How many records are held while a keyset is read: one more than it may have. Those behind them
 /// are read for their faults alone and aren't held, as the keyset has too many already.

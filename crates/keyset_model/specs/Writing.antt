@@ -1,0 +1,40 @@
+-- The binary form of a keyset, written (tink.proto: Keyset, Key and KeyData). Fields stand by number,
+-- numbers that are 0 and bytes that are empty are left out, and messages are always written.
+--
+--   data_written     the `KeyData` message of a record
+--   record_written   its `Key` message
+--   binary_of        the `Keyset` message
+use Rattle.std.specs.Prelude.{ℕ, List, [], ◌∷◌, ◌++◌, map, if◌then◌else◌}
+use Rattle.proto_wire.specs.Written.{Entry, uint32, content, message, written_all}
+use Rattle.keyset_model.specs.declared.record.Record.{Record}
+use Rattle.keyset_model.specs.Keyset.{Keys, is_bare}
+
+-- type_url 1, value 2 and key_material_type 3
+abbrev pub data_entries : Record → List Entry
+data_entries r = content 1 r.url ∷ content 2 r.value ∷ uint32 3 r.material ∷ []
+
+abbrev pub data_written : Record → List ℕ
+data_written r = written_all (data_entries r)
+
+-- key_data 1, which is there exactly where the record isn't bare
+abbrev pub data_entry : Record → List Entry
+data_entry r = if is_bare r then [] else message 1 (data_written r) ∷ []
+
+-- key_data 1, status 2, key_id 3 and output_prefix_type 4
+abbrev pub record_entries : Record → List Entry
+record_entries r = data_entry r ++ (uint32 2 r.status ∷ uint32 3 r.id ∷ uint32 4 r.prefix ∷ [])
+
+abbrev pub record_written : Record → List ℕ
+record_written r = written_all (record_entries r)
+
+-- a key is field 2
+abbrev pub key_entry : Record → Entry
+key_entry r = message 2 (record_written r)
+
+-- primary_key_id 1, and a key 2 for each record, in order
+abbrev pub keys_entries : Keys → List Entry
+keys_entries keys = uint32 1 keys.primary ∷ map key_entry keys.records
+
+-- the whole message
+unfoldable pub binary_of : Keys → List ℕ
+binary_of keys = written_all (keys_entries keys)
