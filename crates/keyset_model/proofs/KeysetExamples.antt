@@ -1,13 +1,15 @@
--- A keyset of 90 bytes, its neighbours and its listing, by the definitions.
+-- A keyset of 90 bytes, its neighbours, its listing and what is written of it, by the definitions.
 use Rattle.std.proofs.Common.{◌≡◌, ◌++◌, ◌∷◌, [], List, ℕ, length, take, drop, refl}
 use Rattle.std.specs.Prelude.{Ok, Err, codes, replicate}
 use Rattle.std.specs.Fmt.{digits}
 use Rattle.std.specs.Str.{is_utf8, chars}
 use Rattle.tink_spec.proofs.Examples.{wire_on_literals, url, keyset}
+use Rattle.proto_wire.specs.Written.{groups_of}
 use Rattle.keyset_model.specs.declared.keyset.KeysetFault.TheVariants as faults
 use Rattle.keyset_model.specs.Keyset.{Keys, first_without, repeat_behind, first_some, when, fault_of}
 use Rattle.keyset_model.specs.Listing.{status_text, prefix_text, escaped, record_lines, info_of}
 use Rattle.keyset_model.specs.Reading.{record_of, key_of, reads_binary, Wire, Fault}
+use Rattle.keyset_model.specs.Writing.{binary_of}
 use lib.Utf8.{encode}
 
 -- one name for what unfolds in an example
@@ -76,6 +78,26 @@ read_two_keys = refl
 pub read_no_text : reads_binary (0x12 ∷ 0x05 ∷ 0x0A ∷ 0x03 ∷ 0x0A ∷ 0x01 ∷ 0xFF ∷ []) ≡ Err (Wire 0)
 unfolding keysets_on_literals
 read_no_text = refl
+
+-- it is written in those 90 bytes again
+pub write_one_key : binary_of one_key ≡ keyset
+unfolding url keyset one_key groups_of binary_of
+write_one_key = refl
+
+-- primary id and key id 5, and a DESTROYED key without key data, of id 6
+unfoldable pub bare_key : Keys
+bare_key = record {
+  primary = 5;
+  records = record { id = 5; status = 1; prefix = 3; url = 0x61 ∷ []; value = []; material = 1 }
+      ∷ record { id = 6; status = 3; prefix = 1; url = []; value = []; material = 0 } ∷ [];
+}
+
+-- 0a0161 and 1801 are the URL and the material, and behind the bare key's tag and length stand its
+-- status, id and prefix alone
+pub write_bare_key : binary_of bare_key ≡ 0x08 ∷ 0x05 ∷ 0x12 ∷ 0x0D ∷ 0x0A ∷ 0x05 ∷ 0x0A ∷ 0x01 ∷ 0x61 ∷ 0x18 ∷ 0x01 ∷ 0x10 ∷ 0x01 ∷ 0x18 ∷ 0x05 ∷ 0x20 ∷ 0x03
+    ∷ 0x12 ∷ 0x06 ∷ 0x10 ∷ 0x03 ∷ 0x18 ∷ 0x06 ∷ 0x20 ∷ 0x01 ∷ []
+unfolding groups_of bare_key binary_of
+write_bare_key = refl
 
 unfoldable pub its_listing : List ℕ
 unfolding url

@@ -1,3 +1,4 @@
+pub mod BinaryBack
 pub mod Exits
 pub mod KeyLemmas
 pub mod KeysetExamples

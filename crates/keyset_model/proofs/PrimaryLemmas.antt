@@ -1,7 +1,7 @@
 -- The primary record of a keyset.
-use Rattle.std.proofs.Common.{◌≡◌, ◌∙◌, ap, sym, refl, Bool, true, false, ℕ, ◌≤◌, List, [], ◌∷◌, length, Some, None, arith}
+use Rattle.std.proofs.Common.{◌≡◌, ◌∙◌, ap, sym, refl, subst, Bool, true, false, ℕ, ◌≤◌, List, [], ◌∷◌, length, Some, None, arith}
 use Rattle.std.specs.Prelude.{find, nat_lt, slice_get, position}
-use Rattle.std.specs.List.{list_any, position_or_len}
+use Rattle.std.specs.List.{AllByRecursion, list_any, position_or_len}
 use Rattle.std.proofs.lemmas.Bool.Decides.{nat_tests}
 use Rattle.std.proofs.lemmas.List.Folds.{find_at}
 use Rattle.std.proofs.lemmas.Option.{slice_get_past}
@@ -41,6 +41,21 @@ primary_enabled keys r found = primary_status keys.primary r (found_passes (is_p
 -- without a fault there is a primary record
 pub primary_there : (keys : Keys) → fault_of keys ≡ None → (r : Record) × (primary_of keys ≡ Some r)
 primary_there keys is = found_there (is_primary keys.primary) keys.records (whole-faultless keys is).primary
+
+-- the primary id is that of a record, so what holds of all records holds of one with it
+all_found : {A : Type 0} (P : A → Type 0) (p : A → Bool) (x y : A) (xs : List A) (b : Bool) → p x ≡ b → find p (x ∷ xs) ≡ Some y → P x → (find p xs ≡ Some y → P y) → P y
+all_found P p x y xs true test found first later = let same : Some x ≡ Some y = rw test at found in let is : x ≡ y = cc in subst P is first
+all_found P p x y xs false test found first later = later (rw test at found)
+
+found_all : {A : Type 0} (P : A → Type 0) (p : A → Bool) (xs : List A) (y : A) → find p xs ≡ Some y → AllByRecursion P xs → P y
+found_all P p [] y found all = cc
+found_all P p (x ∷ xs) y found all = all_found P p x y xs _ refl found all.0 (λ later. found_all P p xs y later all.1)
+
+pub primary_same : (P : Record → Type 0) (keys : Keys) → fault_of keys ≡ None → AllByRecursion P keys.records → (r : Record) × P r × (r.id ≡ keys.primary)
+primary_same P keys faultless all =
+    let there = primary_there keys faultless in
+    let passes = found_passes (is_primary keys.primary) keys.records there.0 there.1 in
+    (there.0, found_all P (is_primary keys.primary) keys.records there.0 there.1 all, primary_id keys.primary there.0 passes)
 
 pub primary_missing : (keys : Keys) → fault_of keys ≡ None → primary_of keys ≡ None → ⊥
 primary_missing keys is none = let there = primary_there keys is in let clash : None ≡ Some there.0 = sym none ∙ there.1 in cc

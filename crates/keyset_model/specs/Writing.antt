@@ -1,13 +1,17 @@
--- The binary form of a keyset, written (tink.proto: Keyset, Key and KeyData). Fields stand by number,
--- numbers that are 0 and bytes that are empty are left out, and messages are always written.
+-- The binary form of a keyset, written (tink.proto: Keyset, Key and KeyData). Fields stand by
+-- number, numbers that are 0 and bytes that are empty are left out, and messages are always written.
 --
 --   data_written     the `KeyData` message of a record
 --   record_written   its `Key` message
 --   binary_of        the `Keyset` message
-use Rattle.std.specs.Prelude.{ℕ, List, [], ◌∷◌, ◌++◌, map, if◌then◌else◌}
+--   BinaryBack       it reads back to the keyset
+use Rattle.std.specs.Prelude.{◌≡◌, ℕ, ◌<◌, ◌^◌, true, List, [], ◌∷◌, ◌++◌, map, None, Ok, if◌then◌else◌}
+use Rattle.std.specs.List.{AllByRecursion}
+use Rattle.std.specs.Str.{is_utf8}
 use Rattle.proto_wire.specs.Written.{Entry, uint32, content, message, written_all}
 use Rattle.keyset_model.specs.declared.record.Record.{Record}
-use Rattle.keyset_model.specs.Keyset.{Keys, is_bare}
+use Rattle.keyset_model.specs.Keyset.{Keys, is_bare, IsShort, fault_of}
+use Rattle.keyset_model.specs.Reading.{reads_binary}
 
 -- type_url 1, value 2 and key_material_type 3
 abbrev pub data_entries : Record → List Entry
@@ -38,3 +42,15 @@ keys_entries keys = uint32 1 keys.primary ∷ map key_entry keys.records
 -- the whole message
 unfoldable pub binary_of : Keys → List ℕ
 binary_of keys = written_all (keys_entries keys)
+
+-- what the types of a record hold it to, and that it can be written; in keys without a fault its
+-- other numbers are small, and the primary id is that of a record
+pub record HasWireBounds (r : Record) : Type 0 where
+  pub id : r.id < 2 ^ 32
+  pub utf8 : is_utf8 r.url ≡ true
+  pub short : IsShort r
+
+-- The binary form of keys without a fault reads back to them.
+abbrev pub BinaryBack : Type 0
+BinaryBack = (keys : Keys) → fault_of keys ≡ None → AllByRecursion HasWireBounds keys.records
+    → reads_binary (binary_of keys) ≡ Ok keys

@@ -1,9 +1,16 @@
 //! Laws of the definitions. These functions do nothing: their contracts are the laws.
 
 ghost use Rattle.keyset_model.specs.WellFormed.{FaultlessKeysets};
+ghost use Rattle.keyset_model.specs.Writing.{BinaryBack};
 
 /// Records without a fault are 1 to 1,000, each of them known and with its key data, with ids that
 /// differ, and a primary one that is there and ENABLED.
 pub fn faultless_keysets()
     ensures { FaultlessKeysets }
+{}
+
+/// The binary form of keys without a fault reads back to them, where ids are below 2^32, URLs are
+/// UTF-8, and URL and value of each record have at most 2^30 bytes together.
+pub fn binary_back()
+    ensures { BinaryBack }
 {}
