@@ -1,5 +1,6 @@
 pub mod BinaryBack
 pub mod Exits
+pub mod FaultlessLemmas
 pub mod KeyLemmas
 pub mod KeysetExamples
 pub mod PrimaryLemmas

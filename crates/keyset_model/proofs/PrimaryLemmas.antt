@@ -7,7 +7,7 @@ use Rattle.std.proofs.lemmas.List.Folds.{find_at}
 use Rattle.std.proofs.lemmas.Option.{slice_get_past}
 use Rattle.keyset_model.specs.declared.record.Record.{Record}
 use Rattle.keyset_model.specs.Keyset.{Keys, is_primary, primary_of, fault_of}
-use Rattle.keyset_model.specs.WellFormed.{FaultlessKeysets}
+use Rattle.keyset_model.specs.WellFormed.{IsWellFormed}
 use Rattle.keyset_model.proofs.WellFormedLemmas.{whole-faultless, all_known, all_data, least_records, most_records}
 
 -- an element that is found passes the test
@@ -75,8 +75,8 @@ no_place p xs false is place = grind (arith, nat_tests)
 pub no_position : {A : Type 0} (p : A → Bool) (xs : List A) → None ≡ position p xs → find p xs ≡ None
 no_position p xs place = find_at p xs ∙ slice_get_past xs _ (no_place p xs _ refl place)
 
-pub faultless_keysets : FaultlessKeysets
-faultless_keysets keys faultless =
+pub well_formed-faultless : (keys : Keys) → fault_of keys ≡ None → IsWellFormed keys
+well_formed-faultless keys faultless =
     let there = primary_there keys faultless in
     let passes = found_passes (is_primary keys.primary) keys.records there.0 there.1 in
     record {

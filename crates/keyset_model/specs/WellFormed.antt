@@ -1,5 +1,5 @@
 -- What it says of records that no fault of a keyset holds, apart from how faults are looked for.
-use Rattle.std.specs.Prelude.{◌≡◌, ◌≢◌, ◌⊎◌, ℕ, ◌<◌, ◌≤◌, List, length, Some, None, slice_get}
+use Rattle.std.specs.Prelude.{◌≡◌, ◌≢◌, ◌↔◌, ◌⊎◌, ℕ, ◌<◌, ◌≤◌, List, length, Some, None, slice_get}
 use Rattle.std.specs.List.{AllByRecursion}
 use Rattle.keyset_model.specs.declared.record.Record.{Record}
 use Rattle.keyset_model.specs.Keyset.{Keys, IsKnown, primary_of, fault_of}
@@ -15,8 +15,8 @@ pub record HasData (r : Record) : Type 0 where
   pub material : (1 ≤ r.material) ⊎ (r.status ≡ 3)
   pub url : (1 ≤ length r.url) ⊎ (r.status ≡ 3)
 
--- 1 to 1,000 records, each of which is known and has its data, whose ids differ; and the primary one
--- is there and ENABLED
+-- 1 to 1,000 records, each of which is known and has its data, whose ids differ; and the primary
+-- one is there and ENABLED
 pub record IsWellFormed (keys : Keys) : Type 0 where
   pub least : 1 ≤ length keys.records
   pub most : length keys.records ≤ 1000
@@ -25,6 +25,6 @@ pub record IsWellFormed (keys : Keys) : Type 0 where
   pub own_ids : HasOwnIds keys.records
   pub primary : (r : Record) × (primary_of keys ≡ Some r) × (r.id ≡ keys.primary) × (r.status ≡ 1)
 
--- records without a fault are such ones
+-- keys have no fault exactly where they are well formed
 abbrev pub FaultlessKeysets : Type 0
-FaultlessKeysets = (keys : Keys) → fault_of keys ≡ None → IsWellFormed keys
+FaultlessKeysets = (keys : Keys) → (fault_of keys ≡ None) ↔ IsWellFormed keys

@@ -3,8 +3,8 @@
 ghost use Rattle.keyset_model.specs.WellFormed.{FaultlessKeysets};
 ghost use Rattle.keyset_model.specs.Writing.{BinaryBack};
 
-/// Records without a fault are 1 to 1,000, each of them known and with its key data, with ids that
-/// differ, and a primary one that is there and ENABLED.
+/// Records are without a fault exactly where they are 1 to 1,000, each of them known and with its
+/// key data, with ids that differ, and a primary one that is there and ENABLED.
 pub fn faultless_keysets()
     ensures { FaultlessKeysets }
 {}

@@ -1,5 +1,6 @@
-use Rattle.keyset_model.proofs.PrimaryLemmas.{faultless_keysets}
+use Rattle.keyset_model.proofs.FaultlessLemmas.{faultless-well_formed}
+use Rattle.keyset_model.proofs.PrimaryLemmas.{well_formed-faultless}
 use Rattle.keyset_model.proofs.laws.faultless_keysets.Goals as goal
 
 pub returns : goal.returns
-returns c = faultless_keysets
+returns c = λ keys. (well_formed-faultless keys, faultless-well_formed keys)
