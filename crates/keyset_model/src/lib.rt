@@ -13,6 +13,8 @@ mod record;
 #[cfg(test)]
 mod tests;
 mod writing;
+#[cfg(test)]
+mod writing_tests;
 
 pub use keyset::{Keyset, KeysetFault};
 pub use listing::{info_text, prefix_name, status_name};

@@ -3,7 +3,7 @@ use proto_wire::Wire;
 use std::test::Fail;
 
 // One AES-GCM key of 16 zero bytes, as protoc 3.21.12 encodes it.
-const KEYSET: &[u8] = b"\x08\x84\x86\x88\x08\x12\x53\x0a\x48\x0a\x30\
+pub(crate) const KEYSET: &[u8] = b"\x08\x84\x86\x88\x08\x12\x53\x0a\x48\x0a\x30\
     type.googleapis.com/google.crypto.tink.AesGcmKey\
     \x12\x12\x1a\x10\0\0\0\0\0\0\0\0\0\0\0\0\0\0\0\0\x18\x01\x10\x01\x18\x84\x86\x88\x08\x20\x01";
 
