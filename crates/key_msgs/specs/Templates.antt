@@ -4,7 +4,7 @@
 --   made             the key of a template and its random bytes
 --   MadeKeysAreValid   it keeps every rule
 --   is_asymmetric    a name of Tink's templates for asymmetric keys
-use Rattle.std.specs.Prelude.{◌≡◌, Result, Ok, Err, ℕ, ◌+◌, List, [], ◌∷◌, length, take, drop, Bool, true, false, ◌||◌, Option, Some, None, find, codes}
+use Rattle.std.specs.Prelude.{◌≡◌, Result, Ok, Err, ℕ, ◌+◌, List, [], ◌∷◌, length, take, drop, Bool, true, false, ◌||◌, Option, Some, None, find, get_or, codes}
 use Rattle.std.specs.List.{AllByRecursion}
 use Rattle.std.specs.Str.{bytes_eq}
 use Rattle.tink_base.specs.declared.hash.Hash.TheVariants.{Sha256, Sha512}
@@ -14,6 +14,7 @@ use Rattle.key_msgs.specs.declared.key_type.KeyType.{KeyType}
 use Rattle.key_msgs.specs.declared.template.Recipe.{Recipe}
 use Rattle.key_msgs.specs.declared.template.Recipe.TheVariants.{Gcm, Eax, CtrHmac, Siv, Hmac, Cmac, HkdfPrf, HmacPrf, CmacPrf, GcmStream, CtrStream}
 use Rattle.key_msgs.specs.declared.template.Template.{Template}
+use Rattle.key_msgs.specs.declared.template.TemplateRow.{TemplateRow}
 use Rattle.key_msgs.specs.declared.template.TemplateFault.{TemplateFault}
 use Rattle.key_msgs.specs.declared.template.TemplateFault.TheVariants as faults
 use Rattle.key_msgs.specs.Keys.{type_of, IsValid}
@@ -70,9 +71,13 @@ templates =
     ∷ raw (codes "AES256_CTR_HMAC_SHA256_1MB") (CtrStream 32 1048576)
     ∷ []
 
--- the row of the table that a template is
+-- the row of the table that a template is, by its place
 abbrev pub seen : Template → Row
-seen template = record { name = template.name.now; prefix = template.prefix; recipe = template.recipe }
+seen template = get_or templates template (tink [] Siv)
+
+-- what the code's row stands for
+abbrev pub seen_row : TemplateRow → Row
+seen_row row = record { name = row.name.now; prefix = row.prefix; recipe = row.recipe }
 
 -- the key of these random bytes; an AES-CTR key comes before its HMAC key
 abbrev pub made_by : Recipe → List ℕ → KeyKind

@@ -1,11 +1,12 @@
 //! The templates by which new keys are made.
 
-ghost use Rattle.std.specs.Prelude.{◌≡◌, length, Some, option_map, slice_get, IfOk};
+ghost use Rattle.std.specs.Prelude.{◌≡◌, length, Some, option_map, slice_get, IfOk, Contains};
 ghost use Rattle.key_msgs.specs.KeyTypes.{primitive_of_type, url_of_type};
-ghost use Rattle.key_msgs.specs.Templates.{templates, seen, type_made, random_of, made, FindsTemplate, is_asymmetric};
+ghost use Rattle.key_msgs.specs.Templates.{templates, seen, seen_row, type_made, random_of, made, FindsTemplate, is_asymmetric};
 
 use crate::{KeyKind, KeyType, Primitive};
 use std::alloc::Global;
+use std::marker::Model;
 use tink_base::{Bytes, Hash, NoMemory, RAW, TINK};
 
 /// What a template makes. Sizes are in bytes; what isn't named is fixed.
@@ -37,34 +38,66 @@ pub(crate) enum Recipe {
     CtrStream(u32, u32),
 }
 
-/// A row of the table of templates.
+/// A template's name, the output prefix type of its keys, and what is made.
 #[derive(Clone, Copy)]
-pub struct Template {
+struct TemplateRow {
     name: &'static str,
     prefix: u32,
     recipe: Recipe,
 }
 
+/// A template: a row of the table, which contracts see as its place. It is one of 32.
+#[derive(Clone, Copy)]
+pub struct Template {
+    row: usize,
+}
+
+impl Model for Template {
+    ghost use Rattle.std.specs.Prelude.{ℕ, ◌<◌};
+
+    ghost Value = { ℕ };
+
+    ghost view = { λ t. t.row };
+
+    ghost invariant = { λ t. t.row < 32 };
+
+    ghost inverse = { λ place. record { row = place } };
+}
+
 impl Template {
+    /// The row of the template.
+    fn row(&self) -> TemplateRow
+        ensures row { seen_row result ≡ seen self.now }
+        ensures known { Contains templates (seen self.now) }
+    {
+        match row_at(self.row) {
+            Some(row) => row,
+            None => unreachable!(),
+        }
+    }
+
     /// The name of the template.
     pub fn name(&self) -> &'static str
         ensures { result.now ≡ (seen self.now).name }
     {
-        self.name
+        self.row().name
     }
 
     /// The output prefix type of the keys that it makes, `TINK` or `RAW`.
+    ///
+    /// A template is a row of the table.
     pub fn prefix(&self) -> u32
-        ensures { result ≡ (seen self.now).prefix }
+        ensures prefix { result ≡ (seen self.now).prefix }
+        ensures known { Contains templates (seen self.now) }
     {
-        self.prefix
+        self.row().prefix
     }
 
     /// The type of the keys that it makes.
     fn key_type(&self) -> KeyType
         ensures { result ≡ type_made (seen self.now) }
     {
-        match self.recipe {
+        match self.row().recipe {
             Recipe::Gcm(_) => KeyType::AesGcm,
             Recipe::Eax(_) => KeyType::AesEax,
             Recipe::CtrHmac(_, _) => KeyType::AesCtrHmac,
@@ -90,7 +123,7 @@ impl Template {
     pub fn random_len(&self) -> usize
         ensures { result ≡ random_of (seen self.now) }
     {
-        match self.recipe {
+        match self.row().recipe {
             Recipe::Gcm(size)
             | Recipe::Eax(size)
             | Recipe::Hmac(size, _, _)
@@ -111,20 +144,20 @@ impl Template {
     }
 }
 
-fn tink(name: &'static str, recipe: Recipe) -> Option<Template>
-    ensures { option_map seen result ≡ Some (record { name = name.now; prefix = 1; recipe = recipe }) }
+fn tink(name: &'static str, recipe: Recipe) -> Option<TemplateRow>
+    ensures { option_map seen_row result ≡ Some (record { name = name.now; prefix = 1; recipe = recipe }) }
 {
-    Some(Template {
+    Some(TemplateRow {
         name,
         prefix: TINK,
         recipe,
     })
 }
 
-fn raw(name: &'static str, recipe: Recipe) -> Option<Template>
-    ensures { option_map seen result ≡ Some (record { name = name.now; prefix = 3; recipe = recipe }) }
+fn raw(name: &'static str, recipe: Recipe) -> Option<TemplateRow>
+    ensures { option_map seen_row result ≡ Some (record { name = name.now; prefix = 3; recipe = recipe }) }
 {
-    Some(Template {
+    Some(TemplateRow {
         name,
         prefix: RAW,
         recipe,
@@ -134,6 +167,17 @@ fn raw(name: &'static str, recipe: Recipe) -> Option<Template>
 /// The template of this row, counted from 0: `None` exactly from 32 on. No memory is taken.
 pub fn template_at(row: usize) -> Option<Template>
     ensures { option_map seen result ≡ slice_get templates row }
+{
+    if row < 32 {
+        Some(Template { row })
+    } else {
+        None
+    }
+}
+
+/// The row of this place.
+fn row_at(row: usize) -> Option<TemplateRow>
+    ensures { option_map seen_row result ≡ slice_get templates row }
 {
     match row {
         0 => tink("AES128_GCM", Recipe::Gcm(16)),
@@ -230,7 +274,7 @@ pub fn make_key(alloc: Global, template: &Template, random: &[u8]) -> Result<Key
     requires size { length random.now ≡ random_of (seen template.now) }
     ensures { IfOk result (λ key. key ≡ made (seen template.now) random.now) }
 {
-    match template.recipe {
+    match template.row().recipe {
         Recipe::Gcm(_) => {
             let key = Bytes::copy(alloc, random)?;
             Ok(KeyKind::AesGcm { key })

@@ -1,9 +1,12 @@
-use Rattle.std.proofs.Common.{◌≤◌, arith, sym}
-use Rattle.std.proofs.lemmas.Option.{slice_get_past}
+use Rattle.std.proofs.Common.{◌≤◌, arith, sym, ap}
+use Rattle.std.proofs.lemmas.Option.{slice_get_past, slice_get-get_or}
 use Rattle.key_msgs.specs.Templates.{templates}
 use Rattle.key_msgs.proofs.template.template_at.Goals as goal
 
-pub returns-in_default : goal.returns-in_default
-returns-in_default c =
+pub returns-then-row-lt32 : goal.returns-then-row-lt32
+returns-then-row-lt32 c = sym (slice_get-get_or templates c.args.row _ (omega arith))
+
+pub returns-else-row-lt32 : goal.returns-else-row-lt32
+returns-else-row-lt32 c =
     let past : 32 ≤ c.args.row = omega arith in
     sym (slice_get_past templates c.args.row past)
