@@ -4,6 +4,7 @@ pub mod FaultlessLemmas
 pub mod KeyLemmas
 pub mod KeysetExamples
 pub mod PrimaryLemmas
+pub mod ReadBounds
 pub mod ReadingLemmas
 pub mod WellFormedLemmas
 pub mod WritingLemmas

@@ -24,7 +24,7 @@ length-data r =
 
 length-data_entry : (r : Record) (bare : Bool) → is_bare r ≡ bare → length (written_all (data_entry r)) ≤ 80 + (length r.url + length r.value)
 length-data_entry r true is = rw is (omega arith)
-length-data_entry r false is = rw (is, append-nil) (omega (arith, length-written (message 1 (data_written r)), length-data r))
+length-data_entry r false is = rw is (omega (arith, length-append (written (message 1 (data_written r))) [], length-written (message 1 (data_written r)), length-data r))
 
 pub length-record : (r : Record) → length (record_written r) ≤ 140 + (length r.url + length r.value)
 length-record r =

@@ -1,11 +1,12 @@
 -- The binary form of a keyset, written (tink.proto: Keyset, Key and KeyData). Fields stand by
--- number, numbers that are 0 and bytes that are empty are left out, and messages are always written.
+-- number. Numbers that are 0 and bytes that are empty are left out; messages are always written.
 --
 --   data_written     the `KeyData` message of a record
 --   record_written   its `Key` message
 --   binary_of        the `Keyset` message
 --   BinaryBack       it reads back to the keyset
-use Rattle.std.specs.Prelude.{◌≡◌, ℕ, ◌<◌, ◌^◌, true, List, [], ◌∷◌, ◌++◌, map, None, Ok, if◌then◌else◌}
+--   ReadKeysFit      what was read can be written
+use Rattle.std.specs.Prelude.{◌≡◌, ℕ, ◌<◌, ◌≤◌, ◌^◌, true, List, [], ◌∷◌, ◌++◌, length, map, None, Ok, if◌then◌else◌}
 use Rattle.std.specs.List.{AllByRecursion}
 use Rattle.std.specs.Str.{is_utf8}
 use Rattle.proto_wire.specs.Written.{Entry, uint32, content, message, written_all}
@@ -54,3 +55,8 @@ pub record HasWireBounds (r : Record) : Type 0 where
 abbrev pub BinaryBack : Type 0
 BinaryBack = (keys : Keys) → fault_of keys ≡ None → AllByRecursion HasWireBounds keys.records
     → reads_binary (binary_of keys) ≡ Ok keys
+
+-- Keys that are read of at most 2 ^ 29 bytes have no fault, and their binary form reads back.
+abbrev pub ReadKeysFit : Type 0
+ReadKeysFit = (bytes : List ℕ) (keys : Keys) → length bytes ≤ 2 ^ 29 → reads_binary bytes ≡ Ok keys
+    → (fault_of keys ≡ None) × AllByRecursion HasWireBounds keys.records

@@ -3,6 +3,7 @@
 ghost use Rattle.std.specs.Prelude.{◌≡◌, ◌<◌, ◌≤◌, ◌≢◌, ◌↔◌, length, Some, None, IsNone, All, slice_get, position, ◌==◌, IfOk, IfSome};
 ghost use Rattle.std.specs.List.{AllByRecursion};
 ghost use Rattle.keyset_model.specs.Keyset.{HasSizes, IsKnown, primary_of, fault_of, built};
+ghost use Rattle.keyset_model.specs.WellFormed.{IsWellFormed};
 
 use crate::Record;
 use crate::faults::{fault_of, primary_place};
@@ -90,9 +91,11 @@ impl Keyset {
 
     /// The primary record, the ENABLED one that has the primary id.
     ///
-    /// It is there, as a keyset has no fault.
+    /// It is there, as a keyset has no fault. The clause `well_formed` hands out what a caller knows of
+    /// each keyset: how many records it has, that each is known, and that ids differ.
     pub fn primary_record(&self) -> &Record
         ensures faultless { fault_of self.now ≡ None }
+        ensures well_formed { IsWellFormed self.now }
         ensures primary { primary_of self.now ≡ Some result.now }
         ensures enabled { result.now.status ≡ ENABLED }
         ensures known { IsKnown result.now }

@@ -1,7 +1,7 @@
 //! Laws of the definitions. These functions do nothing: their contracts are the laws.
 
 ghost use Rattle.keyset_model.specs.WellFormed.{FaultlessKeysets};
-ghost use Rattle.keyset_model.specs.Writing.{BinaryBack};
+ghost use Rattle.keyset_model.specs.Writing.{BinaryBack, ReadKeysFit};
 
 /// Records are without a fault exactly where they are 1 to 1,000, each of them known and with its
 /// key data, with ids that differ, and a primary one that is there and ENABLED.
@@ -13,4 +13,10 @@ pub fn faultless_keysets()
 /// UTF-8, and URL and value of each record have at most 2^30 bytes together.
 pub fn binary_back()
     ensures { BinaryBack }
+{}
+
+/// Keys that are read of at most 2^29 bytes have no fault and the bounds of `binary_back`, so what
+/// is written of them reads back.
+pub fn read_keysets_fit()
+    ensures { ReadKeysFit }
 {}

@@ -59,8 +59,8 @@ fn keysets_are_written_as_protoc_does(rt: HostRuntime) -> Result<(), Fail> {
     Ok(())
 }
 
-// By hand: of two primary ids and of two statuses the last one counts, a field 9 is skipped, parts of
-// key data are joined, and key data that says nothing isn't written.
+// By hand: of two primary ids and of two statuses the last one counts, a field 9 is skipped, parts
+// of key data are joined, and key data that says nothing isn't written.
 #[test]
 fn other_spellings_are_written_as_the_shortest_one(rt: HostRuntime) -> Result<(), Fail> {
     let long = b"\x08\x07\x08\x05\

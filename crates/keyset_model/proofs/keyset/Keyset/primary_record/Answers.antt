@@ -2,7 +2,7 @@ use Rattle.std.proofs.Common.{◌≡◌, ◌∙◌, subst, rules, List, Some, No
 use Rattle.std.specs.Prelude.{position}
 use Rattle.keyset_model.specs.declared.record.Record.{Record}
 use Rattle.keyset_model.specs.Keyset.{Keys, is_primary, fault_of}
-use Rattle.keyset_model.proofs.PrimaryLemmas.{at_position, no_position, primary_enabled, primary_missing}
+use Rattle.keyset_model.proofs.PrimaryLemmas.{at_position, no_position, primary_enabled, primary_missing, well_formed-faultless}
 use Rattle.keyset_model.proofs.keyset.Keyset.primary_record.Goals as goal
 
 pub unreachable-requires : goal.unreachable-requires
@@ -24,3 +24,9 @@ pub returns-clause-enabled : goal.returns-clause-enabled
 returns-clause-enabled c =
     let k = c.args.self.now in
     primary_enabled k c.record_at.result.now (returns-clause-primary c)
+
+pub returns-clause-well_formed : goal.returns-clause-well_formed
+returns-clause-well_formed c =
+    let k = c.args.self.now in
+    let sound : fault_of k ≡ None = search rules in
+    well_formed-faultless k sound
