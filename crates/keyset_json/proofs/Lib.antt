@@ -1,0 +1,6 @@
+pub mod Base64Lemmas
+pub mod NumberLemmas
+pub mod ReadingLemmas
+pub mod TextLemmas
+pub mod SizeLemmas
+pub mod WritingLemmas

@@ -1,0 +1,19 @@
+//! Keysets as JSON, read and written (the JSON mapping of proto3, of tink.proto's `Keyset`).
+//!
+//! `serde_json` reads and prints the values, and `base64` the bytes in them.
+#![tactic(auto)]
+
+mod base64_text;
+mod fields;
+mod member;
+mod names;
+mod numbers;
+mod reading;
+#[cfg(test)]
+mod tests;
+mod writing;
+
+pub use base64_text::read_bytes;
+pub use member::{Member, Path};
+pub use reading::{JsonError, read_json};
+pub use writing::write_json;
