@@ -11,7 +11,7 @@ use tink_base::{Bytes, Hash, NoMemory, RAW, TINK};
 
 /// What a template makes. Sizes are in bytes; what isn't named is fixed.
 #[derive(Clone, Copy)]
-pub(crate) enum Recipe {
+pub enum Recipe {
     /// An AesGcmKey of this size.
     Gcm(u32),
     /// An AesEaxKey of this size, with IVs of 16.
@@ -84,11 +84,8 @@ impl Template {
     }
 
     /// The output prefix type of the keys that it makes, `TINK` or `RAW`.
-    ///
-    /// A template is a row of the table.
     pub fn prefix(&self) -> u32
-        ensures prefix { result ≡ (seen self.now).prefix }
-        ensures known { Contains templates (seen self.now) }
+        ensures { result ≡ (seen self.now).prefix }
     {
         self.row().prefix
     }
@@ -120,8 +117,11 @@ impl Template {
     }
 
     /// How many random bytes a key takes.
+    ///
+    /// A template is a row of the table.
     pub fn random_len(&self) -> usize
-        ensures { result ≡ random_of (seen self.now) }
+        ensures size { result ≡ random_of (seen self.now) }
+        ensures known { Contains templates (seen self.now) }
     {
         match self.row().recipe {
             Recipe::Gcm(size)
