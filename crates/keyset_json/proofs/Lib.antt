@@ -4,3 +4,6 @@ pub mod ReadingLemmas
 pub mod TextLemmas
 pub mod SizeLemmas
 pub mod WritingLemmas
+pub mod PrintedLemmas
+pub mod BackLemmas
+pub mod JsonExamples

@@ -131,7 +131,7 @@ uncons k d ds rs (Ok r) here is = let rest = cons_ok r (records_of (k + 1) (item
 uncons k d ds rs (Err p) here is = let clash : Err p ≡ Ok rs = rw here at is in cc
 
 -- a record before others, or before what gives none
-ahead : (k : ℕ) (d : Data) (ds : List Data) (r : Record) (xs : List Record) → record_of k d ≡ Ok r → records_of (k + 1) (items_of ds) ≡ Ok xs
+pub ahead : (k : ℕ) (d : Data) (ds : List Data) (r : Record) (xs : List Record) → record_of k d ≡ Ok r → records_of (k + 1) (items_of ds) ≡ Ok xs
     → records_of k (items_of (d ∷ ds)) ≡ Ok (r ∷ xs)
 unfolding records_of
 ahead k d ds r xs here later = rw (here, later) refl

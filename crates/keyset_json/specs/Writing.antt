@@ -1,14 +1,17 @@
 -- A keyset written as JSON: the compact text that the crate `serde_json` prints of a value, whose
 -- names are in byte order, and a newline. Enums are their names, and bytes are standard base64 with
 -- padding. A bare record has no `keyData`.
-use Rattle.std.specs.Prelude.{ℕ, List, [], ◌∷◌, ◌++◌, if◌then◌else◌, codes, map}
-use Rattle.base64.specs.GeneralPurpose.{encode_of}
+use Rattle.std.specs.Prelude.{◌≡◌, ℕ, ◌<◌, ◌^◌, true, None, Ok, List, [], ◌∷◌, ◌++◌, if◌then◌else◌, codes, map}
+use Rattle.base64.specs.GeneralPurpose.{encode_of, IsBytes}
 use Rattle.base64.specs.Engines.{standard}
 use Rattle.serde_json.specs.Data.{unsigned, Data, number, string, array, object, Members, no_members, member}
 use Rattle.serde_json.specs.View.{items_of}
 use Rattle.serde_json.specs.Written.{compact_text}
 use Rattle.keyset_model.specs.declared.record.Record.{Record}
-use Rattle.keyset_model.specs.Keyset.{Keys, is_bare}
+use Rattle.keyset_model.specs.Keyset.{Keys, is_bare, fault_of}
+use Rattle.std.specs.List.{AllByRecursion}
+use Rattle.std.specs.Str.{is_utf8}
+use Rattle.keyset_json.specs.Reading.{reads_json}
 use Rattle.keyset_json.specs.Names.{status_names, prefix_names, material_names, name_at}
 
 -- the object of a record's key data
@@ -43,3 +46,14 @@ keyset_value keys = object (
 -- the whole text
 unfoldable pub json_of : Keys → List ℕ
 json_of keys = compact_text (keyset_value keys) ++ 10 ∷ []
+
+-- what the types of a record hold it to; in keys without a fault its other numbers are small
+pub record HasJsonBounds (r : Record) : Type 0 where
+  pub id : r.id < 2 ^ 32
+  pub utf8 : is_utf8 r.url ≡ true
+  pub bytes : IsBytes r.value
+
+-- The JSON form of keys without a fault reads back to them.
+abbrev pub JsonBack : Type 0
+JsonBack = (keys : Keys) → fault_of keys ≡ None → keys.primary < 2 ^ 32
+    → AllByRecursion HasJsonBounds keys.records → reads_json (json_of keys) ≡ Ok keys

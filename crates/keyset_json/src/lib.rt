@@ -5,6 +5,7 @@
 
 mod base64_text;
 mod fields;
+pub mod laws;
 mod member;
 mod names;
 mod numbers;

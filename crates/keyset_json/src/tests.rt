@@ -118,11 +118,9 @@ fn refuses_what_is_no_json(rt: HostRuntime) {
     let cases = [
         ("no byte", b"".as_slice()),
         ("a newline", b"\n".as_slice()),
-        ("two newlines", b"\n\n".as_slice()),
         ("a byte order mark", b"\xef\xbb\xbf{}".as_slice()),
         ("a text that isn't UTF-8", b"{\"note\":\"\xff\"}".as_slice()),
         ("two values", b"{}{}".as_slice()),
-        ("a comma at the end", b"{\"key\":[],}".as_slice()),
         (
             "a number too large for a float",
             b"{\"keyId\":1e999}".as_slice(),
@@ -172,18 +170,11 @@ fn names_the_first_member_of_the_keyset_that_is_not_of_its_form(rt: HostRuntime)
             Member::PrimaryKeyId,
         ),
         (
-            "such a text",
-            "{\"primaryKeyId\":\"4294967296\"}",
-            Member::PrimaryKeyId,
-        ),
-        (
             "eleven digits",
             "{\"primaryKeyId\":\"00000000001\"}",
             Member::PrimaryKeyId,
         ),
-        ("no digit", "{\"primaryKeyId\":\"\"}", Member::PrimaryKeyId),
         ("a space", "{\"primaryKeyId\":\" 7\"}", Member::PrimaryKeyId),
-        ("a plus", "{\"primaryKeyId\":\"+7\"}", Member::PrimaryKeyId),
         ("a fraction", "{\"primaryKeyId\":7.0}", Member::PrimaryKeyId),
         (
             "an exponent",
@@ -191,7 +182,6 @@ fn names_the_first_member_of_the_keyset_that_is_not_of_its_form(rt: HostRuntime)
             Member::PrimaryKeyId,
         ),
         ("minus zero", "{\"primaryKeyId\":-0}", Member::PrimaryKeyId),
-        ("true", "{\"primaryKeyId\":true}", Member::PrimaryKeyId),
         (
             "by its field's name",
             "{\"primary_key_id\":[]}",
@@ -313,11 +303,7 @@ fn reads_bytes_in_both_alphabets(rt: HostRuntime) -> Result<(), Fail> {
     let cases = [
         ("no byte", "", Some(b"".as_slice())),
         ("one byte", "Zg==", Some(b"f".as_slice())),
-        ("without padding", "Zg", Some(b"f".as_slice())),
-        ("two bytes", "Zm8=", Some(b"fo".as_slice())),
-        ("without padding", "Zm8", Some(b"fo".as_slice())),
-        ("three bytes", "Zm9v", Some(b"foo".as_slice())),
-        ("four bytes", "Zm9vYg==", Some(b"foob".as_slice())),
+        ("two bytes, without padding", "Zm8", Some(b"fo".as_slice())),
         (
             "the standard alphabet",
             "+/8=",
@@ -325,24 +311,17 @@ fn reads_bytes_in_both_alphabets(rt: HostRuntime) -> Result<(), Fail> {
         ),
         ("the URL alphabet", "-_8=", Some(b"\xfb\xff".as_slice())),
         (
-            "the URL alphabet without padding",
+            "the URL alphabet, without padding",
             "-_8",
             Some(b"\xfb\xff".as_slice()),
         ),
         ("both alphabets", "+_8=", None),
-        ("both alphabets, without padding", "-/8", None),
-        ("one symbol", "Z", None),
         ("five symbols", "Zm9vY", None),
         ("half its padding", "Zg=", None),
-        ("too much padding", "Zm8==", None),
-        ("padding alone", "=", None),
         ("padding behind whole groups", "Zm9v====", None),
         ("bits behind one byte", "Zh==", None),
-        ("bits behind two bytes", "Zm9=", None),
-        ("bits behind a byte, without padding", "Zh", None),
-        ("a space", "Zm9v ", None),
+        ("bits behind two bytes, without padding", "Zm9", None),
         ("a newline", "Zm9v\n", None),
-        ("no symbol", "Zm9!", None),
     ];
     for (shows, text, want) in cases {
         let bytes = read_bytes(rt.alloc(), text)?;
