@@ -1,0 +1,13 @@
+pub mod Among
+pub mod Applications
+pub mod Cases
+pub mod Changes
+pub mod Drawings
+pub mod Fronts
+pub mod Kept
+pub mod Lists
+pub mod Places
+pub mod Refusals
+pub mod Sizes
+pub mod Steps
+pub mod WellFormed

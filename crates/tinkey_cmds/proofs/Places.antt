@@ -1,0 +1,63 @@
+-- Edits by the place of a record.
+use Rattle.std.proofs.Common.{◌≡◌, ◌∙◌, ℕ, suc, ◌+◌, ◌<◌, true, false, cond, not, List, [], ◌∷◌, length, get_or, set, remove, position, Some, refl, sym, ap, arith, subst, one-add}
+use Rattle.std.specs.List.{prefix_len}
+use Rattle.std.proofs.lemmas.Bool.{ltb-true}
+use Rattle.std.proofs.lemmas.Option.{cond_some}
+use Rattle.keyset_model.specs.declared.record.Record.{Record}
+use Rattle.keyset_model.specs.Keyset.{has_id}
+use Rattle.tinkey_cmds.specs.Edits.{changed, without, destroyed}
+
+-- how many records stand before the first with that id
+before : ℕ → List Record → ℕ
+before id records = prefix_len (λ r. not (has_id id r)) records
+
+changed-set : (change : Record → Record) (id : ℕ) (records : List Record) (d : Record) → before id records < length records
+    → changed change id records ≡ set records (before id records) (change (get_or records (before id records) d))
+unfolding changed before
+changed-set change id [] d l = absurd (omega arith)
+changed-set change id (r ∷ later) d l = elim (has_id id r) as (λ b. cond (not b) (1 + before id later) 0 < suc (length later)
+    → cond b (change r ∷ later) (r ∷ changed change id later) ≡ set (r ∷ later) (cond (not b) (1 + before id later) 0) (change (get_or (r ∷ later) (cond (not b) (1 + before id later) 0) d))) [
+      | true ↦ λ k. refl
+      | false ↦ λ k. subst (λ n. r ∷ changed change id later ≡ set (r ∷ later) n (change (get_or (r ∷ later) n d))) (sym (one-add (before id later))) (ap (λ xs. r ∷ xs) (changed-set change id later d (omega arith)))
+    ] l
+
+without-remove : (id : ℕ) (records : List Record) → before id records < length records → without id records ≡ remove records (before id records)
+unfolding without before
+without-remove id [] l = absurd (omega arith)
+without-remove id (r ∷ later) l = elim (has_id id r) as (λ b. cond (not b) (1 + before id later) 0 < suc (length later)
+    → cond b later (r ∷ without id later) ≡ remove (r ∷ later) (cond (not b) (1 + before id later) 0)) [
+      | true ↦ λ k. refl
+      | false ↦ λ k. subst (λ n. r ∷ without id later ≡ remove (r ∷ later) n) (sym (one-add (before id later))) (ap (λ xs. r ∷ xs) (without-remove id later (omega arith)))
+    ] l
+
+-- the first record with that id stands at its place
+pub edits_by_place : (change : Record → Record) (id i : ℕ) (records : List Record) (default : Record)
+    → position (has_id id) records ≡ Some i
+    → (changed change id records ≡ set records i (change (get_or records i default)))
+    × (without id records ≡ remove records i)
+unfolding before
+edits_by_place change id i records d e =
+    let p = cond_some _ _ _ e in
+    let l = ltb-true (before id records) (length records) p.0 in (
+      subst (λ n. changed change id records ≡ set records n (change (get_or records n d))) p.1 (changed-set change id records d l),
+      subst (λ n. without id records ≡ remove records n) p.1 (without-remove id records l),
+    )
+
+-- the record at the place of an id is written
+pub set-changed : (change : Record → Record) (id i : ℕ) (records items : List Record) (r : Record) → items ≡ records → Some i ≡ position (has_id id) records
+    → r ≡ get_or items i r → set items i (change r) ≡ changed change id records
+set-changed change id i records items r same place is =
+    ap (λ rs. set rs i (change r)) same ∙ ap (λ x. set records i (change x)) (is ∙ ap (λ rs. get_or rs i r) same) ∙ sym (edits_by_place change id i records r (sym place)).0
+
+-- with no key data
+pub set-destroyed : (id i : ℕ) (records items : List Record) (r : Record) (url value : List ℕ) → items ≡ records → Some i ≡ position (has_id id) records
+    → r ≡ get_or items i r → url ≡ [] → value ≡ []
+    → set items i (record { id = r.id; status = 3; prefix = r.prefix; url = url; value = value; material = 0 }) ≡ changed destroyed id records
+set-destroyed id i records items r url value same place is no_url no_value =
+    ap (λ u. set items i (record { id = r.id; status = 3; prefix = r.prefix; url = u; value = value; material = 0 })) no_url
+    ∙ ap (λ v. set items i (record { id = r.id; status = 3; prefix = r.prefix; url = []; value = v; material = 0 })) no_value
+    ∙ set-changed destroyed id i records items r same place is
+
+-- it is removed
+pub remove-without : (id i : ℕ) (records items : List Record) (default : Record) → items ≡ records → Some i ≡ position (has_id id) records → remove items i ≡ without id records
+remove-without id i records items default same place = ap (λ rs. remove rs i) same ∙ sym (edits_by_place (λ r. r) id i records default (sym place)).1

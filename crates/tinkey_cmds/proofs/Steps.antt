@@ -1,0 +1,203 @@
+-- Edits that draw nothing: why each is refused, and that what it does keeps a keyset.
+use Rattle.std.proofs.Common.{◌≡◌, ◌∙◌, ℕ, ◌==◌, Bool, true, false, ◌<◌, length, List, [], Option, Some, None, Result, Ok, Err, refl, sym, ap, arith}
+use Rattle.std.specs.Prelude.{position, slice_get, IsErr, IsErrAnd}
+use Rattle.std.proofs.lemmas.Bool.{false≢true}
+use Rattle.keyset_model.specs.declared.record.Record.{Record}
+use Rattle.keyset_model.specs.Keyset.{Keys, has_id, is_enabled, is_destroyed, fault_of, first_some, when}
+use Rattle.keyset_model.proofs.PrimaryLemmas.{at_position, no_position}
+use Rattle.key_msgs.specs.declared.primitive.Primitive.{Primitive}
+use Rattle.key_msgs.specs.declared.rule.Rule.{Rule}
+use Rattle.tinkey_cmds.specs.declared.command.CmdFault.{CmdFault}
+use Rattle.tinkey_cmds.specs.declared.command.CmdFault.TheVariants.{KeyNotFound, KeyIsPrimary, KeyNotEnabled, KeyDestroyed, KeyRefused, MixedPrimitive}
+use Rattle.tinkey_cmds.specs.declared.command.CmdError.{CmdError}
+use Rattle.tinkey_cmds.specs.declared.command.CmdError.TheVariants.{Refused, EntropyFault, NoMemory}
+use Rattle.tinkey_cmds.specs.Applying.{Edited}
+use Rattle.tinkey_cmds.specs.Draws.{Draw, answered}
+use Rattle.tinkey_cmds.specs.Edits.{Edit, Promote, Enable, Disable, Destroy, Delete, named, of_named, refusal_of, effect_of, unless_refused, step, primitive_of, primary_primitive, is_same, rule_of, with_records, with_status, destroyed, changed, without}
+use Rattle.tinkey_cmds.specs.Laws.{HasTemplate}
+use Rattle.tinkey_cmds.proofs.Kept.{edits_keep_keysets}
+use Rattle.tinkey_cmds.proofs.Lists.{slice-there}
+
+-- ---- steps
+
+pub step-refused : (keys : Keys) (edit : Edit) (fault : CmdFault) → refusal_of keys edit ≡ Some fault → (random : List ℕ) → step keys edit random ≡ answered (Err fault) random
+step-refused keys edit fault is random = ap (λ o. unless_refused o (effect_of keys edit) random) is
+
+pub step-accepted : (keys : Keys) (edit : Edit) → refusal_of keys edit ≡ None → (random : List ℕ) → step keys edit random ≡ effect_of keys edit random
+step-accepted keys edit is random = ap (λ o. unless_refused o (effect_of keys edit) random) is
+
+-- some answer, and no byte drawn
+pub Settled : Draw Keys → Type 0
+Settled give = (answer : Result Keys CmdFault) × ((random : List ℕ) → give random ≡ answered answer random)
+
+settled-unless : (refusal : Option CmdFault) (effect : Draw Keys) → Settled effect → Settled (unless_refused refusal effect)
+unfolding Settled
+settled-unless (Some fault) effect s = (Err fault, λ random. refl)
+settled-unless None effect s = s
+
+pub settled-enable : (keys : Keys) (id : ℕ) → (answer : Result Keys CmdFault) × ((random : List ℕ) → step keys (Enable id) random ≡ answered answer random)
+unfolding Settled effect_of
+settled-enable keys id = settled-unless (refusal_of keys (Enable id)) (effect_of keys (Enable id)) (_, λ random. refl)
+
+pub settled-promote : (keys : Keys) (id : ℕ) → (answer : Result Keys CmdFault) × ((random : List ℕ) → step keys (Promote id) random ≡ answered answer random)
+unfolding Settled effect_of
+settled-promote keys id = settled-unless (refusal_of keys (Promote id)) (effect_of keys (Promote id)) (_, λ random. refl)
+
+pub settled-disable : (keys : Keys) (id : ℕ) → (answer : Result Keys CmdFault) × ((random : List ℕ) → step keys (Disable id) random ≡ answered answer random)
+unfolding Settled effect_of
+settled-disable keys id = settled-unless (refusal_of keys (Disable id)) (effect_of keys (Disable id)) (_, λ random. refl)
+
+pub settled-destroy : (keys : Keys) (id : ℕ) → (answer : Result Keys CmdFault) × ((random : List ℕ) → step keys (Destroy id) random ≡ answered answer random)
+unfolding Settled effect_of
+settled-destroy keys id = settled-unless (refusal_of keys (Destroy id)) (effect_of keys (Destroy id)) (_, λ random. refl)
+
+pub settled-delete : (keys : Keys) (id : ℕ) → (answer : Result Keys CmdFault) × ((random : List ℕ) → step keys (Delete id) random ≡ answered answer random)
+unfolding Settled effect_of
+settled-delete keys id = settled-unless (refusal_of keys (Delete id)) (effect_of keys (Delete id)) (_, λ random. refl)
+
+-- ---- the record that is named
+
+pub named-at : (keys : Keys) (id i : ℕ) (r : Record) → Some i ≡ position (has_id id) keys.records → slice_get keys.records i ≡ Some r → named keys id ≡ Some r
+named-at keys id i r place there = at_position (has_id id) keys.records i place ∙ there
+
+pub named-there : (keys : Keys) (id i : ℕ) → Some i ≡ position (has_id id) keys.records → i < length keys.records → (r : Record) × (named keys id ≡ Some r)
+named-there keys id i place within = let there = slice-there keys.records i within in (there.0, named-at keys id i there.0 place there.1)
+
+pub named-none : (keys : Keys) (id : ℕ) → None ≡ position (has_id id) keys.records → named keys id ≡ None
+named-none keys id place = no_position (has_id id) keys.records place
+
+-- ---- refusals
+
+pub promote-missing : (keys : Keys) (id : ℕ) → named keys id ≡ None → refusal_of keys (Promote id) ≡ Some KeyNotFound
+unfolding refusal_of of_named
+promote-missing keys id e = rw e refl
+
+pub promote-disabled : (keys : Keys) (id : ℕ) (r : Record) → named keys id ≡ Some r → is_enabled r ≡ false → refusal_of keys (Promote id) ≡ Some KeyNotEnabled
+unfolding refusal_of of_named first_some when
+promote-disabled keys id r e t = rw (e, t) refl
+
+pub promote-accepted : (keys : Keys) (id : ℕ) (r : Record) → named keys id ≡ Some r → is_enabled r ≡ true → refusal_of keys (Promote id) ≡ None
+unfolding refusal_of of_named first_some when
+promote-accepted keys id r e t = rw (e, t) refl
+
+pub enable-missing : (keys : Keys) (id : ℕ) → named keys id ≡ None → refusal_of keys (Enable id) ≡ Some KeyNotFound
+unfolding refusal_of of_named
+enable-missing keys id e = rw e refl
+
+pub enable-destroyed : (keys : Keys) (id : ℕ) (r : Record) → named keys id ≡ Some r → is_destroyed r ≡ true → refusal_of keys (Enable id) ≡ Some KeyDestroyed
+unfolding refusal_of of_named first_some when
+enable-destroyed keys id r e t = rw (e, t) refl
+
+pub enable-mixed : (keys : Keys) (id : ℕ) (r : Record) → named keys id ≡ Some r → is_destroyed r ≡ false → is_same (primitive_of r.url) (primary_primitive keys) ≡ false
+    → refusal_of keys (Enable id) ≡ Some MixedPrimitive
+unfolding refusal_of of_named first_some when
+enable-mixed keys id r e t m = rw (e, t, m) refl
+
+pub enable-refused : (keys : Keys) (id : ℕ) (r : Record) (rule : Rule) → named keys id ≡ Some r → is_destroyed r ≡ false → is_same (primitive_of r.url) (primary_primitive keys) ≡ true
+    → rule_of r.url r.value ≡ Some rule → refusal_of keys (Enable id) ≡ Some (KeyRefused rule)
+unfolding refusal_of of_named first_some when
+enable-refused keys id r rule e t m k = rw (e, t, m, k) refl
+
+pub enable-accepted : (keys : Keys) (id : ℕ) (r : Record) → named keys id ≡ Some r → is_destroyed r ≡ false → is_same (primitive_of r.url) (primary_primitive keys) ≡ true
+    → rule_of r.url r.value ≡ None → refusal_of keys (Enable id) ≡ None
+unfolding refusal_of of_named first_some when
+enable-accepted keys id r e t m k = rw (e, t, m, k) refl
+
+pub disable-missing : (keys : Keys) (id : ℕ) → named keys id ≡ None → refusal_of keys (Disable id) ≡ Some KeyNotFound
+unfolding refusal_of of_named
+disable-missing keys id e = rw e refl
+
+pub disable-primary : (keys : Keys) (id : ℕ) (r : Record) → named keys id ≡ Some r → (id == keys.primary) ≡ true → refusal_of keys (Disable id) ≡ Some KeyIsPrimary
+unfolding refusal_of of_named first_some when
+disable-primary keys id r e t = rw (e, t) refl
+
+pub disable-destroyed : (keys : Keys) (id : ℕ) (r : Record) → named keys id ≡ Some r → (id == keys.primary) ≡ false → is_destroyed r ≡ true → refusal_of keys (Disable id) ≡ Some KeyDestroyed
+unfolding refusal_of of_named first_some when
+disable-destroyed keys id r e t m = rw (e, t, m) refl
+
+pub disable-accepted : (keys : Keys) (id : ℕ) (r : Record) → named keys id ≡ Some r → (id == keys.primary) ≡ false → is_destroyed r ≡ false → refusal_of keys (Disable id) ≡ None
+unfolding refusal_of of_named first_some when
+disable-accepted keys id r e t m = rw (e, t, m) refl
+
+pub destroy-missing : (keys : Keys) (id : ℕ) → named keys id ≡ None → refusal_of keys (Destroy id) ≡ Some KeyNotFound
+unfolding refusal_of of_named
+destroy-missing keys id e = rw e refl
+
+pub destroy-primary : (keys : Keys) (id : ℕ) (r : Record) → named keys id ≡ Some r → (id == keys.primary) ≡ true → refusal_of keys (Destroy id) ≡ Some KeyIsPrimary
+unfolding refusal_of of_named first_some when
+destroy-primary keys id r e t = rw (e, t) refl
+
+pub destroy-accepted : (keys : Keys) (id : ℕ) (r : Record) → named keys id ≡ Some r → (id == keys.primary) ≡ false → refusal_of keys (Destroy id) ≡ None
+unfolding refusal_of of_named first_some when
+destroy-accepted keys id r e t = rw (e, t) refl
+
+pub delete-missing : (keys : Keys) (id : ℕ) → named keys id ≡ None → refusal_of keys (Delete id) ≡ Some KeyNotFound
+unfolding refusal_of of_named
+delete-missing keys id e = rw e refl
+
+pub delete-primary : (keys : Keys) (id : ℕ) (r : Record) → named keys id ≡ Some r → (id == keys.primary) ≡ true → refusal_of keys (Delete id) ≡ Some KeyIsPrimary
+unfolding refusal_of of_named first_some when
+delete-primary keys id r e t = rw (e, t) refl
+
+pub delete-accepted : (keys : Keys) (id : ℕ) (r : Record) → named keys id ≡ Some r → (id == keys.primary) ≡ false → refusal_of keys (Delete id) ≡ None
+unfolding refusal_of of_named first_some when
+delete-accepted keys id r e t = rw (e, t) refl
+
+-- ---- what is accepted gives a keyset
+
+pub effect-promote : (keys : Keys) (id : ℕ) (random : List ℕ) → effect_of keys (Promote id) random ≡ answered (Ok (record keys { primary = id })) random
+unfolding effect_of
+effect-promote keys id random = refl
+
+pub effect-enable : (keys : Keys) (id : ℕ) (random : List ℕ) → effect_of keys (Enable id) random ≡ answered (Ok (with_records keys (changed (with_status 1) id keys.records))) random
+unfolding effect_of
+effect-enable keys id random = refl
+
+pub effect-disable : (keys : Keys) (id : ℕ) (random : List ℕ) → effect_of keys (Disable id) random ≡ answered (Ok (with_records keys (changed (with_status 2) id keys.records))) random
+unfolding effect_of
+effect-disable keys id random = refl
+
+pub effect-destroy : (keys : Keys) (id : ℕ) (random : List ℕ) → effect_of keys (Destroy id) random ≡ answered (Ok (with_records keys (changed destroyed id keys.records))) random
+unfolding effect_of
+effect-destroy keys id random = refl
+
+pub effect-delete : (keys : Keys) (id : ℕ) (random : List ℕ) → effect_of keys (Delete id) random ≡ answered (Ok (with_records keys (without id keys.records))) random
+unfolding effect_of
+effect-delete keys id random = refl
+
+pub same_keys : (target : Keys) (primary : ℕ) (items : List Record) → primary ≡ target.primary → items ≡ target.records → record { primary = primary; records = items } ≡ target
+same_keys target primary items p r = ap (λ n. record { primary = n; records = items }) p ∙ ap (λ rs. record { primary = target.primary; records = rs }) r
+
+-- an accepted edit's keyset has no fault
+pub edit-faultless : (keys target : Keys) (edit : Edit) (primary : ℕ) (items : List Record) → HasTemplate edit → fault_of keys ≡ None → refusal_of keys edit ≡ None
+    → ((random : List ℕ) → effect_of keys edit random ≡ answered (Ok target) random) → primary ≡ target.primary → items ≡ target.records
+    → fault_of (record { primary = primary; records = items }) ≡ None
+edit-faultless keys target edit primary items has faultless is effect p r =
+    ap fault_of (same_keys target primary items p r) ∙ edits_keep_keysets keys target edit [] _ has faultless (step-accepted keys edit is [] ∙ effect []) refl
+
+-- it is the edit's answer
+pub edit-answer : (keys target new : Keys) (edit : Edit) (primary : ℕ) (items : List Record) → refusal_of keys edit ≡ None
+    → ((random : List ℕ) → effect_of keys edit random ≡ answered (Ok target) random) → primary ≡ target.primary → items ≡ target.records
+    → new ≡ record { primary = primary; records = items } → (random : List ℕ) → step keys edit random ≡ answered (Ok new) random
+edit-answer keys target new edit primary items is effect p r same random =
+    step-accepted keys edit is random ∙ effect random ∙ ap (λ k. answered (Ok k) random) (sym (same ∙ same_keys target primary items p r))
+
+-- ---- answers
+
+pub memory-edited : (result : Result Keys CmdError) (give : Draw Keys) → IsErr result → IsErrAnd result (λ error. error ≡ NoMemory)
+    → (answer : Result Keys CmdFault) × ((random : List ℕ) → give random ≡ answered answer random) → Edited result give
+memory-edited (Ok keys) give err is settled = absurd (false≢true err)
+memory-edited (Err (Refused fault)) give err is settled = absurd (grind arith)
+memory-edited (Err EntropyFault) give err is settled = absurd (grind arith)
+memory-edited (Err NoMemory) give err is settled = settled
+
+-- what a test of primitives says
+pub same-test : (keys : Keys) (url text : List ℕ) (a b : Option Primitive) (same test : Bool) → a ≡ primitive_of text → text ≡ url → b ≡ primary_primitive keys
+    → same ≡ is_same a b → same ≡ test → is_same (primitive_of url) (primary_primitive keys) ≡ test
+same-test keys url text a b same test is text_is other s t =
+    sym (s ∙ ap (λ o. is_same o b) (is ∙ ap primitive_of text_is) ∙ ap (is_same (primitive_of url)) other) ∙ t
+
+-- none of a list's only other case
+pub none-left : {A : Type 0} (o : Option A) → ((x : A) → o ≡ Some x → ⊥) → o ≡ None
+none-left None not' = refl
+none-left (Some x) not' = absurd (not' x refl)

@@ -1,0 +1,56 @@
+-- How code answers that draws from an entropy, by what is to be drawn.
+use Rattle.std.specs.Prelude.{◌≡◌, ℕ, List, [], ◌++◌, Option, Some, None, IfSome, IsTrue, Result, Ok, Err}
+use Rattle.tink_spec.specs.Outside.{EntropyState, Drew, Rose, Stood}
+use Rattle.tinkey_cmds.specs.declared.command.CmdError.{CmdError}
+use Rattle.tinkey_cmds.specs.declared.command.CmdError.TheVariants.{Refused, EntropyFault, NoMemory}
+use Rattle.tinkey_cmds.specs.declared.command.CmdFault.{CmdFault}
+use Rattle.tinkey_cmds.specs.declared.command.CmdFault.TheVariants.{IdsExhausted}
+use Rattle.keyset_model.specs.declared.record.Record.{Record}
+use Rattle.keyset_model.specs.declared.keyset.Keyset.{Keyset}
+use Rattle.keyset_model.specs.Keyset.{Keys}
+use Rattle.tink_base.specs.declared.faults.Failed.{Failed}
+use Rattle.tinkey_cmds.specs.Draws.{Draw, answered}
+
+-- These bytes are all that is drawn, whatever stands behind them, and this is the answer.
+abbrev pub Draws : {A : Type 0} → Draw A → (old new : EntropyState)
+    → (answer : Result A CmdFault) → Type 0
+Draws give old new answer = (drawn : List ℕ) × Drew old new drawn
+    × ((more : List ℕ) → give (drawn ++ more) ≡ answered answer more)
+
+-- The entropy failed: its count of faults rose, the bytes drawn so far decide nothing, and where it
+-- is steady and tells its bytes, they don't suffice.
+pub record RanOut {A : Type 0} (give : Draw A) (old new : EntropyState) : Type 0 where
+  pub rose : Rose old.faults new.faults
+  pub drawn : List ℕ
+  pub drew : Drew old new drawn
+  pub undecided : give drawn ≡ None
+  pub short : IsTrue old.steady → IfSome old.left (λ left. give left ≡ None)
+
+-- What was to be drawn was, and this is its answer; only after `EntropyFault` it wasn't. At
+-- `NoMemory` the answer is lost, but all its bytes are drawn.
+abbrev pub Applied : {A : Type 0} → Result A CmdError → Draw A → (old new : EntropyState) → Type 0
+Applied (Ok value) give old new = Stood old.faults new.faults × Draws give old new (Ok value)
+Applied (Err (Refused fault)) give old new =
+    Stood old.faults new.faults × Draws give old new (Err fault)
+Applied (Err EntropyFault) give old new = RanOut give old new
+Applied {A} (Err NoMemory) give old new =
+    Stood old.faults new.faults × ((answer : Result A CmdFault) × Draws give old new answer)
+
+-- the records of a keyset, or none
+abbrev pub records_in : Option Keyset → List Record
+records_in (Some keyset) = keyset.records
+records_in None = []
+
+-- The id was drawn, or none was found; or the entropy failed.
+abbrev pub DrewId : Result (Option ℕ) Failed → Draw ℕ → (old new : EntropyState) → Type 0
+DrewId (Ok (Some id)) give old new = Stood old.faults new.faults × Draws give old new (Ok id)
+DrewId (Ok None) give old new = Stood old.faults new.faults × Draws give old new (Err IdsExhausted)
+DrewId (Err failed) give old new = RanOut give old new
+
+-- The answer of an edit that draws nothing.
+abbrev pub Edited : Result Keyset CmdError → Draw Keys → Type 0
+Edited (Ok keyset) give = (random : List ℕ) → give random ≡ answered (Ok keyset) random
+Edited (Err (Refused fault)) give = (random : List ℕ) → give random ≡ answered (Err fault) random
+Edited (Err EntropyFault) give = ⊥
+Edited (Err NoMemory) give =
+    (answer : Result Keys CmdFault) × ((random : List ℕ) → give random ≡ answered answer random)

@@ -1,0 +1,4 @@
+pub mod Applying
+pub mod Draws
+pub mod Edits
+pub mod Laws

@@ -1,0 +1,13 @@
+//! The edits of a keyset: its creation by a template, new keys, and the retirement of old ones.
+#![tactic(auto)]
+
+mod applying;
+mod command;
+mod drawing;
+mod editing;
+pub mod laws;
+#[cfg(test)]
+mod tests;
+
+pub use applying::{apply, create};
+pub use command::{CmdError, CmdFault, Command};
