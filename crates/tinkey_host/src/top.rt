@@ -6,10 +6,10 @@ ghost use Rattle.tinkey_run.specs.Ends.{world};
 ghost use Rattle.tinkey_host.specs.Program.{HasRun};
 
 use crate::args::{NoWords, words};
-use crate::{DirStore, StdSink, StdSource};
+use crate::{DirStore, FileEntropy, StdSink, StdSource};
 use std::alloc::Global;
 use std::process::ExitCode;
-use tink_base::{Sink, Source, Store};
+use tink_base::{Entropy, Sink, Source, Store};
 use tinkey_run::run;
 
 /// The exit code where memory for the words is refused, as where a run's memory is.
@@ -18,7 +18,8 @@ const OUT_OF_MEMORY: u8 = 7;
 /// The exit code where a word isn't UTF-8.
 const NO_WORDS: u8 = 8;
 
-/// Obeys the words after the program's name, over standard input, output and error and the files.
+/// Obeys the words after the program's name, over standard input, output and error, the system's
+/// random bytes and the files.
 ///
 /// The answer is 8 where one of these words isn't UTF-8, and 7 where memory for them is refused;
 /// nothing is done then. In all other cases it is the exit code of the run.
@@ -30,6 +31,7 @@ pub fn program(rt: &HostRuntime) -> ExitCode {
             &mut StdSource::new(rt.stdin()),
             &mut StdSink::new(rt.stdout()),
             &mut StdSink::new(rt.stderr()),
+            &mut FileEntropy::new(rt),
             &mut DirStore::new(rt),
         ),
         Err(NoWords::NotText) => ExitCode::from(NO_WORDS),
@@ -38,19 +40,22 @@ pub fn program(rt: &HostRuntime) -> ExitCode {
 }
 
 /// Runs the words over these objects: what is read comes from `source`, the output goes to `sink`
-/// and the diagnostic line to `diag`. The answer is the exit code of the run's status.
-pub fn obey<S: Source, K: Sink, G: Sink, D: Store>(
+/// and the diagnostic line to `diag`, random bytes come from `entropy`, and files are those of `store`.
+/// The answer is the exit code of the run's status.
+pub fn obey<S: Source, K: Sink, G: Sink, E: Entropy, D: Store>(
     alloc: Global,
     words: &[String],
     source: &mut S,
     sink: &mut K,
     diag: &mut G,
+    entropy: &mut E,
     store: &mut D,
 ) -> ExitCode
     ensures { HasRun (map string_bytes words.now)
-        (world (S.state source.old) (K.state sink.old) (D.state store.old))
-        (world (S.state source.new) (K.state sink.new) (D.state store.new)) (G.state diag.old) (G.state diag.new) (exit_status result) }
+        (world (S.state source.old) (K.state sink.old) (D.state store.old) (E.state entropy.old))
+        (world (S.state source.new) (K.state sink.new) (D.state store.new) (E.state entropy.new))
+        (G.state diag.old) (G.state diag.new) (exit_status result) }
 {
-    let status = run(alloc, words, source, sink, diag, store);
+    let status = run(alloc, words, source, sink, diag, entropy, store);
     ExitCode::from(status.code())
 }

@@ -1,17 +1,58 @@
 -- The options of a run fit their command, and options that fit are a run; so words are accepted exactly
 -- where they spell a command and options that fit it.
 use Rattle.std.proofs.Common.{◌≡◌, ◌∙◌, sym, refl, ap, subst, inl, inr, ℕ, ◌+◌, Bool, true, false, List, [], ◌∷◌, ◌++◌, length, Option, Some, None, Ok, Err, Result}
-use Rattle.std.specs.Prelude.{is_some, if◌then◌else◌}
-use Rattle.std.specs.List.{AllByRecursion, flat_map}
+use Rattle.std.specs.Prelude.{◌&&◌, ◌||◌, is_some, if◌then◌else◌}
+use Rattle.std.specs.List.{AllByRecursion, flat_map, list_all}
+use Rattle.std.proofs.Math.Path.{fun_ext}
 use Rattle.tink_spec.specs.Messages.{◌>>=◌}
-use Rattle.tinkey_run.specs.declared.words.CommandName.{CommandName}
-use Rattle.tinkey_run.specs.declared.words.CommandName.TheVariants as commands
-use Rattle.tinkey_run.specs.declared.words.Format.{Format}
-use Rattle.tinkey_run.specs.declared.words.OptionName.{OptionName}
-use Rattle.tinkey_run.specs.declared.words.OptionName.TheVariants as options
-use Rattle.tinkey_run.specs.Words.{Asked, list_keyset, tag, Options, command_of, takes, is_given, options_of, no_options, given_in, tag_of, complete, asked_of, words_of}
-use Rattle.tinkey_run.specs.Grammar.{row_of, IsValue, Spelling, spelled, IsGivenAs, IsGiven, IsOnce, IsOneOf, Fits, Asks, Spells, WordsAreSpelled}
-use Rattle.tinkey_run.proofs.SpellingLemmas.{command_found, command_named, put, put_there, put_keeps, put_other, put_same, Runs, all_put, run_taken, run_read}
+use Rattle.tinkey_run.specs.declared.words.rows.CommandName.{CommandName}
+use Rattle.tinkey_run.specs.declared.words.rows.OptionName.{OptionName}
+use Rattle.tinkey_run.specs.Rows.{row_of, command_of, option_row, same, is_one_of}
+use Rattle.tinkey_run.specs.Words.{Asked, Values, asked_with, Options, is_given, put, options_of, no_options, given_in, has_required, complete, asked_of, words_of}
+use Rattle.tinkey_run.specs.Grammar.{IsValue, Spelling, spelled, IsGiven, IsOnce, IsOneOf, Fits, values_of, Spells, WordsAreSpelled}
+use Rattle.tinkey_run.proofs.RowLemmas.{same_self, same_is, command_found, command_named}
+use Rattle.tinkey_run.proofs.SpellingLemmas.{Runs, all_put, run_taken, run_read}
+
+-- One option more.
+
+put_test : (b : Bool) (value : List ℕ) (before : Option (List ℕ)) → is_some (if b then Some value else before) ≡ (b || is_some before)
+put_test true value before = refl
+put_test false value before = refl
+
+or_true : (b : Bool) → (b || true) ≡ true
+or_true true = refl
+or_true false = refl
+
+put_there : (name : OptionName) (value : List ℕ) (given : Options) → is_given name (put name value given) ≡ true
+put_there name value given = rw (same_self name) refl
+
+-- what was given stays so
+put_keeps : (name other : OptionName) (value : List ℕ) (given : Options) → is_given name given ≡ true → is_given name (put other value given) ≡ true
+put_keeps name other value given is = put_test (same other name) value (given.values name) ∙ rw is (or_true (same other name))
+
+-- and another one isn't given by it
+put_other : (b : Bool) (name other : OptionName) (value : List ℕ) (given : Options) → same other name ≡ b → (other ≡ name → ⊥) → is_given name given ≡ false → is_given name (put other value given) ≡ false
+put_other true name other value given test differs is = absurd (differs (same_is other name test))
+put_other false name other value given test differs is = rw test is
+
+put_same : (b : Bool) (name other : OptionName) (value : List ℕ) (given : Options) → same other name ≡ b → is_given name given ≡ false → is_given name (put other value given) ≡ true → other ≡ name
+put_same true name other value given test was is = same_is other name test
+put_same false name other value given test was is = let now = rw test at is in let clash : false ≡ true = sym was ∙ now in absurd (cc)
+
+-- One of these options.
+
+one_is : (name : OptionName) (names : List OptionName) → IsOneOf name names → is_one_of name names ≡ true
+one_is name [] one = absurd one
+one_is name (other ∷ names) (inl here) = rw (← here, same_self name) refl
+one_is name (other ∷ names) (inr later) = rw (one_is name names later) (or_true (same name other))
+
+one_at : (b : Bool) (name other : OptionName) (names : List OptionName) → same name other ≡ b → (b || is_one_of name names) ≡ true → (is_one_of name names ≡ true → IsOneOf name names) → IsOneOf name (other ∷ names)
+one_at true name other names test is later = inl (same_is name other test)
+one_at false name other names test is later = inr (later is)
+
+is_one : (name : OptionName) (names : List OptionName) → is_one_of name names ≡ true → IsOneOf name names
+is_one name [] is = absurd (cc)
+is_one name (other ∷ names) is = one_at (same name other) name other names refl is (is_one name names)
 
 -- From options that fit to a run.
 
@@ -22,77 +63,71 @@ New given s = is_given s.name given ≡ false
 still_new : (name : OptionName) (value : List ℕ) (given : Options) (run : List Spelling) → (IsGiven name run → ⊥) → AllByRecursion (New given) run → AllByRecursion (New (put name value given)) run
 still_new name value given [] once new = tt
 still_new name value given (s ∷ run) once new = (
-  put_other s.name name value given (λ same. once (s.value, inl (sym same, refl))) new.0,
-  still_new name value given run (λ again. once (again.0, inr again.1)) new.1,
+  put_other (same name s.name) s.name name value given refl (λ same. once (inl (sym same))) new.0,
+  still_new name value given run (λ again. once (inr again)) new.1,
 )
 
-takes_row : (command : CommandName) (name : OptionName) → IsOneOf name ((row_of command).required ++ (row_of command).optional) → takes command name ≡ true
-takes_row commands.ListKeyset name (inl same) = rw same refl
-takes_row commands.ListKeyset name (inr other) = absurd other
-takes_row commands.Tag name (inl same) = rw same refl
-takes_row commands.Tag name (inr (inl same)) = rw same refl
-takes_row commands.Tag name (inr (inr other)) = absurd other
-
-runs_of : (command : CommandName) (given : Options) (run : List Spelling) → AllByRecursion (New given) run → IsOnce run → AllByRecursion (λ s. IsOneOf s.name ((row_of command).required ++ (row_of command).optional)) run → AllByRecursion (λ s. IsValue s.name s.value) run → Runs command given run
+runs_of : (command : CommandName) (given : Options) (run : List Spelling) → AllByRecursion (New given) run → IsOnce run → AllByRecursion (λ s. IsOneOf s.name ((row_of command).required ++ (row_of command).optional)) run → AllByRecursion (λ s. IsValue (option_row s.name).form s.value) run → Runs command given run
 runs_of command given [] new once taken formed = tt
 runs_of command given (s ∷ run) new once taken formed = (
-  takes_row command s.name taken.0,
+  one_is s.name ((row_of command).required ++ (row_of command).optional) taken.0,
   new.0,
   formed.0,
   runs_of command (put s.name s.value given) run (still_new s.name s.value given run once.0 new.1) once.1 taken.1 formed.1,
 )
 
-none_given : (name : OptionName) → is_given name no_options ≡ false
-none_given options.InFormat = refl
-none_given options.Keyset = refl
-none_given options.KeysetFormat = refl
-
 all_new : (run : List Spelling) → AllByRecursion (New no_options) run
 all_new [] = tt
-all_new (s ∷ run) = (none_given s.name, all_new run)
+all_new (s ∷ run) = (refl, all_new run)
 
 -- what is given stays so
 given_stays : (name : OptionName) (given : Options) (run : List Spelling) → is_given name given ≡ true → is_given name (all_put given run) ≡ true
 given_stays name given [] is = is
 given_stays name given (s ∷ run) is = given_stays name (put s.name s.value given) run (put_keeps name s.name s.value given is)
 
-given_there : (name : OptionName) (value : List ℕ) (given : Options) (run : List Spelling) → IsGivenAs name value run → is_given name (all_put given run) ≡ true
-given_there name value given [] there = absurd there
-given_there name value given (s ∷ run) (inl same) = given_stays name (put s.name s.value given) run (subst (λ (n : OptionName). is_given n (put s.name s.value given) ≡ true) same.0 (put_there s.name s.value given))
-given_there name value given (s ∷ run) (inr later) = given_there name value (put s.name s.value given) run later
+given_there : (name : OptionName) (given : Options) (run : List Spelling) → IsGiven name run → is_given name (all_put given run) ≡ true
+given_there name given [] there = absurd there
+given_there name given (s ∷ run) (inl same) = given_stays name (put s.name s.value given) run (subst (λ (n : OptionName). is_given n (put s.name s.value given) ≡ true) same (put_there s.name s.value given))
+given_there name given (s ∷ run) (inr later) = given_there name (put s.name s.value given) run later
 
--- the file's name is the one that was given
-put_file : (name : OptionName) (value : List ℕ) (given : Options) → (name ≡ options.Keyset → ⊥) → (put name value given).keyset ≡ given.keyset
-put_file options.InFormat value given other = refl
-put_file options.Keyset value given other = absurd (other refl)
-put_file options.KeysetFormat value given other = refl
+all_there : (names : List OptionName) (run : List Spelling) → AllByRecursion (λ name. IsGiven name run) names → list_all (λ name. is_given name (all_put no_options run)) names ≡ true
+all_there [] run there = refl
+all_there (name ∷ names) run there = rw (given_there name no_options run there.0) (all_there names run there.1)
 
-file_stays : (command : CommandName) (given : Options) (run : List Spelling) → Runs command given run → is_given options.Keyset given ≡ true → (all_put given run).keyset ≡ given.keyset
-file_stays command given [] runs is = refl
-file_stays command given (s ∷ run) runs is =
-    let other : s.name ≡ options.Keyset → ⊥ = λ same. (let clash : true ≡ false = sym is ∙ subst (λ (n : OptionName). is_given n given ≡ false) same runs.1 in cc) in
-    file_stays command (put s.name s.value given) run runs.3 (put_keeps options.Keyset s.name s.value given is) ∙ put_file s.name s.value given other
+-- The values of a run are those that were given first, as none is there twice.
 
-file_there : (command : CommandName) (value : List ℕ) (given : Options) (run : List Spelling) → Runs command given run → IsGivenAs options.Keyset value run → (all_put given run).keyset ≡ Some value
-file_there command value given [] runs there = absurd there
-file_there command value given (s ∷ run) runs (inl same) =
-    let named : put s.name s.value given ≡ put options.Keyset value given = rw (same.0, same.1) refl in
-    file_stays command (put s.name s.value given) run runs.3 (rw named refl) ∙ ap (λ (o : Options). o.keyset) named
-file_there command value given (s ∷ run) runs (inr later) = file_there command value (put s.name s.value given) run runs.3 later
+abbrev or_else : Option (List ℕ) → Option (List ℕ) → Option (List ℕ)
+or_else None later = later
+or_else (Some value) later = Some value
 
-format_there : (format : Option Format) → is_some format ≡ true → (f : Format) × (format ≡ Some f)
-format_there None is = absurd (cc)
-format_there (Some f) is = (f, refl)
+or_none : (value : Option (List ℕ)) → value ≡ or_else value None
+or_none None = refl
+or_none (Some value) = refl
+
+new_none : (value : Option (List ℕ)) → is_some value ≡ false → value ≡ None
+new_none None new = refl
+new_none (Some value) new = absurd (cc)
+
+-- the value behind one option more, which was new
+value_put : (b : Bool) (name : OptionName) (s : Spelling) (given : Options) (later : Option (List ℕ)) → same s.name name ≡ b → is_given s.name given ≡ false → or_else (if b then Some s.value else given.values name) later ≡ or_else (given.values name) (if b then Some s.value else later)
+value_put true name s given later test new =
+    let none : given.values name ≡ None = new_none (given.values name) (subst (λ (n : OptionName). is_given n given ≡ false) (same_is s.name name test) new) in
+    rw none refl
+value_put false name s given later test new = refl
+
+value_run : (command : CommandName) (given : Options) (run : List Spelling) (name : OptionName) → Runs command given run → (all_put given run).values name ≡ or_else (given.values name) (values_of run name)
+value_run command given [] name runs = or_none (given.values name)
+value_run command given (s ∷ run) name runs =
+    value_run command (put s.name s.value given) run name runs.3 ∙ value_put (same s.name name) name s given (values_of run name) refl runs.1
+
+values_run : (command : CommandName) (run : List Spelling) → Runs command no_options run → (all_put no_options run).values ≡ values_of run
+values_run command run runs = fun_ext (λ name. value_run command no_options run name runs)
 
 -- a command that has all that it requires is complete
-completed : (command : CommandName) (count : ℕ) (run : List Spelling) (asked : Asked) → Fits (row_of command) run → Runs command no_options run → Asks command run asked → complete command count (all_put no_options run) ≡ Ok asked
-completed commands.ListKeyset count run asked fits runs asks =
-    let there = given_there options.InFormat fits.complete.0.0 no_options run fits.complete.0.1 in
-    rw (there, asks) refl
-completed commands.Tag count run asked fits runs asks =
-    let file = file_there commands.Tag asks.0 no_options run runs asks.2 in
-    let there = format_there (all_put no_options run).keyset_format (given_there options.KeysetFormat fits.complete.1.0.0 no_options run fits.complete.1.0.1) in
-    rw (file, there.1, asks.1) refl
+completed : (command : CommandName) (count : ℕ) (run : List Spelling) (asked : Asked) → Fits (row_of command) run → Runs command no_options run → asked ≡ asked_with command (values_of run) → complete command count (all_put no_options run) ≡ Ok asked
+completed command count run asked fits runs asks =
+    let there = all_there (row_of command).required run fits.complete in
+    rw there (ap (λ (values : Values). Ok (asked_with command values)) (values_run command run runs) ∙ ap Ok (sym asks))
 
 spelled_accepted : (words : List (List ℕ)) (asked : Asked) → Spells words asked → words_of words ≡ Ok asked
 unfolding words_of given_in
@@ -109,84 +144,60 @@ spelled_accepted words asked spells =
 -- From a run to options that fit.
 
 not_again : (command : CommandName) (name : OptionName) (given : Options) (run : List Spelling) → Runs command given run → is_given name given ≡ true → IsGiven name run → ⊥
-not_again command name given [] runs is again = again.1
-not_again command name given (s ∷ run) runs is (value, inl same) = let clash : true ≡ false = sym is ∙ subst (λ (n : OptionName). is_given n given ≡ false) same.0 runs.1 in cc
-not_again command name given (s ∷ run) runs is (value, inr later) = not_again command name (put s.name s.value given) run runs.3 (put_keeps name s.name s.value given is) (value, later)
+not_again command name given [] runs is again = again
+not_again command name given (s ∷ run) runs is (inl same) = let clash : true ≡ false = sym is ∙ subst (λ (n : OptionName). is_given n given ≡ false) same runs.1 in cc
+not_again command name given (s ∷ run) runs is (inr later) = not_again command name (put s.name s.value given) run runs.3 (put_keeps name s.name s.value given is) later
 
 once_of : (command : CommandName) (given : Options) (run : List Spelling) → Runs command given run → IsOnce run
 once_of command given [] runs = tt
 once_of command given (s ∷ run) runs = (not_again command s.name (put s.name s.value given) run runs.3 (put_there s.name s.value given), once_of command (put s.name s.value given) run runs.3)
 
-row_takes : (command : CommandName) (name : OptionName) → takes command name ≡ true → IsOneOf name ((row_of command).required ++ (row_of command).optional)
-row_takes commands.ListKeyset options.InFormat is = inl refl
-row_takes commands.ListKeyset options.Keyset is = absurd (cc)
-row_takes commands.ListKeyset options.KeysetFormat is = absurd (cc)
-row_takes commands.Tag options.InFormat is = absurd (cc)
-row_takes commands.Tag options.Keyset is = inl refl
-row_takes commands.Tag options.KeysetFormat is = inr (inl refl)
-
 taken_of : (command : CommandName) (given : Options) (run : List Spelling) → Runs command given run → AllByRecursion (λ s. IsOneOf s.name ((row_of command).required ++ (row_of command).optional)) run
 taken_of command given [] runs = tt
-taken_of command given (s ∷ run) runs = (row_takes command s.name runs.0, taken_of command (put s.name s.value given) run runs.3)
+taken_of command given (s ∷ run) runs = (is_one s.name ((row_of command).required ++ (row_of command).optional) runs.0, taken_of command (put s.name s.value given) run runs.3)
 
-formed_of : (command : CommandName) (given : Options) (run : List Spelling) → Runs command given run → AllByRecursion (λ s. IsValue s.name s.value) run
+formed_of : (command : CommandName) (given : Options) (run : List Spelling) → Runs command given run → AllByRecursion (λ s. IsValue (option_row s.name).form s.value) run
 formed_of command given [] runs = tt
 formed_of command given (s ∷ run) runs = (runs.2, formed_of command (put s.name s.value given) run runs.3)
 
 -- what is given in the end, and wasn't before, is there
 there_at : (name : OptionName) (given : Options) (s : Spelling) (run : List Spelling) (b : Bool) → is_given name (put s.name s.value given) ≡ b → is_given name given ≡ false → (b ≡ false → IsGiven name run) → IsGiven name (s ∷ run)
-there_at name given s run true now was later = (s.value, inl (put_same name s.name s.value given was now, refl))
-there_at name given s run false now was later = let there = later refl in (there.0, inr there.1)
+there_at name given s run true now was later = inl (put_same (same s.name name) name s.name s.value given refl was now)
+there_at name given s run false now was later = inr (later refl)
 
 there_of : (name : OptionName) (given : Options) (run : List Spelling) → is_given name given ≡ false → is_given name (all_put given run) ≡ true → IsGiven name run
 there_of name given [] was is = let clash : false ≡ true = sym was ∙ is in absurd (cc)
 there_of name given (s ∷ run) was is = there_at name given s run _ refl was (λ now. there_of name (put s.name s.value given) run now is)
 
--- the file's name in the end is there
-file_at : (command : CommandName) (value : List ℕ) (given : Options) (name : OptionName) (text : List ℕ) (joined : Bool) (run : List Spelling) → Runs command (put name text given) run → given.keyset ≡ None → (all_put (put name text given) run).keyset ≡ Some value → ((put name text given).keyset ≡ None → IsGivenAs options.Keyset value run) → IsGivenAs options.Keyset value (record { name = name; value = text; joined = joined } ∷ run)
-file_at command value given options.InFormat text joined run runs was is later = inr (later was)
-file_at command value given options.Keyset text joined run runs was is later = inl (refl, let same : Some text ≡ Some value = sym (file_stays command (put options.Keyset text given) run runs refl) ∙ is in cc)
-file_at command value given options.KeysetFormat text joined run runs was is later = inr (later was)
+both : (a b : Bool) → (a && b) ≡ true → (a ≡ true) × (b ≡ true)
+both true true is = (refl, refl)
+both true false is = absurd (cc)
+both false b is = absurd (cc)
 
-file_of : (command : CommandName) (value : List ℕ) (given : Options) (run : List Spelling) → Runs command given run → given.keyset ≡ None → (all_put given run).keyset ≡ Some value → IsGivenAs options.Keyset value run
-file_of command value given [] runs was is = let clash : None ≡ Some value = sym was ∙ is in absurd (cc)
-file_of command value given (s ∷ run) runs was is = file_at command value given s.name s.value s.joined run runs.3 was is (λ now. file_of command value (put s.name s.value given) run runs.3 now is)
+all_of : (names : List OptionName) (run : List Spelling) → list_all (λ name. is_given name (all_put no_options run)) names ≡ true → AllByRecursion (λ name. IsGiven name run) names
+all_of [] run is = tt
+all_of (name ∷ names) run is =
+    let here = both (is_given name (all_put no_options run)) (list_all (λ name. is_given name (all_put no_options run)) names) is in
+    (there_of name no_options run refl here.0, all_of names run here.1)
 
--- what a complete command asks
-listing_asked : (b : Bool) (count : ℕ) (asked : Asked) → (if b then Ok list_keyset else Err count) ≡ Ok asked → (b ≡ true) × (asked ≡ list_keyset)
-listing_asked true count asked is = (refl, let same : Ok list_keyset ≡ Ok asked = is in cc)
-listing_asked false count asked is = let clash : Err count ≡ Ok asked = is in absurd (cc)
-
-tag_asked : (name : Option (List ℕ)) (format : Option Format) (count : ℕ) (asked : Asked) → tag_of name format count ≡ Ok asked → (text : List ℕ) × (name ≡ Some text) × (is_some format ≡ true) × (asked ≡ tag text)
-tag_asked None format count asked is = let clash : Err count ≡ Ok asked = is in absurd (cc)
-tag_asked (Some text) None count asked is = let clash : Err count ≡ Ok asked = is in absurd (cc)
-tag_asked (Some text) (Some format) count asked is = (text, refl, refl, let same : Ok (tag text) ≡ Ok asked = is in cc)
+complete_test : (b : Bool) (asks asked : Asked) (count : ℕ) → (if b then Ok asks else Err count) ≡ Ok asked → (b ≡ true) × (asked ≡ asks)
+complete_test true asks asked count is = (refl, let same : Ok asks ≡ Ok asked = is in cc)
+complete_test false asks asked count is = let clash : Err count ≡ Ok asked = is in absurd (cc)
 
 -- a run of a complete command fits
-fits_of : (command : CommandName) (count : ℕ) (run : List Spelling) (asked : Asked) → Runs command no_options run → complete command count (all_put no_options run) ≡ Ok asked → Fits (row_of command) run × Asks command run asked
-fits_of commands.ListKeyset count run asked runs is =
-    let done = listing_asked (is_some (all_put no_options run).in_format) count asked is in (
+fits_of : (command : CommandName) (count : ℕ) (run : List Spelling) (asked : Asked) → Runs command no_options run → complete command count (all_put no_options run) ≡ Ok asked → Fits (row_of command) run × (asked ≡ asked_with command (values_of run))
+fits_of command count run asked runs is =
+    let done = complete_test (has_required command (all_put no_options run)) (asked_with command (all_put no_options run).values) asked count is in (
       record {
-        once = once_of commands.ListKeyset no_options run runs;
-        taken = taken_of commands.ListKeyset no_options run runs;
-        formed = formed_of commands.ListKeyset no_options run runs;
-        complete = (there_of options.InFormat no_options run refl done.0, tt);
+        once = once_of command no_options run runs;
+        taken = taken_of command no_options run runs;
+        formed = formed_of command no_options run runs;
+        complete = all_of (row_of command).required run done.0;
       },
-      done.1,
-    )
-fits_of commands.Tag count run asked runs is =
-    let done = tag_asked (all_put no_options run).keyset (all_put no_options run).keyset_format count asked is in
-    let file = file_of commands.Tag done.0 no_options run runs refl done.1 in (
-      record {
-        once = once_of commands.Tag no_options run runs;
-        taken = taken_of commands.Tag no_options run runs;
-        formed = formed_of commands.Tag no_options run runs;
-        complete = ((done.0, file), (there_of options.KeysetFormat no_options run refl done.2, tt));
-      },
-      (done.0, done.3, file),
+      done.1 ∙ ap (asked_with command) (values_run command run runs),
     )
 
-accepted_options : (command : CommandName) (words : List (List ℕ)) (asked : Asked) (r : Result Options ℕ) → options_of command 1 no_options words ≡ r → (r >>= complete command (1 + length words)) ≡ Ok asked → (run : List Spelling) × (words ≡ flat_map spelled run) × Fits (row_of command) run × Asks command run asked
+accepted_options : (command : CommandName) (words : List (List ℕ)) (asked : Asked) (r : Result Options ℕ) → options_of command 1 no_options words ≡ r → (r >>= complete command (1 + length words)) ≡ Ok asked → (run : List Spelling) × (words ≡ flat_map spelled run) × Fits (row_of command) run × (asked ≡ asked_with command (values_of run))
 accepted_options command words asked (Err at) taken is = let clash : Err at ≡ Ok asked = is in absurd (cc)
 accepted_options command words asked (Ok last) taken is =
     let found = run_read command 1 no_options words last taken in

@@ -1,13 +1,11 @@
 -- The place of a word at fault depends on the words up to it alone.
 use Rattle.std.proofs.Common.{◌≡◌, refl, ℕ, ◌+◌, ◌<◌, ◌≤◌, Bool, true, false, List, [], ◌∷◌, ◌++◌, length, arith, length-append, Option, Some, None, Ok, Err, Result}
-use Rattle.std.specs.Prelude.{◌==◌, is_some, if◌then◌else◌}
+use Rattle.std.specs.Prelude.{if◌then◌else◌}
 use Rattle.tink_spec.specs.Messages.{◌>>=◌}
-use Rattle.tinkey_run.specs.declared.words.CommandName.{CommandName}
-use Rattle.tinkey_run.specs.declared.words.CommandName.TheVariants as commands
-use Rattle.tinkey_run.specs.declared.words.Format.{Format}
-use Rattle.tinkey_run.specs.declared.words.OptionName.{OptionName}
-use Rattle.tinkey_run.specs.declared.words.OptionName.TheVariants as options
-use Rattle.tinkey_run.specs.Words.{list_keyset, Options, command_of, takes, is_given, new_option, format_of, with_format, with_value, option_of, own_value, option_word, word_after, next_word, ended, options_of, no_options, given_in, tag_of, complete, asked_of, words_of}
+use Rattle.tinkey_run.specs.declared.words.rows.CommandName.{CommandName}
+use Rattle.tinkey_run.specs.declared.words.rows.OptionName.{OptionName}
+use Rattle.tinkey_run.specs.Rows.{command_of, option_row, option_of, takes, is_value}
+use Rattle.tinkey_run.specs.Words.{Asked, Options, is_given, new_option, put, with_value, own_value, option_word, word_after, next_word, ended, options_of, no_options, given_in, has_required, asked_with, complete, asked_of, words_of}
 use Rattle.tinkey_run.specs.Grammar.{PlacesAreDecided}
 
 -- what is at fault is at fault at this place
@@ -28,18 +26,12 @@ option_faults : (command : CommandName) (name : Option OptionName) (place : ℕ)
 option_faults command None place given = refl
 option_faults command (Some name) place given = test_faults (takes command name) (is_given name given) name place
 
-format_faults : (format : Option Format) (place : ℕ) (next : Format → Options) → FaultsAt (with_format format place next) place
-format_faults None place next = refl
-format_faults (Some format) place next = tt
-
-name_faults : (empty : Bool) (place : ℕ) (given : Options) → FaultsAt {A = Options} (if empty then Err place else Ok given) place
-name_faults true place given = refl
-name_faults false place given = tt
+form_faults : (formed : Bool) (place : ℕ) (given : Options) → FaultsAt {A = Options} (if formed then Ok given else Err place) place
+form_faults true place given = tt
+form_faults false place given = refl
 
 value_faults : (name : OptionName) (value : List ℕ) (place : ℕ) (given : Options) → FaultsAt (with_value name value place given) place
-value_faults options.InFormat value place given = format_faults (format_of value) place _
-value_faults options.Keyset value place given = name_faults (length value == 0) place _
-value_faults options.KeysetFormat value place given = format_faults (format_of value) place _
+value_faults name value place given = form_faults (is_value (option_row name).form value) place (put name value given)
 
 word_faults : (command : CommandName) (own : Option (List ℕ × List ℕ)) (word : List ℕ) (place : ℕ) (given : Options) → FaultsAt (option_word command own word place given) place
 word_faults command None word place given = next_faults (new_option command (option_of word) place given) _ place (option_faults command (option_of word) place given) (λ name. tt)
@@ -76,18 +68,12 @@ options_decided command first given (word ∷ front) rest others place size is =
     (λ more later. options_decided command (first + 1) more front rest others place (omega arith) later) is
 
 -- a command that isn't complete has its fault behind the words
-listing_place : (there : Bool) (count place : ℕ) → (if there then Ok list_keyset else Err count) ≡ Err place → place ≡ count
-listing_place true count place is = cc
-listing_place false count place is = cc
-
-tag_place : (name : Option (List ℕ)) (format : Option Format) (count place : ℕ) → tag_of name format count ≡ Err place → place ≡ count
-tag_place None format count place is = cc
-tag_place (Some name) None count place is = cc
-tag_place (Some name) (Some format) count place is = cc
+lacking_place : (there : Bool) (asked : Asked) (count place : ℕ) → (if there then Ok asked else Err count) ≡ Err place → place ≡ count
+lacking_place true asked count place is = cc
+lacking_place false asked count place is = cc
 
 complete_place : (command : CommandName) (count : ℕ) (given : Options) (place : ℕ) → complete command count given ≡ Err place → place ≡ count
-complete_place commands.ListKeyset count given place is = listing_place (is_some given.in_format) count place is
-complete_place commands.Tag count given place is = tag_place given.keyset given.keyset_format count place is
+complete_place command count given place is = lacking_place (has_required command given) (asked_with command given.values) count place is
 
 options_fault : (command : CommandName) (r : Result Options ℕ) (count place : ℕ) → place < count → (r >>= complete command count) ≡ Err place → r ≡ Err place
 options_fault command (Ok given) count place within is = absurd (omega (arith, complete_place command count given place is))

@@ -4,8 +4,8 @@ use Rattle.std.specs.Prelude.{Result, Ok, Err, replicate}
 use Rattle.tink_spec.proofs.Examples.{wire_on_literals}
 use Rattle.tink_base.specs.declared.hash.Hash.TheVariants as hashes
 use Rattle.tinkey_run.specs.declared.hmac_key.HmacKey.{HmacKey}
-use Rattle.tinkey_run.specs.declared.rule.Rule.{Rule}
-use Rattle.tinkey_run.specs.declared.rule.Rule.TheVariants as broken
+use Rattle.key_msgs.specs.declared.rule.Rule.{Rule}
+use Rattle.key_msgs.specs.declared.rule.Rule.TheVariants as broken
 use Rattle.tinkey_run.specs.HmacKey.{message_of, hmac_key_of}
 
 -- one name for what unfolds in an example

@@ -11,8 +11,8 @@ use Rattle.tinkey_run.specs.declared.hmac_key.HmacKey.{HmacKey}
 use Rattle.tinkey_run.specs.declared.hmac_key.KeyFault.{KeyFault}
 use Rattle.tinkey_run.specs.declared.hmac_key.KeyFault.TheVariants as faults
 use Rattle.tinkey_run.specs.declared.hmac_key.Message.{Message}
-use Rattle.tinkey_run.specs.declared.rule.Rule.{Rule}
-use Rattle.tinkey_run.specs.declared.rule.Rule.TheVariants as broken
+use Rattle.key_msgs.specs.declared.rule.Rule.{Rule}
+use Rattle.key_msgs.specs.declared.rule.Rule.TheVariants as broken
 use Rattle.tinkey_run.specs.HmacKey.{message_of, checked, formed, hmac_key_of, GivesKey, of_fields_error}
 
 -- what is handed on by a `?`

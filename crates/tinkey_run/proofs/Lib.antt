@@ -3,7 +3,10 @@ pub mod GrammarLemmas
 pub mod HmacKeyExamples
 pub mod HmacKeyLemmas
 pub mod PromiseLemmas
+pub mod ReportLemmas
+pub mod RowLemmas
 pub mod SpellingLemmas
 pub mod StepLemmas
 pub mod TagLemmas
+pub mod TemplateLemmas
 pub mod WordLemmas

@@ -1,17 +1,21 @@
 -- Each promise, proved once for every end of every plan.
-use Rattle.std.proofs.Common.{◌≡◌, ◌≢◌, inl, inr, ℕ, ◌+◌, ◌<◌, ◌≤◌, List, [], ◌++◌, length, drop, refl, sym, ◌∙◌, ap, subst, arith, append-nil, length-append}
-use Rattle.std.specs.Prelude.{Option, Some, None, option_map, IfSome, nat_le, true, false}
+use Rattle.std.proofs.Common.{◌≡◌, ◌≢◌, ◌⊎◌, inl, inr, ℕ, ◌+◌, ◌<◌, ◌≤◌, List, [], ◌++◌, length, drop, refl, sym, ◌∙◌, ap, subst, arith, append-nil, length-append}
+use Rattle.std.specs.Prelude.{Option, Some, None, option_map, IfSome, Result, nat_le, true, false}
 use Rattle.std.proofs.lemmas.List.{drop_at}
 use Rattle.std.proofs.lemmas.Bool.Decides.{nat_tests}
-use Rattle.tink_spec.specs.Outside.{SourceState, SinkState, Rose, Stood, Gave, GaveCount, TookPrefix, IsAtEnd}
-use Rattle.tink_spec.specs.Files.{Files, StoreState, KeptFiles, Holds, HoldsLonger}
+use Rattle.tink_spec.specs.Outside.{SourceState, SinkState, EntropyState, Rose, Stood, Gave, GaveCount, Took, TookPrefix, Drew, IsAtEnd}
+use Rattle.tink_spec.specs.Files.{Files, StoreState, KeptFiles, Holds, HoldsSome, HoldsLonger, Added, AddedFront, MayAdd}
 use Rattle.std.specs.FinMap as map
-use Rattle.tink_spec.proofs.Moves.{gave_same, gave_more, took_same}
+use Rattle.tink_spec.proofs.Moves.{gave_same, gave_more, took_same, drew_nothing, drew_more}
+use Rattle.keyset_model.specs.Keyset.{Keys}
+use Rattle.tinkey_cmds.specs.Draws.{Draw, Drawn}
+use Rattle.tinkey_cmds.specs.Applying.{RanOut}
+use Rattle.tinkey_cmds.specs.declared.command.CmdFault.{CmdFault}
 use Rattle.tinkey_run.specs.declared.status.Status.{Status}
 use Rattle.tinkey_run.specs.declared.status.Status.TheVariants as status
-use Rattle.tinkey_run.specs.Plan.{Plan, ends, writes, allocates, loads, reads_all, Told, Answer, answer, refused, load_answer, IsStated}
-use Rattle.tinkey_run.specs.Ends.{World, Ends, OnlySource, OnlySink, OnlyStore, loaded, load_absent, load_long, load_failed, load_starved, wrote, write_failed, read, too_long, read_failed, read_starved}
-use Rattle.tinkey_run.specs.Promises.{Tells, IsAnswer, Answers, HasCause, ShowsFaults, IsFront, IsLeft, Leaves, Stands, Completes, Promised}
+use Rattle.tinkey_run.specs.Plan.{Plan, ends, writes, creates, allocates, loads, reads_all, edits, Told, Answer, answer, refused, load_answer, create_answer, edit_answer, IsStated}
+use Rattle.tinkey_run.specs.Ends.{World, Ends, Settles, OnlySource, OnlySink, OnlyStore, OnlyEntropy, loaded, load_absent, load_long, load_failed, load_starved, wrote, write_failed, made, name_taken, create_failed, create_starved, read, too_long, read_failed, read_starved, settled, draw_failed}
+use Rattle.tinkey_run.specs.Promises.{Tells, IsAnswer, Answers, HasCause, ShowsFaults, IsFront, Moved, nothing, IsLeft, Leaves, IsTorn, Stands, NoneFailed, Completes, Promised}
 
 -- a stated status is no fault, and no want of memory
 abbrev not_read_fault : (s : Status) → IsStated s → s ≡ status.ReadFault → ⊥
@@ -22,6 +26,9 @@ not_write_fault s stated is = let h : IsStated status.WriteFault = rw is at stat
 
 abbrev not_store_fault : (s : Status) → IsStated s → s ≡ status.StoreFault → ⊥
 not_store_fault s stated is = let h : IsStated status.StoreFault = rw is at stated in h
+
+abbrev not_entropy_fault : (s : Status) → IsStated s → s ≡ status.EntropyFault → ⊥
+not_entropy_fault s stated is = let h : IsStated status.EntropyFault = rw is at stated in h
 
 abbrev not_no_memory : (s : Status) → IsStated s → s ≡ status.NoMemory → ⊥
 not_no_memory s stated is = let h : IsStated status.NoMemory = rw is at stated in h
@@ -37,27 +44,43 @@ no_fault old new s stated = record {
   read = λ h. absurd (not_read_fault s stated h);
   write = λ h. absurd (not_write_fault s stated h);
   store = λ h. absurd (not_store_fault s stated h);
+  entropy = λ h. absurd (not_entropy_fault s stated h);
 }
+
+-- want of memory is no fault
+starved_cause : (old new : World) (s : Status) → s ≡ status.NoMemory → HasCause old s new
+starved_cause old new s is = record { read = λ h. absurd (cc); write = λ h. absurd (cc); store = λ h. absurd (cc); entropy = λ h. absurd (cc) }
+
+store_cause : (old new : World) (s : Status) → s ≡ status.StoreFault → Rose old.store.faults new.store.faults → HasCause old s new
+store_cause old new s is rose = record { read = λ h. absurd (cc); write = λ h. absurd (cc); store = λ h. rose; entropy = λ h. absurd (cc) }
 
 pub has_cause : (p : Plan) (old : World) (s : Status) (new : World) → Ends p old s new → HasCause old s new
 has_cause (ends answered stated) old s new (is, same) = no_fault old new s (rw is stated)
 has_cause (writes output) old s new (wrote is only stood took) = no_fault old new s (rw is tt)
-has_cause (writes output) old s new (write_failed is only rose front) = record { read = λ h. absurd (cc); write = λ h. rose; store = λ h. absurd (cc) }
+has_cause (writes output) old s new (write_failed is only rose front) = record { read = λ h. absurd (cc); write = λ h. rose; store = λ h. absurd (cc); entropy = λ h. absurd (cc) }
+has_cause (creates name output taken stated) old s new (made is only stood added) = no_fault old new s (rw is tt)
+has_cause (creates name output taken stated) old s new (name_taken is only kept stood there) = no_fault old new s (rw is stated)
+has_cause (creates name output taken stated) old s new (create_failed is only rose may) = store_cause old new s is rose
+has_cause (creates name output taken stated) old s new (create_starved is only kept stood) = starved_cause old new s is
 has_cause (allocates next) old s new (inl run) = has_cause next old s new run
-has_cause (allocates next) old s new (inr (is, same)) = record { read = λ h. absurd (cc); write = λ h. absurd (cc); store = λ h. absurd (cc) }
+has_cause (allocates next) old s new (inr (is, same)) = starved_cause old new s is
 has_cause (loads name limit absent long a l next) old s new (loaded bytes store kept stood within holds run) =
     let later = has_cause (next bytes) (record old { store = store }) s new run in
-    record { read = later.read; write = later.write; store = λ h. rose_after _ _ _ kept.faults (later.store h) }
+    record { read = later.read; write = later.write; store = λ h. rose_after _ _ _ kept.faults (later.store h); entropy = later.entropy }
 has_cause (loads name limit absent long a l next) old s new (load_absent is only kept stood holds) = no_fault old new s (rw is a)
 has_cause (loads name limit absent long a l next) old s new (load_long is only kept stood holds) = no_fault old new s (rw is l)
-has_cause (loads name limit absent long a l next) old s new (load_failed is only kept rose) = record { read = λ h. absurd (cc); write = λ h. absurd (cc); store = λ h. rose }
-has_cause (loads name limit absent long a l next) old s new (load_starved is only kept stood) = record { read = λ h. absurd (cc); write = λ h. absurd (cc); store = λ h. absurd (cc) }
+has_cause (loads name limit absent long a l next) old s new (load_failed is only kept rose) = store_cause old new s is rose
+has_cause (loads name limit absent long a l next) old s new (load_starved is only kept stood) = starved_cause old new s is
 has_cause (reads_all limit long stated next) old s new (read all source gave stood within end run) =
     let later = has_cause (next all) (record old { source = source }) s new run in
-    record { read = λ h. rose_after _ _ _ gave.faults (later.read h); write = later.write; store = later.store }
+    record { read = λ h. rose_after _ _ _ gave.faults (later.read h); write = later.write; store = later.store; entropy = later.entropy }
 has_cause (reads_all limit long stated next) old s new (too_long is only stood count) = no_fault old new s (rw is stated)
-has_cause (reads_all limit long stated next) old s new (read_failed is only rose upto) = record { read = λ h. rose; write = λ h. absurd (cc); store = λ h. absurd (cc) }
-has_cause (reads_all limit long stated next) old s new (read_starved is only stood upto) = record { read = λ h. absurd (cc); write = λ h. absurd (cc); store = λ h. absurd (cc) }
+has_cause (reads_all limit long stated next) old s new (read_failed is only rose upto) = record { read = λ h. rose; write = λ h. absurd (cc); store = λ h. absurd (cc); entropy = λ h. absurd (cc) }
+has_cause (reads_all limit long stated next) old s new (read_starved is only stood upto) = starved_cause old new s is
+has_cause (edits give next) old s new (settled drawn entropy given drew stood settles run) =
+    let later = has_cause (next given) (record old { entropy = entropy }) s new run in
+    record { read = later.read; write = later.write; store = later.store; entropy = λ h. rose_after _ _ _ drew.faults (later.entropy h) }
+has_cause (edits give next) old s new (draw_failed is only out) = record { read = λ h. absurd (cc); write = λ h. absurd (cc); store = λ h. absurd (cc); entropy = λ h. out.rose }
 
 -- No fault is hidden.
 
@@ -70,63 +93,85 @@ sink_stood old new same = sym (ap (λ (x : SinkState). x.faults) same)
 store_stood : (old new : World) → old.store ≡ new.store → Stood old.store.faults new.store.faults
 store_stood old new same = sym (ap (λ (x : StoreState). x.faults) same)
 
+entropy_stood : (old new : World) → old.entropy ≡ new.entropy → Stood old.entropy.faults new.entropy.faults
+entropy_stood old new same = sym (ap (λ (x : EntropyState). x.faults) same)
+
 -- no object has failed
 all_stood : (old new : World) (s : Status) → old ≡ new → ShowsFaults old s new
 all_stood old new s same = record {
   read = λ other. source_stood old new (ap (λ (w : World). w.source) same);
   write = λ other. sink_stood old new (ap (λ (w : World). w.sink) same);
   store = λ other. store_stood old new (ap (λ (w : World). w.store) same);
+  entropy = λ other. entropy_stood old new (ap (λ (w : World). w.entropy) same);
 }
 
 -- the one object that was used hasn't failed, or the status says so
 sink_shown : (old new : World) (s : Status) → OnlySink old new → (s ≢ status.WriteFault → Stood old.sink.faults new.sink.faults) → ShowsFaults old s new
-sink_shown old new s only stood = record { read = λ other. source_stood old new only.source; write = stood; store = λ other. store_stood old new only.store }
+sink_shown old new s only stood = record { read = λ other. source_stood old new only.source; write = stood; store = λ other. store_stood old new only.store; entropy = λ other. entropy_stood old new only.entropy }
 
 store_shown : (old new : World) (s : Status) → OnlyStore old new → (s ≢ status.StoreFault → Stood old.store.faults new.store.faults) → ShowsFaults old s new
-store_shown old new s only stood = record { read = λ other. source_stood old new only.source; write = λ other. sink_stood old new only.sink; store = stood }
+store_shown old new s only stood = record { read = λ other. source_stood old new only.source; write = λ other. sink_stood old new only.sink; store = stood; entropy = λ other. entropy_stood old new only.entropy }
 
 source_shown : (old new : World) (s : Status) → OnlySource old new → (s ≢ status.ReadFault → Stood old.source.faults new.source.faults) → ShowsFaults old s new
-source_shown old new s only stood = record { read = stood; write = λ other. sink_stood old new only.sink; store = λ other. store_stood old new only.store }
+source_shown old new s only stood = record { read = stood; write = λ other. sink_stood old new only.sink; store = λ other. store_stood old new only.store; entropy = λ other. entropy_stood old new only.entropy }
+
+entropy_shown : (old new : World) (s : Status) → OnlyEntropy old new → (s ≢ status.EntropyFault → Stood old.entropy.faults new.entropy.faults) → ShowsFaults old s new
+entropy_shown old new s only stood = record { read = λ other. source_stood old new only.source; write = λ other. sink_stood old new only.sink; store = λ other. store_stood old new only.store; entropy = stood }
 
 pub shows_faults : (p : Plan) (old : World) (s : Status) (new : World) → Ends p old s new → ShowsFaults old s new
 shows_faults (ends answered stated) old s new (is, same) = all_stood old new s same
 shows_faults (writes output) old s new (wrote is only stood took) = sink_shown old new s only (λ other. stood)
 shows_faults (writes output) old s new (write_failed is only rose front) = sink_shown old new s only (λ other. absurd (other is))
+shows_faults (creates name output taken stated) old s new (made is only stood added) = store_shown old new s only (λ other. stood)
+shows_faults (creates name output taken stated) old s new (name_taken is only kept stood there) = store_shown old new s only (λ other. stood)
+shows_faults (creates name output taken stated) old s new (create_failed is only rose may) = store_shown old new s only (λ other. absurd (other is))
+shows_faults (creates name output taken stated) old s new (create_starved is only kept stood) = store_shown old new s only (λ other. stood)
 shows_faults (allocates next) old s new (inl run) = shows_faults next old s new run
 shows_faults (allocates next) old s new (inr (is, same)) = all_stood old new s same
 shows_faults (loads name limit absent long a l next) old s new (loaded bytes store kept stood within holds run) =
     let later = shows_faults (next bytes) (record old { store = store }) s new run in
-    record { read = later.read; write = later.write; store = λ other. later.store other ∙ stood }
+    record { read = later.read; write = later.write; store = λ other. later.store other ∙ stood; entropy = later.entropy }
 shows_faults (loads name limit absent long a l next) old s new (load_absent is only kept stood holds) = store_shown old new s only (λ other. stood)
 shows_faults (loads name limit absent long a l next) old s new (load_long is only kept stood holds) = store_shown old new s only (λ other. stood)
 shows_faults (loads name limit absent long a l next) old s new (load_failed is only kept rose) = store_shown old new s only (λ other. absurd (other is))
 shows_faults (loads name limit absent long a l next) old s new (load_starved is only kept stood) = store_shown old new s only (λ other. stood)
 shows_faults (reads_all limit long stated next) old s new (read all source gave stood within end run) =
     let later = shows_faults (next all) (record old { source = source }) s new run in
-    record { read = λ other. later.read other ∙ stood; write = later.write; store = later.store }
+    record { read = λ other. later.read other ∙ stood; write = later.write; store = later.store; entropy = later.entropy }
 shows_faults (reads_all limit long stated next) old s new (too_long is only stood count) = source_shown old new s only (λ other. stood)
 shows_faults (reads_all limit long stated next) old s new (read_failed is only rose upto) = source_shown old new s only (λ other. absurd (other is))
 shows_faults (reads_all limit long stated next) old s new (read_starved is only stood upto) = source_shown old new s only (λ other. stood)
+shows_faults (edits give next) old s new (settled drawn entropy given drew stood settles run) =
+    let later = shows_faults (next given) (record old { entropy = entropy }) s new run in
+    record { read = later.read; write = later.write; store = later.store; entropy = λ other. later.entropy other ∙ stood }
+shows_faults (edits give next) old s new (draw_failed is only out) = entropy_shown old new s only (λ other. absurd (other is))
 
 -- Completeness.
 
-completes_from : (p : Plan) (old : World) (s : Status) (new : World) → Ends p old s new → (Rose old.source.faults new.source.faults → ⊥) → (Rose old.sink.faults new.sink.faults → ⊥) → (Rose old.store.faults new.store.faults → ⊥) → s ≢ status.NoMemory → IsStated s
-completes_from (ends answered stated) old s new (is, same) no_read no_write no_store memory = rw is stated
-completes_from (writes output) old s new (wrote is only stood took) no_read no_write no_store memory = rw is tt
-completes_from (writes output) old s new (write_failed is only rose front) no_read no_write no_store memory = absurd (no_write rose)
-completes_from (allocates next) old s new (inl run) no_read no_write no_store memory = completes_from next old s new run no_read no_write no_store memory
-completes_from (allocates next) old s new (inr (is, same)) no_read no_write no_store memory = absurd (memory is)
-completes_from (loads name limit absent long a l next) old s new (loaded bytes store kept stood within holds run) no_read no_write no_store memory =
-    completes_from (next bytes) (record old { store = store }) s new run no_read no_write (λ rose. no_store (rose_after _ _ _ kept.faults rose)) memory
-completes_from (loads name limit absent long a l next) old s new (load_absent is only kept stood holds) no_read no_write no_store memory = rw is a
-completes_from (loads name limit absent long a l next) old s new (load_long is only kept stood holds) no_read no_write no_store memory = rw is l
-completes_from (loads name limit absent long a l next) old s new (load_failed is only kept rose) no_read no_write no_store memory = absurd (no_store rose)
-completes_from (loads name limit absent long a l next) old s new (load_starved is only kept stood) no_read no_write no_store memory = absurd (memory is)
-completes_from (reads_all limit long stated next) old s new (read all source gave stood within end run) no_read no_write no_store memory =
-    completes_from (next all) (record old { source = source }) s new run (λ rose. no_read (rose_after _ _ _ gave.faults rose)) no_write no_store memory
-completes_from (reads_all limit long stated next) old s new (too_long is only stood count) no_read no_write no_store memory = rw is stated
-completes_from (reads_all limit long stated next) old s new (read_failed is only rose upto) no_read no_write no_store memory = absurd (no_read rose)
-completes_from (reads_all limit long stated next) old s new (read_starved is only stood upto) no_read no_write no_store memory = absurd (memory is)
+completes_from : (p : Plan) (old : World) (s : Status) (new : World) → Ends p old s new → NoneFailed old new → s ≢ status.NoMemory → IsStated s
+completes_from (ends answered stated) old s new (is, same) none memory = rw is stated
+completes_from (writes output) old s new (wrote is only stood took) none memory = rw is tt
+completes_from (writes output) old s new (write_failed is only rose front) none memory = absurd (none.write rose)
+completes_from (creates name output taken stated) old s new (made is only stood added) none memory = rw is tt
+completes_from (creates name output taken stated) old s new (name_taken is only kept stood there) none memory = rw is stated
+completes_from (creates name output taken stated) old s new (create_failed is only rose may) none memory = absurd (none.store rose)
+completes_from (creates name output taken stated) old s new (create_starved is only kept stood) none memory = absurd (memory is)
+completes_from (allocates next) old s new (inl run) none memory = completes_from next old s new run none memory
+completes_from (allocates next) old s new (inr (is, same)) none memory = absurd (memory is)
+completes_from (loads name limit absent long a l next) old s new (loaded bytes store kept stood within holds run) none memory =
+    completes_from (next bytes) (record old { store = store }) s new run (record { read = none.read; write = none.write; store = λ rose. none.store (rose_after _ _ _ kept.faults rose); entropy = none.entropy }) memory
+completes_from (loads name limit absent long a l next) old s new (load_absent is only kept stood holds) none memory = rw is a
+completes_from (loads name limit absent long a l next) old s new (load_long is only kept stood holds) none memory = rw is l
+completes_from (loads name limit absent long a l next) old s new (load_failed is only kept rose) none memory = absurd (none.store rose)
+completes_from (loads name limit absent long a l next) old s new (load_starved is only kept stood) none memory = absurd (memory is)
+completes_from (reads_all limit long stated next) old s new (read all source gave stood within end run) none memory =
+    completes_from (next all) (record old { source = source }) s new run (record { read = λ rose. none.read (rose_after _ _ _ gave.faults rose); write = none.write; store = none.store; entropy = none.entropy }) memory
+completes_from (reads_all limit long stated next) old s new (too_long is only stood count) none memory = rw is stated
+completes_from (reads_all limit long stated next) old s new (read_failed is only rose upto) none memory = absurd (none.read rose)
+completes_from (reads_all limit long stated next) old s new (read_starved is only stood upto) none memory = absurd (memory is)
+completes_from (edits give next) old s new (settled drawn entropy given drew stood settles run) none memory =
+    completes_from (next given) (record old { entropy = entropy }) s new run (record { read = none.read; write = none.write; store = none.store; entropy = λ rose. none.entropy (rose_after _ _ _ drew.faults rose) }) memory
+completes_from (edits give next) old s new (draw_failed is only out) none memory = absurd (none.entropy out.rose)
 
 pub completes : (p : Plan) (old : World) (s : Status) (new : World) → Ends p old s new → Completes old s new
 completes p old s new run = record { stated = completes_from p old s new run }
@@ -155,8 +200,14 @@ after_count old new input n told count =
       split.1 ∙ ap (λ (l : List ℕ). Some l) (sym (ap (λ (l : List ℕ). drop n l) split.2 ∙ drop_at count.piece split.0 n count.exact)),
     )
 
-tells_same : (old new : World) (told : Told) → Tells old told → old.source ≡ new.source → new.source.left ≡ Some told.input
-tells_same old new told tells source = sym (ap (λ (w : SourceState). w.left) source) ∙ tells.input
+input_told : (old new : World) (told : Told) → Tells old told → old.source ≡ new.source → new.source.left ≡ Some told.input
+input_told old new told tells source = sym (ap (λ (x : SourceState). x.left) source) ∙ tells.input
+
+files_told : (old new : World) (told : Told) → Tells old told → old.store ≡ new.store → new.store.files ≡ Some told.files
+files_told old new told tells store = sym (ap (λ (x : StoreState). x.files) store) ∙ tells.files
+
+random_told : (old new : World) (told : Told) → Tells old told → old.entropy ≡ new.entropy → new.entropy.left ≡ Some told.random
+random_told old new told tells entropy = sym (ap (λ (x : EntropyState). x.left) entropy) ∙ tells.random
 
 same_files : (old new : StoreState) → old ≡ new → KeptFiles old new
 same_files old new same = record { files = ap (λ (t : StoreState). t.files) same; faults = omega (arith, ap (λ (t : StoreState). t.faults) same) }
@@ -164,9 +215,15 @@ same_files old new same = record { files = ap (λ (t : StoreState). t.files) sam
 kept_twice : (old mid new : StoreState) → KeptFiles old mid → KeptFiles mid new → KeptFiles old new
 kept_twice old mid new first second = record { files = first.files ∙ second.files; faults = omega (arith, first.faults, second.faults) }
 
+drew_same : (old new : EntropyState) → old ≡ new → Drew old new []
+drew_same old new same = subst (λ (x : EntropyState). Drew old x []) same (drew_nothing old)
+
 -- what a load found, told
 file_told : (store : StoreState) (files : Files) (name : List ℕ) (found : Option (List ℕ)) → store.files ≡ Some files → Holds store name found → map.get files name ≡ found
 file_told store files name found told holds = let h : IfSome (Some files) (λ f. map.get f name ≡ found) = rw told at holds in h
+
+some_told : (store : StoreState) (files : Files) (name : List ℕ) → store.files ≡ Some files → HoldsSome store name → (bytes : List ℕ) × (map.get files name ≡ Some bytes)
+some_told store files name told holds = let h : IfSome (Some files) (λ f. (bytes : List ℕ) × (map.get f name ≡ Some bytes)) = rw told at holds in h
 
 longer_told : (store : StoreState) (files : Files) (name : List ℕ) (limit : ℕ) → store.files ≡ Some files → HoldsLonger store name limit → (bytes : List ℕ) × (map.get files name ≡ Some bytes) × (limit < length bytes)
 longer_told store files name limit told holds = let h : IfSome (Some files) (λ f. (bytes : List ℕ) × (map.get f name ≡ Some bytes) × (limit < length bytes)) = rw told at holds in h
@@ -187,36 +244,76 @@ long_loaded found bytes limit absent long next is lt = rw (is, past_test (length
 absent_answer : (found : Option (List ℕ)) (limit : ℕ) (absent long : Answer) (next : List ℕ → Answer) → found ≡ None → load_answer found limit absent long next ≡ absent
 absent_answer found limit absent long next is = rw is refl
 
+-- the answer where a file may be made
+made_answer : (found : Option (List ℕ)) (told : Told) (name output : List ℕ) (taken : Answer) → found ≡ None → create_answer found told name output taken ≡ record (refused told status.Done) { files = map.insert told.files name output }
+made_answer found told name output taken is = rw is refl
+
+taken_answer : (found : Option (List ℕ)) (bytes : List ℕ) (told : Told) (name output : List ℕ) (taken : Answer) → found ≡ Some bytes → create_answer found told name output taken ≡ taken
+taken_answer found bytes told name output taken is = rw is refl
+
+-- the answer goes on behind bytes that were drawn
+settled_answer : (give : Draw Keys) (drawn rest random : List ℕ) (given : Result Keys CmdFault) (short : Answer) (next : Drawn Keys → Answer) → Settles give drawn given → random ≡ drawn ++ rest → edit_answer (give random) short next ≡ next (record { answer = given; left = rest })
+settled_answer give drawn rest random given short next settles is = rw (is, settles rest) refl
+
+-- nothing of the objects was used
+used_none : (told : Told) (s t : Status) (old new : World) → t ≡ s → Tells old told → old ≡ new → IsAnswer (refused told s) old t new
+used_none told s t old new is tells same = record {
+  status = is;
+  input = input_told old new told tells (ap (λ (w : World). w.source) same);
+  output = took_same old.sink new.sink (ap (λ (w : World). w.sink) same);
+  files = files_told old new told tells (ap (λ (w : World). w.store) same);
+  random = random_told old new told tells (ap (λ (w : World). w.entropy) same);
+}
+
 refused_is : (told : Told) (s t : Status) (old new : World) → t ≡ s → Tells old told → OnlyStore old new → KeptFiles old.store new.store → IsAnswer (refused told s) old t new
-refused_is told s t old new is tells only kept = record { status = is; input = tells_same old new told tells only.source; output = took_same old.sink new.sink only.sink; files = kept }
+refused_is told s t old new is tells only kept = record {
+  status = is;
+  input = input_told old new told tells only.source;
+  output = took_same old.sink new.sink only.sink;
+  files = sym kept.files ∙ tells.files;
+  random = random_told old new told tells only.entropy;
+}
+
+-- the file that was added, told
+added_told : (old new : StoreState) (files : Files) (name bytes : List ℕ) → old.files ≡ Some files → Added old new name bytes → new.files ≡ Some (map.insert files name bytes)
+added_told old new files name bytes told added = added.files ∙ ap (λ (o : Option Files). option_map (λ f. map.insert f name bytes) o) told
 
 -- the answer goes on behind a whole input
 read_answer : (limit : ℕ) (long : Status) (stated : IsStated long) (next : List ℕ → Plan) (told : Told) (all : List ℕ) → told.input ≡ all → length all ≤ limit → answer (reads_all limit long stated next) told ≡ answer (next all) (record told { input = [] })
 read_answer limit long stated next told all is le = rw (is, fits_test (length all) limit le) refl
 
-long_answer : (limit : ℕ) (long : Status) (stated : IsStated long) (next : List ℕ → Plan) (told : Told) → limit < length told.input → answer (reads_all limit long stated next) told ≡ record { status = long; input = drop (limit + 1) told.input; output = [] }
+long_answer : (limit : ℕ) (long : Status) (stated : IsStated long) (next : List ℕ → Plan) (told : Told) → limit < length told.input → answer (reads_all limit long stated next) told ≡ record (refused told long) { input = drop (limit + 1) told.input }
 long_answer limit long stated next told lt = rw (past_test (length told.input) limit lt) refl
 
 answers_over : (p : Plan) (old : World) (s : Status) (new : World) → Ends p old s new → (told : Told) → Tells old told → IsStated s → IsAnswer (answer p told) old s new
-answers_over (ends answered stated) old s new (is, same) told tells ok = record {
-  status = is;
-  input = tells_same old new told tells (ap (λ (w : World). w.source) same);
-  output = took_same old.sink new.sink (ap (λ (w : World). w.sink) same);
-  files = same_files _ _ (ap (λ (w : World). w.store) same);
-}
+answers_over (ends answered stated) old s new (is, same) told tells ok = used_none told answered s old new is tells same
 answers_over (writes output) old s new (wrote is only stood took) told tells ok = record {
   status = is;
-  input = tells_same old new told tells only.source;
+  input = input_told old new told tells only.source;
   output = took;
-  files = same_files _ _ only.store;
+  files = files_told old new told tells only.store;
+  random = random_told old new told tells only.entropy;
 }
 answers_over (writes output) old s new (write_failed is only rose front) told tells ok = absurd (not_write_fault s ok is)
+answers_over (creates name output taken stated) old s new (made is only stood added) told tells ok =
+    subst (λ (a : Answer). IsAnswer a old s new) (sym (made_answer _ told name output _ (file_told old.store told.files name None tells.files added.absent))) (record {
+      status = is;
+      input = input_told old new told tells only.source;
+      output = took_same old.sink new.sink only.sink;
+      files = added_told old.store new.store told.files name output tells.files added;
+      random = random_told old new told tells only.entropy;
+    })
+answers_over (creates name output taken stated) old s new (name_taken is only kept stood there) told tells ok =
+    let found = some_told old.store told.files name tells.files there in
+    subst (λ (a : Answer). IsAnswer a old s new) (sym (taken_answer _ found.0 told name output _ found.1)) (refused_is told taken s old new is tells only kept)
+answers_over (creates name output taken stated) old s new (create_failed is only rose may) told tells ok = absurd (not_store_fault s ok is)
+answers_over (creates name output taken stated) old s new (create_starved is only kept stood) told tells ok = absurd (not_no_memory s ok is)
 answers_over (allocates next) old s new (inl run) told tells ok = answers_over next old s new run told tells ok
 answers_over (allocates next) old s new (inr (is, same)) told tells ok = absurd (not_no_memory s ok is)
 answers_over (loads name limit absent long a l next) old s new (loaded bytes store kept stood within holds run) told tells ok =
-    let later = answers_over (next bytes) (record old { store = store }) s new run told (record { input = tells.input; files = sym kept.files ∙ tells.files }) ok in
+    let later = answers_over (next bytes) (record old { store = store }) s new run told (record { input = tells.input; files = sym kept.files ∙ tells.files; random = tells.random }) ok in
     subst (λ (a : Answer). IsAnswer a old s new) (sym (loaded_answer _ bytes limit _ _ _ (file_told old.store told.files name (Some bytes) tells.files holds) within))
-    (record { status = later.status; input = later.input; output = later.output; files = kept_twice _ _ _ kept later.files })
+    (record { status = later.status; input = later.input; output = later.output; files = later.files; random = later.random })
 answers_over (loads name limit absent long a l next) old s new (load_absent is only kept stood holds) told tells ok =
     subst (λ (a : Answer). IsAnswer a old s new) (sym (absent_answer _ limit _ _ _ (file_told old.store told.files name None tells.files holds))) (refused_is told absent s old new is tells only kept)
 answers_over (loads name limit absent long a l next) old s new (load_long is only kept stood holds) told tells ok =
@@ -226,95 +323,182 @@ answers_over (loads name limit absent long a l next) old s new (load_failed is o
 answers_over (loads name limit absent long a l next) old s new (load_starved is only kept stood) told tells ok = absurd (not_no_memory s ok is)
 answers_over (reads_all limit long stated next) old s new (read all source gave stood within end run) told tells ok =
     let whole = whole_input old.source source told.input all tells.input gave end in
-    let later = answers_over (next all) (record old { source = source }) s new run (record told { input = [] }) (record { input = whole.0; files = tells.files }) ok in
+    let later = answers_over (next all) (record old { source = source }) s new run (record told { input = [] }) (record { input = whole.0; files = tells.files; random = tells.random }) ok in
     subst (λ (a : Answer). IsAnswer a old s new) (sym (read_answer limit long stated next told all whole.1 within))
-    (record { status = later.status; input = later.input; output = later.output; files = later.files })
+    (record { status = later.status; input = later.input; output = later.output; files = later.files; random = later.random })
 answers_over (reads_all limit long stated next) old s new (too_long is only stood count) told tells ok =
     let after = after_count old.source new.source told.input (limit + 1) tells.input count in
-    subst (λ (a : Answer). IsAnswer a old s new) (sym (long_answer limit long stated next told (omega (arith, after.0))))
-    (record { status = is; input = after.1; output = took_same old.sink new.sink only.sink; files = same_files _ _ only.store })
+    subst (λ (a : Answer). IsAnswer a old s new) (sym (long_answer limit long stated next told (omega (arith, after.0)))) (record {
+      status = is;
+      input = after.1;
+      output = took_same old.sink new.sink only.sink;
+      files = files_told old new told tells only.store;
+      random = random_told old new told tells only.entropy;
+    })
 answers_over (reads_all limit long stated next) old s new (read_failed is only rose upto) told tells ok = absurd (not_read_fault s ok is)
 answers_over (reads_all limit long stated next) old s new (read_starved is only stood upto) told tells ok = absurd (not_no_memory s ok is)
+answers_over (edits give next) old s new (settled drawn entropy given drew stood settles run) told tells ok =
+    let split = split_told entropy.left old.entropy.left told.random drawn tells.random drew.left in
+    let later = answers_over (next given) (record old { entropy = entropy }) s new run (record told { random = split.0 }) (record { input = tells.input; files = tells.files; random = split.1 }) ok in
+    subst (λ (a : Answer). IsAnswer a old s new) (sym (settled_answer give drawn split.0 told.random given _ (λ x. answer (next x.answer) (record told { random = x.left })) settles split.2))
+    (record { status = later.status; input = later.input; output = later.output; files = later.files; random = later.random })
+answers_over (edits give next) old s new (draw_failed is only out) told tells ok = absurd (not_entropy_fault s ok is)
 
 pub answers : (p : Plan) (old : World) (s : Status) (new : World) → Ends p old s new → Answers p old s new
 answers p old s new run = record { over = answers_over p old s new run }
 
 -- What stands.
 
--- a status that isn't the write fault, and a sink that is as before
+-- a sink and files that are as before, at a status that isn't the write fault
 untouched : (p : Plan) (old : World) (s : Status) (new : World) → (s ≡ status.WriteFault → ⊥) → old.sink ≡ new.sink → KeptFiles old.store new.store → Stands p old s new
-untouched p old s new other same files = record { files = files; kept = λ done fault. took_same old.sink new.sink same; front = λ h. absurd (other h); last = λ h. absurd (other h) }
+untouched p old s new other same files = record { files = λ done fault. files; torn = λ h. inl files; kept = λ done fault. took_same old.sink new.sink same; front = λ h. absurd (other h); last = λ h. absurd (other h) }
+
+-- a file that is new after a step that kept all files
+added_later : (old mid new : StoreState) (name bytes : List ℕ) → KeptFiles old mid → AddedFront mid new name bytes → AddedFront old new name bytes
+added_later old mid new name bytes kept front = record {
+  front = front.front;
+  rest = front.rest;
+  whole = front.whole;
+  added = record {
+    absent = subst (λ (f : Option Files). IfSome f (λ files. map.get files name ≡ None)) (sym kept.files) front.added.absent;
+    files = front.added.files ∙ ap (λ (f : Option Files). option_map (λ files. map.insert files name front.front) f) (sym kept.files);
+    faults = omega (arith, kept.faults, front.added.faults);
+  };
+}
+
+-- what stands behind a step that has used this object alone, where the answer goes on so
+goes_on : (p rest : Plan) (old mid : World) (s : Status) (new : World) → KeptFiles old.store mid.store → old.sink ≡ mid.sink → ((told : Told) → Tells old told → (later : Told) × Tells mid later × (later.files ≡ told.files) × (answer p told ≡ answer rest later)) → Stands rest mid s new → Stands p old s new
+goes_on p rest old mid s new kept sink ahead later = record {
+  files = λ done fault. kept_twice _ _ _ kept (later.files done fault);
+  torn = λ h. torn (later.torn h);
+  kept = λ done fault. subst (λ (x : SinkState). Took x new.sink []) (sym sink) (later.kept done fault);
+  front = λ h told tells. let a = ahead told tells in
+      subst (λ (x : SinkState). TookPrefix x new.sink (answer p told).output) (sym sink)
+      (subst (λ (r : Answer). TookPrefix mid.sink new.sink r.output) (sym a.3) (later.front h a.0 a.1));
+  last = λ h told tells. let a = ahead told tells in ap (λ (r : Answer). r.status) a.3 ∙ later.last h a.0 a.1;
+}
+  where
+    torn : KeptFiles mid.store new.store ⊎ IsTorn rest mid new → KeptFiles old.store new.store ⊎ IsTorn p old new
+    torn (inl files) = inl (kept_twice _ _ _ kept files)
+    torn (inr t) = inr (record {
+      name = t.name;
+      bytes = t.bytes;
+      added = added_later _ _ _ t.name t.bytes kept t.added;
+      answered = λ told tells. let a = ahead told tells in ap (λ (r : Answer). r.status) a.3 ∙ t.answered a.0 a.1;
+      files = λ told tells. let a = ahead told tells in ap (λ (r : Answer). r.files) a.3 ∙ t.files a.0 a.1 ∙ ap (λ (f : Files). map.insert f t.name t.bytes) a.2;
+    })
+
+-- the file may be there, where the store failed
+torn_file : (name output : List ℕ) (taken : Status) (stated : IsStated taken) (old new : World) → MayAdd old.store new.store name output → KeptFiles old.store new.store ⊎ IsTorn (creates name output taken stated) old new
+torn_file name output taken stated old new (inl files) = inl files
+torn_file name output taken stated old new (inr front) = inr (record {
+  name = name;
+  bytes = output;
+  added = front;
+  answered = λ told tells. ap (λ (a : Answer). a.status) (goes told tells);
+  files = λ told tells. ap (λ (a : Answer). a.files) (goes told tells);
+})
+  where
+    goes : (told : Told) → Tells old told → answer (creates name output taken stated) told ≡ record (refused told status.Done) { files = map.insert told.files name output }
+    goes told tells = made_answer _ told name output _ (file_told old.store told.files name None tells.files front.added.absent)
 
 pub stands : (p : Plan) (old : World) (s : Status) (new : World) → Ends p old s new → Stands p old s new
 stands (ends answered stated) old s new (is, same) = untouched (ends answered stated) old s new (λ h. not_write_fault answered stated (sym is ∙ h)) (ap (λ (w : World). w.sink) same) (same_files _ _ (ap (λ (w : World). w.store) same))
-stands (writes output) old s new (wrote is only stood took) = record { files = same_files _ _ only.store; kept = λ done fault. absurd (done is); front = λ h. absurd (cc); last = λ h. absurd (cc) }
-stands (writes output) old s new (write_failed is only rose front) = record { files = same_files _ _ only.store; kept = λ done fault. absurd (fault is); front = λ h told tells. front; last = λ h told tells. refl }
-stands (allocates next) old s new (inl run) = let later = stands next old s new run in record { files = later.files; kept = later.kept; front = later.front; last = later.last }
+stands (writes output) old s new (wrote is only stood took) = record { files = λ done fault. same_files _ _ only.store; torn = λ h. inl (same_files _ _ only.store); kept = λ done fault. absurd (done is); front = λ h. absurd (cc); last = λ h. absurd (cc) }
+stands (writes output) old s new (write_failed is only rose front) = record { files = λ done fault. same_files _ _ only.store; torn = λ h. inl (same_files _ _ only.store); kept = λ done fault. absurd (fault is); front = λ h told tells. front; last = λ h told tells. refl }
+stands (creates name output taken stated) old s new (made is only stood added) = record { files = λ done fault. absurd (done is); torn = λ h. absurd (cc); kept = λ done fault. absurd (done is); front = λ h. absurd (cc); last = λ h. absurd (cc) }
+stands (creates name output taken stated) old s new (name_taken is only kept stood there) = untouched (creates name output taken stated) old s new (λ h. not_write_fault taken stated (sym is ∙ h)) only.sink kept
+stands (creates name output taken stated) old s new (create_failed is only rose may) = record {
+  files = λ done fault. absurd (fault is);
+  torn = λ h. torn_file name output taken stated old new may;
+  kept = λ done fault. took_same old.sink new.sink only.sink;
+  front = λ h. absurd (cc);
+  last = λ h. absurd (cc);
+}
+stands (creates name output taken stated) old s new (create_starved is only kept stood) = untouched (creates name output taken stated) old s new (λ h. absurd (cc)) only.sink kept
+stands (allocates next) old s new (inl run) = let later = stands next old s new run in record { files = later.files; torn = λ h. torn_later (later.torn h); kept = later.kept; front = later.front; last = later.last }
+  where
+    torn_later : KeptFiles old.store new.store ⊎ IsTorn next old new → KeptFiles old.store new.store ⊎ IsTorn (allocates next) old new
+    torn_later (inl files) = inl files
+    torn_later (inr t) = inr (record { name = t.name; bytes = t.bytes; added = t.added; answered = t.answered; files = t.files })
 stands (allocates next) old s new (inr (is, same)) = untouched (allocates next) old s new (λ h. absurd (cc)) (ap (λ (w : World). w.sink) same) (same_files _ _ (ap (λ (w : World). w.store) same))
 stands (loads name limit absent long a l next) old s new (loaded bytes store kept stood within holds run) =
-    let later = stands (next bytes) (record old { store = store }) s new run in
-    let after : (told : Told) → Tells old told → Tells (record old { store = store }) told = λ told tells. record { input = tells.input; files = sym kept.files ∙ tells.files } in
-    let goes_on : (told : Told) → Tells old told → answer (loads name limit absent long a l next) told ≡ answer (next bytes) told = λ told tells. loaded_answer _ bytes limit _ _ _ (file_told old.store told.files name (Some bytes) tells.files holds) within in
-    record {
-      files = kept_twice _ _ _ kept later.files;
-      kept = later.kept;
-      front = λ h told tells. subst (λ (a : Answer). TookPrefix old.sink new.sink a.output) (sym (goes_on told tells)) (later.front h told (after told tells));
-      last = λ h told tells. ap (λ (a : Answer). a.status) (goes_on told tells) ∙ later.last h told (after told tells);
-    }
+    goes_on (loads name limit absent long a l next) (next bytes) old (record old { store = store }) s new kept refl
+    (λ told tells. (told, record { input = tells.input; files = sym kept.files ∙ tells.files; random = tells.random }, refl, loaded_answer _ bytes limit _ _ _ (file_told old.store told.files name (Some bytes) tells.files holds) within))
+    (stands (next bytes) (record old { store = store }) s new run)
 stands (loads name limit absent long a l next) old s new (load_absent is only kept stood holds) = untouched (loads name limit absent long a l next) old s new (λ h. not_write_fault absent a (sym is ∙ h)) only.sink kept
 stands (loads name limit absent long a l next) old s new (load_long is only kept stood holds) = untouched (loads name limit absent long a l next) old s new (λ h. not_write_fault long l (sym is ∙ h)) only.sink kept
 stands (loads name limit absent long a l next) old s new (load_failed is only kept rose) = untouched (loads name limit absent long a l next) old s new (λ h. absurd (cc)) only.sink kept
 stands (loads name limit absent long a l next) old s new (load_starved is only kept stood) = untouched (loads name limit absent long a l next) old s new (λ h. absurd (cc)) only.sink kept
 stands (reads_all limit long stated next) old s new (read all source gave stood within end run) =
-    let later = stands (next all) (record old { source = source }) s new run in
-    let whole : (told : Told) → Tells old told → (source.left ≡ Some []) × (told.input ≡ all) = λ told tells. whole_input old.source source told.input all tells.input gave end in
-    let goes_on : (told : Told) → Tells old told → answer (reads_all limit long stated next) told ≡ answer (next all) (record told { input = [] }) = λ told tells. read_answer limit long stated next told all (whole told tells).1 within in
-    record {
-      files = later.files;
-      kept = later.kept;
-      front = λ h told tells. subst (λ (a : Answer). TookPrefix old.sink new.sink a.output) (sym (goes_on told tells)) (later.front h (record told { input = [] }) (record { input = (whole told tells).0; files = tells.files }));
-      last = λ h told tells. ap (λ (a : Answer). a.status) (goes_on told tells) ∙ later.last h (record told { input = [] }) (record { input = (whole told tells).0; files = tells.files });
-    }
+    goes_on (reads_all limit long stated next) (next all) old (record old { source = source }) s new (same_files old.store old.store refl) refl
+    (λ told tells. let whole = whole_input old.source source told.input all tells.input gave end in
+    (record told { input = [] }, record { input = whole.0; files = tells.files; random = tells.random }, refl, read_answer limit long stated next told all whole.1 within))
+    (stands (next all) (record old { source = source }) s new run)
 stands (reads_all limit long stated next) old s new (too_long is only stood count) = untouched (reads_all limit long stated next) old s new (λ h. not_write_fault long stated (sym is ∙ h)) only.sink (same_files _ _ only.store)
 stands (reads_all limit long stated next) old s new (read_failed is only rose upto) = untouched (reads_all limit long stated next) old s new (λ h. absurd (cc)) only.sink (same_files _ _ only.store)
 stands (reads_all limit long stated next) old s new (read_starved is only stood upto) = untouched (reads_all limit long stated next) old s new (λ h. absurd (cc)) only.sink (same_files _ _ only.store)
+stands (edits give next) old s new (settled drawn entropy given drew stood settles run) =
+    goes_on (edits give next) (next given) old (record old { entropy = entropy }) s new (same_files old.store old.store refl) refl
+    (λ told tells. let split = split_told entropy.left old.entropy.left told.random drawn tells.random drew.left in
+    (record told { random = split.0 }, record { input = tells.input; files = tells.files; random = split.1 }, refl, settled_answer give drawn split.0 told.random given _ (λ x. answer (next x.answer) (record told { random = x.left })) settles split.2))
+    (stands (next given) (record old { entropy = entropy }) s new run)
+stands (edits give next) old s new (draw_failed is only out) = untouched (edits give next) old s new (λ h. absurd (cc)) only.sink (same_files _ _ only.store)
 
--- What was taken and written.
+-- What was taken, drawn and written.
 
 front_of : (old new : SinkState) (bytes : List ℕ) (front : TookPrefix old new bytes) → IsFront front.front bytes
 front_of old new bytes front = record { rest = front.rest; some = front.some; is = front.whole }
 
--- nothing was taken or written
-none_left : (p : Plan) (old : World) (s : Status) (new : World) → old ≡ new → IsLeft p old.store.files s [] [] → Leaves p old s new
-none_left p old s new same is = record { taken = []; written = []; gave = gave_same _ _ (ap (λ (w : World). w.source) same); took = took_same _ _ (ap (λ (w : World). w.sink) same); is = is }
+-- nothing was moved
+none_moved : (p : Plan) (old : World) (s : Status) (new : World) → old ≡ new → IsLeft p old.store.files s nothing → Leaves p old s new
+none_moved p old s new same is = record {
+  moved = nothing;
+  gave = gave_same _ _ (ap (λ (w : World). w.source) same);
+  drew = drew_same _ _ (ap (λ (w : World). w.entropy) same);
+  took = took_same _ _ (ap (λ (w : World). w.sink) same);
+  is = is;
+}
 
 -- the store alone was used
-none_taken : (p : Plan) (old : World) (s : Status) (new : World) → OnlyStore old new → IsLeft p old.store.files s [] [] → Leaves p old s new
-none_taken p old s new only is = record { taken = []; written = []; gave = gave_same _ _ only.source; took = took_same _ _ only.sink; is = is }
+store_used : (p : Plan) (old : World) (s : Status) (new : World) → OnlyStore old new → IsLeft p old.store.files s nothing → Leaves p old s new
+store_used p old s new only is = record { moved = nothing; gave = gave_same _ _ only.source; drew = drew_same _ _ only.entropy; took = took_same _ _ only.sink; is = is }
 
--- bytes were taken, and nothing was written
-some_taken : (p : Plan) (old : World) (s : Status) (new : World) (taken : List ℕ) → Gave old.source new.source taken → OnlySource old new → IsLeft p old.store.files s taken [] → Leaves p old s new
-some_taken p old s new taken gave only is = record { taken = taken; written = []; gave = gave; took = took_same _ _ only.sink; is = is }
+-- bytes were written alone
+some_written : (p : Plan) (old : World) (s : Status) (new : World) (written : List ℕ) → Took old.sink new.sink written → OnlySink old new → IsLeft p old.store.files s (record nothing { written = written }) → Leaves p old s new
+some_written p old s new written took only is = record { moved = record nothing { written = written }; gave = gave_same _ _ only.source; drew = drew_same _ _ only.entropy; took = took; is = is }
+
+-- bytes were taken alone
+some_taken : (p : Plan) (old : World) (s : Status) (new : World) (taken : List ℕ) → Gave old.source new.source taken → OnlySource old new → IsLeft p old.store.files s (record nothing { taken = taken }) → Leaves p old s new
+some_taken p old s new taken gave only is = record { moved = record nothing { taken = taken }; gave = gave; drew = drew_same _ _ only.entropy; took = took_same _ _ only.sink; is = is }
 
 pub leaves : (p : Plan) (old : World) (s : Status) (new : World) → Ends p old s new → Leaves p old s new
-leaves (ends answered stated) old s new (is, same) = none_left _ old s new same (is, refl, refl)
-leaves (writes output) old s new (wrote is only stood took) = record { taken = []; written = output; gave = gave_same _ _ only.source; took = took; is = (refl, inl (is, refl)) }
-leaves (writes output) old s new (write_failed is only rose front) = record { taken = []; written = front.front; gave = gave_same _ _ only.source; took = front.took; is = (refl, inr (is, front_of _ _ _ front)) }
-leaves (allocates next) old s new (inl run) = let later = leaves next old s new run in record { taken = later.taken; written = later.written; gave = later.gave; took = later.took; is = inr later.is }
-leaves (allocates next) old s new (inr (is, same)) = none_left _ old s new same (inl (is, refl, refl))
+leaves (ends answered stated) old s new (is, same) = none_moved _ old s new same (is, refl)
+leaves (writes output) old s new (wrote is only stood took) = some_written _ old s new output took only (inl (is, refl))
+leaves (writes output) old s new (write_failed is only rose front) = some_written _ old s new front.front front.took only (inr (is, front_of _ _ _ front, refl))
+leaves (creates name output taken stated) old s new (made is only stood added) = store_used _ old s new only (refl, inl (is, added.absent))
+leaves (creates name output taken stated) old s new (name_taken is only kept stood there) = store_used _ old s new only (refl, inr (inl (is, there)))
+leaves (creates name output taken stated) old s new (create_failed is only rose may) = store_used _ old s new only (refl, inr (inr (inl is)))
+leaves (creates name output taken stated) old s new (create_starved is only kept stood) = store_used _ old s new only (refl, inr (inr (inr is)))
+leaves (allocates next) old s new (inl run) = let later = leaves next old s new run in record { moved = later.moved; gave = later.gave; drew = later.drew; took = later.took; is = inr later.is }
+leaves (allocates next) old s new (inr (is, same)) = none_moved _ old s new same (inl (is, refl))
 leaves (loads name limit absent long a l next) old s new (loaded bytes store kept stood within holds run) =
     let later = leaves (next bytes) (record old { store = store }) s new run in
-    record { taken = later.taken; written = later.written; gave = later.gave; took = later.took; is = inr (bytes, holds, within, subst (λ (f : Option Files). IsLeft (next bytes) f s later.taken later.written) (sym kept.files) later.is) }
-leaves (loads name limit absent long a l next) old s new (load_absent is only kept stood holds) = none_taken _ old s new only (inl (refl, refl, inl (is, holds)))
-leaves (loads name limit absent long a l next) old s new (load_long is only kept stood holds) = none_taken _ old s new only (inl (refl, refl, inr (inl (is, holds))))
-leaves (loads name limit absent long a l next) old s new (load_failed is only kept rose) = none_taken _ old s new only (inl (refl, refl, inr (inr (inl is))))
-leaves (loads name limit absent long a l next) old s new (load_starved is only kept stood) = none_taken _ old s new only (inl (refl, refl, inr (inr (inr is))))
+    record { moved = later.moved; gave = later.gave; drew = later.drew; took = later.took; is = inr (bytes, holds, within, subst (λ (f : Option Files). IsLeft (next bytes) f s later.moved) (sym kept.files) later.is) }
+leaves (loads name limit absent long a l next) old s new (load_absent is only kept stood holds) = store_used _ old s new only (inl (refl, inl (is, holds)))
+leaves (loads name limit absent long a l next) old s new (load_long is only kept stood holds) = store_used _ old s new only (inl (refl, inr (inl (is, holds))))
+leaves (loads name limit absent long a l next) old s new (load_failed is only kept rose) = store_used _ old s new only (inl (refl, inr (inr (inl is))))
+leaves (loads name limit absent long a l next) old s new (load_starved is only kept stood) = store_used _ old s new only (inl (refl, inr (inr (inr is))))
 leaves (reads_all limit long stated next) old s new (read all source gave stood within end run) =
     let later = leaves (next all) (record old { source = source }) s new run in
-    record { taken = all ++ later.taken; written = later.written; gave = gave_more _ _ _ _ _ gave later.gave; took = later.took; is = inr (all, later.taken, refl, within, later.is) }
+    record { moved = record later.moved { taken = all ++ later.moved.taken }; gave = gave_more _ _ _ _ _ gave later.gave; drew = later.drew; took = later.took; is = inr (all, later.moved.taken, refl, within, later.is) }
 leaves (reads_all limit long stated next) old s new (too_long is only stood count) = some_taken _ old s new count.piece count.gave only (inl (refl, inl (is, count.exact)))
 leaves (reads_all limit long stated next) old s new (read_failed is only rose upto) = some_taken _ old s new upto.piece upto.gave only (inl (refl, inr (inl is, upto.within)))
 leaves (reads_all limit long stated next) old s new (read_starved is only stood upto) = some_taken _ old s new upto.piece upto.gave only (inl (refl, inr (inr is, upto.within)))
+leaves (edits give next) old s new (settled drawn entropy given drew stood settles run) =
+    let later = leaves (next given) (record old { entropy = entropy }) s new run in
+    record { moved = record later.moved { drawn = drawn ++ later.moved.drawn }; gave = later.gave; drew = drew_more _ _ _ _ _ drew later.drew; took = later.took; is = inr (drawn, later.moved.drawn, given, refl, settles, later.is) }
+leaves (edits give next) old s new (draw_failed is only out) = record { moved = record nothing { drawn = out.drawn }; gave = gave_same _ _ only.source; drew = out.drew; took = took_same _ _ only.sink; is = inl (is, out.undecided, refl) }
 
 pub promised : (p : Plan) (old : World) (s : Status) (new : World) → Ends p old s new → Promised p old s new
 promised p old s new run = record {

@@ -1,81 +1,19 @@
--- Words are accepted exactly where they spell a command and options that fit it.
-use Rattle.std.proofs.Common.{◌≡◌, ◌≢◌, ◌∙◌, sym, refl, ap, subst, inl, inr, ℕ, suc, ◌+◌, ◌<◌, Bool, true, false, List, [], ◌∷◌, ◌++◌, length, take, drop, get_or, arith, add-one, drop-cons, Option, Some, None, Ok, Err, Result}
-use Rattle.std.specs.Prelude.{◌==◌, ◌⊎◌, nat_lt, if◌then◌else◌, codes}
+-- Words that are taken are those of a run of options, each of which is the command's, new and of its form.
+use Rattle.std.proofs.Common.{◌≡◌, ◌∙◌, sym, refl, ap, subst, ℕ, suc, ◌+◌, ◌<◌, Bool, true, false, List, [], ◌∷◌, ◌++◌, length, take, drop, get_or, arith, add-one, drop-cons, Option, Some, None, Ok, Err, Result}
+use Rattle.std.specs.Prelude.{nat_lt, if◌then◌else◌}
 use Rattle.std.specs.List.{flat_map, position_or_len, before_first, after_first}
-use Rattle.std.specs.Str.{bytes_eq}
 use Rattle.std.proofs.lemmas.Bool.Decides.{nat_tests}
 use Rattle.std.proofs.lemmas.List.{take-append-drop}
 use Rattle.std.proofs.lemmas.List.Sums.{passes_at_first}
-use Rattle.std.proofs.lemmas.Slice.Eq.{bytes_eq-Decides}
 use Rattle.tink_spec.specs.Messages.{◌>>=◌}
-use Rattle.tinkey_run.specs.declared.words.CommandName.{CommandName}
-use Rattle.tinkey_run.specs.declared.words.CommandName.TheVariants as commands
-use Rattle.tinkey_run.specs.declared.words.Format.{Format}
-use Rattle.tinkey_run.specs.declared.words.Format.TheVariants as formats
-use Rattle.tinkey_run.specs.declared.words.OptionName.{OptionName}
-use Rattle.tinkey_run.specs.declared.words.OptionName.TheVariants as options
-use Rattle.tinkey_run.specs.Words.{Options, is_equals, own_value, command_of, option_of, format_of, takes, is_given, new_option, with_format, with_value, option_word, word_after, next_word, ended, options_of}
-use Rattle.tinkey_run.specs.Grammar.{row_of, name_of, IsValue, Spelling, spelled_as, spelled}
-
--- Texts.
-
-same_text : (a b : List ℕ) → bytes_eq a b ≡ true → a ≡ b
-same_text a b same = (bytes_eq-Decides a b).0 same
-
--- the name of an option and its words
-pub name_found : (name : OptionName) → option_of (name_of name) ≡ Some name
-unfolding option_of name_of
-name_found options.InFormat = refl
-name_found options.Keyset = refl
-name_found options.KeysetFormat = refl
-
-three_texts : {A : Type 0} (a b c : Bool) (x y z found : A) → (if a then Some x else (if b then Some y else (if c then Some z else None))) ≡ Some found → ((a ≡ true) × (x ≡ found)) ⊎ (((b ≡ true) × (y ≡ found)) ⊎ ((c ≡ true) × (z ≡ found)))
-three_texts true b c x y z found is = inl (refl, cc)
-three_texts false true c x y z found is = inr (inl (refl, cc))
-three_texts false false true x y z found is = inr (inr (refl, cc))
-three_texts false false false x y z found is = absurd (cc)
-
-two_texts : {A : Type 0} (a b : Bool) (x y found : A) → (if a then Some x else (if b then Some y else None)) ≡ Some found → ((a ≡ true) × (x ≡ found)) ⊎ ((b ≡ true) × (y ≡ found))
-two_texts true b x y found is = inl (refl, cc)
-two_texts false true x y found is = inr (refl, cc)
-two_texts false false x y found is = absurd (cc)
-
-named_by : (text : List ℕ) (name : OptionName) → ((bytes_eq text (codes "--in-format") ≡ true) × (options.InFormat ≡ name)) ⊎ (((bytes_eq text (codes "--keyset") ≡ true) × (options.Keyset ≡ name)) ⊎ ((bytes_eq text (codes "--keyset-format") ≡ true) × (options.KeysetFormat ≡ name))) → text ≡ name_of name
-unfolding name_of
-named_by text name (inl here) = subst (λ (n : OptionName). text ≡ name_of n) here.1 (same_text text (codes "--in-format") here.0)
-named_by text name (inr (inl here)) = subst (λ (n : OptionName). text ≡ name_of n) here.1 (same_text text (codes "--keyset") here.0)
-named_by text name (inr (inr here)) = subst (λ (n : OptionName). text ≡ name_of n) here.1 (same_text text (codes "--keyset-format") here.0)
-
-pub option_named : (text : List ℕ) (name : OptionName) → option_of text ≡ Some name → text ≡ name_of name
-unfolding option_of
-option_named text name is = named_by text name (three_texts (bytes_eq text (codes "--in-format")) (bytes_eq text (codes "--keyset")) (bytes_eq text (codes "--keyset-format")) options.InFormat options.Keyset options.KeysetFormat name is)
-
-pub command_found : (command : CommandName) → command_of (row_of command).word ≡ Some command
-unfolding command_of
-command_found commands.ListKeyset = refl
-command_found commands.Tag = refl
-
-command_by : (text : List ℕ) (command : CommandName) → ((bytes_eq text (codes "list-keyset") ≡ true) × (commands.ListKeyset ≡ command)) ⊎ ((bytes_eq text (codes "tag") ≡ true) × (commands.Tag ≡ command)) → text ≡ (row_of command).word
-command_by text command (inl here) = subst (λ (n : CommandName). text ≡ (row_of n).word) here.1 (same_text text (codes "list-keyset") here.0)
-command_by text command (inr here) = subst (λ (n : CommandName). text ≡ (row_of n).word) here.1 (same_text text (codes "tag") here.0)
-
-pub command_named : (text : List ℕ) (command : CommandName) → command_of text ≡ Some command → text ≡ (row_of command).word
-unfolding command_of
-command_named text command is = command_by text command (two_texts (bytes_eq text (codes "list-keyset")) (bytes_eq text (codes "tag")) commands.ListKeyset commands.Tag command is)
+use Rattle.tinkey_run.specs.declared.words.rows.CommandName.{CommandName}
+use Rattle.tinkey_run.specs.declared.words.rows.OptionName.{OptionName}
+use Rattle.tinkey_run.specs.Rows.{option_row, option_of, takes, is_value}
+use Rattle.tinkey_run.specs.Words.{Options, is_equals, own_value, is_given, new_option, put, with_value, option_word, word_after, next_word, ended, options_of}
+use Rattle.tinkey_run.specs.Grammar.{IsValue, Spelling, spelled_as, spelled}
+use Rattle.tinkey_run.proofs.RowLemmas.{option_found, option_named, own_plain, own_joined, value_taken, value_formed}
 
 -- a word that is cut at its equals sign
-pub own_plain : (name : OptionName) → own_value (name_of name) ≡ None
-unfolding own_value name_of
-own_plain options.InFormat = refl
-own_plain options.Keyset = refl
-own_plain options.KeysetFormat = refl
-
-pub own_joined : (name : OptionName) (value : List ℕ) → own_value (name_of name ++ (61 ∷ value)) ≡ Some (name_of name, value)
-unfolding own_value name_of
-own_joined options.InFormat value = let e : nat_lt 11 (length (codes "--in-format" ++ (61 ∷ value))) ≡ true = grind (arith, nat_tests) in rw e refl
-own_joined options.Keyset value = let e : nat_lt 8 (length (codes "--keyset" ++ (61 ∷ value))) ≡ true = grind (arith, nat_tests) in rw e refl
-own_joined options.KeysetFormat value = let e : nat_lt 15 (length (codes "--keyset-format" ++ (61 ∷ value))) ≡ true = grind (arith, nat_tests) in rw e refl
-
 equals_sign : (b : ℕ) → is_equals b ≡ true → b ≡ 61
 equals_sign b is = grind (arith, nat_tests)
 
@@ -98,71 +36,16 @@ own_cut word own is = own_test word own _ refl is
 
 -- Options, one after another.
 
--- these options with one more
-abbrev pub put : OptionName → List ℕ → Options → Options
-put options.InFormat value given = record given { in_format = Some formats.Binary; waiting = None }
-put options.Keyset value given = record given { keyset = Some value; waiting = None }
-put options.KeysetFormat value given = record given { keyset_format = Some formats.Binary; waiting = None }
-
-put_waits : (name : OptionName) (value : List ℕ) (given : Options) → (put name value given).waiting ≡ None
-put_waits options.InFormat value given = refl
-put_waits options.Keyset value given = refl
-put_waits options.KeysetFormat value given = refl
-
-put_after : (name : OptionName) (value : List ℕ) (waiting : Option OptionName) (given : Options) → put name value (record given { waiting = waiting }) ≡ put name value given
-put_after options.InFormat value waiting given = refl
-put_after options.Keyset value waiting given = refl
-put_after options.KeysetFormat value waiting given = refl
-
-pub put_there : (name : OptionName) (value : List ℕ) (given : Options) → is_given name (put name value given) ≡ true
-put_there options.InFormat value given = refl
-put_there options.Keyset value given = refl
-put_there options.KeysetFormat value given = refl
-
--- what was given stays so
-pub put_keeps : (name other : OptionName) (value : List ℕ) (given : Options) → is_given name given ≡ true → is_given name (put other value given) ≡ true
-put_keeps options.InFormat options.InFormat value given is = refl
-put_keeps options.Keyset options.Keyset value given is = refl
-put_keeps options.KeysetFormat options.KeysetFormat value given is = refl
-put_keeps name other value given is = is
-
--- and another one isn't given by it
-pub put_other : (name other : OptionName) (value : List ℕ) (given : Options) → (other ≡ name → ⊥) → is_given name given ≡ false → is_given name (put other value given) ≡ false
-put_other options.InFormat options.InFormat value given differs is = absurd (differs refl)
-put_other options.Keyset options.Keyset value given differs is = absurd (differs refl)
-put_other options.KeysetFormat options.KeysetFormat value given differs is = absurd (differs refl)
-put_other name other value given differs is = is
-
-pub put_same : (name other : OptionName) (value : List ℕ) (given : Options) → is_given name given ≡ false → is_given name (put other value given) ≡ true → other ≡ name
-put_same options.InFormat options.InFormat value given was is = refl
-put_same options.Keyset options.Keyset value given was is = refl
-put_same options.KeysetFormat options.KeysetFormat value given was is = refl
-put_same name other value given was is = let clash : false ≡ true = sym was ∙ is in absurd (cc)
-
 -- a value of its form is taken, and no other
-not_empty : (value : List ℕ) → value ≢ [] → (length value == 0) ≡ false
-not_empty [] some = absurd (some refl)
-not_empty (b ∷ bs) some = grind (arith, nat_tests)
+with_taken : (name : OptionName) (value : List ℕ) (place : ℕ) (given : Options) → IsValue (option_row name).form value → with_value name value place given ≡ Ok (put name value given)
+with_taken name value place given formed = rw (value_taken (option_row name).form value formed) refl
 
-value_taken : (name : OptionName) (value : List ℕ) (place : ℕ) (given : Options) → IsValue name value → with_value name value place given ≡ Ok (put name value given)
-unfolding format_of
-value_taken options.InFormat value place given formed = rw formed refl
-value_taken options.Keyset value place given formed = rw (not_empty value formed) refl
-value_taken options.KeysetFormat value place given formed = rw formed refl
+form_test : (name : OptionName) (value : List ℕ) (b : Bool) (place : ℕ) (given more : Options) → is_value (option_row name).form value ≡ b → (if b then Ok (put name value given) else Err place) ≡ Ok more → IsValue (option_row name).form value × (more ≡ put name value given)
+form_test name value true place given more formed is = (value_formed (option_row name).form value formed, let ok : Ok (put name value given) ≡ Ok more = is in cc)
+form_test name value false place given more formed is = let clash : Err place ≡ Ok more = is in absurd (cc)
 
-format_taken : (value : List ℕ) (b : Bool) (place : ℕ) (given : Format → Options) (more : Options) → bytes_eq value (codes "binary") ≡ b → with_format (if b then Some formats.Binary else None) place given ≡ Ok more → (value ≡ codes "binary") × (more ≡ given formats.Binary)
-format_taken value true place given more same is = (same_text value (codes "binary") same, let ok : Ok (given formats.Binary) ≡ Ok more = is in cc)
-format_taken value false place given more same is = let clash : Err place ≡ Ok more = is in absurd (cc)
-
-file_taken : (value : List ℕ) (b : Bool) (place : ℕ) (given more : Options) → (length value == 0) ≡ b → (if b then Err place else Ok given) ≡ Ok more → (value ≢ []) × (more ≡ given)
-file_taken value true place given more test is = let clash : Err place ≡ Ok more = is in absurd (cc)
-file_taken value false place given more test is = (λ none. let zero : (length value == 0) ≡ true = rw none refl in let clash : true ≡ false = sym zero ∙ test in cc, let ok : Ok given ≡ Ok more = is in cc)
-
-value_formed : (name : OptionName) (value : List ℕ) (place : ℕ) (given more : Options) → with_value name value place given ≡ Ok more → IsValue name value × (more ≡ put name value given)
-unfolding format_of
-value_formed options.InFormat value place given more is = format_taken value _ place (λ format. record given { in_format = Some format; waiting = None }) more refl is
-value_formed options.Keyset value place given more is = file_taken value _ place (record given { keyset = Some value; waiting = None }) more refl is
-value_formed options.KeysetFormat value place given more is = format_taken value _ place (λ format. record given { keyset_format = Some format; waiting = None }) more refl is
+with_formed : (name : OptionName) (value : List ℕ) (place : ℕ) (given more : Options) → with_value name value place given ≡ Ok more → IsValue (option_row name).form value × (more ≡ put name value given)
+with_formed name value place given more is = form_test name value _ place given more refl is
 
 -- an option that is new and the command's is taken, and no other
 option_taken : (command : CommandName) (name : OptionName) (place : ℕ) (given : Options) → takes command name ≡ true → is_given name given ≡ false → new_option command (Some name) place given ≡ Ok name
@@ -175,7 +58,7 @@ option_test false b found name place is = let clash : Err place ≡ Ok name = is
 
 -- what stands of an option that was taken: its text is its name, and it is the command's and new
 record Taken (command : CommandName) (text : List ℕ) (name : OptionName) (given : Options) : Type 0 where
-  named : text ≡ name_of name
+  named : text ≡ (option_row name).word
   takes : takes command name ≡ true
   new : is_given name given ≡ false
 
@@ -194,42 +77,42 @@ option_is command text (Some other) place given name named is =
 -- each option in turn is the command's, new, and of its form
 abbrev pub Runs : CommandName → Options → List Spelling → Type 0
 Runs command given [] = Unit {0}
-Runs command given (s ∷ more) = (takes command s.name ≡ true) × (is_given s.name given ≡ false) × IsValue s.name s.value × Runs command (put s.name s.value given) more
+Runs command given (s ∷ more) = (takes command s.name ≡ true) × (is_given s.name given ≡ false) × IsValue (option_row s.name).form s.value × Runs command (put s.name s.value given) more
 
 abbrev pub all_put : Options → List Spelling → Options
 all_put given [] = given
 all_put given (s ∷ more) = all_put (put s.name s.value given) more
 
 -- the words of a run are taken
-joined_word : (command : CommandName) (word : List ℕ) (first : ℕ) (given : Options) (name : OptionName) (value : List ℕ) → takes command name ≡ true → is_given name given ≡ false → IsValue name value → option_word command (Some (name_of name, value)) word first given ≡ Ok (put name value given)
-joined_word command word first given name value taken new formed = rw (name_found name, taken, new, value_taken name value first given formed) refl
+joined_word : (command : CommandName) (word : List ℕ) (first : ℕ) (given : Options) (name : OptionName) (value : List ℕ) → takes command name ≡ true → is_given name given ≡ false → IsValue (option_row name).form value → option_word command (Some ((option_row name).word, value)) word first given ≡ Ok (put name value given)
+joined_word command word first given name value taken new formed = rw (option_found name, taken, new, with_taken name value first given formed) refl
 
-joined_taken : (command : CommandName) (first : ℕ) (given : Options) (name : OptionName) (value : List ℕ) (rest : List (List ℕ)) → given.waiting ≡ None → takes command name ≡ true → is_given name given ≡ false → IsValue name value → options_of command first given ((name_of name ++ (61 ∷ value)) ∷ rest) ≡ options_of command (first + 1) (put name value given) rest
+joined_taken : (command : CommandName) (first : ℕ) (given : Options) (name : OptionName) (value : List ℕ) (rest : List (List ℕ)) → given.waiting ≡ None → takes command name ≡ true → is_given name given ≡ false → IsValue (option_row name).form value → options_of command first given (((option_row name).word ++ (61 ∷ value)) ∷ rest) ≡ options_of command (first + 1) (put name value given) rest
 joined_taken command first given name value rest waits taken new formed =
-    let word = name_of name ++ (61 ∷ value) in
+    let word = (option_row name).word ++ (61 ∷ value) in
     let next : next_word command word first given ≡ Ok (put name value given) =
     ap (λ (w : Option OptionName). word_after w command word first given) waits
     ∙ ap (λ (o : Option (List ℕ × List ℕ)). option_word command o word first given) (own_joined name value)
     ∙ joined_word command word first given name value taken new formed in
     ap (λ (r : Result Options ℕ). r >>= (λ more. options_of command (first + 1) more rest)) next
 
-name_word : (command : CommandName) (first : ℕ) (given : Options) (name : OptionName) → takes command name ≡ true → is_given name given ≡ false → option_word command None (name_of name) first given ≡ Ok (record given { waiting = Some name })
-name_word command first given name taken new = rw (name_found name, taken, new) refl
+name_word : (command : CommandName) (first : ℕ) (given : Options) (name : OptionName) → takes command name ≡ true → is_given name given ≡ false → option_word command None ((option_row name).word) first given ≡ Ok (record given { waiting = Some name })
+name_word command first given name taken new = rw (option_found name, taken, new) refl
 
-apart_taken : (command : CommandName) (first : ℕ) (given : Options) (name : OptionName) (value : List ℕ) (rest : List (List ℕ)) → given.waiting ≡ None → takes command name ≡ true → is_given name given ≡ false → IsValue name value → options_of command first given (name_of name ∷ value ∷ rest) ≡ options_of command (first + 1 + 1) (put name value given) rest
+apart_taken : (command : CommandName) (first : ℕ) (given : Options) (name : OptionName) (value : List ℕ) (rest : List (List ℕ)) → given.waiting ≡ None → takes command name ≡ true → is_given name given ≡ false → IsValue (option_row name).form value → options_of command first given ((option_row name).word ∷ value ∷ rest) ≡ options_of command (first + 1 + 1) (put name value given) rest
 apart_taken command first given name value rest waits taken new formed =
-    let word = name_of name in
+    let word = (option_row name).word in
     let mid = record given { waiting = Some name } in
     let next : next_word command word first given ≡ Ok mid =
     ap (λ (w : Option OptionName). word_after w command word first given) waits
     ∙ ap (λ (o : Option (List ℕ × List ℕ)). option_word command o word first given) (own_plain name)
     ∙ name_word command first given name taken new in
     let then_value : with_value name value (first + 1) mid ≡ Ok (put name value given) =
-    value_taken name value (first + 1) mid formed ∙ ap (λ (o : Options). Ok o) (put_after name value (Some name) given) in
+    with_taken name value (first + 1) mid formed in
     ap (λ (r : Result Options ℕ). r >>= (λ more. options_of command (first + 1) more (value ∷ rest))) next
     ∙ ap (λ (r : Result Options ℕ). r >>= (λ more. options_of command (first + 1 + 1) more rest)) then_value
 
-one_taken : (command : CommandName) (first : ℕ) (given : Options) (name : OptionName) (value : List ℕ) (joined : Bool) (more : List Spelling) → given.waiting ≡ None → takes command name ≡ true → is_given name given ≡ false → IsValue name value → ((place : ℕ) → options_of command place (put name value given) (flat_map spelled more) ≡ Ok (all_put (put name value given) more)) → options_of command first given (spelled_as joined (name_of name) value ++ flat_map spelled more) ≡ Ok (all_put (put name value given) more)
+one_taken : (command : CommandName) (first : ℕ) (given : Options) (name : OptionName) (value : List ℕ) (joined : Bool) (more : List Spelling) → given.waiting ≡ None → takes command name ≡ true → is_given name given ≡ false → IsValue (option_row name).form value → ((place : ℕ) → options_of command place (put name value given) (flat_map spelled more) ≡ Ok (all_put (put name value given) more)) → options_of command first given (spelled_as joined ((option_row name).word) value ++ flat_map spelled more) ≡ Ok (all_put (put name value given) more)
 one_taken command first given name value true more waits taken new formed later = joined_taken command first given name value (flat_map spelled more) waits taken new formed ∙ later (first + 1)
 one_taken command first given name value false more waits taken new formed later = apart_taken command first given name value (flat_map spelled more) waits taken new formed ∙ later (first + 1 + 1)
 
@@ -237,12 +120,12 @@ pub run_taken : (command : CommandName) (first : ℕ) (given : Options) (run : L
 run_taken command first given [] waits runs = rw waits refl
 run_taken command first given (s ∷ more) waits runs =
     one_taken command first given s.name s.value s.joined more waits runs.0 runs.1 runs.2
-    (λ place. run_taken command place (put s.name s.value given) more (put_waits s.name s.value given) runs.3)
+    (λ place. run_taken command place (put s.name s.value given) more refl runs.3)
 
 -- words that were taken are those of a run
 abbrev pub Read : Option OptionName → CommandName → Options → List (List ℕ) → Options → Type 0
 Read None command given words last = (run : List Spelling) × (words ≡ flat_map spelled run) × Runs command given run × (last ≡ all_put given run)
-Read (Some name) command given words last = (value : List ℕ) × (run : List Spelling) × (words ≡ value ∷ flat_map spelled run) × IsValue name value × Runs command (put name value given) run × (last ≡ all_put (put name value given) run)
+Read (Some name) command given words last = (value : List ℕ) × (run : List Spelling) × (words ≡ value ∷ flat_map spelled run) × IsValue (option_row name).form value × Runs command (put name value given) run × (last ≡ all_put (put name value given) run)
 
 ended_read : (waiting : Option OptionName) (command : CommandName) (first : ℕ) (given last : Options) → ended waiting first given ≡ Ok last → Read waiting command given [] last
 ended_read None command first given last is = ([], refl, tt, let ok : Ok given ≡ Ok last = is in cc)
@@ -251,12 +134,11 @@ ended_read (Some name) command first given last is = let clash : Err first ≡ O
 -- what was read behind a value, of the options with it
 behind_value : (name : OptionName) (value : List ℕ) (command : CommandName) (given more : Options) (words : List (List ℕ)) (last : Options) → more ≡ put name value given → Read more.waiting command more words last → Read None command (put name value given) words last
 behind_value name value command given more words last same later =
-    let there = subst (λ (o : Options). Read o.waiting command o words last) same later in
-    subst (λ (w : Option OptionName). Read w command (put name value given) words last) (put_waits name value given) there
+    subst (λ (o : Options). Read o.waiting command o words last) same later
 
 value_read : (name : OptionName) (value : List ℕ) (command : CommandName) (place : ℕ) (given more : Options) (words : List (List ℕ)) (last : Options) → with_value name value place given ≡ Ok more → Read more.waiting command more words last → Read (Some name) command given (value ∷ words) last
 value_read name value command place given more words last is later =
-    let formed = value_formed name value place given more is in
+    let formed = with_formed name value place given more is in
     let run = behind_value name value command given more words last formed.1 later in
     (value, run.0, ap (λ (ws : List (List ℕ)). value ∷ ws) run.1, formed.0, run.2, run.3)
 
@@ -264,11 +146,11 @@ own_read : (command : CommandName) (own : List ℕ × List ℕ) (word : List ℕ
 own_read command own word place given more words last (Err at) cut_is test is later = let clash : Err at ≡ Ok more = is in absurd (cc)
 own_read command own word place given more words last (Ok name) cut_is test is later =
     let taken = option_is command own.0 (option_of own.0) place given name refl test in
-    let formed = value_formed name own.1 place given more is in
+    let formed = with_formed name own.1 place given more is in
     let run = behind_value name own.1 command given more words last formed.1 later in
-    let named : word ≡ name_of name ++ (61 ∷ own.1) = cut_is ∙ ap (λ (text : List ℕ). text ++ (61 ∷ own.1)) taken.named in (
+    let named : word ≡ (option_row name).word ++ (61 ∷ own.1) = cut_is ∙ ap (λ (text : List ℕ). text ++ (61 ∷ own.1)) taken.named in (
       record { name = name; value = own.1; joined = true } ∷ run.0,
-      ap (λ (w : List ℕ). w ∷ words) named ∙ ap (λ (ws : List (List ℕ)). (name_of name ++ (61 ∷ own.1)) ∷ ws) run.1,
+      ap (λ (w : List ℕ). w ∷ words) named ∙ ap (λ (ws : List (List ℕ)). ((option_row name).word ++ (61 ∷ own.1)) ∷ ws) run.1,
       (taken.takes, taken.new, formed.0, run.2),
       run.3,
     )
@@ -278,12 +160,11 @@ name_read command word place given more words last (Err at) test is later = let 
 name_read command word place given more words last (Ok name) test is later =
     let taken = option_is command word (option_of word) place given name refl test in
     let same : record given { waiting = Some name } ≡ more = (let ok : Ok (record given { waiting = Some name }) ≡ Ok more = is in cc) in
-    let there = subst (λ (o : Options). Read o.waiting command o words last) (sym same) later in
-    let rest = subst (λ (o : Options). Runs command o there.1 × (last ≡ all_put o there.1)) (put_after name there.0 (Some name) given) (there.4, there.5) in (
+    let there = subst (λ (o : Options). Read o.waiting command o words last) (sym same) later in (
       record { name = name; value = there.0; joined = false } ∷ there.1,
-      ap (λ (w : List ℕ). w ∷ words) taken.named ∙ ap (λ (ws : List (List ℕ)). name_of name ∷ ws) there.2,
-      (taken.takes, taken.new, there.3, rest.0),
-      rest.1,
+      ap (λ (w : List ℕ). w ∷ words) taken.named ∙ ap (λ (ws : List (List ℕ)). (option_row name).word ∷ ws) there.2,
+      (taken.takes, taken.new, there.3, there.4),
+      there.5,
     )
 
 word_read : (own : Option (List ℕ × List ℕ)) (command : CommandName) (word : List ℕ) (place : ℕ) (given more : Options) (words : List (List ℕ)) (last : Options) → own_value word ≡ own → option_word command own word place given ≡ Ok more → Read more.waiting command more words last → Read None command given (word ∷ words) last

@@ -1,35 +1,54 @@
 -- How a run of a plan may end, whatever fails.
-use Rattle.std.specs.Prelude.{◌≡◌, ◌⊎◌, ℕ, ◌+◌, ◌≤◌, List, length, Some, None}
-use Rattle.tink_spec.specs.Files.{StoreState, KeptFiles, Holds, HoldsLonger}
-use Rattle.tink_spec.specs.Outside.{SourceState, SinkState, Rose, Stood, Gave, GaveUpTo, GaveCount, Took, TookPrefix, IsAtEnd}
+use Rattle.std.specs.Prelude.{◌≡◌, ◌⊎◌, ℕ, ◌+◌, ◌≤◌, List, ◌++◌, length, Some, None, Result}
+use Rattle.tink_spec.specs.Files.{StoreState, KeptFiles, Holds, HoldsSome, HoldsLonger, Added, MayAdd}
+use Rattle.tink_spec.specs.Outside.{SourceState, SinkState, EntropyState, Rose, Stood, Gave, GaveUpTo, GaveCount, Took, TookPrefix, Drew, IsAtEnd}
+use Rattle.keyset_model.specs.Keyset.{Keys}
+use Rattle.tinkey_cmds.specs.Draws.{Draw, answered}
+use Rattle.tinkey_cmds.specs.Applying.{RanOut}
+use Rattle.tinkey_cmds.specs.declared.command.CmdFault.{CmdFault}
 use Rattle.tinkey_run.specs.declared.status.Status.{Status}
 use Rattle.tinkey_run.specs.declared.status.Status.TheVariants as status
-use Rattle.tinkey_run.specs.Plan.{Plan, ends, writes, allocates, loads, reads_all}
+use Rattle.tinkey_run.specs.Plan.{Plan, ends, writes, creates, allocates, loads, reads_all, edits}
 
 -- the outside objects at one moment
 pub record World : Type 0 where
   pub source : SourceState
   pub sink : SinkState
   pub store : StoreState
+  pub entropy : EntropyState
 
 -- the objects as they are seen
-abbrev pub world : SourceState → SinkState → StoreState → World
-world source sink store = record { source = source; sink = sink; store = store }
+abbrev pub world : SourceState → SinkState → StoreState → EntropyState → World
+world source sink store entropy = record {
+  source = source;
+  sink = sink;
+  store = store;
+  entropy = entropy;
+}
 
 -- all objects but the source are as before
 pub record OnlySource (old new : World) : Type 0 where
   pub sink : old.sink ≡ new.sink
   pub store : old.store ≡ new.store
+  pub entropy : old.entropy ≡ new.entropy
 
 -- all objects but the sink are as before
 pub record OnlySink (old new : World) : Type 0 where
   pub source : old.source ≡ new.source
   pub store : old.store ≡ new.store
+  pub entropy : old.entropy ≡ new.entropy
 
 -- all objects but the store are as before
 pub record OnlyStore (old new : World) : Type 0 where
   pub source : old.source ≡ new.source
   pub sink : old.sink ≡ new.sink
+  pub entropy : old.entropy ≡ new.entropy
+
+-- all objects but the entropy are as before
+pub record OnlyEntropy (old new : World) : Type 0 where
+  pub source : old.source ≡ new.source
+  pub sink : old.sink ≡ new.sink
+  pub store : old.store ≡ new.store
 
 -- Where an object failed, its count of faults rose; with each other end that count stood, so that
 -- no fault is passed over or told as something else.
@@ -40,6 +59,21 @@ pub data EndsWriting (output : List ℕ) (old : World) (s : Status) (new : World
       Took old.sink new.sink output → EndsWriting output old s new
   write_failed : s ≡ status.WriteFault → OnlySink old new → Rose old.sink.faults new.sink.faults →
       TookPrefix old.sink new.sink output → EndsWriting output old s new
+
+-- the file was made, or one was there; or the store failed, and may have made it with the first of
+-- the bytes; or memory was wanting
+pub data EndsCreating (name output : List ℕ) (taken : Status)
+    (old : World) (s : Status) (new : World) : Type 0 where
+  made : s ≡ status.Done → OnlyStore old new → Stood old.store.faults new.store.faults →
+      Added old.store new.store name output → EndsCreating name output taken old s new
+  name_taken : s ≡ taken → OnlyStore old new → KeptFiles old.store new.store →
+      Stood old.store.faults new.store.faults → HoldsSome old.store name →
+      EndsCreating name output taken old s new
+  create_failed : s ≡ status.StoreFault → OnlyStore old new →
+      Rose old.store.faults new.store.faults → MayAdd old.store new.store name output →
+      EndsCreating name output taken old s new
+  create_starved : s ≡ status.NoMemory → OnlyStore old new → KeptFiles old.store new.store →
+      Stood old.store.faults new.store.faults → EndsCreating name output taken old s new
 
 -- the file was loaded, and then it went on; or it is missing, or longer than the limit; or the store
 -- failed, or memory was wanting
@@ -77,12 +111,30 @@ pub data EndsReading (limit : ℕ) (long : Status) (Then : List ℕ → World �
       Stood old.source.faults new.source.faults → GaveUpTo old.source new.source limit →
       EndsReading limit long Then old s new
 
+-- these bytes are all that is drawn, whatever stands behind them, and they give this
+abbrev pub Settles : Draw Keys → (drawn : List ℕ) → Result Keys CmdFault → Type 0
+Settles give drawn given = (more : List ℕ) → give (drawn ++ more) ≡ answered given more
+
+-- the bytes were drawn that settle the keyset or its refusal, and then it went on; or the entropy
+-- failed before they were there
+pub data EndsEditing (give : Draw Keys)
+    (Then : Result Keys CmdFault → World → Status → World → Type 0)
+    (old : World) (s : Status) (new : World) : Type 0 where
+  settled : (drawn : List ℕ) (entropy : EntropyState) (given : Result Keys CmdFault) →
+      Drew old.entropy entropy drawn → Stood old.entropy.faults entropy.faults →
+      Settles give drawn given → Then given (record old { entropy = entropy }) s new →
+      EndsEditing give Then old s new
+  draw_failed : s ≡ status.EntropyFault → OnlyEntropy old new →
+      RanOut give old.entropy new.entropy → EndsEditing give Then old s new
+
 -- how a run of the plan may end, step by step
 abbrev pub Ends : Plan → World → Status → World → Type 0
 Ends (ends stated_status stated) old s new = (s ≡ stated_status) × (old ≡ new)
 Ends (writes output) old s new = EndsWriting output old s new
+Ends (creates name output taken stated) old s new = EndsCreating name output taken old s new
 Ends (allocates next) old s new = Ends next old s new ⊎ ((s ≡ status.NoMemory) × (old ≡ new))
 Ends (loads name limit absent long a l next) old s new =
     EndsLoading name limit absent long (λ bytes. Ends (next bytes)) old s new
 Ends (reads_all limit long stated next) old s new =
     EndsReading limit long (λ all. Ends (next all)) old s new
+Ends (edits give next) old s new = EndsEditing give (λ given. Ends (next given)) old s new

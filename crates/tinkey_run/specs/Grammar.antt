@@ -1,17 +1,19 @@
 -- What the grammar of the command's words comes to, said of the words as a whole.
 --
 --   PlacesAreDecided   the place of a word at fault depends on the words up to it alone
---   WordsAreSpelled    words are accepted exactly where they spell a command's word and then options
---                      that fit its row, in any order
+--   WordsAreSpelled    words are accepted exactly where they spell a command's word and then
+--                      options that fit its row, in any order
 --
--- A further command is a row of `row_of`, and a further option a name and a form.
-use Rattle.std.specs.Prelude.{◌≡◌, ◌≢◌, ◌⊎◌, ◌↔◌, ℕ, ◌+◌, List, [], ◌∷◌, ◌++◌, length, Bool, if◌then◌else◌, Ok, Err, codes}
+-- The commands and options are those of the tables of Rows.
+use Rattle.std.specs.Prelude.{◌≡◌, ◌≢◌, ◌⊎◌, ◌↔◌, ℕ, ◌+◌, ◌<◌, ◌≤◌, List, [], ◌∷◌, ◌++◌, length, Bool, true, None, Some, if◌then◌else◌, Ok, Err, codes}
 use Rattle.std.specs.List.{AllByRecursion, flat_map}
-use Rattle.tinkey_run.specs.declared.words.CommandName.{CommandName}
-use Rattle.tinkey_run.specs.declared.words.CommandName.TheVariants as commands
-use Rattle.tinkey_run.specs.declared.words.OptionName.{OptionName}
-use Rattle.tinkey_run.specs.declared.words.OptionName.TheVariants as options
-use Rattle.tinkey_run.specs.Words.{Asked, list_keyset, tag, words_of}
+use Rattle.std.specs.Str.{all_ascii_digits, str_to_ascii_lowercase}
+use Rattle.tinkey_run.specs.declared.words.rows.CommandName.{CommandName}
+use Rattle.tinkey_run.specs.declared.words.rows.Form.{Form}
+use Rattle.tinkey_run.specs.declared.words.rows.Form.TheVariants as forms
+use Rattle.tinkey_run.specs.declared.words.rows.OptionName.{OptionName}
+use Rattle.tinkey_run.specs.Rows.{Row, row_of, option_row, same, digits_after}
+use Rattle.tinkey_run.specs.Words.{Asked, Values, asked_with, words_of}
 
 -- where the word of a place is at fault, it is so whatever words stand behind it
 abbrev pub PlacesAreDecided : Type 0
@@ -19,30 +21,21 @@ PlacesAreDecided = (front rest others : List (List ℕ)) (place : ℕ) →
     length front ≡ place + 1 → words_of (front ++ rest) ≡ Err place →
     words_of (front ++ others) ≡ Err place
 
--- a command's word, the options that it requires, and those that it may have
-pub record Row : Type 0 where
-  pub word : List ℕ
-  pub required : List OptionName
-  pub optional : List OptionName
+-- a text of 1 to 10 decimal digits, of a number up to 4,294,967,295
+pub record IsNumber (text : List ℕ) : Type 0 where
+  pub digits : all_ascii_digits text ≡ true
+  pub some : 0 < length text
+  pub short : length text ≤ 10
+  pub within : digits_after 0 text ≤ 4294967295
 
--- the row of each command
-abbrev pub row_of : CommandName → Row
-row_of commands.ListKeyset =
-    record { word = codes "list-keyset"; required = options.InFormat ∷ []; optional = [] }
-row_of commands.Tag =
-    record { word = codes "tag"; required = options.Keyset ∷ options.KeysetFormat ∷ []; optional = [] }
-
--- the name of an option, as a word
-unfoldable pub name_of : OptionName → List ℕ
-name_of options.InFormat = codes "--in-format"
-name_of options.Keyset = codes "--keyset"
-name_of options.KeysetFormat = codes "--keyset-format"
-
--- the value of an option is of its form: binary, or the name of a file, which isn't empty
-abbrev pub IsValue : OptionName → List ℕ → Type 0
-IsValue options.InFormat value = value ≡ codes "binary"
-IsValue options.Keyset value = value ≢ []
-IsValue options.KeysetFormat value = value ≡ codes "binary"
+-- the value is of the form
+abbrev pub IsValue : Form → List ℕ → Type 0
+IsValue forms.Text value = Unit {0}
+IsValue forms.FileName value = value ≢ []
+IsValue forms.Number value = IsNumber value
+IsValue forms.Format value =
+    (str_to_ascii_lowercase value ≡ codes "json")
+    ⊎ (str_to_ascii_lowercase value ≡ codes "binary")
 
 -- an option with its value, and whether they stand in one word
 pub record Spelling : Type 0 where
@@ -56,17 +49,12 @@ spelled_as joined name value = if joined then (name ++ (61 ∷ value)) ∷ [] el
 
 -- the words of an option as it is spelled
 abbrev pub spelled : Spelling → List (List ℕ)
-spelled s = spelled_as s.joined (name_of s.name) s.value
-
--- one of them is this option with this value
-abbrev pub IsGivenAs : OptionName → List ℕ → List Spelling → Type 0
-IsGivenAs name value [] = ⊥
-IsGivenAs name value (s ∷ given) =
-    ((s.name ≡ name) × (s.value ≡ value)) ⊎ IsGivenAs name value given
+spelled s = spelled_as s.joined (option_row s.name).word s.value
 
 -- one of them is this option
 abbrev pub IsGiven : OptionName → List Spelling → Type 0
-IsGiven name given = (value : List ℕ) × IsGivenAs name value given
+IsGiven name [] = ⊥
+IsGiven name (s ∷ given) = (s.name ≡ name) ⊎ IsGiven name given
 
 -- no option is there twice
 abbrev pub IsOnce : List Spelling → Type 0
@@ -83,14 +71,13 @@ IsOneOf name (other ∷ names) = (name ≡ other) ⊎ IsOneOf name names
 pub record Fits (row : Row) (given : List Spelling) : Type 0 where
   pub once : IsOnce given
   pub taken : AllByRecursion (λ s. IsOneOf s.name (row.required ++ row.optional)) given
-  pub formed : AllByRecursion (λ s. IsValue s.name s.value) given
+  pub formed : AllByRecursion (λ s. IsValue (option_row s.name).form s.value) given
   pub complete : AllByRecursion (λ name. IsGiven name given) row.required
 
--- what the command asks with these options
-abbrev pub Asks : CommandName → List Spelling → Asked → Type 0
-Asks commands.ListKeyset given asked = asked ≡ list_keyset
-Asks commands.Tag given asked =
-    (name : List ℕ) × (asked ≡ tag name) × IsGivenAs options.Keyset name given
+-- the value that each option has, the first one of it
+abbrev pub values_of : List Spelling → Values
+values_of [] name = None
+values_of (s ∷ given) name = if same s.name name then Some s.value else values_of given name
 
 -- the words spell a command that asks so
 pub record Spells (words : List (List ℕ)) (asked : Asked) : Type 0 where
@@ -98,7 +85,7 @@ pub record Spells (words : List (List ℕ)) (asked : Asked) : Type 0 where
   pub given : List Spelling
   pub are : words ≡ (row_of command).word ∷ flat_map spelled given
   pub fits : Fits (row_of command) given
-  pub asks : Asks command given asked
+  pub asks : asked ≡ asked_with command (values_of given)
 
 -- the words are accepted as what they ask exactly where they spell it
 abbrev pub WordsAreSpelled : Type 0

@@ -14,8 +14,8 @@ use Rattle.tink_base.specs.Hash.{hash_of_number, hash_size}
 use Rattle.tink_base.specs.declared.hash.Hash.{Hash}
 use Rattle.proto_wire.specs.declared.field.FieldsError.{FieldsError}
 use Rattle.proto_wire.specs.declared.field.FieldsError.TheVariants as errors
-use Rattle.tinkey_run.specs.declared.rule.Rule.{Rule}
-use Rattle.tinkey_run.specs.declared.rule.Rule.TheVariants as broken
+use Rattle.key_msgs.specs.declared.rule.Rule.{Rule}
+use Rattle.key_msgs.specs.declared.rule.Rule.TheVariants as broken
 use Rattle.tinkey_run.specs.declared.hmac_key.HmacKey.{HmacKey}
 use Rattle.tinkey_run.specs.declared.hmac_key.KeyFault.{KeyFault}
 use Rattle.tinkey_run.specs.declared.hmac_key.KeyFault.TheVariants as faults

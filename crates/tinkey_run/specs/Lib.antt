@@ -4,6 +4,7 @@ pub mod Grammar
 pub mod HmacKey
 pub mod Plan
 pub mod Promises
+pub mod Rows
 pub mod Status
 pub mod Steps
 pub mod TagAnswers

@@ -1,8 +1,11 @@
 -- What a command does, step by step in the order of refusals, and the answer that it has where
 -- nothing fails.
-use Rattle.std.specs.Prelude.{ℕ, ◌+◌, List, [], length, drop, Option, Some, None, nat_le, if◌then◌else◌}
+use Rattle.std.specs.Prelude.{ℕ, ◌+◌, List, [], length, drop, Option, Some, None, Result, nat_le, if◌then◌else◌}
 use Rattle.std.specs.FinMap as map
 use Rattle.tink_spec.specs.Files.{Files}
+use Rattle.keyset_model.specs.Keyset.{Keys}
+use Rattle.tinkey_cmds.specs.Draws.{Draw, Drawn}
+use Rattle.tinkey_cmds.specs.declared.command.CmdFault.{CmdFault}
 use Rattle.tinkey_run.specs.declared.status.Status.{Status}
 use Rattle.tinkey_run.specs.declared.status.Status.TheVariants as status
 
@@ -10,6 +13,7 @@ use Rattle.tinkey_run.specs.declared.status.Status.TheVariants as status
 abbrev pub IsStated : Status → Type 0
 IsStated status.ReadFault = ⊥
 IsStated status.WriteFault = ⊥
+IsStated status.EntropyFault = ⊥
 IsStated status.StoreFault = ⊥
 IsStated status.NoMemory = ⊥
 IsStated _ = Unit {0}
@@ -20,6 +24,8 @@ pub data Plan : Type 0 where
   ends : (s : Status) → IsStated s → Plan
   -- these bytes go to the sink, and the answer is Done
   writes : (output : List ℕ) → Plan
+  -- these bytes become a file of this name, and the answer is Done; one that is there is answered so
+  creates : (name output : List ℕ) (taken : Status) → IsStated taken → Plan
   -- from here on memory may be wanting
   allocates : (next : Plan) → Plan
   -- a file is loaded; one that is missing, or of more bytes than the limit, is answered so
@@ -27,21 +33,32 @@ pub data Plan : Type 0 where
       (next : List ℕ → Plan) → Plan
   -- the whole source is read; one of more bytes than the limit is answered so
   reads_all : (limit : ℕ) (long : Status) → IsStated long → (next : List ℕ → Plan) → Plan
+  -- a keyset is made of random bytes, as many as that takes; the keyset or its refusal goes on
+  edits : (give : Draw Keys) → (next : Result Keys CmdFault → Plan) → Plan
 
 -- what the outside objects tell
 pub record Told : Type 0 where
   pub input : List ℕ
   pub files : Files
+  pub random : List ℕ
 
--- the status, the input that is left, and the output
+-- the status, the output, the files after it, and the input and the random bytes that are left
 pub record Answer : Type 0 where
   pub status : Status
   pub input : List ℕ
   pub output : List ℕ
+  pub files : Files
+  pub random : List ℕ
 
--- a refusal before any byte of the input
+-- a refusal, of no further use of what is told
 abbrev pub refused : Told → Status → Answer
-refused told s = record { status = s; input = told.input; output = [] }
+refused told s = record {
+  status = s;
+  input = told.input;
+  output = [];
+  files = told.files;
+  random = told.random;
+}
 
 -- the answer after a load
 abbrev pub load_answer : Option (List ℕ) → ℕ → Answer → Answer → (List ℕ → Answer) → Answer
@@ -49,14 +66,31 @@ load_answer None limit absent long next = absent
 load_answer (Some bytes) limit absent long next =
     if nat_le (length bytes) limit then next bytes else long
 
+-- the answer of a new file of this name, where that is free
+abbrev pub create_answer : Option (List ℕ) → Told → (name output : List ℕ) → Answer → Answer
+create_answer (Some there) told name output taken = taken
+create_answer None told name output taken = record (refused told status.Done) {
+  files = map.insert told.files name output;
+}
+
+-- the answer after random bytes were drawn; where they don't suffice, the entropy can but fail
+abbrev pub edit_answer : Option (Drawn Keys) → Answer → (Drawn Keys → Answer) → Answer
+edit_answer None short next = short
+edit_answer (Some drawn) short next = next drawn
+
 -- the stated answer over what is told
 abbrev pub answer : Plan → Told → Answer
 answer (ends s stated) told = refused told s
-answer (writes output) told = record { status = status.Done; input = told.input; output = output }
+answer (writes output) told = record (refused told status.Done) { output = output }
+answer (creates name output taken stated) told =
+    create_answer (map.get told.files name) told name output (refused told taken)
 answer (allocates next) told = answer next told
 answer (loads name limit absent long a l next) told =
     load_answer (map.get told.files name) limit (refused told absent) (refused told long)
     (λ bytes. answer (next bytes) told)
 answer (reads_all limit long stated next) told =
     if nat_le (length told.input) limit then answer (next told.input) (record told { input = [] })
-    else record { status = long; input = drop (limit + 1) told.input; output = [] }
+    else record (refused told long) { input = drop (limit + 1) told.input }
+answer (edits give next) told =
+    edit_answer (give told.random) (refused told status.EntropyFault)
+    (λ drawn. answer (next drawn.answer) (record told { random = drawn.left }))

@@ -1,24 +1,29 @@
 -- What is promised of every run, over its plan, the objects before and after, and its status.
-use Rattle.std.specs.Prelude.{◌≡◌, ◌≢◌, ◌⊎◌, ℕ, ◌+◌, ◌<◌, ◌≤◌, List, [], ◌++◌, length, Option, Some, None}
-use Rattle.tink_spec.specs.Files.{Files, StoreState, KeptFiles, Holds, HoldsLonger}
-use Rattle.tink_spec.specs.Outside.{Rose, Stood, Gave, Took, TookPrefix}
+use Rattle.std.specs.Prelude.{◌≡◌, ◌≢◌, ◌⊎◌, ℕ, ◌+◌, ◌<◌, ◌≤◌, List, [], ◌++◌, length, Option, Some, None, Result}
+use Rattle.std.specs.FinMap as map
+use Rattle.tink_spec.specs.Files.{Files, StoreState, KeptFiles, Holds, HoldsSome, HoldsLonger, AddedFront}
+use Rattle.tink_spec.specs.Outside.{Rose, Stood, Gave, Took, TookPrefix, Drew}
+use Rattle.keyset_model.specs.Keyset.{Keys}
+use Rattle.tinkey_cmds.specs.declared.command.CmdFault.{CmdFault}
 use Rattle.tinkey_run.specs.declared.status.Status.{Status}
 use Rattle.tinkey_run.specs.declared.status.Status.TheVariants as status
-use Rattle.tinkey_run.specs.Plan.{Plan, ends, writes, allocates, loads, reads_all, Told, Answer, answer, IsStated}
-use Rattle.tinkey_run.specs.Ends.{World, Ends}
+use Rattle.tinkey_run.specs.Plan.{Plan, ends, writes, creates, allocates, loads, reads_all, edits, Told, Answer, answer, IsStated}
+use Rattle.tinkey_run.specs.Ends.{World, Ends, Settles}
 
 -- the objects tell these bytes
 pub record Tells (w : World) (told : Told) : Type 0 where
   pub input : w.source.left ≡ Some told.input
   pub files : w.store.files ≡ Some told.files
+  pub random : w.entropy.left ≡ Some told.random
 
--- the status, the input that is left and the output appended are those of the answer, and the files
--- are as before
+-- the status, the output appended, the files, and the input and the random bytes that are left are
+-- those of the answer
 pub record IsAnswer (a : Answer) (old : World) (s : Status) (new : World) : Type 0 where
   pub status : s ≡ a.status
   pub input : new.source.left ≡ Some a.input
   pub output : Took old.sink new.sink a.output
-  pub files : KeptFiles old.store new.store
+  pub files : new.store.files ≡ Some a.files
+  pub random : new.entropy.left ≡ Some a.random
 
 -- The stated answer: over objects that tell, each status but the faults and NoMemory is the
 -- answer's, and so is all that was done.
@@ -30,6 +35,7 @@ pub record HasCause (old : World) (s : Status) (new : World) : Type 0 where
   pub read : s ≡ status.ReadFault → Rose old.source.faults new.source.faults
   pub write : s ≡ status.WriteFault → Rose old.sink.faults new.sink.faults
   pub store : s ≡ status.StoreFault → Rose old.store.faults new.store.faults
+  pub entropy : s ≡ status.EntropyFault → Rose old.entropy.faults new.entropy.faults
 
 -- No fault is hidden: where the status isn't the fault of an object, no call of that object has
 -- failed. Of the diagnostic sink nothing is said.
@@ -37,6 +43,7 @@ pub record ShowsFaults (old : World) (s : Status) (new : World) : Type 0 where
   pub read : s ≢ status.ReadFault → Stood old.source.faults new.source.faults
   pub write : s ≢ status.WriteFault → Stood old.sink.faults new.sink.faults
   pub store : s ≢ status.StoreFault → Stood old.store.faults new.store.faults
+  pub entropy : s ≢ status.EntropyFault → Stood old.entropy.faults new.entropy.faults
 
 -- these bytes are the first of those, and at least one isn't there
 pub record IsFront (front whole : List ℕ) : Type 0 where
@@ -48,53 +55,93 @@ pub record IsFront (front whole : List ℕ) : Type 0 where
 abbrev pub over_files : Option Files → StoreState
 over_files files = record { files = files; faults = 0 }
 
+-- what was taken of the source, drawn of the entropy, and written to the sink
+pub record Moved : Type 0 where
+  pub taken : List ℕ
+  pub drawn : List ℕ
+  pub written : List ℕ
+
+-- nothing was
+abbrev pub nothing : Moved
+nothing = record { taken = []; drawn = []; written = [] }
+
 -- A run of the plan over these files may be left with this status where exactly these bytes were
--- taken and written. Where it is left at a step, the steps before it have gone on, and later steps
--- have taken and written nothing.
-abbrev pub IsLeft : Plan → Option Files → Status → List ℕ → List ℕ → Type 0
-IsLeft (ends stated_status stated) files s taken written =
-    (s ≡ stated_status) × (taken ≡ []) × (written ≡ [])
-IsLeft (writes output) files s taken written =
-    (taken ≡ []) × (((s ≡ status.Done) × (written ≡ output))
-    ⊎ ((s ≡ status.WriteFault) × IsFront written output))
-IsLeft (allocates next) files s taken written =
-    ((s ≡ status.NoMemory) × (taken ≡ []) × (written ≡ [])) ⊎ IsLeft next files s taken written
-IsLeft (loads name limit absent long a l next) files s taken written =
-    ((taken ≡ []) × (written ≡ []) × (((s ≡ absent) × Holds (over_files files) name None)
+-- taken, drawn and written. Where it is left at a step, the steps before it have gone on, and later
+-- steps have moved nothing.
+abbrev pub IsLeft : Plan → Option Files → Status → Moved → Type 0
+IsLeft (ends stated_status stated) files s moved = (s ≡ stated_status) × (moved ≡ nothing)
+IsLeft (writes output) files s moved =
+    ((s ≡ status.Done) × (moved ≡ record nothing { written = output }))
+    ⊎ ((s ≡ status.WriteFault) × IsFront moved.written output
+    × (moved ≡ record nothing { written = moved.written }))
+IsLeft (creates name output taken stated) files s moved =
+    (moved ≡ nothing) × (((s ≡ status.Done) × Holds (over_files files) name None)
+    ⊎ ((s ≡ taken) × HoldsSome (over_files files) name)
+    ⊎ (s ≡ status.StoreFault) ⊎ (s ≡ status.NoMemory))
+IsLeft (allocates next) files s moved =
+    ((s ≡ status.NoMemory) × (moved ≡ nothing)) ⊎ IsLeft next files s moved
+IsLeft (loads name limit absent long a l next) files s moved =
+    ((moved ≡ nothing) × (((s ≡ absent) × Holds (over_files files) name None)
     ⊎ ((s ≡ long) × HoldsLonger (over_files files) name limit)
     ⊎ (s ≡ status.StoreFault) ⊎ (s ≡ status.NoMemory)))
     ⊎ ((bytes : List ℕ) × Holds (over_files files) name (Some bytes) × (length bytes ≤ limit)
-    × IsLeft (next bytes) files s taken written)
-IsLeft (reads_all limit long stated next) files s taken written =
-    ((written ≡ []) × (((s ≡ long) × (length taken ≡ limit + 1))
-    ⊎ (((s ≡ status.ReadFault) ⊎ (s ≡ status.NoMemory)) × (length taken ≤ limit))))
-    ⊎ ((all : List ℕ) × (more : List ℕ) × (all ++ more ≡ taken) × (length all ≤ limit)
-    × IsLeft (next all) files s more written)
+    × IsLeft (next bytes) files s moved)
+IsLeft (reads_all limit long stated next) files s moved =
+    ((moved ≡ record nothing { taken = moved.taken })
+    × (((s ≡ long) × (length moved.taken ≡ limit + 1))
+    ⊎ (((s ≡ status.ReadFault) ⊎ (s ≡ status.NoMemory)) × (length moved.taken ≤ limit))))
+    ⊎ ((all : List ℕ) × (more : List ℕ) × (all ++ more ≡ moved.taken) × (length all ≤ limit)
+    × IsLeft (next all) files s (record moved { taken = more }))
+IsLeft (edits give next) files s moved =
+    ((s ≡ status.EntropyFault) × (give moved.drawn ≡ None)
+    × (moved ≡ record nothing { drawn = moved.drawn }))
+    ⊎ ((drawn : List ℕ) × (more : List ℕ) × (given : Result Keys CmdFault)
+    × (drawn ++ more ≡ moved.drawn) × Settles give drawn given
+    × IsLeft (next given) files s (record moved { drawn = more }))
 
--- What was taken and written, whatever the status: a fault comes before each refusal that the files
--- and the bytes taken decide, and what was written is what the plan gives out for them.
+-- What was taken, drawn and written, whatever the status: a fault comes before each refusal that the
+-- files and the bytes taken and drawn decide, and what was written is what the plan gives out for
+-- them.
 pub record Leaves (p : Plan) (old : World) (s : Status) (new : World) : Type 0 where
-  pub taken : List ℕ
-  pub written : List ℕ
-  pub gave : Gave old.source new.source taken
-  pub took : Took old.sink new.sink written
-  pub is : IsLeft p old.store.files s taken written
+  pub moved : Moved
+  pub gave : Gave old.source new.source moved.taken
+  pub drew : Drew old.entropy new.entropy moved.drawn
+  pub took : Took old.sink new.sink moved.written
+  pub is : IsLeft p old.store.files s moved
 
--- What stands: no file has changed. The sink has gained nothing, unless the run is Done or the write
--- failed; then it has gained the first bytes of the answer's output, and the answer's status is Done.
+-- One file is new, with the first bytes of the one that the answer makes, or all of them; the
+-- answer's status is Done, and it writes nothing.
+pub record IsTorn (p : Plan) (old new : World) : Type 0 where
+  pub name : List ℕ
+  pub bytes : List ℕ
+  pub added : AddedFront old.store new.store name bytes
+  pub answered : (told : Told) → Tells old told → (answer p told).status ≡ status.Done
+  pub files : (told : Told) → Tells old told →
+      (answer p told).files ≡ map.insert told.files name bytes
+
+-- What stands. No file has changed, unless the run is Done or the store failed: at a store fault the
+-- new file may be there with the first of its bytes. The sink has gained nothing, unless the run is
+-- Done or the write failed; then it has gained the first bytes of the answer's output, and the
+-- answer's status is Done.
 pub record Stands (p : Plan) (old : World) (s : Status) (new : World) : Type 0 where
-  pub files : KeptFiles old.store new.store
+  pub files : s ≢ status.Done → s ≢ status.StoreFault → KeptFiles old.store new.store
+  pub torn : s ≡ status.StoreFault → KeptFiles old.store new.store ⊎ IsTorn p old new
   pub kept : s ≢ status.Done → s ≢ status.WriteFault → Took old.sink new.sink []
   pub front : s ≡ status.WriteFault → (told : Told) → Tells old told →
       TookPrefix old.sink new.sink (answer p told).output
   pub last : s ≡ status.WriteFault → (told : Told) → Tells old told →
       (answer p told).status ≡ status.Done
 
+-- no object has failed
+pub record NoneFailed (old new : World) : Type 0 where
+  pub read : Rose old.source.faults new.source.faults → ⊥
+  pub write : Rose old.sink.faults new.sink.faults → ⊥
+  pub store : Rose old.store.faults new.store.faults → ⊥
+  pub entropy : Rose old.entropy.faults new.entropy.faults → ⊥
+
 -- Completeness: where no count of faults rose, the status is a stated one, or NoMemory.
 pub record Completes (old : World) (s : Status) (new : World) : Type 0 where
-  pub stated : (Rose old.source.faults new.source.faults → ⊥) →
-      (Rose old.sink.faults new.sink.faults → ⊥) → (Rose old.store.faults new.store.faults → ⊥) →
-      s ≢ status.NoMemory → IsStated s
+  pub stated : NoneFailed old new → s ≢ status.NoMemory → IsStated s
 
 -- All that is promised of a run of the plan: the stated answer, the causes of faults, that none is
 -- hidden, what was taken and written, what stands, and completeness. Each follows from `ends`, which

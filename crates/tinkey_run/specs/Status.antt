@@ -1,11 +1,14 @@
 -- The exit code and the diagnostic line of each status.
-use Rattle.std.specs.Prelude.{ℕ, List, [], ◌++◌, codes}
+use Rattle.std.specs.Prelude.{ℕ, List, [], ◌++◌, Option, Some, None, codes}
 use Rattle.std.specs.Fmt.{decimal}
+use Rattle.keyset_json.specs.Members.{name_of}
 use Rattle.keyset_model.specs.declared.keyset.KeysetFault.{KeysetFault}
 use Rattle.keyset_model.specs.declared.keyset.KeysetFault.TheVariants as faults
 use Rattle.tink_spec.specs.Outside.{SinkState, Rose, Took, TookPrefix}
-use Rattle.tinkey_run.specs.declared.rule.Rule.{Rule}
-use Rattle.tinkey_run.specs.declared.rule.Rule.TheVariants as broken
+use Rattle.key_msgs.specs.declared.rule.Rule.{Rule}
+use Rattle.key_msgs.specs.declared.rule.Rule.TheVariants as broken
+use Rattle.tinkey_cmds.specs.declared.command.CmdFault.{CmdFault}
+use Rattle.tinkey_cmds.specs.declared.command.CmdFault.TheVariants as refused
 use Rattle.tinkey_run.specs.declared.status.Status.{Status}
 use Rattle.tinkey_run.specs.declared.status.Status.TheVariants as status
 
@@ -13,13 +16,20 @@ use Rattle.tinkey_run.specs.declared.status.Status.TheVariants as status
 abbrev pub code_of : Status → ℕ
 code_of status.Done = 0
 code_of (status.Usage word) = 2
+code_of status.UnknownTemplate = 2
+code_of status.AsymmetricTemplate = 2
 code_of (status.BadProto at) = 3
+code_of status.NotJson = 3
+code_of (status.Shape path) = 3
 code_of (status.Keyset fault) = 3
 code_of (status.NoManager i) = 3
 code_of (status.BadKey i rule) = 3
 code_of status.InMissing = 4
+code_of (status.Command fault) = 4
+code_of status.OutExists = 4
 code_of status.ReadFault = 5
 code_of status.WriteFault = 5
+code_of status.EntropyFault = 5
 code_of status.StoreFault = 5
 code_of status.KeysetTooLong = 6
 code_of status.InputTooLong = 6
@@ -46,13 +56,34 @@ rule_text broken.Form = codes "form"
 rule_text broken.Version = codes "version"
 rule_text broken.Hash = codes "hash"
 rule_text broken.KeySize = codes "key size"
+rule_text broken.IvSize = codes "IV size"
 rule_text broken.TagSize = codes "tag size"
+rule_text broken.DerivedSize = codes "derived size"
+rule_text broken.Segment = codes "segment size"
+
+-- the text of a refused edit
+unfoldable pub edit_text : CmdFault → List ℕ
+edit_text refused.KeyNotFound = codes "key not found"
+edit_text refused.KeyIsPrimary = codes "key is primary"
+edit_text refused.KeyNotEnabled = codes "key is not enabled"
+edit_text refused.KeyDestroyed = codes "key is destroyed"
+edit_text (refused.KeyRefused rule) = codes "key refused: " ++ rule_text rule
+edit_text refused.MixedPrimitive = codes "key of another primitive"
+edit_text refused.IdsExhausted = codes "no free key id"
+edit_text refused.TooManyKeys = codes "too many keys"
+
+-- the place of a key, where there is one
+abbrev pub key_text : Option ℕ → List ℕ
+key_text None = []
+key_text (Some i) = codes " of key " ++ decimal i
 
 -- what the line says, behind the program's name
 unfoldable pub text_of : Status → List ℕ
 text_of status.Done = []
 text_of (status.Usage word) = codes "usage: word " ++ decimal word
 text_of (status.BadProto at) = codes "bad protobuf at byte " ++ decimal at
+text_of status.NotJson = codes "not JSON"
+text_of (status.Shape path) = codes "bad JSON member " ++ name_of path.member ++ key_text path.key
 text_of (status.Keyset fault) = fault_text fault
 text_of status.KeysetTooLong = codes "keyset too long"
 text_of (status.NoManager i) = codes "key " ++ decimal i ++ codes " has no manager for this command"
@@ -60,6 +91,11 @@ text_of (status.BadKey i rule) =
     codes "key " ++ decimal i ++ codes " is not valid: " ++ rule_text rule
 text_of status.InMissing = codes "input file missing"
 text_of status.InputTooLong = codes "input too long"
+text_of status.UnknownTemplate = codes "unknown key template"
+text_of status.AsymmetricTemplate = codes "asymmetric key template"
+text_of (status.Command fault) = edit_text fault
+text_of status.OutExists = codes "output file exists"
+text_of status.EntropyFault = codes "entropy fault"
 text_of status.ReadFault = codes "read fault"
 text_of status.WriteFault = codes "write fault"
 text_of status.StoreFault = codes "store fault"

@@ -6,7 +6,7 @@ use Rattle.std.specs.Str.{bytes_eq}
 use Rattle.keyset_model.specs.declared.record.Record.{Record}
 use Rattle.mac_prf.specs.Hmac.{hmac}
 use Rattle.tinkey_run.specs.declared.hmac_key.HmacKey.{HmacKey}
-use Rattle.tinkey_run.specs.declared.rule.Rule.{Rule}
+use Rattle.key_msgs.specs.declared.rule.Rule.{Rule}
 use Rattle.tinkey_run.specs.HmacKey.{hmac_key_of}
 
 -- the output prefix: none for RAW, else 1 for TINK and 0 for LEGACY and CRUNCHY, and the key id as

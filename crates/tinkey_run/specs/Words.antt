@@ -1,36 +1,128 @@
 -- The grammar of the command's words: a command, and then options in any order, each at most once,
--- as `--name value` in two words or `--name=value` in one.
+-- as `--name value` in two words or `--name=value` in one. Rows has the tables of commands and
+-- options.
 --
--- The answer is a command, or the place of the first word at fault: an unknown command or option, a
--- repeat, or one that holds a value that isn't of its form. Where a value or a required option is
--- missing at the end, the place is the number of words. Places count from 0.
-use Rattle.std.specs.Prelude.{◌≡◌, ℕ, ◌+◌, List, [], ◌∷◌, length, Bool, true, false, Option, Some, None, is_some, option_map, Result, Ok, Err, ◌==◌, nat_lt, if◌then◌else◌, codes}
-use Rattle.std.specs.List.{position_or_len, before_first, after_first}
-use Rattle.std.specs.Str.{bytes_eq}
+-- The answer is a command, or the place of the first word at fault: an unknown command or option,
+-- one that the command doesn't have, a repeat, or one that holds a value that isn't of its form.
+-- Where a value or a required option is missing at the end, the place is the number of words.
+-- Places count from 0.
+use Rattle.std.specs.Prelude.{◌≡◌, ℕ, ◌+◌, List, [], ◌∷◌, length, Bool, Option, Some, None, is_some, option_map, Result, Ok, Err, ◌==◌, nat_lt, if◌then◌else◌, slice_index_or}
+use Rattle.std.specs.List.{list_all, position_or_len, before_first, after_first}
+use Rattle.std.specs.Borrow.{Bor}
 use Rattle.tink_spec.specs.Messages.{◌>>=◌}
 use Rattle.tinkey_run.specs.declared.words.Command.{Command}
 use Rattle.tinkey_run.specs.declared.words.Command.TheVariants as asks
-use Rattle.tinkey_run.specs.declared.words.CommandName.{CommandName}
-use Rattle.tinkey_run.specs.declared.words.CommandName.TheVariants as commands
-use Rattle.tinkey_run.specs.declared.words.Format.{Format}
-use Rattle.tinkey_run.specs.declared.words.Format.TheVariants as formats
-use Rattle.tinkey_run.specs.declared.words.OptionName.{OptionName}
-use Rattle.tinkey_run.specs.declared.words.OptionName.TheVariants as options
-use Rattle.tinkey_run.specs.declared.words.Given.{Given}
-use Rattle.tinkey_run.specs.declared.words.Progress.{Progress}
+use Rattle.tinkey_run.specs.declared.words.EditWords.{EditWords}
+use Rattle.tinkey_run.specs.declared.words.EditWords.TheVariants as edits
+use Rattle.tinkey_run.specs.declared.words.Options.{Options as CodeOptions}
+use Rattle.tinkey_run.specs.declared.words.Place.{Place as CodePlace}
+use Rattle.tinkey_run.specs.declared.words.rows.Format.{Format}
+use Rattle.tinkey_run.specs.declared.words.rows.Format.TheVariants as formats
+use Rattle.tinkey_run.specs.declared.words.rows.CommandName.{CommandName}
+use Rattle.tinkey_run.specs.declared.words.rows.CommandName.TheVariants as commands
+use Rattle.tinkey_run.specs.declared.words.rows.OptionName.{OptionName}
+use Rattle.tinkey_run.specs.declared.words.rows.OptionName.TheVariants as options
+use Rattle.tinkey_run.specs.Rows.{row_of, command_of, option_row, option_of, same, takes, number_of, format_of, is_value}
+
+-- What is asked.
+
+-- the change of a keyset that the words ask for
+pub data AskedEdit : Type 0 where
+  -- a new key by the template of this name, which becomes the primary where it is rotated in
+  add : (template : List ℕ) → AskedEdit
+  rotate : (template : List ℕ) → AskedEdit
+  -- a change of the key of this id
+  promote : (id : ℕ) → AskedEdit
+  enable : (id : ℕ) → AskedEdit
+  disable : (id : ℕ) → AskedEdit
+  destroy : (id : ℕ) → AskedEdit
+  delete : (id : ℕ) → AskedEdit
+
+-- where a keyset is taken from or put, and in which form: the file of this name, or none for standard
+-- input and output
+pub record Place : Type 0 where
+  pub file : Option (List ℕ)
+  pub form : Format
 
 -- what the words ask for, without where they lie in memory
 pub data Asked : Type 0 where
-  -- the listing of the keyset on standard input
-  list_keyset : Asked
+  -- a new keyset of one key, by the template of this name
+  create_keyset : (template : List ℕ) (out : Place) → Asked
+  -- a keyset, changed
+  edit_keyset : (edit : AskedEdit) (in' out : Place) → Asked
+  -- the listing of a keyset
+  list_keyset : (in' : Place) → Asked
+  -- a keyset, in another place
+  convert_keyset : (in' out : Place) → Asked
+  -- the names of the templates
+  list_key_templates : Asked
   -- the tag of the input under the keyset in the file of this name
-  tag : (keyset : List ℕ) → Asked
+  tag : (keyset : List ℕ) (form : Format) → Asked
+
+-- the values that were given, by option
+abbrev pub Values : Type 0
+Values = OptionName → Option (List ℕ)
+
+-- the text of an option that the command requires
+abbrev pub text : Option (List ℕ) → List ℕ
+text None = []
+text (Some value) = value
+
+-- the number of such an option
+abbrev pub or_zero : Option ℕ → ℕ
+or_zero None = 0
+or_zero (Some n) = n
+
+abbrev pub number : Option (List ℕ) → ℕ
+number value = or_zero (number_of (text value))
+
+-- the key that is changed, the template of a new one, and the files
+abbrev pub id : Values → ℕ
+id values = number (values options.KeyId)
+
+abbrev pub template : Values → List ℕ
+template values = text (values options.KeyTemplate)
+
+-- the form of a keyset, JSON where none is given
+abbrev pub known_form : Option Format → Format
+known_form None = formats.Json
+known_form (Some form) = form
+
+abbrev pub form_in : Option (List ℕ) → Format
+form_in value = known_form (format_of (text value))
+
+-- where a keyset is taken from, and where one is put
+abbrev pub taken_from : Values → Place
+taken_from values = record { file = values options.In; form = form_in (values options.InFormat) }
+
+abbrev pub put_to : Values → Place
+put_to values = record { file = values options.Out; form = form_in (values options.OutFormat) }
+
+-- a keyset that is changed so
+abbrev pub edited : AskedEdit → Values → Asked
+edited edit values = edit_keyset edit (taken_from values) (put_to values)
+
+-- what each command asks with these values of its options
+abbrev pub asked_with : CommandName → Values → Asked
+asked_with commands.CreateKeyset values = create_keyset (template values) (put_to values)
+asked_with commands.AddKey values = edited (add (template values)) values
+asked_with commands.RotateKeyset values = edited (rotate (template values)) values
+asked_with commands.PromoteKey values = edited (promote (id values)) values
+asked_with commands.EnableKey values = edited (enable (id values)) values
+asked_with commands.DisableKey values = edited (disable (id values)) values
+asked_with commands.DestroyKey values = edited (destroy (id values)) values
+asked_with commands.DeleteKey values = edited (delete (id values)) values
+asked_with commands.ListKeyset values = list_keyset (taken_from values)
+asked_with commands.ConvertKeyset values = convert_keyset (taken_from values) (put_to values)
+asked_with commands.ListKeyTemplates values = list_key_templates
+asked_with commands.Tag values =
+    tag (text (values options.Keyset)) (form_in (values options.KeysetFormat))
+
+-- The words, one after another.
 
 -- the options that were given, and the one whose value is the next word
 pub record Options : Type 0 where
-  pub in_format : Option Format
-  pub keyset : Option (List ℕ)
-  pub keyset_format : Option Format
+  pub values : Values
   pub waiting : Option OptionName
 
 -- an equals sign
@@ -43,39 +135,9 @@ own_value word =
     if nat_lt (position_or_len is_equals word) (length word)
     then Some (before_first is_equals word, after_first is_equals word) else None
 
--- the command of this name
-unfoldable pub command_of : List ℕ → Option CommandName
-command_of name =
-    if bytes_eq name (codes "list-keyset") then Some commands.ListKeyset
-    else (if bytes_eq name (codes "tag") then Some commands.Tag
-    else None)
-
--- the option of this name
-unfoldable pub option_of : List ℕ → Option OptionName
-option_of name =
-    if bytes_eq name (codes "--in-format") then Some options.InFormat
-    else (if bytes_eq name (codes "--keyset") then Some options.Keyset
-    else (if bytes_eq name (codes "--keyset-format") then Some options.KeysetFormat
-    else None))
-
--- the form of this name
-unfoldable pub format_of : List ℕ → Option Format
-format_of value = if bytes_eq value (codes "binary") then Some formats.Binary else None
-
--- the options of each command
-abbrev pub takes : CommandName → OptionName → Bool
-takes commands.ListKeyset options.InFormat = true
-takes commands.ListKeyset options.Keyset = false
-takes commands.ListKeyset options.KeysetFormat = false
-takes commands.Tag options.InFormat = false
-takes commands.Tag options.Keyset = true
-takes commands.Tag options.KeysetFormat = true
-
 -- the option was given before
 abbrev pub is_given : OptionName → Options → Bool
-is_given options.InFormat given = is_some given.in_format
-is_given options.Keyset given = is_some given.keyset
-is_given options.KeysetFormat given = is_some given.keyset_format
+is_given name given = is_some (given.values name)
 
 -- an option of the command that isn't given yet; its word has this place
 abbrev pub new_option : CommandName → Option OptionName → ℕ → Options → Result OptionName ℕ
@@ -83,23 +145,17 @@ new_option command None place given = Err place
 new_option command (Some name) place given =
     if takes command name then (if is_given name given then Err place else Ok name) else Err place
 
--- the options with a form, which the word of this place has to name
-abbrev pub with_format : Option Format → ℕ → (Format → Options) → Result Options ℕ
-with_format None place next = Err place
-with_format (Some format) place next = Ok (next format)
+-- these options and this one with its value
+abbrev pub put : OptionName → List ℕ → Options → Options
+put name value given = record {
+  values = (λ other. if same name other then Some value else given.values other);
+  waiting = None;
+}
 
--- the option with its value, which stands in the word of this place and is of its form; the name of
--- a file isn't empty
+-- the option with its value, which stands in the word of this place and is of its form
 abbrev pub with_value : OptionName → List ℕ → ℕ → Options → Result Options ℕ
-with_value options.InFormat value place given =
-    with_format (format_of value) place
-    (λ format. record given { in_format = Some format; waiting = None })
-with_value options.Keyset value place given =
-    if length value == 0 then Err place
-    else Ok (record given { keyset = Some value; waiting = None })
-with_value options.KeysetFormat value place given =
-    with_format (format_of value) place
-    (λ format. record given { keyset_format = Some format; waiting = None })
+with_value name value place given =
+    if is_value (option_row name).form value then Ok (put name value given) else Err place
 
 -- an option's word of this place: its value is its own, or is the next word
 abbrev pub option_word : CommandName → Option (List ℕ × List ℕ) → List ℕ → ℕ → Options →
@@ -132,23 +188,20 @@ options_of command place given (word ∷ words) =
 
 -- no option yet
 abbrev pub no_options : Options
-no_options = record { in_format = None; keyset = None; keyset_format = None; waiting = None }
+no_options = record { values = (λ name. None); waiting = None }
 
 -- the options of the command, whose own word has the place 0
 unfoldable pub given_in : CommandName → List (List ℕ) → Result Options ℕ
 given_in command words = options_of command 1 no_options words
 
--- the file's name, where the format of the keyset in it is there too
-abbrev pub tag_of : Option (List ℕ) → Option Format → ℕ → Result Asked ℕ
-tag_of None format count = Err count
-tag_of (Some name) None count = Err count
-tag_of (Some name) (Some format) count = Ok (tag name)
+-- all that the command requires is there
+abbrev pub has_required : CommandName → Options → Bool
+has_required command given = list_all (λ name. is_given name given) (row_of command).required
 
--- the command with its options, all that it requires among so many words
+-- the command with its options, among so many words
 abbrev pub complete : CommandName → ℕ → Options → Result Asked ℕ
-complete commands.ListKeyset count given =
-    if is_some given.in_format then Ok list_keyset else Err count
-complete commands.Tag count given = tag_of given.keyset given.keyset_format count
+complete command count given =
+    if has_required command given then Ok (asked_with command given.values) else Err count
 
 -- the command, where its name is known, with its options
 abbrev pub asked_of : Option CommandName → List (List ℕ) → Result Asked ℕ
@@ -160,27 +213,42 @@ unfoldable pub words_of : List (List ℕ) → Result Asked ℕ
 words_of [] = Err 0
 words_of (name ∷ words) = asked_of (command_of name) words
 
--- what the code's commands and options stand for
+-- What the code's commands and options stand for.
+
+abbrev pub seen_edit : EditWords → AskedEdit
+seen_edit (edits.Add template) = add template.now
+seen_edit (edits.Rotate template) = rotate template.now
+seen_edit (edits.Promote id) = promote id
+seen_edit (edits.Enable id) = enable id
+seen_edit (edits.Disable id) = disable id
+seen_edit (edits.Destroy id) = destroy id
+seen_edit (edits.Delete id) = delete id
+
+-- the name of a file
+abbrev pub seen_name : Option (Bor (List ℕ)) → Option (List ℕ)
+seen_name name = option_map (λ name. name.now) name
+
+-- a place of a keyset
+abbrev pub seen_place : CodePlace → Place
+seen_place place = record { file = seen_name place.file; form = place.form }
+
 abbrev pub seen_command : Command → Asked
-seen_command asks.ListKeyset = list_keyset
-seen_command (asks.Tag name) = tag name.now
+seen_command (asks.CreateKeyset template output) = create_keyset template.now (seen_place output)
+seen_command (asks.EditKeyset edit input output) =
+    edit_keyset (seen_edit edit) (seen_place input) (seen_place output)
+seen_command (asks.ListKeyset input) = list_keyset (seen_place input)
+seen_command (asks.ConvertKeyset input output) =
+    convert_keyset (seen_place input) (seen_place output)
+seen_command asks.ListKeyTemplates = list_key_templates
+seen_command (asks.Tag keyset form) = tag keyset.now form
 
--- options and the one that waits, as they are seen
-abbrev pub seen_options : Given → Option OptionName → Options
-seen_options given waiting = record {
-  in_format = given.in_format;
-  keyset = option_map (λ name. name.now) given.keyset;
-  keyset_format = given.keyset_format;
-  waiting = waiting;
-}
+-- the values, which the code keeps at the places of their options
+abbrev pub seen_values : List (Option (Bor (List ℕ))) → Values
+seen_values values name = seen_name (slice_index_or values (option_row name).place None)
 
--- the options of the words so far
-abbrev pub seen_progress : Progress → Options
-seen_progress progress = seen_options progress.given progress.waiting
-
--- options none of which waits
-abbrev pub seen_given : Given → Options
-seen_given given = seen_options given None
+-- the options so far, as they are seen
+abbrev pub seen_options : CodeOptions → Options
+seen_options given = record { values = seen_values given.values; waiting = given.waiting }
 
 -- what the code answers is what the definition gives, seen so, or the same place
 abbrev pub Reads : {A B : Type 0} → (A → B) → Result A ℕ → Result B ℕ → Type 0

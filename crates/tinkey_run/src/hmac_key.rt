@@ -4,10 +4,10 @@ ghost use Rattle.std.specs.Prelude.{◌≡◌, IfOk};
 ghost use Rattle.std.specs.List.{AllByRecursion};
 ghost use Rattle.proto_wire.specs.Fields.{seen_all, IsOf};
 ghost use Rattle.tinkey_run.specs.declared.hmac_key.KeyFault.TheVariants as faults;
-ghost use Rattle.tinkey_run.specs.declared.rule.Rule.TheVariants as broken;
+ghost use Rattle.key_msgs.specs.declared.rule.Rule.TheVariants as broken;
 ghost use Rattle.tinkey_run.specs.HmacKey.{formed, message_of, checked, hmac_key_of, IsValid, GivesKey};
 
-use crate::rule::Rule;
+use crate::Rule;
 use proto_wire::{Fields, FieldsError, Wire, fields};
 use std::alloc::Global;
 use tink_base::{Bytes, Hash, NoMemory};

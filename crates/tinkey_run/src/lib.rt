@@ -8,19 +8,22 @@
 //! plan (`specs/Promises.antt`, `proofs/PromiseLemmas.antt`).
 #![tactic(auto)]
 
+mod edits;
 mod hmac_key;
 pub mod laws;
 mod line;
 mod list;
+mod output;
 mod report;
-mod rule;
 mod status;
 mod steps;
 mod tag;
+mod templates;
 mod top;
 mod words;
 
+pub use key_msgs::Rule;
 pub use keyset_model::KeysetFault;
-pub use rule::Rule;
 pub use status::Status;
+pub use tinkey_cmds::CmdFault;
 pub use top::run;

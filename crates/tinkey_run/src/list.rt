@@ -3,20 +3,27 @@
 ghost use Rattle.tinkey_run.specs.Ends.{World};
 ghost use Rattle.tinkey_run.specs.Steps.{Passes};
 ghost use Rattle.tinkey_run.specs.Commands.{list_keyset_output};
+ghost use Rattle.tinkey_run.specs.Words.{seen_place};
 
 use crate::Status;
-use crate::steps::read_keyset;
+use crate::steps::take_keyset;
+use crate::words::Place;
 use keyset_model::info_text;
 use std::alloc::Global;
-use tink_base::{Bytes, Source};
+use tink_base::{Bytes, Source, Store};
 
-/// list-keyset: the listing of the keyset that the whole input is.
-pub(crate) fn list_keyset<S: Source>(alloc: Global, source: &mut S) -> Result<Bytes, Status>
-    ensures { (w : World) → Passes list_keyset_output
-        (record w { source = S.state source.old }) result
-        (record w { source = S.state source.new }) }
+/// list-keyset: the listing of the keyset in a file, or of the one that the whole input is.
+pub(crate) fn list_keyset<S: Source, D: Store>(
+    alloc: Global,
+    input: Place<'_>,
+    source: &mut S,
+    store: &mut D,
+) -> Result<Bytes, Status>
+    ensures { (w : World) → Passes (list_keyset_output (seen_place input.entry))
+        (record w { source = S.state source.old; store = D.state store.old }) result
+        (record w { source = S.state source.new; store = D.state store.new }) }
 {
-    let keyset = read_keyset(alloc, source)?;
+    let keyset = take_keyset(alloc, input, source, store)?;
     let text = info_text(alloc, &keyset)?;
     Ok(Bytes::own(text))
 }

@@ -1,12 +1,15 @@
 //! The diagnostic line of a status, told without memory.
 
 ghost use Rattle.std.specs.Prelude.{◌≡◌, ◌+◌, ◌≤◌, ◌++◌, length, codes, decimal};
-ghost use Rattle.tinkey_run.specs.Status.{line_of, text_of, fault_text, rule_text, Reports};
+ghost use Rattle.keyset_json.specs.Members.{name_of};
+ghost use Rattle.tinkey_run.specs.Status.{key_text, line_of, text_of, fault_text, rule_text, edit_text, Reports};
 
 use crate::line::Line;
 use crate::{Rule, Status};
+use keyset_json::{Member, Path};
 use keyset_model::KeysetFault;
 use tink_base::{Sink, write_all};
+use tinkey_cmds::CmdFault;
 
 /// Writes the line of a status. A fault of `diag` changes no status.
 pub(crate) fn report<G: Sink>(diag: &mut G, status: Status)
@@ -49,6 +52,8 @@ fn push_text(line: &mut Line, status: Status)
             line.push("bad protobuf at byte ");
             line.push_number(at);
         }
+        Status::NotJson => line.push("not JSON"),
+        Status::Shape(path) => push_path(line, path),
         Status::Keyset(fault) => push_fault(line, fault),
         Status::KeysetTooLong => line.push("keyset too long"),
         Status::InMissing => line.push("input file missing"),
@@ -60,11 +65,39 @@ fn push_text(line: &mut Line, status: Status)
             line.push(rule_name(rule));
         }
         Status::InputTooLong => line.push("input too long"),
+        Status::UnknownTemplate => line.push("unknown key template"),
+        Status::AsymmetricTemplate => line.push("asymmetric key template"),
+        Status::Command(fault) => push_refusal(line, fault),
+        Status::OutExists => line.push("output file exists"),
+        Status::EntropyFault => line.push("entropy fault"),
         Status::StoreFault => line.push("store fault"),
         Status::ReadFault => line.push("read fault"),
         Status::WriteFault => line.push("write fault"),
         Status::NoMemory => line.push("out of memory"),
     }
+}
+
+/// Adds that the member of this path isn't of its form, for which there is room.
+fn push_path(line: &mut Line, path: Path)
+    requires room { length line.old ≤ 16 }
+    ensures text { line.new ≡ line.old ++
+        (codes "bad JSON member " ++ name_of path.member ++ key_text path.key) }
+    ensures short { length line.new ≤ 127 }
+{
+    line.push("bad JSON member ");
+    line.push(member_name(path.member));
+    if let Some(i) = path.key {
+        line.push(" of key ");
+        line.push_number(i);
+    }
+}
+
+/// The name of a member of a keyset.
+fn member_name(member: Member) -> &'static str
+    ensures text { result.now ≡ name_of member }
+    ensures short { length result.now ≤ 16 }
+{
+    member.name()
 }
 
 /// Adds the text of a keyset's fault, for which there is room.
@@ -84,6 +117,28 @@ fn push_fault(line: &mut Line, fault: KeysetFault)
         KeysetFault::DuplicateId(i, j) => push_keys(line, i, j),
         KeysetFault::NoPrimary => line.push("no key has the primary id"),
         KeysetFault::PrimaryNotEnabled => line.push("the primary key is not enabled"),
+    }
+}
+
+/// Adds the text of a refused edit, for which there is room.
+#[tactic(auto, unfolding(crate::specs::Status::edit_text))]
+fn push_refusal(line: &mut Line, fault: CmdFault)
+    requires room { length line.old ≤ 16 }
+    ensures text { line.new ≡ line.old ++ edit_text fault }
+    ensures short { length line.new ≤ 127 }
+{
+    match fault {
+        CmdFault::KeyNotFound => line.push("key not found"),
+        CmdFault::KeyIsPrimary => line.push("key is primary"),
+        CmdFault::KeyNotEnabled => line.push("key is not enabled"),
+        CmdFault::KeyDestroyed => line.push("key is destroyed"),
+        CmdFault::KeyRefused(rule) => {
+            line.push("key refused: ");
+            line.push(rule_name(rule));
+        }
+        CmdFault::MixedPrimitive => line.push("key of another primitive"),
+        CmdFault::IdsExhausted => line.push("no free key id"),
+        CmdFault::TooManyKeys => line.push("too many keys"),
     }
 }
 
@@ -124,6 +179,9 @@ fn rule_name(rule: Rule) -> &'static str
         Rule::Version => "version",
         Rule::Hash => "hash",
         Rule::KeySize => "key size",
+        Rule::IvSize => "IV size",
         Rule::TagSize => "tag size",
+        Rule::DerivedSize => "derived size",
+        Rule::Segment => "segment size",
     }
 }

@@ -3,8 +3,10 @@
 ghost use Rattle.std.specs.Prelude.{◌≡◌};
 
 use crate::Rule;
+use keyset_json::Path;
 use keyset_model::KeysetFault;
 use tink_base::NoMemory;
+use tinkey_cmds::CmdFault;
 
 /// How a run ends, with the place where it was refused.
 ///
@@ -18,6 +20,10 @@ pub enum Status {
     Usage(usize),
     /// The field whose tag has this place can't be cut or read.
     BadProto(usize),
+    /// The keyset isn't JSON.
+    NotJson,
+    /// This member of the keyset is the first that isn't of its form.
+    Shape(Path),
     /// The keyset has this fault.
     Keyset(KeysetFault),
     /// The keyset has more than 1,048,576 bytes.
@@ -30,10 +36,20 @@ pub enum Status {
     BadKey(usize, Rule),
     /// The input has more than 16,777,216 bytes.
     InputTooLong,
+    /// No template is known by the name.
+    UnknownTemplate,
+    /// The template is one of Tink for asymmetric keys.
+    AsymmetricTemplate,
+    /// The edit is refused so.
+    Command(CmdFault),
+    /// A file of the output's name is there.
+    OutExists,
     /// The source failed.
     ReadFault,
     /// The sink failed.
     WriteFault,
+    /// The entropy failed.
+    EntropyFault,
     /// The store failed.
     StoreFault,
     /// Memory was refused.
@@ -49,11 +65,15 @@ impl Status {
     {
         match self {
             Status::Done => 0,
-            Status::Usage(_) => 2,
-            Status::BadProto(_) | Status::Keyset(_) | Status::NoManager(_) | Status::BadKey(_, _) =>
-                3,
-            Status::InMissing => 4,
-            Status::ReadFault | Status::WriteFault | Status::StoreFault => 5,
+            Status::Usage(_) | Status::UnknownTemplate | Status::AsymmetricTemplate => 2,
+            Status::BadProto(_)
+            | Status::NotJson
+            | Status::Shape(_)
+            | Status::Keyset(_)
+            | Status::NoManager(_)
+            | Status::BadKey(_, _) => 3,
+            Status::InMissing | Status::Command(_) | Status::OutExists => 4,
+            Status::ReadFault | Status::WriteFault | Status::EntropyFault | Status::StoreFault => 5,
             Status::KeysetTooLong | Status::InputTooLong => 6,
             Status::NoMemory => 7,
         }

@@ -1,16 +1,21 @@
-//! The steps that commands share: a keyset loaded or read, the whole input, and the output written.
+//! The steps that commands share: a keyset loaded or read, the whole input, and a template by its
+//! name.
 
-ghost use Rattle.std.specs.Prelude.{◌≡◌, ◌≤◌, ◌^◌, List, ℕ, length};
-ghost use Rattle.tinkey_run.specs.Plan.{Plan, writes};
-ghost use Rattle.tinkey_run.specs.Ends.{Ends, World};
-ghost use Rattle.tinkey_run.specs.Steps.{refusal_of, keyset_in, loads_keyset, reads_keyset, reads_input, Passes};
+ghost use Rattle.std.specs.Prelude.{◌≡◌, ◌≤◌, ◌^◌, List, ℕ, length, IfOk};
+ghost use Rattle.std.specs.List.{AllByRecursion};
+ghost use Rattle.key_msgs.specs.Templates.{seen};
+ghost use Rattle.keyset_model.specs.Keyset.{IsShort};
+ghost use Rattle.tinkey_run.specs.Ends.{World};
+ghost use Rattle.tinkey_run.specs.Words.{seen_place};
+ghost use Rattle.tinkey_run.specs.Steps.{refusal_of, json_refusal_of, keyset_in, loads_keyset, reads_keyset, takes_keyset, reads_input, finds_template, Passes, PassesAs};
 
 use crate::Status;
+use crate::words::{Format, Place};
+use key_msgs::{Template, TemplateFault, template_named};
+use keyset_json::{JsonError, read_json};
 use keyset_model::{Keyset, ReadError, read_binary};
 use std::alloc::Global;
-use tink_base::{
-    Bytes, Loaded, ReadAllFault, Sink, Source, Store, StoreError, read_all, write_all,
-};
+use tink_base::{Bytes, Loaded, ReadAllFault, Source, Store, StoreError, read_all};
 
 /// How many bytes a keyset may have.
 const KEYSET_LIMIT: usize = 1_048_576;
@@ -18,20 +23,40 @@ const KEYSET_LIMIT: usize = 1_048_576;
 /// How many bytes a whole input may have.
 const INPUT_LIMIT: usize = 16_777_216;
 
+/// The keyset in a file, or where none is named, the one that the whole input is.
+pub(crate) fn take_keyset<S: Source, D: Store>(
+    alloc: Global,
+    place: Place<'_>,
+    source: &mut S,
+    store: &mut D,
+) -> Result<Keyset, Status>
+    ensures passes { (w : World) → Passes (takes_keyset (seen_place place.entry))
+        (record w { source = S.state source.old; store = D.state store.old }) result
+        (record w { source = S.state source.new; store = D.state store.new }) }
+    ensures short { IfOk result (λ keyset. AllByRecursion IsShort keyset.records) }
+{
+    match place.file {
+        Some(name) => load_keyset(alloc, name, place.form, store),
+        None => read_keyset(alloc, place.form, source),
+    }
+}
+
 /// The keyset in the file of this name.
 pub(crate) fn load_keyset<D: Store>(
     alloc: Global,
     name: &str,
+    form: Format,
     store: &mut D,
 ) -> Result<Keyset, Status>
-    ensures { (w : World) → Passes (loads_keyset name.now)
+    ensures passes { (w : World) → Passes (loads_keyset name.now form)
         (record w { store = D.state store.old }) result (record w { store = D.state store.new }) }
+    ensures short { IfOk result (λ keyset. AllByRecursion IsShort keyset.records) }
 {
     match store.load(alloc, name, KEYSET_LIMIT) {
         Ok(found) => match found {
             Loaded::Absent => Err(Status::InMissing),
             Loaded::TooLong => Err(Status::KeysetTooLong),
-            Loaded::Bytes(bytes) => keyset_of(alloc, bytes.as_slice()),
+            Loaded::Bytes(bytes) => keyset_of(alloc, form, bytes.as_slice()),
         },
         Err(e) => match e {
             StoreError::Failed => Err(Status::StoreFault),
@@ -41,13 +66,14 @@ pub(crate) fn load_keyset<D: Store>(
 }
 
 /// The keyset that the whole input is.
-pub(crate) fn read_keyset<S: Source>(alloc: Global, source: &mut S) -> Result<Keyset, Status>
-    ensures { (w : World) → Passes reads_keyset
+fn read_keyset<S: Source>(alloc: Global, form: Format, source: &mut S) -> Result<Keyset, Status>
+    ensures passes { (w : World) → Passes (reads_keyset form)
         (record w { source = S.state source.old }) result
         (record w { source = S.state source.new }) }
+    ensures short { IfOk result (λ keyset. AllByRecursion IsShort keyset.records) }
 {
     match read_all(alloc, source, KEYSET_LIMIT) {
-        Ok(bytes) => keyset_of(alloc, &bytes),
+        Ok(bytes) => keyset_of(alloc, form, &bytes),
         Err(fault) => match fault {
             ReadAllFault::TooLong => Err(Status::KeysetTooLong),
             ReadAllFault::Failed => Err(Status::ReadFault),
@@ -56,14 +82,33 @@ pub(crate) fn read_keyset<S: Source>(alloc: Global, source: &mut S) -> Result<Ke
     }
 }
 
-/// The keyset of these bytes.
-fn keyset_of(alloc: Global, bytes: &[u8]) -> Result<Keyset, Status>
-    requires size_bound { length bytes.now ≤ 2 ^ 30 }
-    ensures { (w : World) → Passes (keyset_in bytes.now) w result w }
+/// The keyset of these bytes, in this form.
+fn keyset_of(alloc: Global, form: Format, bytes: &[u8]) -> Result<Keyset, Status>
+    requires size_bound { length bytes.now ≤ 2 ^ 20 }
+    ensures passes { (w : World) → Passes (keyset_in form bytes.now) w result w }
+    ensures short { IfOk result (λ keyset. AllByRecursion IsShort keyset.records) }
 {
-    match read_binary(alloc, bytes) {
-        Ok(keyset) => Ok(keyset),
-        Err(e) => Err(refusal(e)),
+    match form {
+        Format::Json => match read_json(alloc, bytes) {
+            Ok(keyset) => Ok(keyset),
+            Err(e) => Err(json_refusal(e)),
+        },
+        Format::Binary => match read_binary(alloc, bytes) {
+            Ok(keyset) => Ok(keyset),
+            Err(e) => Err(refusal(e)),
+        },
+    }
+}
+
+/// The status of a keyset that can't be read as JSON.
+fn json_refusal(e: JsonError) -> Status
+    ensures { result ≡ json_refusal_of e }
+{
+    match e {
+        JsonError::NotJson => Status::NotJson,
+        JsonError::Shape(path) => Status::Shape(path),
+        JsonError::Fault(fault) => Status::Keyset(fault),
+        JsonError::NoMemory => Status::NoMemory,
     }
 }
 
@@ -94,25 +139,15 @@ pub(crate) fn read_input<S: Source>(alloc: Global, source: &mut S) -> Result<Byt
     }
 }
 
-/// Writes a command's output, its last step, or hands on why there is none.
-pub(crate) fn finish<K: Sink>(sink: &mut K, output: Result<Bytes, Status>) -> Status
-    ensures { (step : (List ℕ → Plan) → Plan) (first w : World) →
-        Passes step first output (record w { sink = K.state sink.old }) →
-        Ends (step writes) first result (record w { sink = K.state sink.new }) }
+/// The template of this name. No memory is taken.
+pub(crate) fn find_template(name: &str) -> Result<Template, Status>
+    ensures { (w : World) → PassesAs seen (finds_template name.now) w result w }
 {
-    match output {
-        Ok(bytes) => write_output(sink, bytes.as_slice()),
-        Err(status) => status,
-    }
-}
-
-/// Writes the output.
-fn write_output<K: Sink>(sink: &mut K, output: &[u8]) -> Status
-    ensures { (w : World) → Ends (writes output.now)
-        (record w { sink = K.state sink.old }) result (record w { sink = K.state sink.new }) }
-{
-    match write_all(sink, output) {
-        Ok(()) => Status::Done,
-        Err(_) => Status::WriteFault,
+    match template_named(name) {
+        Ok(template) => Ok(template),
+        Err(e) => match e {
+            TemplateFault::Asymmetric => Err(Status::AsymmetricTemplate),
+            TemplateFault::Unknown => Err(Status::UnknownTemplate),
+        },
     }
 }

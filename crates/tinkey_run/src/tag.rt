@@ -13,6 +13,7 @@ ghost use Rattle.tinkey_run.specs.TagSteps.{GivesKeyForTags, IsUnfit};
 
 use crate::hmac_key::{HmacKey, KeyFault, read_hmac_key};
 use crate::steps::{load_keyset, read_input};
+use crate::words::Format;
 use crate::{Rule, Status};
 use keyset_model::{Keyset, Record};
 use mac_prf::Hmac;
@@ -40,14 +41,15 @@ pub(crate) enum TagFault {
 pub(crate) fn tag<S: Source, D: Store>(
     alloc: Global,
     name: &str,
+    form: Format,
     source: &mut S,
     store: &mut D,
 ) -> Result<Bytes, Status>
-    ensures { (w : World) → Passes (tag_output name.now)
+    ensures { (w : World) → Passes (tag_output name.now form)
         (record w { source = S.state source.old; store = D.state store.old }) result
         (record w { source = S.state source.new; store = D.state store.new }) }
 {
-    let keyset = load_keyset(alloc, name, store)?;
+    let keyset = load_keyset(alloc, name, form, store)?;
     check_fit(alloc, &keyset)?;
     let data = read_input(alloc, source)?;
     let tag = tag_under_primary(alloc, &keyset, data.as_slice())?;

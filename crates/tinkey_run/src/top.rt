@@ -8,13 +8,16 @@ ghost use Rattle.tinkey_run.specs.Status.{Reports};
 ghost use Rattle.tinkey_run.specs.Words.{seen_command};
 
 use crate::Status;
+use crate::edits::{create_keyset, edit_keyset};
 use crate::list::list_keyset;
+use crate::output::{finish, finish_keyset};
 use crate::report::report;
-use crate::steps::finish;
+use crate::steps::take_keyset;
 use crate::tag::tag;
+use crate::templates::list_templates;
 use crate::words::{Command, parse};
 use std::alloc::Global;
-use tink_base::{Sink, Source, Store};
+use tink_base::{Entropy, Sink, Source, Store};
 
 /// Does what the words after the program's name ask for, and tells on `diag` what went wrong.
 ///
@@ -23,56 +26,79 @@ use tink_base::{Sink, Source, Store};
 /// what was taken and written; `stands` says what the sink holds after any status; `complete` says
 /// that the status is a stated one where nothing fails and memory suffices; `ends`, from which they
 /// follow, has each way in which a run may end. `line` is the diagnostic line.
-pub fn run<S: Source, K: Sink, G: Sink, D: Store>(
+pub fn run<S: Source, K: Sink, G: Sink, E: Entropy, D: Store>(
     alloc: Global,
     words: &[String],
     source: &mut S,
     sink: &mut K,
     diag: &mut G,
+    entropy: &mut E,
     store: &mut D,
 ) -> Status
     ensures promised { Promised (plan_of (map string_bytes words.now))
-        (world (S.state source.old) (K.state sink.old) (D.state store.old)) result
-        (world (S.state source.new) (K.state sink.new) (D.state store.new)) }
+        (world (S.state source.old) (K.state sink.old) (D.state store.old) (E.state entropy.old)) result
+        (world (S.state source.new) (K.state sink.new) (D.state store.new) (E.state entropy.new)) }
     ensures line { Reports result (G.state diag.old) (G.state diag.new) }
 {
-    let status = obey(alloc, words, source, sink, store);
+    let status = obey(alloc, words, source, sink, entropy, store);
     report(diag, status);
     status
 }
 
 /// Does what the words ask for.
-fn obey<S: Source, K: Sink, D: Store>(
+fn obey<S: Source, K: Sink, E: Entropy, D: Store>(
     alloc: Global,
     words: &[String],
     source: &mut S,
     sink: &mut K,
+    entropy: &mut E,
     store: &mut D,
 ) -> Status
     ensures { Ends (plan_of (map string_bytes words.now))
-        (world (S.state source.old) (K.state sink.old) (D.state store.old)) result
-        (world (S.state source.new) (K.state sink.new) (D.state store.new)) }
+        (world (S.state source.old) (K.state sink.old) (D.state store.old) (E.state entropy.old)) result
+        (world (S.state source.new) (K.state sink.new) (D.state store.new) (E.state entropy.new)) }
 {
     match parse(words) {
-        Ok(command) => dispatch(alloc, command, source, sink, store),
+        Ok(command) => dispatch(alloc, command, source, sink, entropy, store),
         Err(word) => Status::Usage(word),
     }
 }
 
 /// Does the command.
-fn dispatch<S: Source, K: Sink, D: Store>(
+fn dispatch<S: Source, K: Sink, E: Entropy, D: Store>(
     alloc: Global,
     command: Command<'_>,
     source: &mut S,
     sink: &mut K,
+    entropy: &mut E,
     store: &mut D,
 ) -> Status
     ensures { Ends (command_plan (seen_command command.entry))
-        (world (S.state source.old) (K.state sink.old) (D.state store.old)) result
-        (world (S.state source.new) (K.state sink.new) (D.state store.new)) }
+        (world (S.state source.old) (K.state sink.old) (D.state store.old) (E.state entropy.old)) result
+        (world (S.state source.new) (K.state sink.new) (D.state store.new) (E.state entropy.new)) }
 {
     match command {
-        Command::ListKeyset => finish(sink, list_keyset(alloc, source)),
-        Command::Tag(name) => finish(sink, tag(alloc, name, source, store)),
+        Command::CreateKeyset { template, output } => finish_keyset(
+            alloc,
+            output,
+            sink,
+            store,
+            create_keyset(alloc, template, entropy),
+        ),
+        Command::EditKeyset {
+            edit,
+            input,
+            output,
+        } => {
+            let edited = edit_keyset(alloc, edit, input, source, entropy, store);
+            finish_keyset(alloc, output, sink, store, edited)
+        }
+        Command::ListKeyset { input } => finish(sink, list_keyset(alloc, input, source, store)),
+        Command::ConvertKeyset { input, output } => {
+            let taken = take_keyset(alloc, input, source, store);
+            finish_keyset(alloc, output, sink, store, taken)
+        }
+        Command::ListKeyTemplates => list_templates(sink),
+        Command::Tag { keyset, form } => finish(sink, tag(alloc, keyset, form, source, store)),
     }
 }

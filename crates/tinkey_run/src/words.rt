@@ -1,61 +1,93 @@
 //! The command's words, read by the grammar of `specs/Words.antt`. No memory is taken.
 
-ghost use Rattle.std.specs.Prelude.{◌≡◌, map, string_bytes, option_map};
-ghost use Rattle.tinkey_run.specs.Words.{words_of, command_of, given_in, next_word, option_word, own_value, option_of, takes, is_given, new_option, with_value, complete, format_of, seen_command, seen_given, seen_progress, Reads};
+ghost use Rattle.std.specs.Prelude.{◌≡◌, ◌<◌, Some, length, map, option_map, slice_set, string_bytes};
+ghost use Rattle.tinkey_run.specs.Rows.{option_of};
+ghost use Rattle.tinkey_run.specs.Words.{words_of, given_in, next_word, option_word, own_value, new_option, with_value, no_options, has_required, complete, asked_with, text, number, id, template, edited, seen_command, seen_edit, seen_name, seen_options, Reads, form_in, taken_from, put_to, seen_place};
 
-/// A command by its name.
-#[derive(Clone, Copy, Debug, PartialEq, Eq)]
-pub enum CommandName {
-    /// `list-keyset`
-    ListKeyset,
-    /// `tag`
-    Tag,
-}
+mod rows;
+
+pub use rows::Format;
+use rows::{
+    CommandName, OPTION_COUNT, OptionName, command_named, format_named, is_value, number_named,
+    option_named, takes,
+};
 
 /// What the words ask for.
 #[derive(Clone, Copy)]
 pub enum Command<'a> {
-    /// List the keyset on standard input, in binary form.
-    ListKeyset,
-    /// Tag the input under the keyset in the file of this name, in binary form.
-    Tag(&'a str),
+    /// Make a keyset of one new key.
+    CreateKeyset {
+        /// The name of the template of the key.
+        template: &'a str,
+        /// Where the keyset is put.
+        output: Place<'a>,
+    },
+    /// Change a keyset.
+    EditKeyset {
+        /// The change.
+        edit: EditWords<'a>,
+        /// Where the keyset is taken from.
+        input: Place<'a>,
+        /// Where the changed one is put.
+        output: Place<'a>,
+    },
+    /// List a keyset.
+    ListKeyset {
+        /// Where the keyset is taken from.
+        input: Place<'a>,
+    },
+    /// Put a keyset elsewhere, or in another form.
+    ConvertKeyset {
+        /// Where the keyset is taken from.
+        input: Place<'a>,
+        /// Where it is put.
+        output: Place<'a>,
+    },
+    /// List the names of the templates.
+    ListKeyTemplates,
+    /// Tag the input.
+    Tag {
+        /// The file of the keyset.
+        keyset: &'a str,
+        /// The form of the keyset.
+        form: Format,
+    },
 }
 
-/// The form of a keyset.
-#[derive(Clone, Copy, Debug, PartialEq, Eq)]
-pub enum Format {
-    /// A `Keyset` message of tink.proto.
-    Binary,
-}
-
-/// An option by its name.
-#[derive(Clone, Copy, Debug, PartialEq, Eq)]
-pub enum OptionName {
-    /// `--in-format`, the form of the keyset that is read.
-    InFormat,
-    /// `--keyset`, the file of the keyset that is used.
-    Keyset,
-    /// `--keyset-format`, the form of that keyset.
-    KeysetFormat,
-}
-
-/// The options that were given so far.
+/// Where a keyset is taken from or put.
 #[derive(Clone, Copy)]
-pub struct Given<'a> {
-    /// The value of `--in-format`.
-    pub in_format: Option<Format>,
-    /// The value of `--keyset`.
-    pub keyset: Option<&'a str>,
-    /// The value of `--keyset-format`.
-    pub keyset_format: Option<Format>,
+pub struct Place<'a> {
+    /// The file, or none for standard input and output.
+    pub file: Option<&'a str>,
+    /// The form of the keyset.
+    pub form: Format,
+}
+
+/// A change of a keyset.
+#[derive(Clone, Copy)]
+pub enum EditWords<'a> {
+    /// Add a new key by the template of this name.
+    Add(&'a str),
+    /// Add a new key by the template of this name, as the primary.
+    Rotate(&'a str),
+    /// Make the key of this id the primary.
+    Promote(u32),
+    /// Enable the key of this id.
+    Enable(u32),
+    /// Disable the key of this id.
+    Disable(u32),
+    /// Destroy the key material of the key of this id.
+    Destroy(u32),
+    /// Delete the key of this id.
+    Delete(u32),
 }
 
 /// The options of the words so far.
 #[derive(Clone, Copy)]
-pub struct Progress<'a> {
-    /// Those that have their value.
-    pub given: Given<'a>,
-    /// The one whose value is the next word.
+pub struct Options<'a> {
+    /// The values, each of its form, at the places of their options.
+    pub values: [Option<&'a str>; OPTION_COUNT],
+    /// The option whose value is the next word.
     pub waiting: Option<OptionName>,
 }
 
@@ -77,77 +109,184 @@ pub fn parse(words: &[String]) -> Result<Command<'_>, usize>
     }
 }
 
-/// The command of this name.
-#[tactic(auto, unfolding(crate::specs::Words::command_of))]
-fn command_named(name: &str) -> Option<CommandName>
-    ensures { result ≡ command_of name.now }
+/// The command with its options, among so many words.
+fn complete(command: CommandName, count: usize, given: Options<'_>) -> Result<Command<'_>, usize>
+    ensures { Reads seen_command result (complete command count (seen_options given.entry)) }
 {
-    if name == "list-keyset" {
-        Some(CommandName::ListKeyset)
-    } else if name == "tag" {
-        Some(CommandName::Tag)
+    if has_required(command, &given) {
+        Ok(command_with(command, &given))
     } else {
-        None
+        Err(count)
     }
 }
 
-/// The command with its options, among so many words.
-fn complete(command: CommandName, count: usize, given: Given<'_>) -> Result<Command<'_>, usize>
-    ensures { Reads seen_command result (complete command count (seen_given given.entry)) }
+/// All that the command requires is there.
+fn has_required(command: CommandName, given: &Options<'_>) -> bool
+    ensures { result ≡ has_required command (seen_options given.now) }
+{
+    command
+        .row()
+        .required
+        .iter()
+        .all(|name| given.value(*name).is_some())
+}
+
+/// What the command asks with these options.
+fn command_with<'a>(command: CommandName, given: &Options<'a>) -> Command<'a>
+    ensures { seen_command result ≡ asked_with command (seen_options given.now).values }
 {
     match command {
-        CommandName::ListKeyset => match given.in_format {
-            Some(_) => Ok(Command::ListKeyset),
-            None => Err(count),
+        CommandName::CreateKeyset => Command::CreateKeyset {
+            template: given.template(),
+            output: given.put_to(),
         },
-        CommandName::Tag => match given.keyset {
-            None => Err(count),
-            Some(name) => match given.keyset_format {
-                Some(_) => Ok(Command::Tag(name)),
-                None => Err(count),
-            },
+        CommandName::AddKey => given.edited(EditWords::Add(given.template())),
+        CommandName::RotateKeyset => given.edited(EditWords::Rotate(given.template())),
+        CommandName::PromoteKey => given.edited(EditWords::Promote(given.id())),
+        CommandName::EnableKey => given.edited(EditWords::Enable(given.id())),
+        CommandName::DisableKey => given.edited(EditWords::Disable(given.id())),
+        CommandName::DestroyKey => given.edited(EditWords::Destroy(given.id())),
+        CommandName::DeleteKey => given.edited(EditWords::Delete(given.id())),
+        CommandName::ListKeyset => Command::ListKeyset {
+            input: given.taken_from(),
         },
+        CommandName::ConvertKeyset => Command::ConvertKeyset {
+            input: given.taken_from(),
+            output: given.put_to(),
+        },
+        CommandName::ListKeyTemplates => Command::ListKeyTemplates,
+        CommandName::Tag => Command::Tag {
+            keyset: given.text(OptionName::Keyset),
+            form: given.form(OptionName::KeysetFormat),
+        },
+    }
+}
+
+impl<'a> Options<'a> {
+    /// The value of the option.
+    fn value(&self, name: OptionName) -> Option<&'a str>
+        ensures { seen_name result ≡ (seen_options self.now).values name }
+    {
+        self.values[name.place()]
+    }
+
+    /// The value of an option that the command requires.
+    fn text(&self, name: OptionName) -> &'a str
+        ensures { result.now ≡ text ((seen_options self.now).values name) }
+    {
+        match self.value(name) {
+            Some(text) => text,
+            None => "",
+        }
+    }
+
+    /// The name of the template of a new key.
+    fn template(&self) -> &'a str
+        ensures { result.now ≡ template (seen_options self.now).values }
+    {
+        self.text(OptionName::KeyTemplate)
+    }
+
+    /// The number of an option that the command requires.
+    fn number(&self, name: OptionName) -> u32
+        ensures { result ≡ number ((seen_options self.now).values name) }
+    {
+        match number_named(self.text(name)) {
+            Some(number) => number,
+            None => 0,
+        }
+    }
+
+    /// The id of the key that is changed.
+    fn id(&self) -> u32
+        ensures { result ≡ id (seen_options self.now).values }
+    {
+        self.number(OptionName::KeyId)
+    }
+
+    /// The form of a keyset, JSON where none is given.
+    fn form(&self, name: OptionName) -> Format
+        ensures { result ≡ form_in ((seen_options self.now).values name) }
+    {
+        match format_named(self.text(name)) {
+            Some(form) => form,
+            None => Format::Json,
+        }
+    }
+
+    /// Where a keyset is taken from.
+    fn taken_from(&self) -> Place<'a>
+        ensures { seen_place result ≡ taken_from (seen_options self.now).values }
+    {
+        Place {
+            file: self.value(OptionName::In),
+            form: self.form(OptionName::InFormat),
+        }
+    }
+
+    /// Where a keyset is put.
+    fn put_to(&self) -> Place<'a>
+        ensures { seen_place result ≡ put_to (seen_options self.now).values }
+    {
+        Place {
+            file: self.value(OptionName::Out),
+            form: self.form(OptionName::OutFormat),
+        }
+    }
+
+    /// A keyset that is changed so.
+    fn edited(&self, edit: EditWords<'a>) -> Command<'a>
+        ensures { seen_command result
+            ≡ edited (seen_edit edit.entry) (seen_options self.now).values }
+    {
+        Command::EditKeyset {
+            edit,
+            input: self.taken_from(),
+            output: self.put_to(),
+        }
     }
 }
 
 /// The options of these words, which stand behind the command.
 #[tactic(auto, unfolding(crate::specs::Words::given_in))]
-fn given_options(command: CommandName, words: &[String]) -> Result<Given<'_>, usize>
-    ensures { Reads seen_given result (given_in command (map string_bytes words.now)) }
+fn given_options(command: CommandName, words: &[String]) -> Result<Options<'_>, usize>
+    ensures { Reads seen_options result (given_in command (map string_bytes words.now)) }
 {
-    let mut so_far = Progress {
-        given: Given {
-            in_format: None,
-            keyset: None,
-            keyset_format: None,
-        },
-        waiting: None,
-    };
+    let mut so_far = no_options();
     for (i, word) in words.iter().enumerate() {
-        match next_word(command, so_far, word.as_str(), i + 1) {
-            Ok(more) => so_far = more,
-            Err(place) => return Err(place),
+        if let Err(place) = next_word(command, word.as_str(), i + 1, &mut so_far) {
+            return Err(place);
         }
     }
     match so_far.waiting {
         Some(_) => Err(words.len() + 1),
-        None => Ok(so_far.given),
+        None => Ok(so_far),
+    }
+}
+
+/// No option yet.
+fn no_options<'a>() -> Options<'a>
+    ensures { seen_options result ≡ no_options }
+{
+    Options {
+        values: [None; OPTION_COUNT],
+        waiting: None,
     }
 }
 
 /// One more word, of this place.
 fn next_word<'a>(
     command: CommandName,
-    so_far: Progress<'a>,
     word: &'a str,
     place: usize,
-) -> Result<Progress<'a>, usize>
-    ensures { Reads seen_progress result
-        (next_word command word.now place (seen_progress so_far.entry)) }
+    so_far: &mut Options<'a>,
+) -> Result<(), usize>
+    ensures { Reads (λ done. seen_options so_far.new) result
+        (next_word command word.now place (seen_options so_far.old)) }
 {
     match so_far.waiting {
-        Some(name) => with_value(name, word, place, so_far.given),
-        None => option_word(command, word, place, so_far.given),
+        Some(name) => with_value(name, word, place, so_far),
+        None => option_word(command, word, place, so_far),
     }
 }
 
@@ -156,21 +295,21 @@ fn option_word<'a>(
     command: CommandName,
     word: &'a str,
     place: usize,
-    given: Given<'a>,
-) -> Result<Progress<'a>, usize>
-    ensures { Reads seen_progress result
-        (option_word command (own_value word.now) word.now place (seen_given given.entry)) }
+    so_far: &mut Options<'a>,
+) -> Result<(), usize>
+    ensures { Reads (λ done. seen_options so_far.new) result
+        (option_word command (own_value word.now) word.now place (seen_options so_far.old)) }
 {
     match own_value(word) {
-        Some((name, value)) => match new_option(command, name, place, given) {
-            Ok(name) => with_value(name, value, place, given),
+        Some((name, value)) => match new_option(command, name, place, so_far) {
+            Ok(name) => with_value(name, value, place, so_far),
             Err(place) => Err(place),
         },
-        None => match new_option(command, word, place, given) {
-            Ok(name) => Ok(Progress {
-                given,
-                waiting: Some(name),
-            }),
+        None => match new_option(command, word, place, so_far) {
+            Ok(name) => {
+                so_far.waiting = Some(name);
+                Ok(())
+            }
             Err(place) => Err(place),
         },
     }
@@ -189,13 +328,13 @@ fn new_option(
     command: CommandName,
     name: &str,
     place: usize,
-    given: Given<'_>,
+    so_far: &Options<'_>,
 ) -> Result<OptionName, usize>
-    ensures { result ≡ new_option command (option_of name.now) place (seen_given given.entry) }
+    ensures { result ≡ new_option command (option_of name.now) place (seen_options so_far.now) }
 {
     match option_named(name) {
         Some(name) => {
-            if takes(command, name) && !is_given(name, given) {
+            if takes(command, name) && so_far.value(name).is_none() {
                 Ok(name)
             } else {
                 Err(place)
@@ -205,90 +344,29 @@ fn new_option(
     }
 }
 
-/// The option of this name.
-#[tactic(auto, unfolding(crate::specs::Words::option_of))]
-fn option_named(name: &str) -> Option<OptionName>
-    ensures { result ≡ option_of name.now }
-{
-    if name == "--in-format" {
-        Some(OptionName::InFormat)
-    } else if name == "--keyset" {
-        Some(OptionName::Keyset)
-    } else if name == "--keyset-format" {
-        Some(OptionName::KeysetFormat)
-    } else {
-        None
-    }
-}
-
-/// Whether the command has the option.
-fn takes(command: CommandName, name: OptionName) -> bool
-    ensures { result ≡ takes command name }
-{
-    match command {
-        CommandName::ListKeyset => match name {
-            OptionName::InFormat => true,
-            OptionName::Keyset | OptionName::KeysetFormat => false,
-        },
-        CommandName::Tag => match name {
-            OptionName::InFormat => false,
-            OptionName::Keyset | OptionName::KeysetFormat => true,
-        },
-    }
-}
-
-/// Whether the option was given before.
-fn is_given(name: OptionName, given: Given<'_>) -> bool
-    ensures { result ≡ is_given name (seen_given given.entry) }
-{
-    match name {
-        OptionName::InFormat => given.in_format.is_some(),
-        OptionName::Keyset => given.keyset.is_some(),
-        OptionName::KeysetFormat => given.keyset_format.is_some(),
-    }
-}
-
 /// The option with its value, which stands in the word of this place.
 fn with_value<'a>(
     name: OptionName,
     value: &'a str,
     place: usize,
-    given: Given<'a>,
-) -> Result<Progress<'a>, usize>
-    ensures { Reads seen_progress result
-        (with_value name value.now place (seen_given given.entry)) }
+    so_far: &mut Options<'a>,
+) -> Result<(), usize>
+    ensures { Reads (λ done. seen_options so_far.new) result
+        (with_value name value.now place (seen_options so_far.old)) }
 {
-    let mut more = given;
-    match name {
-        OptionName::InFormat => match format_named(value) {
-            Some(format) => more.in_format = Some(format),
-            None => return Err(place),
-        },
-        OptionName::Keyset => {
-            if value.is_empty() {
-                return Err(place);
-            }
-            more.keyset = Some(value);
-        }
-        OptionName::KeysetFormat => match format_named(value) {
-            Some(format) => more.keyset_format = Some(format),
-            None => return Err(place),
-        },
+    if !is_value(name.row().form, value) {
+        return Err(place);
     }
-    Ok(Progress {
-        given: more,
-        waiting: None,
-    })
+    write(&mut so_far.values, name.place(), value);
+    so_far.waiting = None;
+    Ok(())
 }
 
-/// The form of this name.
-#[tactic(auto, unfolding(crate::specs::Words::format_of))]
-fn format_named(value: &str) -> Option<Format>
-    ensures { result ≡ format_of value.now }
+/// Keeps the value at this place.
+fn write<'a>(values: &mut [Option<&'a str>; OPTION_COUNT], place: usize, value: &'a str)
+    requires within { place < OPTION_COUNT }
+    ensures size { length values.old ≡ OPTION_COUNT }
+    ensures written { values.new ≡ slice_set values.old place (Some value.entry) }
 {
-    if value == "binary" {
-        Some(Format::Binary)
-    } else {
-        None
-    }
+    values[place] = Some(value);
 }

@@ -56,6 +56,62 @@ key_info {
 const HMAC_KEYSET: &[u8; 98] =
     b"\x08\x84\x86\x88\x08\x12\x5b\x0a\x50\x0a\x2etype.googleapis.com/google.crypto.tink.HmacKey\x12\x1c\x12\x04\x08\x03\x10\x10\x1a\x14\x0b\x0b\x0b\x0b\x0b\x0b\x0b\x0b\x0b\x0b\x0b\x0b\x0b\x0b\x0b\x0b\x0b\x0b\x0b\x0b\x18\x01\x10\x01\x18\x84\x86\x88\x08\x20\x03";
 
+/// The names of the templates, in the order of docs/SPECIFICATION.md.
+const TEMPLATE_NAMES: &str = "AES128_GCM
+AES128_GCM_RAW
+AES256_GCM
+AES256_GCM_RAW
+AES128_EAX
+AES128_EAX_RAW
+AES256_EAX
+AES256_EAX_RAW
+AES128_CTR_HMAC_SHA256
+AES128_CTR_HMAC_SHA256_RAW
+AES256_CTR_HMAC_SHA256
+AES256_CTR_HMAC_SHA256_RAW
+AES256_SIV
+AES256_SIV_RAW
+HMAC_SHA256_128BITTAG
+HMAC_SHA256_256BITTAG
+HMAC_SHA512_128BITTAG
+HMAC_SHA512_256BITTAG
+HMAC_SHA512_512BITTAG
+AES256_CMAC
+HKDF_SHA256
+HMAC_SHA256_PRF
+HMAC_SHA512_PRF
+AES_CMAC_PRF
+AES128_GCM_HKDF_4KB
+AES128_GCM_HKDF_1MB
+AES256_GCM_HKDF_4KB
+AES256_GCM_HKDF_1MB
+AES128_CTR_HMAC_SHA256_4KB
+AES128_CTR_HMAC_SHA256_1MB
+AES256_CTR_HMAC_SHA256_4KB
+AES256_CTR_HMAC_SHA256_1MB
+";
+
+/// The keyset of 90 bytes in JSON.
+const GCM_JSON: &str =
+    "{\"key\":[{\"keyData\":{\"keyMaterialType\":\"SYMMETRIC\",\"typeUrl\":\"type.googleapis.com/google.crypto.tink.AesGcmKey\",\"value\":\"GhAAAAAAAAAAAAAAAAAAAAAA\"},\"keyId\":16909060,\"outputPrefixType\":\"TINK\",\"status\":\"ENABLED\"}],\"primaryKeyId\":16909060}\n";
+
+/// The same with a DESTROYED key of the id 5 that has no key data.
+const BARE_JSON: &str =
+    "{\"key\":[{\"keyData\":{\"keyMaterialType\":\"SYMMETRIC\",\"typeUrl\":\"type.googleapis.com/google.crypto.tink.AesGcmKey\",\"value\":\"GhAAAAAAAAAAAAAAAAAAAAAA\"},\"keyId\":16909060,\"outputPrefixType\":\"TINK\",\"status\":\"ENABLED\"},{\"keyId\":5,\"outputPrefixType\":\"TINK\",\"status\":\"DESTROYED\"}],\"primaryKeyId\":16909060}\n";
+
+/// The keyset of 90 bytes, spelled over lines, with its members in another order.
+const SPELLED_JSON: &str =
+    "{\n \"primaryKeyId\": 16909060,\n \"key\": [\n  {\n   \"keyData\": {\n    \"keyMaterialType\": \"SYMMETRIC\",\n    \"typeUrl\": \"type.googleapis.com/google.crypto.tink.AesGcmKey\",\n    \"value\": \"GhAAAAAAAAAAAAAAAAAAAAAA\"\n   },\n   \"status\": \"ENABLED\",\n   \"keyId\": 16909060,\n   \"outputPrefixType\": \"TINK\"\n  }\n ]\n}\n";
+
+/// A keyset of one HMAC key of 20 bytes 0xff, with the names of tink.proto's fields, numbers as
+/// texts, the URL alphabet without padding, and an unknown member.
+const SNAKE_JSON: &str =
+    "{\"primary_key_id\":\"7\",\"key\":[{\"key_data\":{\"type_url\":\"type.googleapis.com/google.crypto.tink.HmacKey\",\"value\":\"EgQIAxAQGhT__________________________w\",\"key_material_type\":1},\"status\":1,\"key_id\":\"7\",\"output_prefix_type\":\"RAW\"}],\"note\":null}";
+
+/// The same as it is written.
+const CAMEL_JSON: &str =
+    "{\"key\":[{\"keyData\":{\"keyMaterialType\":\"SYMMETRIC\",\"typeUrl\":\"type.googleapis.com/google.crypto.tink.HmacKey\",\"value\":\"EgQIAxAQGhT//////////////////////////w==\"},\"keyId\":7,\"outputPrefixType\":\"RAW\",\"status\":\"ENABLED\"}],\"primaryKeyId\":7}\n";
+
 /// The bytes that a cell spells, one item after another, with spaces between them.
 ///
 /// An item is hexadecimal digits (`0a2b`), digits with their count (`20x0b`), or a name from the list
@@ -107,6 +163,18 @@ fn named(name: &str) -> Option<&'static [u8]> {
         Some(TWO_LISTING.as_bytes())
     } else if name == "BARE_LISTING" {
         Some(BARE_LISTING.as_bytes())
+    } else if name == "TEMPLATES" {
+        Some(TEMPLATE_NAMES.as_bytes())
+    } else if name == "GCM_JSON" {
+        Some(GCM_JSON.as_bytes())
+    } else if name == "BARE_JSON" {
+        Some(BARE_JSON.as_bytes())
+    } else if name == "SPELLED_JSON" {
+        Some(SPELLED_JSON.as_bytes())
+    } else if name == "SNAKE_JSON" {
+        Some(SNAKE_JSON.as_bytes())
+    } else if name == "CAMEL_JSON" {
+        Some(CAMEL_JSON.as_bytes())
     } else {
         None
     }

@@ -7,7 +7,13 @@
 #[cfg(test)]
 mod bytes;
 #[cfg(test)]
+mod create;
+#[cfg(test)]
+mod edits;
+#[cfg(test)]
 mod faults;
+#[cfg(test)]
+mod json;
 #[cfg(test)]
 mod list_keyset;
 #[cfg(test)]

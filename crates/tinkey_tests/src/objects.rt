@@ -2,7 +2,7 @@
 
 use std::alloc::Global;
 use std::test::Fail;
-use tink_base::{MemSink, MemSource, MemStore};
+use tink_base::{MemEntropy, MemSink, MemSource, MemStore};
 use tinkey_run::{Status, run};
 
 /// The objects of a run.
@@ -16,18 +16,23 @@ pub(crate) struct Objects<'a> {
     pub(crate) file: Option<&'a [u8]>,
     /// The bytes of the input.
     pub(crate) input: Vec<u8>,
+    /// The random bytes.
+    pub(crate) random: Vec<u8>,
 }
 
-/// The names of the calls that can fail: reads, writes, writes of the diagnostic line, and loads of
-/// the file; and `none`.
-pub(crate) const CALLS: [&str; 5] = ["read", "write", "line", "load", "none"];
+/// The names of the calls that can fail: reads, writes, writes of the diagnostic line, calls of the
+/// store, and fills with random bytes; and `none`.
+pub(crate) const CALLS: [&str; 6] = ["read", "write", "line", "store", "fill", "none"];
 
-/// How a run ended: its status, the output and the diagnostic line.
+/// How a run ended: its status, the output, the diagnostic line, the new file `n`, and how many random
+/// bytes were drawn.
 #[derive(Drop)]
 pub(crate) struct Outcome {
     pub(crate) status: Status,
     pub(crate) output: Vec<u8>,
     pub(crate) line: Vec<u8>,
+    pub(crate) made: Option<Vec<u8>>,
+    pub(crate) drawn: usize,
 }
 
 /// Runs the words over these objects.
@@ -41,21 +46,37 @@ pub(crate) fn run_over(
         fails,
         file,
         input,
+        random,
     } = objects;
     let piece = piece.max(1);
+    let given = random.len();
     let mut source = MemSource::new(input, piece, calls(alloc, fails, "read")?);
     let mut sink = MemSink::new(alloc, 1 << 16, piece, calls(alloc, fails, "write")?)?;
     let mut diag = MemSink::new(alloc, 256, piece, calls(alloc, fails, "line")?)?;
-    let mut store = MemStore::new(alloc, calls(alloc, fails, "load")?);
+    let mut store = MemStore::new(alloc, calls(alloc, fails, "store")?);
+    let mut entropy = MemEntropy::new(random, calls(alloc, fails, "fill")?);
     if let Some(bytes) = file {
         store.put("k", bytes)?;
     }
-    let status = run(alloc, words, &mut source, &mut sink, &mut diag, &mut store);
+    let status = run(
+        alloc,
+        words,
+        &mut source,
+        &mut sink,
+        &mut diag,
+        &mut entropy,
+        &mut store,
+    );
     assert_kept(&store, file)?;
     Ok(Outcome {
         status,
         output: sink.written().to_vec(alloc)?,
         line: diag.written().to_vec(alloc)?,
+        made: match store.get("n") {
+            Some(bytes) => Some(bytes.to_vec(alloc)?),
+            None => None,
+        },
+        drawn: given - entropy.left(),
     })
 }
 

@@ -20,10 +20,12 @@ pub(crate) enum Column {
     File,
     /// The bytes of the input.
     Input,
+    /// The random bytes.
+    Random,
     /// How many bytes the objects move at a time.
     Piece,
     /// The call that fails, counted from 1: `read 1` of the input, `write 1` of the output, `line 1`
-    /// of the diagnostic line, `load 1` of the file; or `none 0`.
+    /// of the diagnostic line, `store 1` of the files, `fill 1` of the random bytes; or `none 0`.
     Fails,
     /// The exit code and the status, as `2 Usage(0)`.
     Status,
@@ -31,22 +33,29 @@ pub(crate) enum Column {
     Line,
     /// The bytes of the output.
     Output,
+    /// The bytes of the new file `n`, or `none` where there is none.
+    Made,
+    /// How many random bytes were drawn.
+    Drawn,
 }
 
 /// The names of the columns, in their order.
-const NAMES: [&str; 9] = [
-    "shows", "words", "file", "input", "piece", "fails", "status", "line", "output",
+const NAMES: [&str; 12] = [
+    "shows", "words", "file", "input", "random", "piece", "fails", "status", "line", "output",
+    "made", "drawn",
 ];
 
 /// What a row runs, and how the run has to end: a cell for each column.
 #[derive(Clone, Copy)]
 pub(crate) struct Row<'a> {
-    cells: [&'a str; 9],
+    cells: [&'a str; 12],
 }
 
 /// The row that a table starts from: nothing fails, and nothing is written.
 pub(crate) const PLAIN: Row<'static> = Row {
-    cells: ["", "", "none", "", "4096", "none 0", "", "", ""],
+    cells: [
+        "", "", "none", "", "", "4096", "none 0", "", "", "", "none", "0",
+    ],
 };
 
 impl<'a> Row<'a> {
@@ -130,6 +139,12 @@ pub(crate) fn run_row(alloc: Global, row: &Row<'_>) -> Result<(), Fail> {
     if got.output.as_slice() != bytes_of(alloc, row.cell(Column::Output))?.as_slice() {
         return Err(unlike(row, &status, "output"));
     }
+    if got.made.as_deref() != file_of(alloc, row.cell(Column::Made))?.as_deref() {
+        return Err(unlike(row, &status, "new file"));
+    }
+    if got.drawn != row.cell(Column::Drawn).parse::<usize>()? {
+        return Err(unlike(row, &status, "count of random bytes"));
+    }
     Ok(())
 }
 
@@ -149,19 +164,24 @@ fn outcome_of(alloc: Global, row: &Row<'_>) -> Result<Outcome, Fail> {
     for word in row.cell(Column::Words).split_whitespace() {
         words.push(String::from_str(alloc, word)?)?;
     }
-    let cell = row.cell(Column::File);
-    let file = if cell == "none" {
-        None
-    } else {
-        Some(bytes_of(alloc, cell)?)
-    };
+    let file = file_of(alloc, row.cell(Column::File))?;
     let objects = Objects {
         piece: row.cell(Column::Piece).parse::<usize>()?,
         fails: failing(row.cell(Column::Fails))?,
         file: file.as_deref(),
         input: bytes_of(alloc, row.cell(Column::Input))?,
+        random: bytes_of(alloc, row.cell(Column::Random))?,
     };
     run_over(alloc, &words, objects)
+}
+
+/// The bytes of a file that a cell tells, where there is one.
+fn file_of(alloc: Global, cell: &str) -> Result<Option<Vec<u8>>, Fail> {
+    if cell == "none" {
+        Ok(None)
+    } else {
+        Ok(Some(bytes_of(alloc, cell)?))
+    }
 }
 
 /// The name of the call that fails, and which of them it is.

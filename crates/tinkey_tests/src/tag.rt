@@ -36,7 +36,7 @@ fails: read 1
 
 shows | words | file | status | line
 no option | tag | none | 2 Usage(1) | tinkey: usage: word 1
-the format is missing | tag --keyset k | none | 2 Usage(3) | tinkey: usage: word 3
+the form is JSON where none is given | tag --keyset k | HMAC | 3 NotJson | tinkey: not JSON
 an empty name | tag --keyset= --keyset-format=binary | none | 2 Usage(1) | tinkey: usage: word 1
 an option of another command | tag --in-format binary | none | 2 Usage(1) | tinkey: usage: word 1
 the file is missing | tag --keyset k --keyset-format binary | none | 4 InMissing | tinkey: input file missing

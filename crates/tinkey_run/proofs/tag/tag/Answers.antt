@@ -20,7 +20,7 @@ checks keys next = checks_fit keys (λ fit. reads keys next)
 
 pub returns-in_err-keyset : goal.returns-in_err-keyset
 returns-in_err-keyset g c = λ w.
-    ends_there (loads_keyset c.args.name.now) checks _ _ _ _ c.from_residual.ensures.1 (c.in_err-keyset.ensures (record w { source = g.S.Source.state c.args.source.now }))
+    ends_there (loads_keyset c.args.name.now c.args.form) checks _ _ _ _ c.from_residual.ensures.1 (c.in_err-keyset.ensures.passes (record w { source = g.S.Source.state c.args.source.now }))
 
 pub returns-in_err-check_fit : goal.returns-in_err-check_fit
 returns-in_err-check_fit g c = λ w.
@@ -28,7 +28,7 @@ returns-in_err-check_fit g c = λ w.
     let old = record first { store = g.D.Store.state c.args.store.now } in
     let mid = record first { store = g.D.Store.state c.load_keyset.new.store } in
     let keys = c.in_ok-keyset.keyset in
-    passes_then (loads_keyset c.args.name.now) checks old mid mid keys _ (c.in_ok-keyset.ensures first)
+    passes_then (loads_keyset c.args.name.now c.args.form) checks old mid mid keys _ (c.in_ok-keyset.ensures.passes first)
     (ends_there (checks_fit keys) (λ fit. reads keys) mid mid _ _ c.from_residual-in_err-check_fit.ensures.1 (c.in_err-check_fit.ensures.passes mid))
 
 pub returns-in_err-data : goal.returns-in_err-data
@@ -38,7 +38,7 @@ returns-in_err-data g c = λ w.
     let mid = record first { store = g.D.Store.state c.load_keyset.new.store } in
     let new = record mid { source = g.S.Source.state c.read_input.new.source } in
     let keys = c.in_ok-keyset.keyset in
-    passes_then (loads_keyset c.args.name.now) checks old mid new keys _ (c.in_ok-keyset.ensures first)
+    passes_then (loads_keyset c.args.name.now c.args.form) checks old mid new keys _ (c.in_ok-keyset.ensures.passes first)
     (passes_then (checks_fit keys) (λ fit. reads keys) mid mid new tt _ (c.in_ok-check_fit.ensures.passes mid)
     (ends_there reads_input (tags keys) mid new _ _ c.from_residual-in_err-data.ensures.1 (c.in_err-data.ensures mid)))
 
@@ -50,7 +50,7 @@ returns-in_err-tag g c = λ w.
     let new = record mid { source = g.S.Source.state c.read_input.new.source } in
     let keys = c.in_ok-keyset.keyset in
     let body = c.in_ok-data.data in
-    passes_then (loads_keyset c.args.name.now) checks old mid new keys _ (c.in_ok-keyset.ensures first)
+    passes_then (loads_keyset c.args.name.now c.args.form) checks old mid new keys _ (c.in_ok-keyset.ensures.passes first)
     (passes_then (checks_fit keys) (λ fit. reads keys) mid mid new tt _ (c.in_ok-check_fit.ensures.passes mid)
     (passes_then reads_input (tags keys) mid new new body _ (c.in_ok-data.ensures mid)
     (ends_there (works_out (tag_answer keys body)) with_tag new new _ status.NoMemory c.from_residual-in_err-tag.ensures.1 (λ next. inr (refl, refl)))))
@@ -64,7 +64,7 @@ returns g c = λ w.
     let keys = c.in_ok-keyset.keyset in
     let body = c.in_ok-data.data in
     let found = rw c.as_slice.ensures at c.in_ok-tag.ensures in
-    passes_then (loads_keyset c.args.name.now) checks old mid new keys (Ok c.in_ok-tag.tag) (c.in_ok-keyset.ensures first)
+    passes_then (loads_keyset c.args.name.now c.args.form) checks old mid new keys (Ok c.in_ok-tag.tag) (c.in_ok-keyset.ensures.passes first)
     (passes_then (checks_fit keys) (λ fit. reads keys) mid mid new tt (Ok c.in_ok-tag.tag) (c.in_ok-check_fit.ensures.passes mid)
     (passes_then reads_input (tags keys) mid new new body (Ok c.in_ok-tag.tag) (c.in_ok-data.ensures mid)
     (λ next s last run. inl (rw found run))))

@@ -1,13 +1,35 @@
-use Rattle.tinkey_run.specs.Commands.{list_keyset_output, tag_output}
+use Rattle.tinkey_run.specs.Commands.{create_output, edit_output, list_keyset_output, tag_output}
 use Rattle.tinkey_run.specs.Ends.{world}
+use Rattle.tinkey_run.specs.Steps.{takes_keyset}
+use Rattle.tinkey_run.specs.Words.{seen_edit, seen_place}
 use Rattle.tinkey_run.proofs.top.dispatch.Goals as goal
+
+pub returns-in-CreateKeyset : goal.returns-in-CreateKeyset
+returns-in-CreateKeyset g c =
+    let w = world (g.S.Source.state c.args.source.now) (g.K.Sink.state c.args.sink.now) (g.D.Store.state c.args.store.now) (g.E.Entropy.state c.args.entropy.now) in
+    rw c.in-CreateKeyset.is (c.finish_keyset.ensures (create_output c.in-CreateKeyset.template.now) w (record w { entropy = g.E.Entropy.state c.create_keyset.new.entropy }) (c.create_keyset.ensures.passes w))
+
+pub returns-in-EditKeyset : goal.returns-in-EditKeyset
+returns-in-EditKeyset g c =
+    let w = world (g.S.Source.state c.args.source.now) (g.K.Sink.state c.args.sink.now) (g.D.Store.state c.args.store.now) (g.E.Entropy.state c.args.entropy.now) in
+    rw c.in-EditKeyset.is (c.finish_keyset-in-EditKeyset.ensures (edit_output (seen_edit c.in-EditKeyset.edit) (seen_place c.in-EditKeyset.input)) w (record w { source = g.S.Source.state c.edit_keyset-edited.new.source; entropy = g.E.Entropy.state c.edit_keyset-edited.new.entropy; store = g.D.Store.state c.edit_keyset-edited.new.store }) (c.edit_keyset-edited.ensures.passes w))
 
 pub returns-in-ListKeyset : goal.returns-in-ListKeyset
 returns-in-ListKeyset g c =
-    let w = world (g.S.Source.state c.args.source.now) (g.K.Sink.state c.args.sink.now) (g.D.Store.state c.args.store.now) in
-    rw c.in-ListKeyset.is (c.finish.ensures list_keyset_output w (record w { source = g.S.Source.state c.list_keyset.new.source }) (c.list_keyset.ensures w))
+    let w = world (g.S.Source.state c.args.source.now) (g.K.Sink.state c.args.sink.now) (g.D.Store.state c.args.store.now) (g.E.Entropy.state c.args.entropy.now) in
+    rw c.in-ListKeyset.is (c.finish.ensures (list_keyset_output (seen_place c.in-ListKeyset.input)) w (record w { source = g.S.Source.state c.list_keyset.new.source; store = g.D.Store.state c.list_keyset.new.store }) (c.list_keyset.ensures w))
+
+pub returns-in-ConvertKeyset : goal.returns-in-ConvertKeyset
+returns-in-ConvertKeyset g c =
+    let w = world (g.S.Source.state c.args.source.now) (g.K.Sink.state c.args.sink.now) (g.D.Store.state c.args.store.now) (g.E.Entropy.state c.args.entropy.now) in
+    rw c.in-ConvertKeyset.is (c.finish_keyset-in-ConvertKeyset.ensures (takes_keyset (seen_place c.in-ConvertKeyset.input)) w (record w { source = g.S.Source.state c.take_keyset-taken.new.source; store = g.D.Store.state c.take_keyset-taken.new.store }) (c.take_keyset-taken.ensures.passes w))
+
+pub returns-in-ListKeyTemplates : goal.returns-in-ListKeyTemplates
+returns-in-ListKeyTemplates g c =
+    let w = world (g.S.Source.state c.args.source.now) (g.K.Sink.state c.args.sink.now) (g.D.Store.state c.args.store.now) (g.E.Entropy.state c.args.entropy.now) in
+    rw c.in-ListKeyTemplates.is (c.list_templates.ensures w)
 
 pub returns-in-Tag : goal.returns-in-Tag
 returns-in-Tag g c =
-    let w = world (g.S.Source.state c.args.source.now) (g.K.Sink.state c.args.sink.now) (g.D.Store.state c.args.store.now) in
-    rw c.in-Tag.is (c.finish-in-Tag.ensures (tag_output c.in-Tag.name.now) w (record w { source = g.S.Source.state c.tag.new.source; store = g.D.Store.state c.tag.new.store }) (c.tag.ensures w))
+    let w = world (g.S.Source.state c.args.source.now) (g.K.Sink.state c.args.sink.now) (g.D.Store.state c.args.store.now) (g.E.Entropy.state c.args.entropy.now) in
+    rw c.in-Tag.is (c.finish-in-Tag.ensures (tag_output c.in-Tag.keyset.now c.in-Tag.form) w (record w { source = g.S.Source.state c.tag.new.source; store = g.D.Store.state c.tag.new.store }) (c.tag.ensures w))

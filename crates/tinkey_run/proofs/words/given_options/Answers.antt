@@ -8,4 +8,4 @@ returns-in-Err c =
 
 pub loop-i-preserved : goal.loop-i-preserved
 loop-i-preserved c =
-    goes_on string_bytes _ _ _ _ _ _ _ c.loop-i-test.true c.index-words-i.is c.loop-i.invariant (rw c.as_str.ensures.value at c.in-Ok.ensures)
+    goes_on string_bytes _ _ _ _ _ _ _ c.loop-i-test.true c.index-words-i.is c.loop-i.invariant (rw c.as_str.ensures.value at c.in_default.ensures)

@@ -1,0 +1,127 @@
+//! The last step of a command: its output is written, or becomes a new file.
+
+ghost use Rattle.std.specs.Prelude.{◌≡◌, List, ℕ, IfOk};
+ghost use Rattle.std.specs.List.{AllByRecursion};
+ghost use Rattle.keyset_model.specs.Keyset.{Keys, IsShort};
+ghost use Rattle.tinkey_run.specs.Plan.{Plan, writes, creates};
+ghost use Rattle.tinkey_run.specs.Ends.{Ends, World};
+ghost use Rattle.tinkey_run.specs.Steps.{written_in, puts, puts_keyset, Passes};
+ghost use Rattle.tinkey_run.specs.Words.{seen_name, seen_place};
+ghost use Rattle.tinkey_run.specs.declared.status.Status.TheVariants as status;
+
+use crate::Status;
+use crate::words::{Format, Place};
+use keyset_json::write_json;
+use keyset_model::{Keyset, write_binary};
+use std::alloc::Global;
+use tink_base::{Bytes, Created, NoMemory, Sink, Store, StoreError, write_all};
+
+/// Writes a command's output, its last step, or hands on why there is none.
+pub(crate) fn finish<K: Sink>(sink: &mut K, output: Result<Bytes, Status>) -> Status
+    ensures { (step : (List ℕ → Plan) → Plan) (first w : World) →
+        Passes step first output (record w { sink = K.state sink.old }) →
+        Ends (step writes) first result (record w { sink = K.state sink.new }) }
+{
+    match output {
+        Ok(bytes) => write_output(sink, bytes.as_slice()),
+        Err(status) => status,
+    }
+}
+
+/// Writes the output.
+pub(crate) fn write_output<K: Sink>(sink: &mut K, output: &[u8]) -> Status
+    ensures { (w : World) → Ends (writes output.now)
+        (record w { sink = K.state sink.old }) result (record w { sink = K.state sink.new }) }
+{
+    match write_all(sink, output) {
+        Ok(()) => Status::Done,
+        Err(_) => Status::WriteFault,
+    }
+}
+
+/// Puts out the keyset that a command gives, in its written form, as its last step: into a new
+/// file, or where none is named, to the sink. Or hands on why there is no keyset.
+pub(crate) fn finish_keyset<K: Sink, D: Store>(
+    alloc: Global,
+    out: Place<'_>,
+    sink: &mut K,
+    store: &mut D,
+    made: Result<Keyset, Status>,
+) -> Status
+    requires short { IfOk made (λ keyset. AllByRecursion IsShort keyset.records) }
+    ensures { (step : (Keys → Plan) → Plan) (first w : World) →
+        Passes step first made
+        (record w { sink = K.state sink.old; store = D.state store.old }) →
+        Ends (step (puts_keyset (seen_place out.entry))) first result
+        (record w { sink = K.state sink.new; store = D.state store.new }) }
+{
+    match made {
+        Ok(keyset) => put_keyset(alloc, out, sink, store, &keyset),
+        Err(status) => status,
+    }
+}
+
+/// Puts out a keyset in its written form.
+fn put_keyset<K: Sink, D: Store>(
+    alloc: Global,
+    out: Place<'_>,
+    sink: &mut K,
+    store: &mut D,
+    keyset: &Keyset,
+) -> Status
+    requires short { AllByRecursion IsShort keyset.now.records }
+    ensures { (w : World) → Ends (puts_keyset (seen_place out.entry) keyset.now)
+        (record w { sink = K.state sink.old; store = D.state store.old }) result
+        (record w { sink = K.state sink.new; store = D.state store.new }) }
+{
+    match written(alloc, out.form, keyset) {
+        Ok(bytes) => put(alloc, out.file, sink, store, &bytes),
+        Err(_) => Status::NoMemory,
+    }
+}
+
+/// A keyset written in this form.
+fn written(alloc: Global, form: Format, keyset: &Keyset) -> Result<Vec<u8>, NoMemory>
+    requires short { AllByRecursion IsShort keyset.now.records }
+    ensures { IfOk result (λ bytes. bytes.items ≡ written_in form keyset.now) }
+{
+    match form {
+        Format::Json => write_json(alloc, keyset),
+        Format::Binary => write_binary(alloc, keyset),
+    }
+}
+
+/// Puts bytes into a new file of this name, or where none is named, to the sink.
+fn put<K: Sink, D: Store>(
+    alloc: Global,
+    out: Option<&str>,
+    sink: &mut K,
+    store: &mut D,
+    bytes: &[u8],
+) -> Status
+    ensures { (w : World) → Ends (puts (seen_name out.entry) bytes.now)
+        (record w { sink = K.state sink.old; store = D.state store.old }) result
+        (record w { sink = K.state sink.new; store = D.state store.new }) }
+{
+    match out {
+        Some(name) => create_file(alloc, name, store, bytes),
+        None => write_output(sink, bytes),
+    }
+}
+
+/// Makes a new file of these bytes.
+fn create_file<D: Store>(alloc: Global, name: &str, store: &mut D, bytes: &[u8]) -> Status
+    ensures { (w : World) → Ends (creates name.now bytes.now status.OutExists tt)
+        (record w { store = D.state store.old }) result (record w { store = D.state store.new }) }
+{
+    match store.create(alloc, name, bytes) {
+        Ok(created) => match created {
+            Created::Made => Status::Done,
+            Created::Exists => Status::OutExists,
+        },
+        Err(e) => match e {
+            StoreError::Failed => Status::StoreFault,
+            StoreError::NoMemory => Status::NoMemory,
+        },
+    }
+}
