@@ -1,36 +1,33 @@
 -- The JSON form of keys without a fault reads back to them.
-use Rattle.std.proofs.Common.{◌≡◌, ◌∙◌, ℕ, zero, suc, ◌+◌, ◌-◌, ◌<◌, ◌≤◌, ◌^◌, ◌&&◌, ◌==◌, Bool, true, false, nat_lt, List, [], ◌∷◌, ◌++◌, length, get_or, take, map, max, Option, Some, None, Result, Ok, Err, codes, decimal, refl, sym, ap, subst, arith, length-append}
+use Rattle.std.proofs.Common.{◌≡◌, ◌∙◌, ℕ, zero, suc, ◌+◌, ◌-◌, ◌<◌, ◌≤◌, ◌^◌, ◌&&◌, ◌==◌, Bool, true, false, List, [], ◌∷◌, ◌++◌, length, map, Some, Ok, refl, sym, ap, arith, length-append}
 use Rattle.std.proofs.Math.Seq.{get_or-append_seam, take-append_seam}
 use Rattle.std.proofs.lemmas.Bool.{lt-ltb, and_parts, eqb-true}
-use Rattle.std.proofs.lemmas.Str.{is_utf8-from_IsUtf8, IsUtf8-from_is_utf8, IsUtf8-from_ascii}
-use Rattle.std.specs.Prelude.{⊤}
+use Rattle.std.proofs.lemmas.Str.{IsUtf8-from_is_utf8, IsUtf8-from_ascii}
 use Rattle.std.specs.List.{AllByRecursion}
-use Rattle.std.specs.Str.{IsUtf8, is_utf8}
+use Rattle.std.specs.Str.{IsUtf8}
 use Rattle.json.specs.Tree as tree
 use Rattle.json.proofs.Printed.Utf8.{IsUtf8-are_ascii}
 use Rattle.base64.specs.GeneralPurpose.{encode_of, decoded_of, IsBytes}
 use Rattle.base64.specs.Engines.{standard}
 use Rattle.base64.proofs.EngineFacts.{IsAscii-encode_of, decode_of-encode_of}
-use Rattle.serde_json.specs.Data.{Data, null, array, object, Items, no_items, item}
-use Rattle.serde_json.specs.Find.{as_array}
-use Rattle.serde_json.specs.Read.{of_json, of_items, number_of, read}
+use Rattle.serde_json.specs.Data.{null, array}
+use Rattle.serde_json.specs.Read.{of_json, of_items}
 use Rattle.serde_json.specs.View.{items_of}
 use Rattle.serde_json.specs.Written.{outline, items_outline, compact_text}
 use Rattle.serde_json.proofs.Numbers.{number_of-decimal}
 use Rattle.keyset_model.specs.declared.record.Record.{Record}
-use Rattle.keyset_model.specs.Keyset.{Keys, IsKnown, is_bare, fault_of, built, unless_fault, first_some}
+use Rattle.keyset_model.specs.Keyset.{Keys, IsKnown, is_bare, unless_fault}
 use Rattle.keyset_model.specs.WellFormed.{HasData}
 use Rattle.keyset_model.proofs.WellFormedLemmas.{all_known, all_data}
-use Rattle.keyset_json.specs.declared.member.Path.{Path}
 use Rattle.keyset_json.specs.declared.member.Member.TheVariants as members
 use Rattle.keyset_json.specs.Base64Text.{bytes_of_text}
 use Rattle.keyset_json.specs.Members.{member_of, name_of, field_name_of}
 use Rattle.keyset_json.specs.Names.{status_names, prefix_names, material_names, number_named, name_at}
 use Rattle.keyset_json.specs.Numbers.{uint32_of, within_32_bits}
-use Rattle.keyset_json.specs.Reading.{of_keyset, of_key, or_at, object_of, field, ends_in_newline, without_newline, json_value, record_of, records_of, records_in, reads_json, without_fault}
+use Rattle.keyset_json.specs.Reading.{of_keyset, of_key, or_at, object_of, field, without_newline, json_value, record_of, records_of, without_fault}
 use Rattle.keyset_json.specs.Writing.{data_value, key_value, keyset_value, json_of, HasJsonBounds, JsonBack}
 use Rattle.keyset_json.proofs.Base64Lemmas.{first}
-use Rattle.keyset_json.proofs.ReadingLemmas.{value_read, data_at, url_at, value_at, material_at, status_at, id_at, prefix_at, whole_record, ahead, list_of, keyset_built}
+use Rattle.keyset_json.proofs.ReadingLemmas.{value_read, whole_record, ahead, list_of, keyset_built}
 use Rattle.keyset_json.proofs.PrintedLemmas.{Good, GoodItems, utf8_value, read_printed}
 
 -- ---- names and numbers

@@ -1,5 +1,5 @@
 -- Lemmas on base64: the first engine that reads a text, and the length of what it reads.
-use Rattle.std.proofs.Common.{◌≡◌, ◌∙◌, ℕ, ◌+◌, ◌*◌, ◌/◌, ◌≤◌, ◌==◌, nat_lt, true, false, List, [], ◌∷◌, ◌++◌, length, drop, slice_index, Option, Some, None, Bool, Result, Ok, Err, if◌then◌else◌, refl, sym, ap, subst, arith, length-append, length-drop}
+use Rattle.std.proofs.Common.{◌≡◌, ◌∙◌, ℕ, ◌+◌, ◌*◌, ◌/◌, ◌≤◌, ◌==◌, nat_lt, true, false, List, [], ◌∷◌, length, drop, slice_index, Option, Some, None, Bool, Result, Ok, Err, if◌then◌else◌, refl, sym, subst, arith, length-append, length-drop}
 use Rattle.std.specs.Prelude.{⊤}
 use Rattle.std.specs.Result.{result_ok}
 use Rattle.std.proofs.lemmas.List.{length-take}

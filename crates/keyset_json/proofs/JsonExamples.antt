@@ -1,5 +1,5 @@
 -- Examples of the definitions, by hand.
-use Rattle.std.proofs.Common.{◌≡◌, ℕ, List, [], ◌∷◌, ◌++◌, Some, None, Ok, Err, codes, decimal, refl}
+use Rattle.std.proofs.Common.{◌≡◌, [], ◌∷◌, Some, None, Ok, Err, codes, refl}
 use Rattle.base64.proofs.OnLiterals.{base64_on_literals}
 use Rattle.serde_json.proofs.OnLiterals.{serde_json_on_literals}
 use Rattle.std.specs.Prelude.{⊤}

@@ -1,14 +1,14 @@
 -- Lemmas on writing: members that are put in one after another, and values of records.
-use Rattle.std.proofs.Common.{◌≡◌, ◌∙◌, ℕ, ◌+◌, ◌<◌, Bool, true, false, List, [], ◌∷◌, ◌++◌, length, map, take, slice_get, Option, Some, None, if◌then◌else◌, codes, refl, sym, ap, ap₂, arith}
+use Rattle.std.proofs.Common.{◌≡◌, ◌∙◌, ℕ, ◌+◌, Bool, true, false, List, [], ◌∷◌, ◌++◌, map, take, slice_get, Some, if◌then◌else◌, codes, refl, sym, ap, ap₂}
 use Rattle.std.proofs.lemmas.List.{map-append, take_more}
 use Rattle.std.proofs.lemmas.Option.{get_or_from_slice_get, slice_get_within}
-use Rattle.serde_json.specs.Written.{has_float, items_have_float, members_have_float}
+use Rattle.serde_json.specs.Written.{has_float, items_have_float}
 use Rattle.keyset_model.specs.Keyset.{Keys, is_bare}
-use Rattle.serde_json.specs.Data.{Data, Items, Members, no_members, member, put, object}
+use Rattle.serde_json.specs.Data.{Data, no_members, member, put}
 use Rattle.serde_json.specs.View.{view, items_of}
 use Rattle.serde_json.specs.declared.value.Value.{Value}
 use Rattle.keyset_model.specs.declared.record.Record.{Record}
-use Rattle.keyset_json.specs.Writing.{data_value, key_members, key_value, keyset_value}
+use Rattle.keyset_json.specs.Writing.{data_value, key_value, keyset_value}
 
 -- the members behind the key data go behind it, whether it is there or not
 pub behind_data : (b : Bool) (data' id prefix status : Data)

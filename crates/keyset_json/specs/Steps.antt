@@ -1,5 +1,5 @@
 -- What the steps of reading a keyset answer, by the definitions of reading.
-use Rattle.std.specs.Prelude.{◌≡◌, ℕ, List, Option, Some, None, Result, Ok, Err}
+use Rattle.std.specs.Prelude.{◌≡◌, Option, None, Result, Ok, Err}
 use Rattle.serde_json.specs.Data.{Data}
 use Rattle.keyset_json.specs.declared.member.Path.{Path}
 use Rattle.keyset_json.specs.declared.reading.JsonError.{JsonError}

@@ -1,6 +1,6 @@
 //! The members of a keyset in JSON.
 
-ghost use Rattle.std.specs.Prelude.{◌≡◌, Some, option_map};
+ghost use Rattle.std.specs.Prelude.{◌≡◌, option_map};
 ghost use Rattle.serde_json.specs.View.{view};
 ghost use Rattle.keyset_json.specs.Members.{name_of, field_name_of, unless_null, member_of};
 
@@ -74,19 +74,19 @@ impl Member {
     pub(crate) fn find(self, object: &Value) -> Option<&Value>
         ensures { option_map (λ v. view v.now) result ≡ member_of self (view object.now) }
     {
-        match object.get(self.name()) {
-            Some(value) => unless_null(value),
-            None => match object.get(self.field_name()) {
-                Some(value) => unless_null(value),
-                None => None,
-            },
-        }
+        let named = object.get(self.name());
+        let by_field = object.get(self.field_name());
+        unless_null(named.or(by_field))
     }
 }
 
 /// The value, `None` where it is null.
-fn unless_null(value: &Value) -> Option<&Value>
-    ensures { option_map (λ v. view v.now) result ≡ unless_null (Some (view value.now)) }
+fn unless_null<'v>(value: Option<&'v Value>) -> Option<&'v Value>
+    ensures { option_map (λ v. view v.now) result
+        ≡ unless_null (option_map (λ v. view v.now) value.entry) }
 {
-    if value.is_null() { None } else { Some(value) }
+    match value {
+        Some(value) => if value.is_null() { None } else { Some(value) },
+        None => None,
+    }
 }

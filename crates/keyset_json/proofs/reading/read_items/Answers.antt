@@ -1,6 +1,6 @@
-use Rattle.std.proofs.Common.{◌∙◌, ◌<◌, length, sym, ap, refl, arith}
+use Rattle.std.proofs.Common.{refl, arith}
 use Rattle.keyset_json.specs.Reading.{records_of}
-use Rattle.keyset_json.proofs.ReadingLemmas.{items_push, items_stop, items_all, items_handed_on}
+use Rattle.keyset_json.proofs.ReadingLemmas.{items_push, items_stop, items_handed_on}
 use Rattle.keyset_json.proofs.reading.read_items.Goals as goal
 
 pub loop-i-init : goal.loop-i-init

@@ -1,4 +1,4 @@
-use Rattle.std.proofs.Common.{◌∙◌, length, sym, ap, refl, arith}
+use Rattle.std.proofs.Common.{◌∙◌, length, sym, ap, arith}
 use Rattle.keyset_json.specs.Reading.{without_fault}
 use Rattle.keyset_json.proofs.ReadingLemmas.{stop_json, stop_whole, stop_primary, stop_records, keyset_built, value_handed_on, shape_handed_on, fault_handed_on}
 use Rattle.keyset_json.proofs.SizeLemmas.{within_source, sizes_of, short_of, built_within}

@@ -1,7 +1,4 @@
-use Rattle.std.proofs.Common.{◌≡◌, rules}
-use Rattle.serde_json.specs.Data.{null}
 use Rattle.serde_json.specs.View.{view}
-use Rattle.serde_json.specs.declared.value.Value.{the_lemmas}
 use Rattle.keyset_json.proofs.ReadingLemmas.{stop_object, stop_data, stop_url, stop_value, stop_material, stop_status, stop_id, stop_prefix, whole_record, handed_on}
 use Rattle.keyset_json.proofs.reading.read_record.Goals as goal
 

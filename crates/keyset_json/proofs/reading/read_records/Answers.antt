@@ -1,5 +1,5 @@
-use Rattle.std.proofs.Common.{◌∙◌, sym, ap, refl}
-use Rattle.keyset_json.proofs.ReadingLemmas.{no_records, no_list, list_of}
+use Rattle.std.proofs.Common.{◌∙◌, sym, refl}
+use Rattle.keyset_json.proofs.ReadingLemmas.{no_records}
 use Rattle.keyset_json.proofs.reading.read_records.Goals as goal
 
 pub returns-in-None-clause-records : goal.returns-in-None-clause-records

@@ -1,4 +1,3 @@
-use Rattle.std.proofs.Common.{◌∙◌, refl, sym}
 use Rattle.keyset_json.proofs.ReadingLemmas.{value_read, no_value}
 use Rattle.keyset_json.proofs.reading.read_value.Goals as goal
 

@@ -1,4 +1,4 @@
-use Rattle.std.proofs.Common.{◌≡◌, ◌∙◌, map, take, ap, arith}
+use Rattle.std.proofs.Common.{◌∙◌, map, ap, arith}
 use Rattle.std.proofs.lemmas.List.{take_all}
 use Rattle.keyset_json.specs.Writing.{key_value}
 use Rattle.keyset_json.proofs.WritingLemmas.{value_push}

@@ -1,5 +1,4 @@
 use Rattle.std.proofs.Common.{◌∙◌, ◌++◌, ◌∷◌, [], ap}
-use Rattle.serde_json.specs.Written.{compact_text}
 use Rattle.keyset_json.specs.Writing.{json_of}
 use Rattle.keyset_json.proofs.WritingLemmas.{no_float}
 use Rattle.keyset_json.proofs.writing.write_json.Goals as goal

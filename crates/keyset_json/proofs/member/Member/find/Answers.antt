@@ -1,17 +1,13 @@
-use Rattle.std.proofs.Common.{◌∙◌, refl, ap, sym}
+use Rattle.std.proofs.Common.{◌≡◌, Option, Some, None, option_map, refl}
+use Rattle.std.specs.Option.{option_or}
 use Rattle.keyset_json.specs.Members.{member_of}
 use Rattle.keyset_json.proofs.member.Member.find.Goals as goal
 
-pub returns-in-Some : goal.returns-in-Some
-unfolding member_of
-returns-in-Some c = rw (c.unless_null.ensures, ← c.name.ensures, ← c.get.ensures, c.in-Some.is) refl
+or_mapped : {A B : Type 0} (f : A → B) (a b : Option A) → option_map f (option_or a b) ≡ option_or (option_map f a) (option_map f b)
+or_mapped f None b = refl
+or_mapped f (Some x) b = refl
 
-pub returns-in-Some-get : goal.returns-in-Some-get
+pub returns : goal.returns
 unfolding member_of
-returns-in-Some-get c =
-    rw (c.unless_null-in-Some-get.ensures, ← c.name.ensures, ← c.field_name.ensures, ← c.get.ensures, ← c.get-in-None.ensures, c.in-None.is, c.in-Some-get.is) refl
-
-pub returns-in-None-get : goal.returns-in-None-get
-unfolding member_of
-returns-in-None-get c =
-    rw (← c.name.ensures, ← c.field_name.ensures, ← c.get.ensures, ← c.get-in-None.ensures, c.in-None.is, c.in-None-get.is) refl
+returns c =
+    rw (c.unless_null.ensures, c.or.ensures, or_mapped, c.get-named.ensures, c.get-by_field.ensures, c.name.ensures, c.field_name.ensures) refl
