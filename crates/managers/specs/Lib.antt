@@ -1,0 +1,3 @@
+pub mod Schemes
+pub mod Table
+pub mod Uses

@@ -1,0 +1,292 @@
+//! Managers of AES-GCM, EAX and AES-CTR-HMAC.
+
+ghost use Rattle.std.specs.Prelude.{◌≡◌, ◌+◌, ◌^◌, ◌≤◌, length, string_bytes, IfOk};
+ghost use Rattle.std.specs.Option.{option_map};
+ghost use Rattle.key_msgs.specs.Keys.{IsValid};
+ghost use Rattle.managers.specs.Schemes as schemes;
+ghost use Rattle.managers.specs.Uses.{iv_size, open_key, seal_of};
+
+use crate::reading::read_as;
+use crate::{AeadManager, CheckFault, KeyManager};
+use aead_kinds::{AeadKey, open, seal};
+use key_msgs::{KeyKind, KeyType};
+use std::alloc::Global;
+use tink_base::{NoMemory, Trials};
+
+/// The bytes of an IV of AES-GCM.
+const GCM_IV: usize = 12;
+
+/// How many bytes an IV has under a key of any kind.
+fn iv_size_under(key: &KeyKind) -> usize
+    ensures { result ≡ iv_size key.now }
+{
+    match key {
+        KeyKind::AesGcm { .. } => GCM_IV,
+        KeyKind::AesEax { iv_size, .. } | KeyKind::AesCtrHmac { iv_size, .. } => *iv_size as usize,
+        _ => 0,
+    }
+}
+
+/// Seals under a valid key of any kind: to no bytes where it isn't one of an AEAD.
+fn seal_under(
+    alloc: Global,
+    key: &KeyKind,
+    iv: &[u8],
+    plain: &[u8],
+    ad: &[u8],
+) -> Result<Vec<u8>, NoMemory>
+    requires valid { IsValid key.now }
+    requires whole_iv { length iv.now ≡ iv_size key.now }
+    requires plain_bound { length plain.now ≤ 2 ^ 30 }
+    requires ad_bound { length ad.now ≤ 2 ^ 30 }
+    ensures { IfOk result (λ sealed. sealed.items ≡ seal_of key.now iv.now plain.now ad.now) }
+{
+    match key {
+        KeyKind::AesGcm { key } => {
+            let key = key.as_slice();
+            seal(alloc, &AeadKey::Gcm { key }, iv, plain, ad)
+        }
+        KeyKind::AesEax { key, iv_size } => {
+            let key = key.as_slice();
+            let iv_size = *iv_size as usize;
+            seal(alloc, &AeadKey::Eax { key, iv_size }, iv, plain, ad)
+        }
+        KeyKind::AesCtrHmac {
+            aes,
+            iv_size,
+            hash,
+            mac,
+            tag_size,
+        } => {
+            let under = AeadKey::CtrHmac {
+                aes: aes.as_slice(),
+                iv_size: *iv_size as usize,
+                hash: *hash,
+                mac: mac.as_slice(),
+                tag_size: *tag_size as usize,
+            };
+            seal(alloc, &under, iv, plain, ad)
+        }
+        _ => Ok(Vec::new(alloc)),
+    }
+}
+
+/// Opens under a valid key of any kind: nothing where it isn't one of an AEAD.
+fn open_under(
+    alloc: Global,
+    key: &KeyKind,
+    bytes: &[u8],
+    ad: &[u8],
+) -> Result<Option<Vec<u8>>, NoMemory>
+    requires valid { IsValid key.now }
+    requires bytes_bound { length bytes.now ≤ 2 ^ 30 + 96 }
+    requires ad_bound { length ad.now ≤ 2 ^ 30 }
+    ensures { IfOk result (λ plain.
+        option_map (λ text. text.items) plain ≡ open_key key.now bytes.now ad.now) }
+{
+    match key {
+        KeyKind::AesGcm { key } => {
+            let key = key.as_slice();
+            open(alloc, &AeadKey::Gcm { key }, bytes, ad)
+        }
+        KeyKind::AesEax { key, iv_size } => {
+            let key = key.as_slice();
+            let iv_size = *iv_size as usize;
+            open(alloc, &AeadKey::Eax { key, iv_size }, bytes, ad)
+        }
+        KeyKind::AesCtrHmac {
+            aes,
+            iv_size,
+            hash,
+            mac,
+            tag_size,
+        } => {
+            let under = AeadKey::CtrHmac {
+                aes: aes.as_slice(),
+                iv_size: *iv_size as usize,
+                hash: *hash,
+                mac: mac.as_slice(),
+                tag_size: *tag_size as usize,
+            };
+            open(alloc, &under, bytes, ad)
+        }
+        _ => Ok(None),
+    }
+}
+
+/// The manager of AES-GCM keys (SP 800-38D).
+#[derive(Drop)]
+pub struct GcmManager {
+    url: String,
+}
+
+impl GcmManager {
+    /// The manager under this type URL. No memory is taken.
+    pub fn new(url: String) -> Self
+        ensures url { ⟦<GcmManager as KeyManager>⟧.url result ≡ string_bytes url }
+        ensures scheme { ⟦<GcmManager as KeyManager>⟧.scheme result ≡ schemes.Gcm }
+    {
+        GcmManager { url }
+    }
+}
+
+impl KeyManager for GcmManager {
+    ghost url = { λ m. string_bytes m.url };
+
+    ghost scheme = { λ _. schemes.Gcm };
+
+    fn type_url(&self) -> &str {
+        self.url.as_str()
+    }
+
+    fn check(&self, alloc: Global, value: &[u8]) -> Result<KeyKind, CheckFault> {
+        read_as(alloc, KeyType::AesGcm, value)
+    }
+}
+
+impl AeadManager for GcmManager {
+    fn iv_size(&self, key: &KeyKind) -> usize {
+        iv_size_under(key)
+    }
+
+    fn seal(
+        &self,
+        alloc: Global,
+        key: &KeyKind,
+        iv: &[u8],
+        plain: &[u8],
+        ad: &[u8],
+    ) -> Result<Vec<u8>, NoMemory> {
+        seal_under(alloc, key, iv, plain, ad)
+    }
+
+    fn open(
+        &self,
+        alloc: Global,
+        key: &KeyKind,
+        bytes: &[u8],
+        ad: &[u8],
+        trials: &mut Trials,
+    ) -> Result<Option<Vec<u8>>, NoMemory> {
+        trials.tick();
+        open_under(alloc, key, bytes, ad)
+    }
+}
+
+/// The manager of EAX keys (Bellare, Rogaway and Wagner).
+#[derive(Drop)]
+pub struct EaxManager {
+    url: String,
+}
+
+impl EaxManager {
+    /// The manager under this type URL. No memory is taken.
+    pub fn new(url: String) -> Self
+        ensures url { ⟦<EaxManager as KeyManager>⟧.url result ≡ string_bytes url }
+        ensures scheme { ⟦<EaxManager as KeyManager>⟧.scheme result ≡ schemes.Eax }
+    {
+        EaxManager { url }
+    }
+}
+
+impl KeyManager for EaxManager {
+    ghost url = { λ m. string_bytes m.url };
+
+    ghost scheme = { λ _. schemes.Eax };
+
+    fn type_url(&self) -> &str {
+        self.url.as_str()
+    }
+
+    fn check(&self, alloc: Global, value: &[u8]) -> Result<KeyKind, CheckFault> {
+        read_as(alloc, KeyType::AesEax, value)
+    }
+}
+
+impl AeadManager for EaxManager {
+    fn iv_size(&self, key: &KeyKind) -> usize {
+        iv_size_under(key)
+    }
+
+    fn seal(
+        &self,
+        alloc: Global,
+        key: &KeyKind,
+        iv: &[u8],
+        plain: &[u8],
+        ad: &[u8],
+    ) -> Result<Vec<u8>, NoMemory> {
+        seal_under(alloc, key, iv, plain, ad)
+    }
+
+    fn open(
+        &self,
+        alloc: Global,
+        key: &KeyKind,
+        bytes: &[u8],
+        ad: &[u8],
+        trials: &mut Trials,
+    ) -> Result<Option<Vec<u8>>, NoMemory> {
+        trials.tick();
+        open_under(alloc, key, bytes, ad)
+    }
+}
+
+/// The manager of AES-CTR-HMAC keys, by Tink's wire format.
+#[derive(Drop)]
+pub struct CtrHmacManager {
+    url: String,
+}
+
+impl CtrHmacManager {
+    /// The manager under this type URL. No memory is taken.
+    pub fn new(url: String) -> Self
+        ensures url { ⟦<CtrHmacManager as KeyManager>⟧.url result ≡ string_bytes url }
+        ensures scheme { ⟦<CtrHmacManager as KeyManager>⟧.scheme result ≡ schemes.CtrHmac }
+    {
+        CtrHmacManager { url }
+    }
+}
+
+impl KeyManager for CtrHmacManager {
+    ghost url = { λ m. string_bytes m.url };
+
+    ghost scheme = { λ _. schemes.CtrHmac };
+
+    fn type_url(&self) -> &str {
+        self.url.as_str()
+    }
+
+    fn check(&self, alloc: Global, value: &[u8]) -> Result<KeyKind, CheckFault> {
+        read_as(alloc, KeyType::AesCtrHmac, value)
+    }
+}
+
+impl AeadManager for CtrHmacManager {
+    fn iv_size(&self, key: &KeyKind) -> usize {
+        iv_size_under(key)
+    }
+
+    fn seal(
+        &self,
+        alloc: Global,
+        key: &KeyKind,
+        iv: &[u8],
+        plain: &[u8],
+        ad: &[u8],
+    ) -> Result<Vec<u8>, NoMemory> {
+        seal_under(alloc, key, iv, plain, ad)
+    }
+
+    fn open(
+        &self,
+        alloc: Global,
+        key: &KeyKind,
+        bytes: &[u8],
+        ad: &[u8],
+        trials: &mut Trials,
+    ) -> Result<Option<Vec<u8>>, NoMemory> {
+        trials.tick();
+        open_under(alloc, key, bytes, ad)
+    }
+}

@@ -1,0 +1,100 @@
+//! The manager of AES-SIV.
+
+ghost use Rattle.std.specs.Prelude.{◌≡◌, ◌+◌, ◌^◌, ◌≤◌, length, string_bytes, IfOk};
+ghost use Rattle.std.specs.Option.{option_map};
+ghost use Rattle.key_msgs.specs.Keys.{IsValid};
+ghost use Rattle.managers.specs.Schemes as schemes;
+ghost use Rattle.managers.specs.Uses.{dopen_key, dseal_of};
+
+use crate::reading::read_as;
+use crate::{CheckFault, DaeadManager, KeyManager};
+use key_msgs::{KeyKind, KeyType};
+use siv_daead::{siv_open, siv_seal};
+use std::alloc::Global;
+use tink_base::{NoMemory, Trials};
+
+/// Seals under a valid key of any kind: to no bytes where it isn't one of a deterministic AEAD.
+fn dseal_under(alloc: Global, key: &KeyKind, plain: &[u8], ad: &[u8]) -> Result<Vec<u8>, NoMemory>
+    requires valid { IsValid key.now }
+    requires plain_bound { length plain.now ≤ 2 ^ 30 }
+    requires ad_bound { length ad.now ≤ 2 ^ 30 }
+    ensures { IfOk result (λ sealed. sealed.items ≡ dseal_of key.now plain.now ad.now) }
+{
+    match key {
+        KeyKind::AesSiv { key } => siv_seal(alloc, key.as_slice(), plain, ad),
+        _ => Ok(Vec::new(alloc)),
+    }
+}
+
+/// Opens under a valid key of any kind: nothing where it isn't one of a deterministic AEAD.
+fn dopen_under(
+    alloc: Global,
+    key: &KeyKind,
+    bytes: &[u8],
+    ad: &[u8],
+) -> Result<Option<Vec<u8>>, NoMemory>
+    requires valid { IsValid key.now }
+    requires bytes_bound { length bytes.now ≤ 2 ^ 30 + 96 }
+    requires ad_bound { length ad.now ≤ 2 ^ 30 }
+    ensures { IfOk result (λ plain.
+        option_map (λ text. text.items) plain ≡ dopen_key key.now bytes.now ad.now) }
+{
+    match key {
+        KeyKind::AesSiv { key } => siv_open(alloc, key.as_slice(), bytes, ad),
+        _ => Ok(None),
+    }
+}
+
+/// The manager of AES-SIV keys (RFC 5297).
+#[derive(Drop)]
+pub struct SivManager {
+    url: String,
+}
+
+impl SivManager {
+    /// The manager under this type URL. No memory is taken.
+    pub fn new(url: String) -> Self
+        ensures url { ⟦<SivManager as KeyManager>⟧.url result ≡ string_bytes url }
+        ensures scheme { ⟦<SivManager as KeyManager>⟧.scheme result ≡ schemes.Siv }
+    {
+        SivManager { url }
+    }
+}
+
+impl KeyManager for SivManager {
+    ghost url = { λ m. string_bytes m.url };
+
+    ghost scheme = { λ _. schemes.Siv };
+
+    fn type_url(&self) -> &str {
+        self.url.as_str()
+    }
+
+    fn check(&self, alloc: Global, value: &[u8]) -> Result<KeyKind, CheckFault> {
+        read_as(alloc, KeyType::AesSiv, value)
+    }
+}
+
+impl DaeadManager for SivManager {
+    fn seal(
+        &self,
+        alloc: Global,
+        key: &KeyKind,
+        plain: &[u8],
+        ad: &[u8],
+    ) -> Result<Vec<u8>, NoMemory> {
+        dseal_under(alloc, key, plain, ad)
+    }
+
+    fn open(
+        &self,
+        alloc: Global,
+        key: &KeyKind,
+        bytes: &[u8],
+        ad: &[u8],
+        trials: &mut Trials,
+    ) -> Result<Option<Vec<u8>>, NoMemory> {
+        trials.tick();
+        dopen_under(alloc, key, bytes, ad)
+    }
+}

@@ -1,0 +1,47 @@
+//! The first bytes of HMAC and of CMAC, which tags and pseudo-random functions give.
+
+ghost use Rattle.std.specs.Prelude.{◌≡◌, ◌⊎◌, ◌≤◌, length, take};
+ghost use Rattle.mac_prf.specs.Cmac.{cmac};
+ghost use Rattle.mac_prf.specs.Hmac.{hmac};
+ghost use Rattle.tink_base.specs.Hash.{hash_size};
+ghost use Rattle.managers.specs.Uses.{tagged};
+
+use mac_prf::{Cmac, Hmac};
+use tink_base::Hash;
+
+/// Writes the first bytes of HMAC, as many as `out` has, of the body and of one byte 0 behind it
+/// where `zero` says so.
+pub(crate) fn write_hmac(hash: Hash, key: &[u8], body: &[u8], zero: bool, out: &mut [u8])
+    requires room { length out.old ≤ hash_size hash }
+    ensures { out.new ≡ take (length out.old) (hmac hash key.now (tagged zero body.now)) }
+{
+    let mut state = Hmac::new(hash, key);
+    state.update(body);
+    if zero {
+        state.update(&[0]);
+    }
+    state.finish(out);
+}
+
+/// The same of CMAC.
+pub(crate) fn write_cmac(key: &[u8], body: &[u8], zero: bool, out: &mut [u8])
+    requires key_size { (length key.now ≡ 16) ⊎ (length key.now ≡ 32) }
+    requires room { length out.old ≤ 16 }
+    ensures { out.new ≡ take (length out.old) (cmac key.now (tagged zero body.now)) }
+{
+    let whole = whole_cmac(key, body, zero);
+    out.copy_from_slice(&whole[..out.len()]);
+}
+
+/// The whole CMAC.
+fn whole_cmac(key: &[u8], body: &[u8], zero: bool) -> [u8; 16]
+    requires key_size { (length key.now ≡ 16) ⊎ (length key.now ≡ 32) }
+    ensures { result ≡ cmac key.now (tagged zero body.now) }
+{
+    let mut state = Cmac::new(key).unwrap();
+    state.update(body);
+    if zero {
+        state.update(&[0]);
+    }
+    state.finish()
+}

@@ -1,0 +1,175 @@
+//! The interfaces of managers of keys. What contracts see of a manager is its type URL and its
+//! scheme, which is a kind of keys; nothing ties an interface to the schemes of its primitive.
+//!
+//! A call takes a key that the manager admits: a valid key of its scheme, as `check` gives one.
+//! Plaintexts, associated data, bodies and inputs have at most 2^30 bytes, and what is opened
+//! at most 2^30 + 96. `NoMemory` comes for want of memory alone.
+
+ghost use Rattle.std.specs.Prelude.{◌≡◌, ◌+◌, ◌^◌, ◌≤◌, ℕ, List, length, IfOk};
+ghost use Rattle.std.specs.Option.{option_map};
+ghost use Rattle.std.specs.Str.{bytes_eq};
+ghost use Rattle.tink_base.specs.Memory.{next};
+ghost use Rattle.managers.specs.Schemes.{Scheme, key_under, IsAdmitted, IsReading};
+ghost use Rattle.managers.specs.Uses.{dopen_key, dseal_of, greatest, iv_size, open_key, prf_of, seal_of, tag_of, tagged};
+
+use key_msgs::{KeyKind, Rule};
+use std::alloc::Global;
+use tink_base::{NoMemory, Trials};
+
+/// Why a key message gives no key.
+#[derive(Clone, Copy, Debug, PartialEq, Eq)]
+pub enum CheckFault {
+    /// The message breaks this rule, the first one.
+    Bad(Rule),
+    /// Memory was refused.
+    NoMemory,
+}
+
+/// A manager of the keys of one scheme, under a type URL of its own, which may be any text.
+pub trait KeyManager: Drop {
+    ghost url: { Self → List ℕ };
+
+    ghost scheme: { Self → Scheme };
+
+    /// The type URL of the keys that the manager serves.
+    fn type_url(&self) -> &str
+        ensures { result.now ≡ url self.now };
+
+    /// Reads a key message as one of the scheme.
+    ///
+    /// `Bad` comes exactly where the message breaks a rule of the scheme's key type, and names the
+    /// first one. A key that is given is what the message reads as, and the manager admits it.
+    fn check(&self, alloc: Global, value: &[u8]) -> Result<KeyKind, CheckFault>
+        ensures reading { IsReading (key_under (scheme self.now) value.now) result }
+        ensures admitted { IfOk result (IsAdmitted (scheme self.now)) };
+}
+
+/// A manager that seals and opens: authenticated encryption with associated data.
+pub trait AeadManager: KeyManager {
+    /// How many bytes an IV has under the key.
+    fn iv_size(&self, key: &KeyKind) -> usize
+        requires admitted { IsAdmitted (Self.scheme self.now) key.now }
+        ensures { result ≡ iv_size key.now };
+
+    /// Seals `plain` with `iv`, of `iv_size` bytes: IV, ciphertext and tag, joined.
+    ///
+    /// No IV may serve twice under one key: this is for the caller to see to.
+    fn seal(
+        &self,
+        alloc: Global,
+        key: &KeyKind,
+        iv: &[u8],
+        plain: &[u8],
+        ad: &[u8],
+    ) -> Result<Vec<u8>, NoMemory>
+        requires admitted { IsAdmitted (Self.scheme self.now) key.now }
+        requires whole_iv { length iv.now ≡ iv_size key.now }
+        requires plain_bound { length plain.now ≤ 2 ^ 30 }
+        requires ad_bound { length ad.now ≤ 2 ^ 30 }
+        ensures { IfOk result (λ sealed. sealed.items ≡ seal_of key.now iv.now plain.now ad.now) };
+
+    /// Opens IV, ciphertext and tag, joined, and counts one trial.
+    ///
+    /// `None` comes exactly where `bytes` are shorter than IV and tag, or the tag isn't the one
+    /// computed anew.
+    fn open(
+        &self,
+        alloc: Global,
+        key: &KeyKind,
+        bytes: &[u8],
+        ad: &[u8],
+        trials: &mut Trials,
+    ) -> Result<Option<Vec<u8>>, NoMemory>
+        requires admitted { IsAdmitted (Self.scheme self.now) key.now }
+        requires bytes_bound { length bytes.now ≤ 2 ^ 30 + 96 }
+        requires ad_bound { length ad.now ≤ 2 ^ 30 }
+        ensures opened { IfOk result (λ plain.
+            option_map (λ text. text.items) plain ≡ open_key key.now bytes.now ad.now) }
+        ensures one_trial { trials.new ≡ next trials.old };
+}
+
+/// A manager that seals and opens, deterministic: the same key, plaintext and associated data give
+/// the same bytes.
+pub trait DaeadManager: KeyManager {
+    /// Seals `plain`.
+    fn seal(
+        &self,
+        alloc: Global,
+        key: &KeyKind,
+        plain: &[u8],
+        ad: &[u8],
+    ) -> Result<Vec<u8>, NoMemory>
+        requires admitted { IsAdmitted (Self.scheme self.now) key.now }
+        requires plain_bound { length plain.now ≤ 2 ^ 30 }
+        requires ad_bound { length ad.now ≤ 2 ^ 30 }
+        ensures { IfOk result (λ sealed. sealed.items ≡ dseal_of key.now plain.now ad.now) };
+
+    /// Opens sealed bytes, and counts one trial.
+    ///
+    /// `None` comes exactly where `bytes` are shorter than a tag, or the tag isn't the one computed
+    /// anew.
+    fn open(
+        &self,
+        alloc: Global,
+        key: &KeyKind,
+        bytes: &[u8],
+        ad: &[u8],
+        trials: &mut Trials,
+    ) -> Result<Option<Vec<u8>>, NoMemory>
+        requires admitted { IsAdmitted (Self.scheme self.now) key.now }
+        requires bytes_bound { length bytes.now ≤ 2 ^ 30 + 96 }
+        requires ad_bound { length ad.now ≤ 2 ^ 30 }
+        ensures opened { IfOk result (λ plain.
+            option_map (λ text. text.items) plain ≡ dopen_key key.now bytes.now ad.now) }
+        ensures one_trial { trials.new ≡ next trials.old };
+}
+
+/// A manager that makes and verifies tags: message authentication.
+pub trait MacManager: KeyManager {
+    /// The tag of `body`, and of one byte 0 behind it where `zero` says so.
+    fn tag(
+        &self,
+        alloc: Global,
+        key: &KeyKind,
+        body: &[u8],
+        zero: bool,
+    ) -> Result<Vec<u8>, NoMemory>
+        requires admitted { IsAdmitted (Self.scheme self.now) key.now }
+        requires body_bound { length body.now ≤ 2 ^ 30 }
+        ensures { IfOk result (λ tag. tag.items ≡ tag_of key.now (tagged zero body.now)) };
+
+    /// Whether `tag` is that tag, whole, and counts one trial. No memory is taken.
+    fn verify(
+        &self,
+        key: &KeyKind,
+        tag: &[u8],
+        body: &[u8],
+        zero: bool,
+        trials: &mut Trials,
+    ) -> bool
+        requires admitted { IsAdmitted (Self.scheme self.now) key.now }
+        requires body_bound { length body.now ≤ 2 ^ 30 }
+        ensures verified { result ≡ bytes_eq tag.now (tag_of key.now (tagged zero body.now)) }
+        ensures one_trial { trials.new ≡ next trials.old };
+}
+
+/// A manager that derives bytes: pseudo-random functions.
+pub trait PrfManager: KeyManager {
+    /// How many bytes can be derived under the key.
+    fn greatest(&self, key: &KeyKind) -> usize
+        requires admitted { IsAdmitted (Self.scheme self.now) key.now }
+        ensures { result ≡ greatest key.now };
+
+    /// As many bytes of the function at `input` as `size` says, at most `greatest`.
+    fn derive(
+        &self,
+        alloc: Global,
+        key: &KeyKind,
+        input: &[u8],
+        size: usize,
+    ) -> Result<Vec<u8>, NoMemory>
+        requires admitted { IsAdmitted (Self.scheme self.now) key.now }
+        requires input_bound { length input.now ≤ 2 ^ 30 }
+        requires within { size ≤ greatest key.now }
+        ensures { IfOk result (λ bytes. bytes.items ≡ prf_of key.now input.now size) };
+}

@@ -1,0 +1,21 @@
+//! Managers of keys, found at run time by their type URL: the interfaces by which a keyset's keys
+//! are used, what serves each kind of key, and the table of those that a program hands in.
+#![tactic(auto)]
+
+mod aead;
+mod boxes;
+mod daead;
+mod firsts;
+mod interfaces;
+mod lists;
+mod mac;
+mod prf;
+mod reading;
+mod table;
+
+pub use aead::{CtrHmacManager, EaxManager, GcmManager};
+pub use daead::SivManager;
+pub use interfaces::{AeadManager, CheckFault, DaeadManager, KeyManager, MacManager, PrfManager};
+pub use mac::{CmacManager, HmacManager};
+pub use prf::{CmacPrfManager, HkdfPrfManager, HmacPrfManager};
+pub use table::{KeyList, KeyTable, Managers, SameUrl};
