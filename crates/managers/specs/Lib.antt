@@ -1,3 +1,4 @@
+pub mod Laws
 pub mod Schemes
 pub mod Table
 pub mod Uses

@@ -7,6 +7,7 @@ mod boxes;
 mod daead;
 mod firsts;
 mod interfaces;
+pub mod laws;
 mod lists;
 mod mac;
 mod prf;
