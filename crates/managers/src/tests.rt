@@ -13,11 +13,11 @@ use std::str::from_utf8;
 use std::test::Fail;
 use tink_base::Trials;
 
-// A row has what it shows, the URL, and the key message, written by hand from Tink's definitions; then
-// three cells, which stand above each table.
+// A row has what it shows, the URL, and the key message, written by hand from Tink's definitions;
+// then three cells, which stand above each table.
 
-// Associated data, IV with ciphertext and tag, plaintext. AES-GCM is from the appendix of its authors,
-// EAX from its paper, and AES-CTR-HMAC an answer of Google's Tink (tink-go 2.4.0) without its prefix.
+// Associated data, IV with ciphertext and tag, plaintext. AES-GCM is from its authors' appendix, EAX
+// from its paper, and AES-CTR-HMAC an answer of Google's Tink (tink-go 2.4.0) without its prefix.
 const AEAD: &str = "\
 AES-GCM, case 2|AesGcmKey|1a1000000000000000000000000000000000||0000000000000000000000000388dace60b6a392f328c2b971b2fe78ab6e47d42cec13bdf53a67b21257bddf|00000000000000000000000000000000
 EAX, the first|AesEaxKey|120208101a10233952dee4d5ed5f9b9c6d6ff80ff478|6bfb914fd07eae6b|62ec67f9c3a4a407fcb2a8c49031a8b3e037830e8389f27b025a2d6527e79d01|
@@ -27,8 +27,8 @@ AES-CTR-HMAC, Tink's|AesCtrHmacAeadKey|12161202080f1a10d6f33471a9dc83db908c3a80d
 const DAEAD: &str = "\
 AES-SIV|AesSivKey|1240fffefdfcfbfaf9f8f7f6f5f4f3f2f1f0f0f1f2f3f4f5f6f7f8f9fafbfcfdfeff000102030405060708090a0b0c0d0e0f101112131415161718191a1b1c1d1e1f|101112131415161718191a1b1c1d1e1f2021222324252627|22a4e63521fcdc685fe4eb0984d60745d47a88f6c39e7902ec4f28efab6dcb6a|000102030405060708090a0b0c0d0e0f";
 
-// The body, the tag, and what stands behind the body. Rows with a byte 0 are answers of Python's hmac
-// and cryptography.
+// The body, the tag, and what stands behind the body. Rows with a byte 0 are answers of Python's
+// hmac and cryptography.
 const MAC: &str = "\
 HMAC, RFC 4231, case 1|HmacKey|1204080310201a140b0b0b0b0b0b0b0b0b0b0b0b0b0b0b0b0b0b0b0b|4869205468657265|b0344c61d8db38535ca8afceaf0bf12b881dc200c9833da726e9376c2e32cff7|
 the same with a byte 0, cut to 16 bytes|HmacKey|1204080310101a140b0b0b0b0b0b0b0b0b0b0b0b0b0b0b0b0b0b0b0b|4869205468657265|f67dd14688b85b4183637af0166514ef|00
@@ -305,7 +305,7 @@ fn prf_rows(rt: &impl Abort, alloc: Global) -> Result<(), Fail> {
     Ok(())
 }
 
-// Where a URL is found among AES-GCM, EAX and HMAC under these URLs, or none where they are refused.
+// Where a URL is found among AES-GCM, EAX and HMAC under these URLs, or none where it is refused.
 fn place(
     alloc: Global,
     urls: [&str; 3],
