@@ -1,5 +1,5 @@
 -- A key that a message reads as is a valid one of its type, and each type's URL is its own.
-use Rattle.std.proofs.Common.{◌≡◌, ◌∙◌, ap, subst, refl, sym, ℕ, List, Option, Some, None, Result, Ok, Err}
+use Rattle.std.proofs.Common.{◌≡◌, ◌∙◌, ap, subst, refl, ℕ, List, Option, Some, None, Result, Ok, Err}
 use Rattle.std.specs.Prelude.{IfOk}
 use Rattle.tink_base.specs.declared.hash.Hash.{Hash}
 use Rattle.tink_base.specs.Hash.{hash_of_number}
@@ -8,7 +8,7 @@ use Rattle.key_msgs.specs.KeyTypes.{type_of_url, url_of_type}
 use Rattle.key_msgs.specs.Keys.{type_of, with_hash, key_from, IsValid}
 use Rattle.tink_spec.specs.Messages.{◌>>=◌}
 use Rattle.tink_spec.specs.Wire.{cut}
-use Rattle.key_msgs.specs.Reading.{contents_in, key_of, checked, and_checked, unless_broken, formed, GivesKey, ReadsKey}
+use Rattle.key_msgs.specs.Reading.{contents_in, key_of, and_checked, unless_broken, formed, GivesKey, ReadsKey}
 use Rattle.key_msgs.specs.Rules.{first_broken}
 use Rattle.key_msgs.specs.declared.key.KeyFault.{KeyFault}
 use Rattle.key_msgs.specs.declared.key.KeyKind.{KeyKind}
@@ -16,7 +16,7 @@ use Rattle.key_msgs.specs.declared.key_type.KeyType.{KeyType}
 use Rattle.key_msgs.specs.declared.key_type.KeyType.TheVariants as types
 use Rattle.key_msgs.specs.declared.rule.Rule.{Rule}
 use Rattle.key_msgs.proofs.Validity.{key_from-valid}
-use Rattle.managers.specs.Schemes.{Scheme, key_under, type_under, IsAdmitted, IsOfType}
+use Rattle.managers.specs.Schemes.{IsOfType}
 
 -- the URL of a type is that of no other type
 pub type_of_url-own : (type : KeyType) → type_of_url (url_of_type type) ≡ Some type

@@ -1,4 +1,4 @@
-use Rattle.std.proofs.Common.{ℕ, List, [], rules}
+use Rattle.std.proofs.Common.{[], rules}
 use Rattle.mac_prf.specs.CmacState.{Holds}
 use Rattle.managers.specs.Uses.{tagged}
 use Rattle.managers.proofs.firsts.whole_cmac.Goals as goal

@@ -1,6 +1,4 @@
-use Rattle.std.proofs.Common.{◌≡◌, ◌↔◌, ◌≤◌, ℕ, List, Some, take, arith}
-use Rattle.tink_base.specs.Hash.{hash_size}
-use Rattle.tink_base.specs.declared.hash.Hash.{Hash}
+use Rattle.std.proofs.Common.{◌≡◌, ◌↔◌, ℕ, List, Some, take, arith}
 use Rattle.aead_kinds.specs.Laws.{GcmOpensSealings, EaxOpensSealings, CtrHmacOpensSealings}
 use Rattle.key_msgs.specs.declared.key.KeyKind.{KeyKind}
 use Rattle.key_msgs.specs.declared.key.KeyKind.TheVariants as kinds

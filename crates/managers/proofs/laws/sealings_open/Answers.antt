@@ -1,8 +1,5 @@
-use Rattle.std.proofs.Common.{◌≡◌, ◌∙◌, ap, sym, ℕ, List, Some, length, take}
-use Rattle.key_msgs.specs.declared.key.KeyKind.{KeyKind}
-use Rattle.key_msgs.specs.declared.primitive.Primitive.TheVariants.{Aead}
-use Rattle.managers.specs.Laws.{IsFor}
-use Rattle.managers.specs.Uses.{iv_size, open_key, seal_of}
+use Rattle.std.proofs.Common.{ap, sym, ℕ, List}
+use Rattle.managers.specs.Uses.{seal_of}
 use Rattle.managers.proofs.SizeLemmas.{take-seal_of}
 use Rattle.managers.proofs.laws.sealings_open.Goals as goal
 

@@ -1,4 +1,4 @@
-use Rattle.std.proofs.Common.{◌∙◌, ap, subst, Err, Ok, Result}
+use Rattle.std.proofs.Common.{◌∙◌, ap, subst, Err, Result}
 use Rattle.key_msgs.specs.Reading.{GivesKey, key_of}
 use Rattle.key_msgs.specs.declared.key.KeyFault.{KeyFault}
 use Rattle.key_msgs.specs.declared.key.KeyKind.{KeyKind}
