@@ -1,7 +1,5 @@
 pub mod FitLemmas
 pub mod GrammarLemmas
-pub mod HmacKeyExamples
-pub mod HmacKeyLemmas
 pub mod PromiseLemmas
 pub mod ReportLemmas
 pub mod RowLemmas

@@ -1,12 +1,20 @@
 -- The records that can serve, one after another.
-use Rattle.std.proofs.Common.{◌≡◌, ◌∙◌, sym, refl, ap, ℕ, ◌+◌, Bool, true, false, List, [], ◌∷◌, length, drop, ◌≤◌, Option, Some, None, Ok, Err, Result, inl, inr, arith}
-use Rattle.std.specs.Prelude.{IsSome, slice_get, find, ◌==◌, if◌then◌else◌}
+use Rattle.std.proofs.Common.{subst, ◌≡◌, ◌∙◌, sym, refl, ap, ℕ, ◌+◌, Bool, true, false, List, [], ◌∷◌, length, drop, ◌≤◌, Option, Some, None, Ok, Err, Result, inl, inr, arith}
+use Rattle.std.specs.Prelude.{IsSome, slice_get, find, not, ◌==◌, if◌then◌else◌}
+use Rattle.std.specs.Str.{bytes_eq}
+use Rattle.key_msgs.specs.KeyTypes.{type_of_url, url_of_type}
+use Rattle.key_msgs.specs.Reading.{key_of, GivesKey, ReadsKey}
+use Rattle.key_msgs.specs.declared.key.KeyFault.{KeyFault}
+use Rattle.key_msgs.specs.declared.key.KeyFault.TheVariants as key_faults
+use Rattle.key_msgs.specs.declared.key_type.KeyType.{KeyType}
+use Rattle.key_msgs.specs.declared.key_type.KeyType.TheVariants as types
+use Rattle.key_msgs.specs.declared.rule.Rule.{Rule}
 use Rattle.std.proofs.lemmas.Bool.Decides.{nat_tests}
 use Rattle.std.specs.Result.{IsErrAnd}
 use Rattle.keyset_model.specs.Keyset.{Keys, is_primary, primary_of, fault_of}
 use Rattle.keyset_model.specs.declared.record.Record.{Record}
 use Rattle.keyset_model.proofs.PrimaryLemmas.{primary_enabled, primary_missing}
-use Rattle.tinkey_run.specs.declared.hmac_key.HmacKey.{HmacKey}
+use Rattle.key_msgs.specs.declared.key.KeyKind.{KeyKind}
 use Rattle.std.proofs.lemmas.List.{nil_from_length, length-drop}
 use Rattle.std.proofs.lemmas.Option.{slice_get_within, get_or_from_slice_get}
 use Rattle.tinkey_run.proofs.WordLemmas.{rest_of_words}
@@ -19,7 +27,7 @@ use Rattle.tinkey_run.specs.Steps.{Passes}
 use Rattle.tinkey_run.specs.TagSteps.{GivesKeyForTags, IsUnfit}
 use Rattle.tinkey_run.specs.declared.tag.TagFault.{TagFault}
 use Rattle.tinkey_run.specs.declared.tag.TagFault.TheVariants as tag_faults
-use Rattle.tinkey_run.specs.Tags.{Unfit, no_manager, bad_key, key_for_tags}
+use Rattle.tinkey_run.specs.Tags.{Unfit, no_manager, bad_key, unless_broken, key_for_tags}
 use Rattle.tinkey_run.specs.TagAnswers.{refused_key, unfit_record, unfit_records, unfit, tag_with, tag_answer, FitKeysetsTag}
 
 pub unfit_next : (i : ℕ) (r : Record) (rs : List Record) → unfit_record r ≡ None → slice_get (unfit_records i (r ∷ rs)) 0 ≡ slice_get (unfit_records (i + 1) rs) 0
@@ -39,7 +47,7 @@ found_fits p i [] x none found = cc
 found_fits p i (r ∷ rs) x none found = found_here p i r x rs _ _ refl refl none found (found_fits p (i + 1) rs x)
 
 -- an ENABLED record that can serve gives a key
-key_there : (read : Result HmacKey Unfit) → refused_key read ≡ None → (key : HmacKey) × (read ≡ Ok key)
+key_there : (read : Result KeyKind Unfit) → refused_key read ≡ None → (key : KeyKind) × (read ≡ Ok key)
 key_there (Ok key) none = (key, refl)
 key_there (Err why) none = absurd (cc)
 
@@ -47,10 +55,10 @@ behind_test : (b : Bool) (why : Option Unfit) → b ≡ true → (if b then why 
 behind_test true why is none = none
 behind_test false why is none = cc
 
-gives_key : (r : Record) → r.status ≡ 1 → unfit_record r ≡ None → (key : HmacKey) × (key_for_tags r ≡ Ok key)
+gives_key : (r : Record) → r.status ≡ 1 → unfit_record r ≡ None → (key : KeyKind) × (key_for_tags r ≡ Ok key)
 gives_key r enabled fit = key_there (key_for_tags r) (behind_test (r.status == 1) _ (grind (arith, nat_tests)) fit)
 
-pub primary_key : (keys : Keys) (r : Record) → fault_of keys ≡ None → primary_of keys ≡ Some r → unfit keys ≡ None → (key : HmacKey) × (key_for_tags r ≡ Ok key)
+pub primary_key : (keys : Keys) (r : Record) → fault_of keys ≡ None → primary_of keys ≡ Some r → unfit keys ≡ None → (key : KeyKind) × (key_for_tags r ≡ Ok key)
 unfolding unfit
 primary_key keys r faultless primary fit = gives_key r (primary_enabled keys r primary) (found_fits (is_primary keys.primary) 0 keys.records r fit primary)
 
@@ -108,3 +116,28 @@ drop_past i records past = nil_from_length (drop i records) (omega (arith, lengt
 
 pub all_fit : (keys : Keys) (i : ℕ) → length keys.records ≤ i → first_from keys i ≡ unfit keys → unfit keys ≡ None
 all_fit keys i all first = sym (rw (drop_past i keys.records all) at first)
+
+-- what is read under the type URL of HMAC
+hmac_type : type_of_url (url_of_type types.Hmac) ≡ Some types.Hmac
+unfolding type_of_url
+hmac_type = refl
+
+hmac_read : (result : Result KeyKind KeyFault) (value : List ℕ) → ReadsKey result (type_of_url (url_of_type types.Hmac)) value → GivesKey result (key_of types.Hmac value)
+hmac_read result value reads = subst (λ (t : Option KeyType). ReadsKey result t value) hmac_type reads
+
+key_is : (r : Record) → bytes_eq r.url (url_of_type types.Hmac) ≡ true → key_for_tags r ≡ unless_broken (key_of types.Hmac r.value)
+unfolding key_for_tags
+key_is r same = rw same refl
+
+pub key_read : (r : Record) (key : KeyKind) → bytes_eq r.url (url_of_type types.Hmac) ≡ true → ReadsKey (Ok key) (type_of_url (url_of_type types.Hmac)) r.value → key_for_tags r ≡ Ok key
+key_read r key same reads = key_is r same ∙ ap unless_broken (hmac_read (Ok key) r.value reads)
+
+pub rule_read : (r : Record) (rule : Rule) → bytes_eq r.url (url_of_type types.Hmac) ≡ true → ReadsKey (Err (key_faults.Bad rule)) (type_of_url (url_of_type types.Hmac)) r.value → key_for_tags r ≡ Err (bad_key rule)
+rule_read r rule same reads = key_is r same ∙ ap unless_broken (hmac_read (Err (key_faults.Bad rule)) r.value reads)
+
+pub known_url : (value : List ℕ) → ReadsKey (Err key_faults.NotKnown) (type_of_url (url_of_type types.Hmac)) value → ⊥
+known_url value reads = hmac_read (Err key_faults.NotKnown) value reads
+
+pub not_different : (n b : Bool) → n ≡ not b → n ≡ false → b ≡ true
+not_different n true is no' = refl
+not_different n false is no' = let clash : true ≡ false = sym is ∙ no' in cc

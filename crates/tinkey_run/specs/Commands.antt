@@ -1,10 +1,9 @@
 -- The plan of each command: its steps, in the order of refusals. What a keyset answers is said apart
 -- from plans, in keyset_model's Listing and in TagAnswers.
-use Rattle.std.specs.Prelude.{ℕ, List, ◌++◌, Option, Some, None, Result, Ok, Err, codes}
+use Rattle.std.specs.Prelude.{ℕ, List, [], ◌++◌, Option, Some, None, Result, Ok, Err, codes}
 use Rattle.std.specs.List.{flat_map}
 use Rattle.key_msgs.specs.Templates.{Row, templates}
 use Rattle.keyset_model.specs.Keyset.{Keys}
-use Rattle.keyset_model.specs.declared.keyset.KeysetFault.TheVariants as faults
 use Rattle.keyset_model.specs.Listing.{info_of}
 use Rattle.tinkey_cmds.specs.Edits.{first, step}
 use Rattle.tinkey_run.specs.declared.status.Status.TheVariants as status
@@ -40,10 +39,10 @@ unless_unfit None next = next
 unless_unfit (Some (i, no_manager)) next = ends (status.NoManager i) tt
 unless_unfit (Some (i, bad_key rule)) next = ends (status.BadKey i rule) tt
 
--- the tag goes on; one is there, but where no record is primary
-abbrev pub with_tag : Option (List ℕ) → (List ℕ → Plan) → Plan
-with_tag None next = ends (status.Keyset faults.NoPrimary) tt
-with_tag (Some tag') next = next tag'
+-- the bytes of a tag; there is one under each keyset whose records can serve
+abbrev pub tag_bytes : Option (List ℕ) → List ℕ
+tag_bytes None = []
+tag_bytes (Some tag') = tag'
 
 -- the records of the keyset can serve
 abbrev pub checks_fit : Keys → (Unit {0} → Plan) → Plan
@@ -55,8 +54,7 @@ tag_output name form next =
     loads_keyset name form (λ keys.
     checks_fit keys (λ fit.
     reads_input (λ data'.
-    works_out (tag_answer keys data') (λ found.
-    with_tag found next))))
+    works_out (tag_bytes (tag_answer keys data')) next)))
 
 -- the plan of a command
 abbrev pub command_plan : Asked → Plan

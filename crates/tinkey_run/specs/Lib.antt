@@ -1,7 +1,6 @@
 pub mod Commands
 pub mod Ends
 pub mod Grammar
-pub mod HmacKey
 pub mod Plan
 pub mod Promises
 pub mod Rows

@@ -7,10 +7,10 @@ use Rattle.std.specs.List.{filter_map, enumerate_from}
 use Rattle.keyset_model.specs.Keyset.{Keys, primary_of, fault_of}
 use Rattle.keyset_model.specs.declared.record.Record.{Record}
 use Rattle.tinkey_run.specs.Tags.{Unfit, key_for_tags, tag_under}
-use Rattle.tinkey_run.specs.declared.hmac_key.HmacKey.{HmacKey}
+use Rattle.key_msgs.specs.declared.key.KeyKind.{KeyKind}
 
 -- why there is no key
-abbrev pub refused_key : Result HmacKey Unfit → Option Unfit
+abbrev pub refused_key : Result KeyKind Unfit → Option Unfit
 refused_key (Ok key) = None
 refused_key (Err why) = Some why
 
@@ -29,7 +29,7 @@ unfoldable pub unfit : Keys → Option (ℕ × Unfit)
 unfit keys = slice_get (unfit_records 0 keys.records) 0
 
 -- the tag of some data under a record, where that gives a key
-abbrev pub tagged : Record → List ℕ → Result HmacKey Unfit → Option (List ℕ)
+abbrev pub tagged : Record → List ℕ → Result KeyKind Unfit → Option (List ℕ)
 tagged r data' (Ok key) = Some (tag_under key r data')
 tagged r data' (Err why) = None
 

@@ -1,6 +1,6 @@
 -- What the steps of tagging answer, by the definitions of tags.
 use Rattle.std.specs.Prelude.{◌≡◌, ℕ, Option, Some, Result, Ok, Err}
-use Rattle.tinkey_run.specs.declared.hmac_key.HmacKey.{HmacKey}
+use Rattle.key_msgs.specs.declared.key.KeyKind.{KeyKind}
 use Rattle.tinkey_run.specs.declared.tag.TagFault.{TagFault}
 use Rattle.tinkey_run.specs.declared.tag.TagFault.TheVariants as faults
 use Rattle.tinkey_run.specs.Tags.{Unfit, no_manager, bad_key}
@@ -8,7 +8,7 @@ use Rattle.tinkey_run.specs.declared.status.Status.{Status}
 use Rattle.tinkey_run.specs.declared.status.Status.TheVariants as status
 
 -- The key is what the definition gives, or the refusal is. Of want of memory nothing is said.
-abbrev pub GivesKeyForTags : Result HmacKey TagFault → Result HmacKey Unfit → Type 0
+abbrev pub GivesKeyForTags : Result KeyKind TagFault → Result KeyKind Unfit → Type 0
 GivesKeyForTags (Ok key) read = read ≡ Ok key
 GivesKeyForTags (Err faults.NoManager) read = read ≡ Err no_manager
 GivesKeyForTags (Err (faults.BadKey rule)) read = read ≡ Err (bad_key rule)

@@ -5,9 +5,12 @@ use Rattle.std.specs.Int.{w32, to_be_bytes}
 use Rattle.std.specs.Str.{bytes_eq}
 use Rattle.keyset_model.specs.declared.record.Record.{Record}
 use Rattle.mac_prf.specs.Hmac.{hmac}
-use Rattle.tinkey_run.specs.declared.hmac_key.HmacKey.{HmacKey}
+use Rattle.key_msgs.specs.KeyTypes.{url_of_type}
+use Rattle.key_msgs.specs.Reading.{key_of}
+use Rattle.key_msgs.specs.declared.key.KeyKind.{KeyKind}
+use Rattle.key_msgs.specs.declared.key.KeyKind.TheVariants as kinds
+use Rattle.key_msgs.specs.declared.key_type.KeyType.TheVariants as types
 use Rattle.key_msgs.specs.declared.rule.Rule.{Rule}
-use Rattle.tinkey_run.specs.HmacKey.{hmac_key_of}
 
 -- the output prefix: none for RAW, else 1 for TINK and 0 for LEGACY and CRUNCHY, and the key id as
 -- four bytes, the highest first
@@ -20,14 +23,14 @@ output_prefix r =
 abbrev pub tagged_data : Record → List ℕ → List ℕ
 tagged_data r data' = if r.prefix == 2 then data' ++ 0 ∷ [] else data'
 
--- the first bytes of the tag, as many as the key says, behind the prefix
-unfoldable pub tag_under : HmacKey → Record → List ℕ → List ℕ
-tag_under key r data' =
-    output_prefix r ++ take key.tag_size (hmac key.hash key.key (tagged_data r data'))
+-- the first bytes of HMAC (RFC 2104), as many as the key says; keys of other types make no tag here
+abbrev pub tag_of : KeyKind → List ℕ → List ℕ
+tag_of (kinds.Hmac key hash tag_size) data' = take tag_size (hmac hash key data')
+tag_of _ data' = []
 
--- the type URL of keys for HMAC
-unfoldable pub hmac_url : List ℕ
-hmac_url = codes "type.googleapis.com/google.crypto.tink.HmacKey"
+-- the tag behind the prefix
+unfoldable pub tag_under : KeyKind → Record → List ℕ → List ℕ
+tag_under key r data' = output_prefix r ++ tag_of key (tagged_data r data')
 
 -- why a record gives no key for tags
 pub data Unfit : Type 0 where
@@ -37,10 +40,12 @@ pub data Unfit : Type 0 where
   bad_key : Rule → Unfit
 
 -- a key that breaks a rule is refused for it
-abbrev pub unless_broken : Result HmacKey Rule → Result HmacKey Unfit
+abbrev pub unless_broken : Result KeyKind Rule → Result KeyKind Unfit
 unless_broken (Err rule) = Err (bad_key rule)
 unless_broken (Ok key) = Ok key
 
 -- the key for tags of a record, or why it gives none
-unfoldable pub key_for_tags : Record → Result HmacKey Unfit
-key_for_tags r = if bytes_eq r.url hmac_url then unless_broken (hmac_key_of r.value) else Err no_manager
+unfoldable pub key_for_tags : Record → Result KeyKind Unfit
+key_for_tags r =
+    if bytes_eq r.url (url_of_type types.Hmac) then unless_broken (key_of types.Hmac r.value)
+    else Err no_manager

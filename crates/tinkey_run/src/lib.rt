@@ -9,7 +9,6 @@
 #![tactic(auto)]
 
 mod edits;
-mod hmac_key;
 pub mod laws;
 mod line;
 mod list;

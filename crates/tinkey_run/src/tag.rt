@@ -6,22 +6,19 @@ ghost use Rattle.mac_prf.specs.Hmac.{hmac};
 ghost use Rattle.tinkey_run.specs.Ends.{World};
 ghost use Rattle.tinkey_run.specs.Steps.{Passes};
 ghost use Rattle.tinkey_run.specs.Commands.{tag_output, checks_fit};
-ghost use Rattle.tinkey_run.specs.HmacKey.{IsValid};
-ghost use Rattle.tinkey_run.specs.Tags.{output_prefix, tag_under, key_for_tags};
+ghost use Rattle.key_msgs.specs.Keys.{IsValid};
+ghost use Rattle.tinkey_run.specs.Tags.{output_prefix, tag_of, tag_under, key_for_tags};
 ghost use Rattle.tinkey_run.specs.TagAnswers.{unfit, unfit_record, tag_answer};
 ghost use Rattle.tinkey_run.specs.TagSteps.{GivesKeyForTags, IsUnfit};
 
-use crate::hmac_key::{HmacKey, KeyFault, read_hmac_key};
 use crate::steps::{load_keyset, read_input};
 use crate::words::Format;
 use crate::{Rule, Status};
+use key_msgs::{KeyFault, KeyKind, KeyType, read_key};
 use keyset_model::{Keyset, Record};
 use mac_prf::Hmac;
 use std::alloc::{AllocError, Global};
-use tink_base::{Bytes, ENABLED, LEGACY, NoMemory, RAW, Source, Store, TINK};
-
-/// The type URL of keys for HMAC.
-const HMAC_URL: &str = "type.googleapis.com/google.crypto.tink.HmacKey";
+use tink_base::{Bytes, ENABLED, Hash, LEGACY, NoMemory, RAW, Source, Store, TINK};
 
 /// How many bytes the longest tag has, a whole digest of SHA-512.
 const LONGEST_TAG: usize = 64;
@@ -92,7 +89,7 @@ fn tag_under_primary(alloc: Global, keyset: &Keyset, body: &[u8]) -> Result<Byte
 {
     let under = keyset.primary_record();
     match key_of(alloc, under) {
-        Ok(key) => match tag_of(alloc, &key, under, body) {
+        Ok(key) => match tag_under(alloc, &key, under, body) {
             Ok(tag) => Ok(Bytes::own(tag)),
             Err(_) => Err(NoMemory),
         },
@@ -104,17 +101,18 @@ fn tag_under_primary(alloc: Global, keyset: &Keyset, body: &[u8]) -> Result<Byte
 }
 
 /// The key for tags of this record.
-#[tactic(auto, unfolding(crate::specs::Tags::key_for_tags, crate::specs::Tags::hmac_url))]
-fn key_of(alloc: Global, under: &Record) -> Result<HmacKey, TagFault>
+#[tactic(auto, unfolding(crate::specs::Tags::key_for_tags))]
+fn key_of(alloc: Global, under: &Record) -> Result<KeyKind, TagFault>
     ensures key { GivesKeyForTags result (key_for_tags under.now) }
     ensures valid { IfOk result IsValid }
 {
-    if under.url.as_str() != HMAC_URL {
+    if under.url.as_str() != KeyType::Hmac.url() {
         return Err(TagFault::NoManager);
     }
-    match read_hmac_key(alloc, under.value.as_slice()) {
+    match read_key(alloc, KeyType::Hmac.url(), under.value.as_slice()) {
         Ok(key) => Ok(key),
         Err(e) => match e {
+            KeyFault::NotKnown => Err(TagFault::NoManager),
             KeyFault::Bad(rule) => Err(TagFault::BadKey(rule)),
             KeyFault::NoMemory => Err(TagFault::NoMemory),
         },
@@ -123,26 +121,51 @@ fn key_of(alloc: Global, under: &Record) -> Result<HmacKey, TagFault>
 
 /// The prefix of the record, and the tag of the bytes under its key.
 #[tactic(auto, unfolding(crate::specs::Tags::tag_under))]
-fn tag_of(alloc: Global, key: &HmacKey, under: &Record, body: &[u8]) -> Result<Vec<u8>, AllocError>
+fn tag_under(
+    alloc: Global,
+    key: &KeyKind,
+    under: &Record,
+    body: &[u8],
+) -> Result<Vec<u8>, AllocError>
     requires valid { IsValid key.now }
     ensures { IfOk result (λ tag. tag.items ≡ tag_under key.now under.now body.now) }
 {
     let mut output = prefix_of(alloc, under)?;
     let mut whole = [0; LONGEST_TAG];
-    let tag = &mut whole[..key.hash.size()];
-    let tag = &mut tag[..key.tag_size as usize];
-    mac(key, under.prefix == LEGACY, body, tag);
-    output.extend_from_slice(tag)?;
+    let size = tag_of(key, under.prefix == LEGACY, body, &mut whole);
+    output.extend_from_slice(&whole[..size])?;
     Ok(output)
 }
 
-/// The first bytes of the HMAC of the bytes, and of one byte 0 behind them where `zero` says so.
-fn mac(key: &HmacKey, zero: bool, body: &[u8], out: &mut [u8])
-    requires room { length out.old ≤ hash_size key.now.hash }
-    ensures { out.new ≡ take (length out.old)
-        (hmac key.now.hash key.now.key (if zero then body.now ++ 0 ∷ [] else body.now)) }
+/// Writes the tag of the bytes, and of one byte 0 behind them where `zero` says so, to the front of
+/// `out`. The answer is its size in bytes.
+fn tag_of(key: &KeyKind, zero: bool, body: &[u8], out: &mut [u8; LONGEST_TAG]) -> usize
+    requires valid { IsValid key.now }
+    ensures within { result ≤ LONGEST_TAG }
+    ensures tag { take result out.new ≡
+        tag_of key.now (if zero then body.now ++ 0 ∷ [] else body.now) }
 {
-    let mut hmac = Hmac::new(key.hash, key.key.as_slice());
+    match key {
+        KeyKind::Hmac {
+            key,
+            hash,
+            tag_size,
+        } => {
+            let size = *tag_size as usize;
+            mac(*hash, key.as_slice(), zero, body, &mut out[..size]);
+            size
+        }
+        _ => 0,
+    }
+}
+
+/// The first bytes of the HMAC of the bytes, and of one byte 0 behind them where `zero` says so.
+fn mac(hash: Hash, key: &[u8], zero: bool, body: &[u8], out: &mut [u8])
+    requires room { length out.old ≤ hash_size hash }
+    ensures { out.new ≡ take (length out.old)
+        (hmac hash key.now (if zero then body.now ++ 0 ∷ [] else body.now)) }
+{
+    let mut hmac = Hmac::new(hash, key);
     hmac.update(body);
     if zero {
         hmac.update(&[0]);

@@ -1,16 +1,16 @@
 use Rattle.std.proofs.Common.{ℕ, List, Ok, inl, inr, refl}
 use Rattle.keyset_model.specs.Keyset.{Keys}
-use Rattle.tinkey_run.specs.Commands.{checks_fit, with_tag}
+use Rattle.tinkey_run.specs.Commands.{checks_fit, tag_bytes}
 use Rattle.tinkey_run.specs.Plan.{Plan}
 use Rattle.tinkey_run.specs.declared.status.Status.TheVariants as status
 use Rattle.tinkey_run.specs.Steps.{loads_keyset, reads_input, works_out}
 use Rattle.tinkey_run.specs.TagAnswers.{tag_answer}
-use Rattle.tinkey_run.proofs.StepLemmas.{passes_then, ends_there}
+use Rattle.tinkey_run.proofs.StepLemmas.{passes_then, ends_there, starved_there}
 use Rattle.tinkey_run.proofs.tag.tag.Goals as goal
 
 -- the plan from its last step on, and from each step before it
 abbrev tags : Keys → List ℕ → (List ℕ → Plan) → Plan
-tags keys body next = works_out (tag_answer keys body) (λ found. with_tag found next)
+tags keys body next = works_out (tag_bytes (tag_answer keys body)) next
 
 abbrev reads : Keys → (List ℕ → Plan) → Plan
 reads keys next = reads_input (λ body. tags keys body next)
@@ -53,7 +53,7 @@ returns-in_err-tag g c = λ w.
     passes_then (loads_keyset c.args.name.now c.args.form) checks old mid new keys _ (c.in_ok-keyset.ensures.passes first)
     (passes_then (checks_fit keys) (λ fit. reads keys) mid mid new tt _ (c.in_ok-check_fit.ensures.passes mid)
     (passes_then reads_input (tags keys) mid new new body _ (c.in_ok-data.ensures mid)
-    (ends_there (works_out (tag_answer keys body)) with_tag new new _ status.NoMemory c.from_residual-in_err-tag.ensures.1 (λ next. inr (refl, refl)))))
+    (starved_there (tag_bytes (tag_answer keys body)) new _ c.from_residual-in_err-tag.ensures.1)))
 
 pub returns : goal.returns
 returns g c = λ w.

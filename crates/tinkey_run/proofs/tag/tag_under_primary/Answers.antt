@@ -4,11 +4,11 @@ use Rattle.tinkey_run.specs.declared.tag.TagFault.TheVariants as tag_faults
 use Rattle.tinkey_run.proofs.TagLemmas.{only_memory}
 use Rattle.tinkey_run.proofs.tag.tag_under_primary.Goals as goal
 
-pub returns-in-Ok-tag_of : goal.returns-in-Ok-tag_of
+pub returns-in-Ok-tag_under : goal.returns-in-Ok-tag_under
 unfolding tag_answer
-returns-in-Ok-tag_of c =
+returns-in-Ok-tag_under c =
     rw (c.primary_record-under.ensures.primary, c.in-Ok.ensures.key)
-    (ap (λ (tag : List ℕ). Some tag) (sym (c.own.ensures ∙ c.in-Ok-tag_of.ensures)))
+    (ap (λ (tag : List ℕ). Some tag) (sym (c.own.ensures ∙ c.in-Ok-tag_under.ensures)))
 
 pub unreachable-requires : goal.unreachable-requires
 unreachable-requires c =
