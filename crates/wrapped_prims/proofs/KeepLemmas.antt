@@ -1,0 +1,157 @@
+-- Records kept one after another.
+use Rattle.std.proofs.Common.{◌≡◌, ◌∙◌, sym, refl, ap, subst, ℕ, zero, suc, ◌+◌, Bool, true, false, ◌&&◌, cond, List, [], ◌∷◌, ◌++◌, map, drop, find, Option, Some, None, option_map, Ok, Err, Result, append_assoc, eqb-true, eq-eqb}
+use Rattle.std.specs.Result.{IsErrAnd, IfErr}
+use Rattle.std.proofs.lemmas.Bool.{and_parts, and_from}
+use native.Mathlib.Numerals.{unary_clauses}
+use Rattle.std.specs.Prelude.{slice_get}
+use Rattle.std.specs.Option.{option_and_then}
+use Rattle.std.specs.List.{AllByRecursion}
+use Rattle.std.proofs.lemmas.Option.{same_Some}
+use Rattle.key_msgs.specs.declared.key.KeyKind.{KeyKind}
+use Rattle.key_msgs.specs.declared.primitive.Primitive.{Primitive}
+use Rattle.keyset_model.specs.Keyset.{Keys, is_enabled, is_primary, primary_of}
+use Rattle.keyset_model.specs.declared.record.Record.{Record}
+use Rattle.managers.specs.Schemes.{key_under}
+use Rattle.managers.specs.Table.{Entry, Table, entries_of, place_of}
+use Rattle.wrapped_prims.specs.Candidates.{is_legacy, prefix_of}
+use Rattle.wrapped_prims.specs.Fitness as fitness
+use Rattle.wrapped_prims.specs.Fitness.{NotRaw, Unfit, fault_of_record, first_of_three, or_later, prefix_fault, read_key, reading_of, unfit_from}
+use Rattle.wrapped_prims.specs.Held.{IsServed, IsServedBy, kept_of, kept_with}
+use Rattle.wrapped_prims.specs.Making.{HasWordId, IsCheckedBy, IsFaultOf, IsKeeping, IsKept}
+use Rattle.wrapped_prims.specs.declared.handle.HandleFault.{HandleFault}
+use Rattle.wrapped_prims.specs.declared.handle.HandleFault.TheVariants as faults
+use Rattle.wrapped_prims.specs.declared.held.Kept.{Kept}
+
+none_some : {X P : Type 0} (x : X) → None ≡ Some x → P
+none_some x e = absurd cc
+
+-- ---- lists
+
+drop_suc : {X : Type 0} (xs : List X) (i : ℕ) (x : X) → slice_get xs i ≡ Some x → drop i xs ≡ x ∷ drop (suc i) xs
+drop_suc [] i x e = none_some x e
+drop_suc (y ∷ xs) zero x e = ap (λ z. z ∷ xs) (same_Some _ _ e)
+drop_suc (y ∷ xs) (suc i) x e = drop_suc xs i x e
+
+pub drop_here : {X : Type 0} (xs : List X) (i : ℕ) (x : X) → slice_get xs i ≡ Some x → drop i xs ≡ x ∷ drop (i + 1) xs
+drop_here xs i x e = simp unary_clauses (drop_suc xs i x e)
+
+pub each_more : {X : Type 0} (P : X → Type 0) (xs : List X) (x : X) → ((i : ℕ) (y : X) → slice_get xs i ≡ Some y → P y) → P x → (i : ℕ) (y : X) → slice_get (xs ++ x ∷ []) i ≡ Some y → P y
+each_more P [] x h px zero y e = subst P (same_Some _ _ e) px
+each_more P [] x h px (suc i) y e = none_some y e
+each_more P (z ∷ xs) x h px zero y e = h zero y e
+each_more P (z ∷ xs) x h px (suc i) y e = each_more P xs x (λ i y. h (suc i) y) px i y e
+
+-- ---- the primary record
+
+pub find_holds : {X : Type 0} (test : X → Bool) (xs : List X) (x : X) → find test xs ≡ Some x → test x ≡ true
+find_holds test [] x e = none_some x e
+find_holds test (y ∷ xs) x e = elim (test y) as (λ b. test y ≡ b → cond b (Some y) (find test xs) ≡ Some x → test x ≡ true) [
+  | true ↦ λ t k. ap test (sym (same_Some y x k)) ∙ t
+  | false ↦ λ t k. find_holds test xs x k
+] refl e
+
+pub find_here : {X : Type 0} (test : X → Bool) (xs : List X) (i : ℕ) (x : X) → slice_get xs i ≡ Some x → test x ≡ true → find test (drop i xs) ≡ Some x
+find_here test xs i x at t = ap (find test) (drop_here xs i x at) ∙ ap (λ b. cond b (Some x) (find test (drop (i + 1) xs))) t
+
+pub find_later : {X : Type 0} (test : X → Bool) (xs : List X) (i : ℕ) (x : X) → slice_get xs i ≡ Some x → test x ≡ false → find test (drop (i + 1) xs) ≡ find test (drop i xs)
+find_later test xs i x at t = sym (ap (find test) (drop_here xs i x at) ∙ ap (λ b. cond b (Some x) (find test (drop (i + 1) xs))) t)
+
+-- ---- one record
+
+reading_found : (table : Table) (p : Primitive) (r : Record) (at : ℕ) (key : KeyKind) (entry : Option Entry)
+    → place_of table p r.url ≡ Some at → slice_get (entries_of table p) at ≡ entry → IsCheckedBy entry r.value (Ok key)
+    → reading_of table p r ≡ Some (Ok key)
+reading_found table p r at key None placed there checked = absurd checked
+reading_found table p r at key (Some entry) placed there checked =
+    ap (λ place. option_map (λ s. key_under s r.value) (option_map (λ (e : Entry). e.scheme) (option_and_then (slice_get (entries_of table p)) place))) placed
+    ∙ ap (λ e. option_map (λ s. key_under s r.value) (option_map (λ (e : Entry). e.scheme) e)) there
+    ∙ ap Some checked
+
+-- what was found of an ENABLED record, by the URL and the value that were handed on
+pub record IsFound (table : Table) (p : Primitive) (r : Record) (at : ℕ) (key : KeyKind) (url value : List ℕ) : Type 0 where
+  pub on : is_enabled r ≡ true
+  pub url_is : url ≡ r.url
+  pub value_is : value ≡ r.value
+  pub placed : Some at ≡ place_of table p url
+  pub checked : IsCheckedBy (slice_get (entries_of table p) at) value (Ok key)
+
+reading_of_found : (table : Table) (p : Primitive) (r : Record) (at : ℕ) (key : KeyKind) (url value : List ℕ) → IsFound table p r at key url value → reading_of table p r ≡ Some (Ok key)
+reading_of_found table p r at key url value f =
+    reading_found table p r at key _ (ap (place_of table p) (sym f.url_is) ∙ sym f.placed) refl
+    (subst (λ v. IsCheckedBy (slice_get (entries_of table p) at) v (Ok key)) f.value_is f.checked)
+
+pub fault_found : (table : Table) (p : Primitive) (r : Record) (at : ℕ) (key : KeyKind) (url value : List ℕ) (later : Option Unfit)
+    → IsFound table p r at key url value → prefix_fault p r ≡ later → fault_of_record table p r ≡ later
+fault_found table p r at key url value later f last =
+    ap (λ b. cond b (first_of_three (reading_of table p r) (prefix_fault p r)) None) f.on
+    ∙ ap (λ o. first_of_three o (prefix_fault p r)) (reading_of_found table p r at key url value f)
+    ∙ last
+
+pub kept_here : (table : Table) (p : Primitive) (r : Record) (i at : ℕ) (key : KeyKind) (url value : List ℕ) (prefix : Option (List ℕ))
+    → IsFound table p r at key url value → IsServedBy (slice_get (entries_of table p) at) key → prefix_fault p r ≡ None → prefix ≡ prefix_of r
+    → IsKeeping table p r i (Ok (Some (record { place = at; prefix = prefix; is_legacy = is_legacy r; key = key })))
+kept_here table p r i at key url value prefix f served last is =
+    let found : kept_of table p r ≡ Some (kept_with r at key) =
+    ap (λ b. cond b (option_and_then (λ at. option_map (kept_with r at) (read_key (reading_of table p r))) (place_of table p r.url)) None) f.on
+    ∙ ap (option_and_then (λ at. option_map (kept_with r at) (read_key (reading_of table p r)))) (ap (place_of table p) (sym f.url_is) ∙ sym f.placed)
+    ∙ ap (λ o. option_map (kept_with r at) (read_key o)) (reading_of_found table p r at key url value f) in
+    (fault_found table p r at key url value None f last, ap (λ x. Some (record { place = at; prefix = x; is_legacy = is_legacy r; key = key })) is ∙ sym found, served)
+
+-- ---- one record after another
+
+fit_here : (table : Table) (p : Primitive) (records : List Record) (i : ℕ) (r : Record) (slots : List (Option Kept)) (why : Option Unfit)
+    → IsKept table p records (drop i records) i slots → slice_get records i ≡ Some r → fault_of_record table p r ≡ why
+    → unfit_from 0 table p records ≡ or_later i why (unfit_from (i + 1) table p (drop (i + 1) records))
+fit_here table p records i r slots why was at fault =
+    was.fit ∙ ap (unfit_from i table p) (drop_here records i r at)
+    ∙ ap (λ o. or_later i o (unfit_from (i + 1) table p (drop (i + 1) records))) fault
+
+pub kept_more : (table : Table) (p : Primitive) (records : List Record) (i : ℕ) (r : Record) (slots : List (Option Kept)) (slot : Option Kept)
+    → IsKept table p records (drop i records) i slots → slice_get records i ≡ Some r → IsKeeping table p r i (Ok slot) → HasWordId r
+    → IsKept table p records (drop (i + 1) records) (i + 1) (slots ++ slot ∷ [])
+kept_more table p records i r slots slot was at keeping word = record {
+  fit = fit_here table p records i r slots None was at keeping.0;
+  kept = append_assoc slots (slot ∷ []) (map (kept_of table p) (drop (i + 1) records))
+      ∙ ap (λ s. slots ++ (s ∷ map (kept_of table p) (drop (i + 1) records))) keeping.1
+      ∙ ap (λ rest. slots ++ map (kept_of table p) rest) (sym (drop_here records i r at))
+      ∙ was.kept;
+  served = each_more (IsServed table p) slots slot was.served keeping.2;
+  words = λ later. was.words (subst (AllByRecursion HasWordId) (sym (drop_here records i r at)) (word, later));
+}
+
+pub fault_here : (table : Table) (p : Primitive) (records : List Record) (i : ℕ) (r : Record) (slots : List (Option Kept)) (fault : HandleFault)
+    → IsKept table p records (drop i records) i slots → slice_get records i ≡ Some r → IsKeeping table p r i (Err fault)
+    → IsFaultOf (unfit_from 0 table p records) fault
+fault_here table p records i r slots (faults.NoManager j) was at keeping = fit_here table p records i r slots (Some (fitness.NoManager)) was at keeping.1 ∙ ap (λ k. Some (k, fitness.NoManager)) (sym keeping.0)
+fault_here table p records i r slots (faults.BadKey j rule) was at keeping = fit_here table p records i r slots (Some (fitness.BadKey rule)) was at keeping.1 ∙ ap (λ k. Some (k, fitness.BadKey rule)) (sym keeping.0)
+fault_here table p records i r slots (faults.NotRaw j) was at keeping = fit_here table p records i r slots (Some (fitness.NotRaw)) was at keeping.1 ∙ ap (λ k. Some (k, fitness.NotRaw)) (sym keeping.0)
+fault_here table p records i r slots faults.NoMemory was at keeping = tt
+
+pub fault_refused : {A : Type 0} (result : Result A HandleFault) (fault : HandleFault) (told : Option (ℕ × Unfit)) → IsErrAnd result (λ e. e ≡ fault) → IsFaultOf told fault → IfErr result (IsFaultOf told)
+fault_refused (Ok done) fault told same is = absurd same
+fault_refused (Err e) fault told same is = subst (IsFaultOf told) (sym same) is
+
+-- ---- the primary record among others
+
+primary_id : (keys : Keys) (p : Record) → primary_of keys ≡ Some p → is_primary keys.primary p ≡ true
+primary_id keys p primary = find_holds (is_primary keys.primary) keys.records p primary
+
+id_primary : (keys : Keys) (p : Record) → primary_of keys ≡ Some p → p.id ≡ keys.primary
+id_primary keys p primary = eqb-true _ _ (and_parts _ _ (primary_id keys p primary)).0
+
+pub primary_here : (keys : Keys) (p : Record) (i : ℕ) (r : Record) → primary_of keys ≡ Some p → find (is_primary keys.primary) (drop i keys.records) ≡ primary_of keys
+    → slice_get keys.records i ≡ Some r → r.id ≡ p.id → r.status ≡ 1 → slice_get keys.records i ≡ primary_of keys
+primary_here keys p i r primary first at same on =
+    at ∙ sym (find_here (is_primary keys.primary) keys.records i r at (and_from _ _ (eq-eqb _ _ (same ∙ id_primary keys p primary)) (eq-eqb _ _ on))) ∙ first
+
+pub primary_later : (keys : Keys) (p : Record) (i : ℕ) (r : Record) → primary_of keys ≡ Some p → find (is_primary keys.primary) (drop i keys.records) ≡ primary_of keys
+    → slice_get keys.records i ≡ Some r → is_primary p.id r ≡ false → find (is_primary keys.primary) (drop (i + 1) keys.records) ≡ primary_of keys
+primary_later keys p i r primary first at other =
+    find_later (is_primary keys.primary) keys.records i r at (ap (λ id. is_primary id r) (sym (id_primary keys p primary)) ∙ other) ∙ first
+
+pub other_id : (a b : Bool) → a ≡ false → (a && b) ≡ false
+other_id a b e = ap (λ x. x && b) e
+
+pub other_status : (a b : Bool) → b ≡ false → (a && b) ≡ false
+other_status true b e = e
+other_status false b e = refl

@@ -1,0 +1,4 @@
+pub mod KeepLemmas
+pub mod OpenLemmas
+pub mod PrefixLemmas
+pub mod HandleLemmas

@@ -1,0 +1,90 @@
+-- What a handle keeps of each record, and what that opens and verifies.
+use Rattle.std.specs.Prelude.{◌≡◌, ℕ, List, [], ◌∷◌, Option, Some, None, if◌then◌else◌, Bool, drop, take, false, ◌||◌, slice_get}
+use Rattle.std.specs.List.{filter_map}
+use Rattle.std.specs.Option.{option_and_then, option_map, option_or}
+use Rattle.std.specs.Str.{bytes_eq}
+use Rattle.key_msgs.specs.declared.key.KeyKind.{KeyKind}
+use Rattle.key_msgs.specs.declared.primitive.Primitive.{Primitive}
+use Rattle.keyset_model.specs.Keyset.{Keys, is_enabled, primary_of}
+use Rattle.keyset_model.specs.declared.record.Record.{Record}
+use Rattle.managers.specs.Schemes.{IsAdmitted}
+use Rattle.managers.specs.Table.{Entry, Table, entries_of, place_of}
+use Rattle.managers.specs.Uses.{tag_of, tagged}
+use Rattle.wrapped_prims.specs.Answers.{opened_under}
+use Rattle.wrapped_prims.specs.Candidates.{is_legacy, prefix_of, same_prefix}
+use Rattle.wrapped_prims.specs.Fitness.{key_of_record}
+use Rattle.wrapped_prims.specs.declared.held.Kept.{Kept}
+
+-- the manager at that place admits the key
+abbrev pub IsServedBy : Option Entry → KeyKind → Type 0
+IsServedBy None key = ⊥
+IsServedBy (Some entry) key = IsAdmitted entry.scheme key
+
+-- what is kept is admitted by the manager at its place
+abbrev pub IsServed : Table → Primitive → Option Kept → Type 0
+IsServed table primitive None = Unit {0}
+IsServed table primitive (Some kept) =
+    IsServedBy (slice_get (entries_of table primitive) kept.place) kept.key
+
+-- each kept key is
+abbrev pub AreServed : Table → Primitive → List (Option Kept) → Type 0
+AreServed table primitive slots =
+    (i : ℕ) (slot : Option Kept) → slice_get slots i ≡ Some slot → IsServed table primitive slot
+
+-- a record's key, with the place of its manager, its prefix and whether it is LEGACY
+abbrev pub kept_with : Record → ℕ → KeyKind → Kept
+kept_with r at key =
+    record { place = at; prefix = prefix_of r; is_legacy = is_legacy r; key = key }
+
+-- what is kept of a record: nothing of one that isn't ENABLED
+abbrev pub kept_of : Table → Primitive → Record → Option Kept
+kept_of table primitive r =
+    if is_enabled r
+    then option_and_then (λ at. option_map (kept_with r at) (key_of_record table primitive r))
+    (place_of table primitive r.url)
+    else None
+
+-- the kept key, where it has this prefix, or none
+abbrev pub under : Option (List ℕ) → Option Kept → Option Kept
+under prefix None = None
+under prefix (Some kept) = if same_prefix kept.prefix prefix then Some kept else None
+
+-- the kept keys of this prefix, or of none, in order
+abbrev pub all_under : Option (List ℕ) → List (Option Kept) → List Kept
+all_under prefix slots = filter_map (under prefix) slots
+
+-- the plaintext of the first key that opens the part
+abbrev pub open_with : Primitive → List ℕ → List ℕ → List Kept → Option (List ℕ)
+open_with primitive part ad [] = None
+open_with primitive part ad (kept ∷ later) =
+    option_or (opened_under primitive part ad kept.key) (open_with primitive part ad later)
+
+-- by the keys of this prefix, and then by those of none
+abbrev pub open_kept : Primitive → List (Option Kept) → (bytes ad : List ℕ) → Option (List ℕ)
+open_kept primitive slots bytes ad =
+    option_or (open_with primitive (drop 5 bytes) ad (all_under (Some (take 5 bytes)) slots))
+    (open_with primitive bytes ad (all_under None slots))
+
+-- the tag of the body under what is kept
+abbrev pub tag_with : Kept → List ℕ → List ℕ
+tag_with kept body = tag_of kept.key (tagged kept.is_legacy body)
+
+-- some key's tag of the body is this one
+abbrev pub verify_with : (tag body : List ℕ) → List Kept → Bool
+verify_with tag body [] = false
+verify_with tag body (kept ∷ later) =
+    bytes_eq tag (tag_with kept body) || verify_with tag body later
+
+-- by the keys of this prefix, and then by those of none
+abbrev pub verify_kept : List (Option Kept) → (tag body : List ℕ) → Bool
+verify_kept slots tag body =
+    verify_with (drop 5 tag) body (all_under (Some (take 5 tag)) slots)
+    || verify_with tag body (all_under None slots)
+
+-- what is kept is the primary record's key
+pub record IsPrimary (table : Table) (primitive : Primitive) (keys : Keys) (kept : Kept) : Type 0 where
+  pub under' : Record
+  pub primary : primary_of keys ≡ Some under'
+  pub key : key_of_record table primitive under' ≡ Some kept.key
+  pub prefix : kept.prefix ≡ prefix_of under'
+  pub legacy : kept.is_legacy ≡ is_legacy under'

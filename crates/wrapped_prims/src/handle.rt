@@ -1,0 +1,160 @@
+//! Making a handle.
+
+ghost use Rattle.std.specs.Prelude.{◌≡◌, ◌<◌, ◌^◌, ◌≢◌, ℕ, length, Some, None, if◌then◌else◌, IfOk, IfErr, slice_get};
+ghost use Rattle.key_msgs.specs.declared.primitive.Primitive.TheVariants.{Stream};
+ghost use Rattle.managers.specs.Table.{entries_of};
+ghost use Rattle.wrapped_prims.specs.Fitness.{NotRaw, prefix_fault, unfit};
+ghost use Rattle.wrapped_prims.specs.Held.{IsServedBy};
+ghost use Rattle.wrapped_prims.specs.Making.{HasWordId, IsCheckedBy, IsFaultOf, IsKeeping, IsOver};
+
+use crate::held::{Held, Kept, prefix, primary_place};
+use key_msgs::{KeyKind, Primitive, Rule};
+use keyset_model::{Keyset, Record};
+use managers::{
+    AeadManager, CheckFault, DaeadManager, KeyManager, KeyTable, MacManager, Managers, PrfManager,
+};
+use std::alloc::{AllocFailed, Global};
+use tink_base::{ENABLED, LEGACY, RAW};
+
+/// Why a keyset can't serve for a primitive under some managers. The first ENABLED record with a
+/// fault is told, by its place in the keyset from 0, with the first of its faults in this order.
+#[derive(Clone, Copy, Debug, PartialEq, Eq)]
+pub enum HandleFault {
+    /// None of the primitive's managers has this record's type URL.
+    NoManager(usize),
+    /// Its manager refuses this record's value, for this rule, the first one that it breaks.
+    BadKey(usize, Rule),
+    /// The primitive is Prf, and this record's output prefix type isn't RAW.
+    NotRaw(usize),
+    /// Memory was refused.
+    NoMemory,
+}
+
+impl<T: Drop> From<AllocFailed<T>> for HandleFault {
+    ghost use Rattle.wrapped_prims.specs.declared.handle.HandleFault.TheVariants.{NoMemory};
+
+    ghost from_gives = { λ _ e. e ≡ NoMemory };
+
+    fn from(_error: AllocFailed<T>) -> HandleFault {
+        HandleFault::NoMemory
+    }
+}
+
+/// The keys of a keyset, each of which its manager has checked, for one primitive.
+#[derive(Drop)]
+pub struct Handle<'m> {
+    pub managers: &'m Managers,
+    pub(crate) primitive: Primitive,
+    pub(crate) held: Held,
+}
+
+// What the manager at this place says of a key message.
+fn check_at(
+    managers: &Managers,
+    alloc: Global,
+    primitive: Primitive,
+    at: usize,
+    value: &[u8],
+) -> Result<KeyKind, CheckFault>
+    requires { at < length (entries_of (⟦<Managers as KeyTable>⟧.table managers.now) primitive) }
+    ensures reading { IsCheckedBy
+        (slice_get (entries_of (⟦<Managers as KeyTable>⟧.table managers.now) primitive) at)
+        value.now result }
+    ensures admitted { IfOk result (IsServedBy
+        (slice_get (entries_of (⟦<Managers as KeyTable>⟧.table managers.now) primitive) at)) }
+{
+    match primitive {
+        Primitive::Aead => managers.aead_at(at).check(alloc, value),
+        Primitive::Daead => managers.daead_at(at).check(alloc, value),
+        Primitive::Mac => managers.mac_at(at).check(alloc, value),
+        Primitive::Prf => managers.prf_at(at).check(alloc, value),
+        Primitive::Stream => unreachable!(),
+    }
+}
+
+// Whether the primitive has no place for the record's prefix.
+fn has_no_place(primitive: Primitive, from: &Record) -> bool
+    ensures { prefix_fault primitive from.now ≡ if result then Some NotRaw else None }
+{
+    match primitive {
+        Primitive::Prf => from.prefix != RAW,
+        Primitive::Aead | Primitive::Daead | Primitive::Mac | Primitive::Stream => false,
+    }
+}
+
+// What is kept of the record of this place.
+fn keep(
+    managers: &Managers,
+    alloc: Global,
+    primitive: Primitive,
+    i: usize,
+    from: &Record,
+) -> Result<Option<Kept>, HandleFault>
+    ensures keeping { IsKeeping (⟦<Managers as KeyTable>⟧.table managers.now) primitive from.now i
+        result }
+    ensures word { HasWordId from.now }
+{
+    let prefix = prefix(from);
+    if from.status != ENABLED {
+        return Ok(None);
+    }
+    let Some(place) = managers.find(primitive, from.url.as_str()) else {
+        return Err(HandleFault::NoManager(i));
+    };
+    match check_at(managers, alloc, primitive, place, from.value.as_slice()) {
+        Ok(key) => {
+            if has_no_place(primitive, from) {
+                drop(key);
+                return Err(HandleFault::NotRaw(i));
+            }
+            Ok(Some(Kept {
+                place,
+                prefix,
+                is_legacy: from.prefix == LEGACY,
+                key,
+            }))
+        }
+        Err(CheckFault::Bad(rule)) => Err(HandleFault::BadKey(i, rule)),
+        Err(CheckFault::NoMemory) => Err(HandleFault::NoMemory),
+    }
+}
+
+impl<'m> Handle<'m> {
+    /// The handle of a keyset's keys for a primitive, which isn't Stream.
+    ///
+    /// A fault other than `NoMemory` comes exactly where an ENABLED record can't serve: it is that
+    /// of the first such record. Records that aren't ENABLED don't matter.
+    pub fn new(
+        alloc: Global,
+        keyset: &Keyset,
+        managers: &'m Managers,
+        primitive: Primitive,
+    ) -> Result<Handle<'m>, HandleFault>
+        requires no_stream { primitive ≢ Stream }
+        ensures fault { IfErr result (IsFaultOf
+            (unfit keyset.now primitive (⟦<Managers as KeyTable>⟧.table managers.now))) }
+        ensures over { IfOk result (λ h. IsOver (⟦<Managers as KeyTable>⟧.table h.managers.now)
+            primitive keyset.now h.held) }
+        ensures table { IfOk result (λ h. ⟦<Managers as KeyTable>⟧.table h.managers.now
+            ≡ ⟦<Managers as KeyTable>⟧.table managers.now) }
+        ensures primitive { IfOk result (λ h. h.primitive ≡ primitive) }
+    {
+        let primary = primary_place(keyset);
+        let mut slots = Vec::new(alloc);
+        for i in 0..keyset.len() {
+            slots.push(keep(managers, alloc, primitive, i, keyset.record_at(i))?)?;
+        }
+        Ok(Handle {
+            managers,
+            primitive,
+            held: Held { slots, primary },
+        })
+    }
+
+    /// The primitive for which the handle was made. No memory is taken.
+    pub fn primitive(&self) -> Primitive
+        ensures { result ≡ self.now.primitive }
+    {
+        self.primitive
+    }
+}

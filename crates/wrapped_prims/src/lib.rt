@@ -1,0 +1,12 @@
+//! Handles: the work of a keyset under the managers that a program hands in. A handle seals, opens,
+//! tags, verifies and derives with the keys of a keyset, each of which a manager has checked.
+#![tactic(auto)]
+
+mod handle;
+mod held;
+mod making;
+mod opening;
+mod trying;
+
+pub use handle::{Handle, HandleFault};
+pub use making::DeriveFault;

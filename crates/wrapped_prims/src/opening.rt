@@ -1,0 +1,106 @@
+//! Opening sealed bytes, and verifying tags.
+
+ghost use Rattle.std.specs.Prelude.{◌≡◌, ◌+◌, ◌^◌, ◌≤◌, length, IfOk, option_map};
+ghost use Rattle.key_msgs.specs.declared.primitive.Primitive.TheVariants.{Aead, Daead, Mac};
+ghost use Rattle.keyset_model.specs.Keyset.{Keys};
+ghost use Rattle.wrapped_prims.specs.Answers.{dopen_answer, open_answer, verify_answer};
+ghost use Rattle.wrapped_prims.specs.Candidates.{raw_count};
+ghost use Rattle.wrapped_prims.specs.Making.{IsOver};
+
+use crate::Handle;
+use crate::trying::{try_all, verify_all};
+use key_msgs::Primitive;
+use managers::{KeyTable, Managers};
+use std::alloc::Global;
+use tink_base::{NoMemory, Trials};
+
+impl Handle<'_> {
+    /// Opens sealed bytes, of at most 2^30 + 96 bytes, with associated data of at most 2^30.
+    ///
+    /// The plaintext is that of the first candidate that opens, and `None` comes exactly where none
+    /// does. Each trial of a key is counted: at most one, and one for each ENABLED RAW record.
+    pub fn open(
+        &self,
+        alloc: Global,
+        bytes: &[u8],
+        ad: &[u8],
+        trials: &mut Trials,
+    ) -> Result<Option<Vec<u8>>, NoMemory>
+        requires over { (keys : Keys)
+            × IsOver (⟦<Managers as KeyTable>⟧.table self.now.managers.now) Aead keys self.now.held }
+        requires bytes_bound { length bytes.now ≤ 2 ^ 30 + 96 }
+        requires ad_bound { length ad.now ≤ 2 ^ 30 }
+        ensures opened { (keys : Keys)
+            → IsOver (⟦<Managers as KeyTable>⟧.table self.now.managers.now) Aead keys self.now.held
+            → IfOk result (λ plain. option_map (λ text. text.items) plain ≡ open_answer keys
+            (⟦<Managers as KeyTable>⟧.table self.now.managers.now) bytes.now ad.now) }
+        ensures few_trials { (keys : Keys)
+            → IsOver (⟦<Managers as KeyTable>⟧.table self.now.managers.now) Aead keys self.now.held
+            → trials.new ≤ trials.old + (1 + raw_count keys) }
+    {
+        try_all(
+            self.managers,
+            alloc,
+            Primitive::Aead,
+            &self.held.slots,
+            bytes,
+            ad,
+            trials,
+        )
+    }
+
+    /// Opens bytes that were sealed without an IV, of at most 2^30 + 96 bytes, with associated data
+    /// of at most 2^30.
+    ///
+    /// The plaintext is that of the first candidate that opens, and `None` comes exactly where none
+    /// does. Each trial of a key is counted: at most one, and one for each ENABLED RAW record.
+    pub fn dopen(
+        &self,
+        alloc: Global,
+        bytes: &[u8],
+        ad: &[u8],
+        trials: &mut Trials,
+    ) -> Result<Option<Vec<u8>>, NoMemory>
+        requires over { (keys : Keys)
+            × IsOver (⟦<Managers as KeyTable>⟧.table self.now.managers.now) Daead keys
+            self.now.held }
+        requires bytes_bound { length bytes.now ≤ 2 ^ 30 + 96 }
+        requires ad_bound { length ad.now ≤ 2 ^ 30 }
+        ensures opened { (keys : Keys)
+            → IsOver (⟦<Managers as KeyTable>⟧.table self.now.managers.now) Daead keys self.now.held
+            → IfOk result (λ plain. option_map (λ text. text.items) plain ≡ dopen_answer keys
+            (⟦<Managers as KeyTable>⟧.table self.now.managers.now) bytes.now ad.now) }
+        ensures few_trials { (keys : Keys)
+            → IsOver (⟦<Managers as KeyTable>⟧.table self.now.managers.now) Daead keys self.now.held
+            → trials.new ≤ trials.old + (1 + raw_count keys) }
+    {
+        try_all(
+            self.managers,
+            alloc,
+            Primitive::Daead,
+            &self.held.slots,
+            bytes,
+            ad,
+            trials,
+        )
+    }
+
+    /// Whether some candidate's part is its whole tag of the body, which has at most 2^30 bytes.
+    ///
+    /// Each trial of a key is counted: at most one, and one for each ENABLED RAW record. No memory is
+    /// taken.
+    pub fn verify(&self, tag: &[u8], body: &[u8], trials: &mut Trials) -> bool
+        requires over { (keys : Keys)
+            × IsOver (⟦<Managers as KeyTable>⟧.table self.now.managers.now) Mac keys self.now.held }
+        requires body_bound { length body.now ≤ 2 ^ 30 }
+        ensures verified { (keys : Keys)
+            → IsOver (⟦<Managers as KeyTable>⟧.table self.now.managers.now) Mac keys self.now.held
+            → result ≡ verify_answer keys (⟦<Managers as KeyTable>⟧.table self.now.managers.now)
+            tag.now body.now }
+        ensures few_trials { (keys : Keys)
+            → IsOver (⟦<Managers as KeyTable>⟧.table self.now.managers.now) Mac keys self.now.held
+            → trials.new ≤ trials.old + (1 + raw_count keys) }
+    {
+        verify_all(self.managers, &self.held.slots, tag, body, trials)
+    }
+}
