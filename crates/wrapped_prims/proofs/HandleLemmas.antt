@@ -1,22 +1,19 @@
 -- What a handle over a faultless keyset holds.
-use Rattle.std.proofs.Common.{subst, ◌<◌, ◌++◌, Bool, Ok, Err, cond, ◌≡◌, ◌∙◌, refl, sym, ap, ℕ, zero, suc, ◌+◌, ◌≤◌, List, [], ◌∷◌, length, take, Option, Some, None, option_map, false, arith}
+use Rattle.std.proofs.Common.{subst, ◌<◌, ◌≡◌, ◌∙◌, refl, sym, ap, ℕ, zero, suc, ◌+◌, ◌≤◌, List, [], ◌∷◌, length, take, Option, Some, None, option_map, false, arith}
 use Rattle.std.proofs.lemmas.Bool.Decides.{nat_tests}
 use Rattle.std.specs.Prelude.{slice_get, slice_index_or}
-use Rattle.std.proofs.lemmas.Bool.{le-ltb, lt-ltb}
 use Rattle.std.proofs.lemmas.Option.{get_or_from_slice_get, same_Some, slice_get_within, slice_get-map}
 use Rattle.keyset_model.proofs.PrimaryLemmas.{faultless_keysets}
 use Rattle.keyset_model.specs.Keyset.{Keys, is_enabled, primary_of}
 use Rattle.keyset_model.specs.declared.record.Record.{Record}
-use Rattle.key_msgs.specs.declared.key.KeyKind.{KeyKind}
-use Rattle.key_msgs.specs.declared.primitive.Primitive.TheVariants.{Mac, Prf}
+use Rattle.key_msgs.specs.declared.primitive.Primitive.TheVariants.{Mac}
 use Rattle.std.specs.Option.{option_and_then}
-use Rattle.managers.specs.Uses.{greatest, prf_of}
-use Rattle.wrapped_prims.specs.Answers.{opened_by, verify_answer, derive_answer, derive_under, made, made_by, primary_key}
+use Rattle.wrapped_prims.specs.Answers.{opened_by, verify_answer, primary_key}
 use Rattle.key_msgs.specs.declared.primitive.Primitive.{Primitive}
 use Rattle.managers.specs.Table.{Table, entries_of}
 use Rattle.wrapped_prims.proofs.OpenLemmas.{KeptAs, count-IsOver, open_kept-IsOver, verify_kept-IsOver, kept_as, none_here, off, on}
 use Rattle.wrapped_prims.proofs.PrefixLemmas.{one_with}
-use Rattle.wrapped_prims.specs.Candidates.{is_legacy, prefix_bytes, prefix_of, raw_count}
+use Rattle.wrapped_prims.specs.Candidates.{raw_count}
 use Rattle.wrapped_prims.specs.Fitness.{fault_of_record, key_of_record, unfit_from}
 use Rattle.wrapped_prims.specs.Held.{AreServed, open_kept, verify_kept, IsPrimary, IsServedBy, all_under, kept_of, kept_with}
 use Rattle.wrapped_prims.specs.Making.{IsOver}

@@ -1,12 +1,14 @@
 -- What sealing under a handle says of the random bytes.
 use Rattle.std.specs.Prelude.{◌≡◌, ◌⊎◌, ℕ, List, [], ◌++◌, length, Some}
-use Rattle.std.specs.Option.{option_map}
+use Rattle.key_msgs.specs.declared.key.KeyKind.{KeyKind}
 use Rattle.key_msgs.specs.declared.primitive.Primitive.TheVariants.{Aead}
 use Rattle.keyset_model.specs.Keyset.{Keys}
 use Rattle.managers.specs.Table.{Table}
-use Rattle.managers.specs.Uses.{iv_size}
-use Rattle.tink_spec.specs.Outside.{EntropyState, Drew, RanShort}
+use Rattle.managers.specs.Uses.{iv_size, seal_of}
+use Rattle.tink_spec.specs.Outside.{EntropyState, Drew, RanShort, Stood}
 use Rattle.wrapped_prims.specs.Answers.{primary_key, seal_answer}
+use Rattle.wrapped_prims.specs.declared.sealing.SealFault.{SealFault}
+use Rattle.wrapped_prims.specs.declared.sealing.SealFault.TheVariants as faults
 
 -- The bytes were drawn that the answer takes, and no more: whatever follows them, the answer is this
 -- one and leaves what follows.
@@ -17,19 +19,30 @@ pub record IsSealing (keys : Keys) (table : Table) (plain ad : List ℕ) (old ne
   pub answer : (more : List ℕ) → seal_answer keys table plain ad (drawn ++ more)
       ≡ Some (record { bytes = sealed; left = more })
 
--- as many bytes were drawn as the primary's key takes for an IV
-pub record DrewIv (keys : Keys) (table : Table) (old new : EntropyState) : Type 0 where
+-- as many bytes were drawn as a key takes for an IV
+pub record DrewIv (key : KeyKind) (old new : EntropyState) : Type 0 where
   pub drawn : List ℕ
   pub drew : Drew old new drawn
-  pub whole : option_map iv_size (primary_key keys table Aead) ≡ Some (length drawn)
+  pub whole : length drawn ≡ iv_size key
 
--- the entropy failed at that many bytes, and gave none
-pub record RanShortOfIv (keys : Keys) (table : Table) (old new : EntropyState) : Type 0 where
-  pub size : ℕ
-  pub asked : option_map iv_size (primary_key keys table Aead) ≡ Some size
-  pub short : RanShort old new size
-  pub kept : Drew old new []
+-- what happened to the entropy: it failed at an IV of the key, and gave none; or it didn't fail, and
+-- gave an IV or nothing
+abbrev pub IsKeyFault : KeyKind → EntropyState → EntropyState → SealFault → Type 0
+IsKeyFault key old new faults.EntropyFault = RanShort old new (iv_size key) × Drew old new []
+IsKeyFault key old new faults.NoMemory =
+    Stood old.faults new.faults × (Drew old new [] ⊎ DrewIv key old new)
 
--- nothing was drawn, or one IV
-abbrev pub DrewAtMostIv : Keys → Table → EntropyState → EntropyState → Type 0
-DrewAtMostIv keys table old new = Drew old new [] ⊎ DrewIv keys table old new
+-- the same of the primary record's key
+pub record IsSealFault (keys : Keys) (table : Table) (old new : EntropyState) (fault : SealFault)
+    : Type 0 where
+  pub key : KeyKind
+  pub primary : primary_key keys table Aead ≡ Some key
+  pub entropy : IsKeyFault key old new fault
+
+-- an IV of the key was drawn, and the sealing with it stands behind a prefix
+pub record IsKeySealing (key : KeyKind) (prefix plain ad : List ℕ) (old new : EntropyState)
+    (sealed : List ℕ) : Type 0 where
+  pub drawn : List ℕ
+  pub drew : Drew old new drawn
+  pub whole : length drawn ≡ iv_size key
+  pub made : sealed ≡ prefix ++ seal_of key drawn plain ad

@@ -6,7 +6,9 @@ mod handle;
 mod held;
 mod making;
 mod opening;
+mod sealing;
 mod trying;
 
 pub use handle::{Handle, HandleFault};
 pub use making::DeriveFault;
+pub use sealing::SealFault;
