@@ -2,3 +2,4 @@ pub mod KeepLemmas
 pub mod OpenLemmas
 pub mod PrefixLemmas
 pub mod HandleLemmas
+pub mod SameKeyLemmas

@@ -124,7 +124,7 @@ under_verifies n table (r ∷ rs) prefix part body fit =
     by later (passed other none) = rw (other, none) later
     by later (taken kept same some read legacy) = rw (same, some, read, legacy) (ap (λ b. is_tag_under (Some kept.key) (is_legacy r) part body || b) later)
 
-list_any-append : {X : Type 0} (test : X → Bool) (xs ys : List X) → list_any test (xs ++ ys) ≡ (list_any test xs || list_any test ys)
+pub list_any-append : {X : Type 0} (test : X → Bool) (xs ys : List X) → list_any test (xs ++ ys) ≡ (list_any test xs || list_any test ys)
 list_any-append test [] ys = refl
 list_any-append test (x ∷ xs) ys = by (test x) (list_any-append test xs ys)
   where

@@ -3,6 +3,7 @@ pub mod Candidates
 pub mod Deriving
 pub mod Fitness
 pub mod Held
+pub mod Laws
 pub mod Making
 pub mod Sealing
 pub mod Trying

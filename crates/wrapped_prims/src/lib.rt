@@ -4,6 +4,7 @@
 
 mod handle;
 mod held;
+pub mod laws;
 mod making;
 mod opening;
 mod sealing;

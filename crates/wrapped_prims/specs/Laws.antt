@@ -1,0 +1,70 @@
+-- The laws of what keysets answer, over the definitions alone.
+use Rattle.std.specs.Prelude.{◌≡◌, ℕ, List, Some, None, true, slice_get}
+use Rattle.std.specs.List.{AllByRecursion}
+use Rattle.key_msgs.specs.declared.key.KeyKind.{KeyKind}
+use Rattle.key_msgs.specs.declared.primitive.Primitive.{Primitive}
+use Rattle.key_msgs.specs.declared.primitive.Primitive.TheVariants.{Aead, Daead}
+use Rattle.keyset_model.specs.Keyset.{Keys, fault_of, primary_of}
+use Rattle.keyset_model.specs.declared.record.Record.{Record}
+use Rattle.managers.specs.Laws.{IsFor}
+use Rattle.managers.specs.Table.{Table}
+use Rattle.wrapped_prims.specs.Answers.{Sealed, dopen_answer, dseal_answer, open_answer, seal_answer, tag_answer, verify_answer}
+use Rattle.wrapped_prims.specs.Candidates.{prefix_of}
+use Rattle.wrapped_prims.specs.Fitness.{key_of_record}
+use Rattle.wrapped_prims.specs.Making.{HasWordId}
+
+-- no fault of a keyset holds, and ids are numbers of 32 bits
+pub record IsKeyset (keys : Keys) : Type 0 where
+  pub faultless : fault_of keys ≡ None
+  pub words : AllByRecursion HasWordId keys.records
+
+-- records at two places have two prefixes
+abbrev pub OnePrefix : Type 0
+OnePrefix = (keys : Keys) (i j : ℕ) (r s : Record) (prefix : List ℕ) → IsKeyset keys
+    → slice_get keys.records i ≡ Some r → slice_get keys.records j ≡ Some s
+    → prefix_of r ≡ Some prefix → prefix_of s ≡ Some prefix → i ≡ j
+
+-- the record is ENABLED, with what makes a key of another one: id, prefix type, URL and value
+pub record IsSameKey (r s : Record) : Type 0 where
+  pub enabled : s.status ≡ 1
+  pub id : s.id ≡ r.id
+  pub prefix : s.prefix ≡ r.prefix
+  pub url : s.url ≡ r.url
+  pub value : s.value ≡ r.value
+  pub material : s.material ≡ r.material
+
+-- the keyset has the key of that record, ENABLED
+pub record HasSameKey (r : Record) (keys : Keys) : Type 0 where
+  pub place : ℕ
+  pub other : Record
+  pub there : slice_get keys.records place ≡ Some other
+  pub same : IsSameKey r other
+
+-- the key of that record under the table is a valid one of the primitive
+abbrev pub GivesKeyFor : Table → Primitive → Record → Type 0
+GivesKeyFor table primitive r =
+    (key : KeyKind) × (key_of_record table primitive r ≡ Some key) × IsFor primitive key
+
+-- What the primary record of an old keyset sealed, a new one with that key opens. The record has a
+-- prefix; of RAW records another one may open the bytes by chance.
+abbrev pub SameKeyOpens : Type 0
+SameKeyOpens = (table : Table) (old new : Keys) (r : Record) (prefix plain ad random : List ℕ)
+    (sealed : Sealed) → primary_of old ≡ Some r → prefix_of r ≡ Some prefix
+    → GivesKeyFor table Aead r → IsKeyset new → HasSameKey r new
+    → seal_answer old table plain ad random ≡ Some sealed
+    → open_answer new table sealed.bytes ad ≡ Some plain
+
+-- the same without an IV
+abbrev pub SameKeyDopens : Type 0
+SameKeyDopens = (table : Table) (old new : Keys) (r : Record) (prefix plain ad sealed : List ℕ)
+    → primary_of old ≡ Some r → prefix_of r ≡ Some prefix
+    → GivesKeyFor table Daead r → IsKeyset new → HasSameKey r new
+    → dseal_answer old table plain ad ≡ Some sealed
+    → dopen_answer new table sealed ad ≡ Some plain
+
+-- a tag of the primary record of an old keyset verifies under a new one with that key, of any prefix
+-- type
+abbrev pub SameKeyVerifies : Type 0
+SameKeyVerifies = (table : Table) (old new : Keys) (r : Record) (tag body : List ℕ)
+    → primary_of old ≡ Some r → HasSameKey r new → tag_answer old table body ≡ Some tag
+    → verify_answer new table tag body ≡ true
