@@ -1,9 +1,9 @@
 -- The keys of a keyset's records under a table of managers, and the first record that can't serve.
 --
---   key_of_record   the key of a record, where its value reads as one under the scheme of its URL
---   Unfit           why a record can't serve
---   fault_of_record that of an ENABLED record
---   unfit           the first record that can't serve, by its place, and why
+--   key_of_record     the key of a record, where its value reads as one under its URL's scheme
+--   Unfit             why a record can't serve
+--   fault_of_record   that of an ENABLED record
+--   unfit             the first record that can't serve, by its place, and why
 use Rattle.std.specs.Prelude.{ℕ, ◌+◌, if◌then◌else◌, List, [], ◌∷◌, Option, Some, None, Result, Ok, Err}
 use Rattle.std.specs.Option.{option_map}
 use Rattle.key_msgs.specs.declared.key.KeyKind.{KeyKind}

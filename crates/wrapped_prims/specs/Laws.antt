@@ -24,7 +24,7 @@ OnePrefix = (keys : Keys) (i j : ℕ) (r s : Record) (prefix : List ℕ) → IsK
     → slice_get keys.records i ≡ Some r → slice_get keys.records j ≡ Some s
     → prefix_of r ≡ Some prefix → prefix_of s ≡ Some prefix → i ≡ j
 
--- the record is ENABLED, with what makes a key of another one: id, prefix type, URL and value
+-- the second record is ENABLED, with all that makes the key of the first
 pub record IsSameKey (r s : Record) : Type 0 where
   pub enabled : s.status ≡ 1
   pub id : s.id ≡ r.id
