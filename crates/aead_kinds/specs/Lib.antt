@@ -6,3 +6,4 @@ pub mod Gcm
 pub mod GcmState
 pub mod Laws
 pub mod SchemeState
+pub mod Segment

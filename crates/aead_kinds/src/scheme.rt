@@ -10,7 +10,7 @@ use std::alloc::Global;
 use tink_base::{Hash, NoMemory};
 
 /// The bytes of the longest tag, which is a digest of SHA-512.
-const LONGEST_TAG: usize = 64;
+pub(crate) const LONGEST_TAG: usize = 64;
 
 /// A key of EAX or of AES-CTR-HMAC.
 #[derive(Clone, Copy)]
@@ -140,7 +140,7 @@ impl Scheme<'_> {
 }
 
 // Whether two tags of one length are the same: all their bytes are compared, wherever they differ.
-fn is_same(a: &[u8], b: &[u8]) -> bool
+pub(crate) fn is_same(a: &[u8], b: &[u8]) -> bool
     requires { length a.now ≡ length b.now }
     ensures { IsTrue result ↔ (a.now ≡ b.now) }
 {
