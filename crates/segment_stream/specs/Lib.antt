@@ -1,0 +1,10 @@
+pub mod Pieces
+pub mod Cipher
+pub mod Opening
+pub mod Sealing
+pub mod Range
+pub mod Laws
+pub mod Pumping
+pub mod Under
+pub mod Segments
+pub mod Reading

@@ -1,0 +1,58 @@
+//! The key of a stream.
+
+ghost use Rattle.std.specs.Prelude.{◌≡◌};
+ghost use Rattle.segment_stream.specs.Segments.{header_size, tag_size_of};
+
+use tink_base::{Bytes, Hash};
+
+/// The bytes of a tag of AES-GCM.
+pub(crate) const GCM_TAG: usize = 16;
+
+/// The bytes of a header beside its salt: the length byte and the nonce prefix.
+const BESIDE_SALT: usize = 8;
+
+/// A key of one of Tink's two kinds of streams. Sizes are in bytes.
+#[derive(Drop)]
+pub(crate) struct StreamKey {
+    /// The key value, from which the keys of each stream are derived.
+    pub(crate) value: Bytes,
+    /// The size of a full segment.
+    pub(crate) segment: u32,
+    /// The size of a derived AES key, and of the salt.
+    pub(crate) derived: u32,
+    /// The hash function of HKDF.
+    pub(crate) hash: Hash,
+    pub(crate) scheme: SegmentScheme,
+}
+
+/// How the segments of a stream are sealed.
+#[derive(Clone, Copy)]
+pub(crate) enum SegmentScheme {
+    /// AES-GCM, with a tag of 16 bytes (AesGcmHkdfStreamingKey).
+    Gcm,
+    /// AES-CTR-HMAC (AesCtrHmacStreamingKey).
+    CtrHmac {
+        /// The hash function of HMAC.
+        hash: Hash,
+        tag_size: u32,
+    },
+}
+
+impl StreamKey {
+    /// The bytes of a header.
+    pub(crate) fn header_size(&self) -> usize
+        ensures { result ≡ header_size self.now }
+    {
+        self.derived as usize + BESIDE_SALT
+    }
+
+    /// The bytes of a tag.
+    pub(crate) fn tag_size(&self) -> usize
+        ensures { result ≡ tag_size_of self.now.scheme }
+    {
+        match self.scheme {
+            SegmentScheme::Gcm => GCM_TAG,
+            SegmentScheme::CtrHmac { tag_size, .. } => tag_size as usize,
+        }
+    }
+}
