@@ -17,3 +17,5 @@ pub mod Pass
 pub mod Trials
 pub mod First
 pub mod SealPass
+pub mod KeyLemmas
+pub mod KeysLemmas

@@ -8,3 +8,5 @@ pub mod Pumping
 pub mod Under
 pub mod Segments
 pub mod Reading
+pub mod StreamKeys
+pub mod KeysModel

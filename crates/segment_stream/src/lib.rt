@@ -3,7 +3,10 @@
 
 mod fault;
 mod key;
+mod keys;
 pub mod laws;
+mod reading;
 mod segments;
 
 pub use fault::{OpenPumpFault, SealPumpFault};
+pub use keys::{StreamKeys, StreamKeysFault};
