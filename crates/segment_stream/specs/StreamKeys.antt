@@ -36,8 +36,7 @@ of_kind (kinds.GcmStream key segment derived hash) =
       segment = segment;
       derived = derived;
       hash = hash;
-      scheme =
-          schemes.Gcm;
+      scheme = schemes.Gcm;
     })
 of_kind (kinds.CtrStream key segment derived hash mac_hash tag_size) =
     Ok (record {
