@@ -1,22 +1,32 @@
 #!/bin/sh
-# Refuses each allocation in turn to `list-keyset` and to `tag`, by `rt try --fail-alloc`. Each answer is
-# to be the plain one, or exit code 7 with no output and the line `tinkey: out of memory`, or with no
-# line where memory is refused before the words are there.
+# Refuses each allocation in turn to commands, by `rt try --fail-alloc`: a listing, a tag, a conversion to
+# JSON and one from it, a new key of random bytes, and an edit. Each answer is to be the plain one, or exit
+# code 7 with no output and the line `tinkey: out of memory`, or with no line where memory is refused
+# before the words are there. Of random keys the exit code alone is looked at.
 #
 #     tools/fail_alloc.sh [FIRST [LAST]]
 #
-# Begins with allocation FIRST, 1 if left out, and ends behind LAST, or where both answers were the
-# plain ones five times in a row. Outside the merge gate: each number is a build of its own, of about
-# half a minute.
+# Begins with allocation FIRST, 1 if left out, and ends behind LAST, or where all answers were the plain
+# ones five times in a row. Outside the merge gate: each number is a build of its own, of about half a
+# minute.
 set -u
 
 top=$(cd "$(dirname "$0")/.." && pwd)
 work=$(mktemp -d)
 trap 'rm -rf "$work"' EXIT
 mkdir "$work/cases"
+names=
+
+# case NAME WORD..: a case of these words, whose input and plain output are there already; none for no file.
+case_of() {
+    name=$1
+    shift
+    names="$names $name"
+    [ -e "$work/cases/$name" ] || : > "$work/cases/$name"
+    printf '%s\n' "$@" > "$work/cases/$name.args"
+}
 
 cp "$top/examples/aes128-gcm.binary" "$work/cases/list"
-printf '%s\n' list-keyset --in-format binary > "$work/cases/list.args"
 cat > "$work/list.plain" <<'LISTING'
 primary_key_id: 16909060
 key_info {
@@ -26,25 +36,35 @@ key_info {
   output_prefix_type: TINK
 }
 LISTING
+case_of list list-keyset --in-format binary
 
 # RFC 4231's first case for HMAC with SHA-256, the first 16 bytes, and the newline of `rt try`.
 printf 'Hi There' > "$work/cases/tag"
-printf '%s\n' tag --keyset k --keyset-format binary > "$work/cases/tag.args"
 printf '\260\064\114\141\330\333\070\123\134\250\257\316\257\013\361\053\n' > "$work/tag.plain"
+case_of tag tag --keyset k --keyset-format binary
+
+# The JSON of the example's keyset, by Python's json with sorted keys, there and back.
+cp "$top/examples/aes128-gcm.binary" "$work/cases/tojson"
+printf '%s\n' '{"key":[{"keyData":{"keyMaterialType":"SYMMETRIC","typeUrl":"type.googleapis.com/google.crypto.tink.AesGcmKey","value":"GhAAAAAAAAAAAAAAAAAAAAAA"},"keyId":16909060,"outputPrefixType":"TINK","status":"ENABLED"}],"primaryKeyId":16909060}' > "$work/tojson.plain"
+case_of tojson convert-keyset --in-format binary
+cp "$work/tojson.plain" "$work/cases/fromjson"
+cp "$work/list.plain" "$work/fromjson.plain"
+case_of fromjson list-keyset
+
+# An edit that changes nothing but reads the key, and a new key of random bytes.
+cp "$work/tojson.plain" "$work/cases/enable"
+cp "$work/tojson.plain" "$work/enable.plain"
+case_of enable enable-key --key-id 16909060
+cp "$work/tojson.plain" "$work/cases/rotate"
+case_of rotate rotate-keyset --key-template AES128_GCM
 
 # answer NAME: `plain`, `no memory` with or without its line, or `wrong`, for a case of this run.
 answer() {
     code=$(sed -n "s/^case=$1 run=ended status=\([0-9]*\) .*/\1/p" "$work/err")
-    case $1 in
-    list)
-        sed -n '/^== list$/,/^== tag$/p' "$work/out" | sed '1d;$d' > "$work/got"
-        sed '/^case=list /,$d' "$work/err" ;;
-    tag)
-        LC_ALL=C sed '1,/^== tag$/d' "$work/out" > "$work/got"
-        sed '1,/^case=list /d;/^case=tag /,$d' "$work/err" ;;
-    esac | sed '/^allocations: /d;/^$/d' > "$work/line"
-    line=$(cat "$work/line")
-    if [ "$code" = 0 ] && [ -z "$line" ] && cmp -s "$work/got" "$work/$1.plain"; then
+    LC_ALL=C awk -v name="== $1" '/^== / { on = ($0 == name); next } on' "$work/out" > "$work/got"
+    line=$(awk -v name="$1" '/^case=/ { if (index($0, "case=" name " ") == 1) printf "%s", text; text = ""; next }
+        !/^allocations: / && !/^$/ { text = text $0 }' "$work/err")
+    if [ "$code" = 0 ] && [ -z "$line" ] && { [ ! -e "$work/$1.plain" ] || same "$1"; }; then
         echo plain
     elif [ "$code" = 7 ] && [ -z "$(tr -d '\n' < "$work/got")" ]; then
         case $line in
@@ -57,6 +77,11 @@ answer() {
     fi
 }
 
+# same NAME: what was written is the plain output; of empty lines at the end nothing is said.
+same() {
+    [ "$(cat "$work/got"; echo x | sed 's/x//')" = "$(cat "$work/$1.plain")" ]
+}
+
 cd "$top/crates/tinkey" || exit 2
 number=${1:-1}
 last=${2:-1000}
@@ -64,15 +89,19 @@ plain=0
 while [ "$number" -le "$last" ] && [ "$plain" -lt 5 ]; do
     rt try --fail-alloc "$number" --cases "$work/cases" \
         --data "k=$top/examples/hmac-sha256.binary" > "$work/out" 2> "$work/err"
-    list=$(answer list)
-    tag=$(answer tag)
-    echo "allocation $number: list-keyset $list; tag $tag"
-    case "$list $tag" in
-    *wrong*)
-        cat "$work/out" "$work/err"
-        exit 1 ;;
-    'plain plain') plain=$((plain + 1)) ;;
-    *) plain=0 ;;
-    esac
+    said=
+    all=plain
+    for name in $names; do
+        got=$(answer "$name")
+        said="$said $name $got;"
+        [ "$got" = plain ] || all=other
+        case $got in wrong)
+            echo "allocation $number, $name: wrong"
+            cat "$work/out" "$work/err"
+            exit 1 ;;
+        esac
+    done
+    echo "allocation $number:$said"
+    if [ "$all" = plain ]; then plain=$((plain + 1)); else plain=0; fi
     number=$((number + 1))
 done
