@@ -114,8 +114,9 @@ const CAMEL_JSON: &str =
 
 /// The bytes that a cell spells, one item after another, with spaces between them.
 ///
-/// An item is hexadecimal digits (`0a2b`), digits with their count (`20x0b`), or a name from the list
-/// in `named`, whole (`GCM`) or from a place to another (`GCM[5..]`, `GCM[..5]`, `GCM[9..57]`).
+/// An item is hexadecimal digits (`0a2b`), digits with their count (`20x0b`), a name from the list
+/// in `named`, whole (`GCM`) or from a place to another (`GCM[5..]`, `GCM[..5]`, `GCM[9..57]`), or
+/// a text between backquotes, which has no space, and each of whose `'` stands for `"`.
 pub(crate) fn bytes_of(alloc: Global, cell: &str) -> Result<Vec<u8>, Fail> {
     let mut bytes = Vec::new(alloc);
     for item in cell.split_whitespace() {
@@ -126,7 +127,10 @@ pub(crate) fn bytes_of(alloc: Global, cell: &str) -> Result<Vec<u8>, Fail> {
 
 /// Appends the bytes of one item.
 fn push_item(alloc: Global, bytes: &mut Vec<u8>, item: &str) -> Result<(), Fail> {
-    if let Some((count, piece)) = item.split_once('x') {
+    if let Some(text) = item.strip_prefix('`') {
+        let text = text.strip_suffix('`').ok_or("a second backquote")?;
+        bytes.extend_from_slice(text.replace(alloc, '\'', "\"")?.as_bytes())?;
+    } else if let Some((count, piece)) = item.split_once('x') {
         let piece = hex::decode(alloc, piece)?;
         push_times(alloc, bytes, count.parse::<usize>()?, &piece)?;
     } else if let Some((name, range)) = item.split_once('[') {

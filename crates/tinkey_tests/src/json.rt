@@ -64,3 +64,20 @@ delete-key --key-id 5 | BARE_JSON | 0 Done | | GCM_JSON | 0
 fn edits_keysets_in_json(rt: HostRuntime) -> Result<(), Fail> {
     run_table(rt.alloc(), MADE, 3)
 }
+
+// The key of RFC 4231's first case and its tag, of 16 bytes. The base64 is Python's.
+const TAGS: &str = "words: tag --keyset k
+input: 4869205468657265
+
+shows | file | status | line | output
+RAW | `{'primaryKeyId':7,'key':[{'keyData':{'typeUrl':'type.googleapis.com/google.crypto.tink.HmacKey','value':'EgQIAxAQGhQLCwsLCwsLCwsLCwsLCwsLCwsLCw==','keyMaterialType':'SYMMETRIC'},'status':'ENABLED','keyId':7,'outputPrefixType':'RAW'}]}` | 0 Done | | b0344c61d8db38535ca8afceaf0bf12b
+TINK | `{'primaryKeyId':7,'key':[{'keyData':{'typeUrl':'type.googleapis.com/google.crypto.tink.HmacKey','value':'EgQIAxAQGhQLCwsLCwsLCwsLCwsLCwsLCwsLCw==','keyMaterialType':'SYMMETRIC'},'status':'ENABLED','keyId':7,'outputPrefixType':'TINK'}]}` | 0 Done | | 0100000007 b0344c61d8db38535ca8afceaf0bf12b
+a prefix type of no name | `{'primaryKeyId':7,'key':[{'keyData':{'typeUrl':'type.googleapis.com/google.crypto.tink.HmacKey','value':'EgQIAxAQGhQLCwsLCwsLCwsLCwsLCwsLCwsLCw==','keyMaterialType':'SYMMETRIC'},'status':'ENABLED','keyId':7,'outputPrefixType':'raw'}]}` | 3 Shape(Path { key: Some(0), member: OutputPrefixType }) | tinkey: bad JSON member outputPrefixType of key 0 |
+a key for AES-GCM | GCM_JSON | 3 NoManager(0) | tinkey: key 0 has no manager for this command |
+the binary form | HMAC | 3 NotJson | tinkey: not JSON |
+";
+
+#[test]
+fn tags_under_a_keyset_in_json(rt: HostRuntime) -> Result<(), Fail> {
+    run_table(rt.alloc(), TAGS, 5)
+}

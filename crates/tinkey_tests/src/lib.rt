@@ -11,13 +11,21 @@ mod create;
 #[cfg(test)]
 mod edits;
 #[cfg(test)]
+mod enabling;
+#[cfg(test)]
 mod faults;
 #[cfg(test)]
 mod json;
 #[cfg(test)]
+mod json_members;
+#[cfg(test)]
+mod limits;
+#[cfg(test)]
 mod list_keyset;
 #[cfg(test)]
 mod objects;
+#[cfg(test)]
+mod records;
 #[cfg(test)]
 mod rows;
 #[cfg(test)]

@@ -123,11 +123,15 @@ material behind no URL | 0807 120a0a021801100118072001 120d0a050a016118051001180
 no URL behind one id | 0807 120d0a050a01611801100118072001 120d0a050a01611801100118072001 120a0a021801100118082001 | 3 Keyset(MissingKeyData(2)) | tinkey: key 2 has no key data
 one id without the primary one | 0807 120d0a050a01611801100118082001 120d0a050a01611801100118082001 | 3 Keyset(DuplicateId(0, 1)) | tinkey: keys 0 and 1 have the same id
 one id, first DISABLED and then ENABLED | 0807 120d0a050a01611801100218072001 120d0a050a01611801100118072001 | 3 Keyset(DuplicateId(0, 1)) | tinkey: keys 0 and 1 have the same id
+status and output prefix type of one key | 0807 1209 0a050a01611801 1807 | 3 Keyset(UnknownStatus(0)) | tinkey: key 0 has an unknown status
+material and URL of one key | 0807 1208 0a00 1001 1807 2001 | 3 Keyset(UnknownMaterial(0)) | tinkey: key 0 has an unknown key material type
+material behind a DISABLED primary key | 0807 120d0a050a01611801100218072001 120b0a030a0161100118082001 | 3 Keyset(UnknownMaterial(1)) | tinkey: key 1 has an unknown key material type
+one id behind a DISABLED primary key | 0807 120d0a050a01611801100218072001 120d0a050a01611801100118082001 120d0a050a01611801100118082001 | 3 Keyset(DuplicateId(1, 2)) | tinkey: keys 1 and 2 have the same id
 ";
 
 #[test]
 fn names_the_first_fault_of_the_keys(rt: HostRuntime) -> Result<(), Fail> {
-    run_table(rt.alloc(), KEYSETS, 29)
+    run_table(rt.alloc(), KEYSETS, 33)
 }
 
 // The input is the first bytes of the keyset, from a size to another. The first 4 bytes are a primary
