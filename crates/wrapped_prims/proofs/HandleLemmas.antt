@@ -3,7 +3,7 @@ use Rattle.std.proofs.Common.{subst, ◌<◌, ◌≡◌, ◌∙◌, refl, sym, a
 use Rattle.std.proofs.lemmas.Bool.Decides.{nat_tests}
 use Rattle.std.specs.Prelude.{slice_get, slice_index_or}
 use Rattle.std.proofs.lemmas.Option.{get_or_from_slice_get, same_Some, slice_get_within, slice_get-map}
-use Rattle.keyset_model.proofs.PrimaryLemmas.{faultless_keysets}
+use Rattle.keyset_model.proofs.PrimaryLemmas.{well_formed-faultless}
 use Rattle.keyset_model.specs.Keyset.{Keys, is_enabled, primary_of}
 use Rattle.keyset_model.specs.declared.record.Record.{Record}
 use Rattle.key_msgs.specs.declared.primitive.Primitive.TheVariants.{Mac}
@@ -27,7 +27,7 @@ pub few_trials : (table : Table) (p : Primitive) (keys : Keys) (held : Held) (by
 few_trials table p keys held bytes slots before now over same few =
     let hinted = ap (λ slots. length (all_under (Some (take 5 bytes)) slots)) same ∙ count-IsOver table p keys held (Some (take 5 bytes)) over in
     let raw = ap (λ slots. length (all_under None slots)) same ∙ count-IsOver table p keys held None over in
-    let one = one_with keys.records (take 5 bytes) (faultless_keysets keys over.faultless).own_ids over.words in
+    let one = one_with keys.records (take 5 bytes) (well_formed-faultless keys over.faultless).own_ids over.words in
     omega (arith, few, hinted, raw, one)
 
 -- what the kept keys open and verify
@@ -61,7 +61,7 @@ enabled_clash r status other = grind (arith, nat_tests)
 
 pub has_primary : (table : Table) (p : Primitive) (keys : Keys) (held : Held) → IsOver table p keys held → HasPrimary table p keys held
 has_primary table p keys held over =
-    let there = (faultless_keysets keys over.faultless).primary in
+    let there = (well_formed-faultless keys over.faultless).primary in
     let r : Record = there.0 in
     let primary : primary_of keys ≡ Some r = there.1 in
     let at : slice_get keys.records held.primary ≡ Some r = over.primary ∙ primary in

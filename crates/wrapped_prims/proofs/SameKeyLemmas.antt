@@ -11,7 +11,7 @@ use Rattle.std.proofs.lemmas.Slice.Eq.{bytes_eq-Decides}
 use Rattle.key_msgs.specs.declared.key.KeyKind.{KeyKind}
 use Rattle.key_msgs.specs.declared.primitive.Primitive.{Primitive}
 use Rattle.key_msgs.specs.declared.primitive.Primitive.TheVariants.{Aead, Daead, Mac}
-use Rattle.keyset_model.proofs.PrimaryLemmas.{faultless_keysets}
+use Rattle.keyset_model.proofs.PrimaryLemmas.{well_formed-faultless}
 use Rattle.keyset_model.specs.Keyset.{Keys, first_some, is_enabled}
 use Rattle.keyset_model.specs.WellFormed.{HasOwnIds}
 use Rattle.keyset_model.specs.declared.record.Record.{Record}
@@ -50,7 +50,7 @@ place_of_id rs i j r s own at bt same = elim (ltb i j) as (λ b. ltb i j ≡ b �
 
 pub one_prefix : OnePrefix
 one_prefix keys i j r s prefix k at bt pr ps =
-    place_of_id keys.records i j r s (faultless_keysets keys k.faultless).own_ids at bt
+    place_of_id keys.records i j r s (well_formed-faultless keys k.faultless).own_ids at bt
     (same_ids r s (word_at keys.records i r k.words at) (word_at keys.records j s k.words bt) (five-prefix_of r prefix pr ∙ sym (five-prefix_of s prefix ps)))
 
 -- ---- the same key
@@ -111,7 +111,7 @@ opens_prefixed p table new r prefix key body plain ad is read k has opens =
     each i s at pass =
         let its : prefix_of s ≡ Some (five r) = is_prefix (prefix_of s) (five r) (and_parts (is_enabled s) (same_prefix (prefix_of s) (Some (five r))) pass).1 in
         let id : s.id ≡ has.other.id = same_ids s r (word_at new.records i s k.words at) word (five-prefix_of s (five r) its) ∙ sym has.same.id in
-        let place : i ≡ has.place = place_of_id new.records i has.place s has.other (faultless_keysets new k.faultless).own_ids at has.there id in
+        let place : i ≡ has.place = place_of_id new.records i has.place s has.other (well_formed-faultless new k.faultless).own_ids at has.there id in
         let one : s ≡ has.other = same_Some s has.other (sym at ∙ ap (slice_get new.records) place ∙ has.there) in
         ap (λ x. opened table p ad (x, body)) one
         ∙ ap (option_and_then (opened_under p body ad)) (same_key table p r has.other has.same ∙ read) ∙ opens
