@@ -129,6 +129,7 @@ fn tells_the_exit_code_of_a_run(rt: HostRuntime) -> Result<(), Fail> {
     let mut source = MemSource::new(Vec::new(rt.alloc()), 1, Vec::new(rt.alloc()));
     let mut sink = MemSink::new(rt.alloc(), 64, 64, Vec::new(rt.alloc()))?;
     let mut diag = MemSink::new(rt.alloc(), 64, 64, Vec::new(rt.alloc()))?;
+    let mut entropy = FileEntropy::new(&rt);
     let mut store = DirStore::new(&rt);
     let code = obey(
         rt.alloc(),
@@ -136,6 +137,7 @@ fn tells_the_exit_code_of_a_run(rt: HostRuntime) -> Result<(), Fail> {
         &mut source,
         &mut sink,
         &mut diag,
+        &mut entropy,
         &mut store,
     );
     assert!(rt; code == ExitCode::from(2));
