@@ -1,4 +1,5 @@
 pub mod Laws
 pub mod Schemes
+pub mod Standard
 pub mod Table
 pub mod Uses
