@@ -7,6 +7,7 @@
 mod args;
 mod entropy;
 mod folder;
+mod standard;
 mod streams;
 #[cfg(test)]
 mod tests;
@@ -14,5 +15,6 @@ mod top;
 
 pub use entropy::FileEntropy;
 pub use folder::DirStore;
+pub use standard::start;
 pub use streams::{StdSink, StdSource};
 pub use top::{obey, program};

@@ -6,11 +6,11 @@ ghost use Rattle.tinkey_run.specs.Ends.{world};
 ghost use Rattle.tinkey_host.specs.Program.{HasRun};
 
 use crate::args::{NoWords, words};
+use crate::standard::start;
 use crate::{DirStore, FileEntropy, StdSink, StdSource};
 use std::alloc::Global;
 use std::process::ExitCode;
 use tink_base::{Entropy, Sink, Source, Store};
-use tinkey_run::run;
 
 /// The exit code where memory for the words is refused, as where a run's memory is.
 const OUT_OF_MEMORY: u8 = 7;
@@ -56,6 +56,6 @@ pub fn obey<S: Source, K: Sink, G: Sink, E: Entropy, D: Store>(
         (world (S.state source.new) (K.state sink.new) (D.state store.new) (E.state entropy.new))
         (G.state diag.old) (G.state diag.new) (exit_status result) }
 {
-    let status = run(alloc, words, source, sink, diag, entropy, store);
+    let status = start(alloc, words, source, sink, diag, entropy, store);
     ExitCode::from(status.code())
 }

@@ -7,10 +7,10 @@ use Rattle.std.proofs.Math.Path.{fun_ext}
 use Rattle.tink_spec.specs.Messages.{◌>>=◌}
 use Rattle.tinkey_run.specs.declared.words.rows.CommandName.{CommandName}
 use Rattle.tinkey_run.specs.declared.words.rows.OptionName.{OptionName}
-use Rattle.tinkey_run.specs.Rows.{row_of, command_of, option_row, same, is_one_of}
-use Rattle.tinkey_run.specs.Words.{Asked, Values, asked_with, Options, is_given, put, options_of, no_options, given_in, has_required, complete, asked_of, words_of}
-use Rattle.tinkey_run.specs.Grammar.{IsValue, Spelling, spelled, IsGiven, IsOnce, IsOneOf, Fits, values_of, Spells, WordsAreSpelled}
-use Rattle.tinkey_run.proofs.RowLemmas.{same_self, same_is, command_found, command_named}
+use Rattle.tinkey_run.specs.Rows.{row_of, command_of, option_row, rival, same, is_one_of}
+use Rattle.tinkey_run.specs.Words.{Asked, Values, asked_with, Options, is_given, is_excluded, is_barred, put, options_of, no_options, given_in, has_required, complete, asked_of, words_of}
+use Rattle.tinkey_run.specs.Grammar.{IsValue, Spelling, spelled, IsGiven, IsOnce, AreApart, IsOneOf, Fits, values_of, Spells, WordsAreSpelled}
+use Rattle.tinkey_run.proofs.RowLemmas.{same_self, same_is, are_rivals, command_found, command_named}
 use Rattle.tinkey_run.proofs.SpellingLemmas.{Runs, all_put, run_taken, run_read}
 
 -- One option more.
@@ -57,28 +57,51 @@ is_one name (other ∷ names) is = one_at (same name other) name other names ref
 -- From options that fit to a run.
 
 abbrev New : Options → Spelling → Type 0
-New given s = is_given s.name given ≡ false
+New given s = is_barred s.name given ≡ false
+
+neither : (a b : Bool) → (a || b) ≡ false → (a ≡ false) × (b ≡ false)
+neither true b is = absurd (cc)
+neither false b is = (refl, is)
+
+-- it wasn't given, and none that excludes it
+not_barred : (name : OptionName) (given : Options) → is_barred name given ≡ false → (is_given name given ≡ false) × (is_excluded (rival name) given ≡ false)
+not_barred name given is = neither (is_given name given) (is_excluded (rival name) given) is
+
+is_free : (name : OptionName) (given : Options) → is_given name given ≡ false → is_excluded (rival name) given ≡ false → is_barred name given ≡ false
+is_free name given new apart = rw (new, apart) refl
+
+none_excluded : (other : Option OptionName) → is_excluded other no_options ≡ false
+none_excluded None = refl
+none_excluded (Some other) = refl
+
+-- an option more excludes none but its rival
+excluded_put : (other : Option OptionName) (name : OptionName) (value : List ℕ) (given : Options) → (other ≡ Some name → ⊥) → is_excluded other given ≡ false → is_excluded other (put name value given) ≡ false
+excluded_put None name value given differs is = refl
+excluded_put (Some other) name value given differs is = put_other (same name other) other name value given refl (λ same. differs (ap Some (sym same))) is
 
 -- the options behind one that isn't there again are still new
-still_new : (name : OptionName) (value : List ℕ) (given : Options) (run : List Spelling) → (IsGiven name run → ⊥) → AllByRecursion (New given) run → AllByRecursion (New (put name value given)) run
-still_new name value given [] once new = tt
-still_new name value given (s ∷ run) once new = (
-  put_other (same name s.name) s.name name value given refl (λ same. once (inl (sym same))) new.0,
-  still_new name value given run (λ again. once (inr again)) new.1,
-)
+still_new : (name : OptionName) (value : List ℕ) (given : Options) (run : List Spelling) → (IsGiven name run → ⊥) → ((other : OptionName) → rival other ≡ Some name → IsGiven other run → ⊥) → AllByRecursion (New given) run → AllByRecursion (New (put name value given)) run
+still_new name value given [] once apart new = tt
+still_new name value given (s ∷ run) once apart new =
+    let parts = not_barred s.name given new.0 in (
+      is_free s.name (put name value given)
+          (put_other (same name s.name) s.name name value given refl (λ same. once (inl (sym same))) parts.0)
+          (excluded_put (rival s.name) name value given (λ excludes. apart s.name excludes (inl refl)) parts.1),
+      still_new name value given run (λ again. once (inr again)) (λ other excludes there. apart other excludes (inr there)) new.1,
+    )
 
-runs_of : (command : CommandName) (given : Options) (run : List Spelling) → AllByRecursion (New given) run → IsOnce run → AllByRecursion (λ s. IsOneOf s.name ((row_of command).required ++ (row_of command).optional)) run → AllByRecursion (λ s. IsValue (option_row s.name).form s.value) run → Runs command given run
-runs_of command given [] new once taken formed = tt
-runs_of command given (s ∷ run) new once taken formed = (
+runs_of : (command : CommandName) (given : Options) (run : List Spelling) → AllByRecursion (New given) run → IsOnce run → AreApart run → AllByRecursion (λ s. IsOneOf s.name ((row_of command).required ++ (row_of command).optional)) run → AllByRecursion (λ s. IsValue (option_row s.name).form s.value) run → Runs command given run
+runs_of command given [] new once apart taken formed = tt
+runs_of command given (s ∷ run) new once apart taken formed = (
   one_is s.name ((row_of command).required ++ (row_of command).optional) taken.0,
   new.0,
   formed.0,
-  runs_of command (put s.name s.value given) run (still_new s.name s.value given run once.0 new.1) once.1 taken.1 formed.1,
+  runs_of command (put s.name s.value given) run (still_new s.name s.value given run once.0 (λ other excludes there. apart other s.name excludes (inr there) (inl refl)) new.1) once.1 (λ a b excludes first second. apart a b excludes (inr first) (inr second)) taken.1 formed.1,
 )
 
 all_new : (run : List Spelling) → AllByRecursion (New no_options) run
 all_new [] = tt
-all_new (s ∷ run) = (refl, all_new run)
+all_new (s ∷ run) = (none_excluded (rival s.name), all_new run)
 
 -- what is given stays so
 given_stays : (name : OptionName) (given : Options) (run : List Spelling) → is_given name given ≡ true → is_given name (all_put given run) ≡ true
@@ -118,7 +141,7 @@ value_put false name s given later test new = refl
 value_run : (command : CommandName) (given : Options) (run : List Spelling) (name : OptionName) → Runs command given run → (all_put given run).values name ≡ or_else (given.values name) (values_of run name)
 value_run command given [] name runs = or_none (given.values name)
 value_run command given (s ∷ run) name runs =
-    value_run command (put s.name s.value given) run name runs.3 ∙ value_put (same s.name name) name s given (values_of run name) refl runs.1
+    value_run command (put s.name s.value given) run name runs.3 ∙ value_put (same s.name name) name s given (values_of run name) refl (not_barred s.name given runs.1).0
 
 values_run : (command : CommandName) (run : List Spelling) → Runs command no_options run → (all_put no_options run).values ≡ values_of run
 values_run command run runs = fun_ext (λ name. value_run command no_options run name runs)
@@ -133,7 +156,7 @@ spelled_accepted : (words : List (List ℕ)) (asked : Asked) → Spells words as
 unfolding words_of given_in
 spelled_accepted words asked spells =
     let command = spells.command in
-    let runs = runs_of command no_options spells.given (all_new spells.given) spells.fits.once spells.fits.taken spells.fits.formed in
+    let runs = runs_of command no_options spells.given (all_new spells.given) spells.fits.once spells.fits.apart spells.fits.taken spells.fits.formed in
     let taken = run_taken command 1 no_options spells.given refl runs in
     let done = completed command (1 + length (flat_map spelled spells.given)) spells.given asked spells.fits runs spells.asks in
     ap words_of spells.are
@@ -145,12 +168,28 @@ spelled_accepted words asked spells =
 
 not_again : (command : CommandName) (name : OptionName) (given : Options) (run : List Spelling) → Runs command given run → is_given name given ≡ true → IsGiven name run → ⊥
 not_again command name given [] runs is again = again
-not_again command name given (s ∷ run) runs is (inl same) = let clash : true ≡ false = sym is ∙ subst (λ (n : OptionName). is_given n given ≡ false) same runs.1 in cc
+not_again command name given (s ∷ run) runs is (inl same) = let clash : true ≡ false = sym is ∙ subst (λ (n : OptionName). is_given n given ≡ false) same (not_barred s.name given runs.1).0 in cc
 not_again command name given (s ∷ run) runs is (inr later) = not_again command name (put s.name s.value given) run runs.3 (put_keeps name s.name s.value given is) later
 
 once_of : (command : CommandName) (given : Options) (run : List Spelling) → Runs command given run → IsOnce run
 once_of command given [] runs = tt
 once_of command given (s ∷ run) runs = (not_again command s.name (put s.name s.value given) run runs.3 (put_there s.name s.value given), once_of command (put s.name s.value given) run runs.3)
+
+-- an option that is given excludes its rival
+not_beside : (command : CommandName) (name other : OptionName) (given : Options) (run : List Spelling) → Runs command given run → is_given name given ≡ true → rival other ≡ Some name → IsGiven other run → ⊥
+not_beside command name other given [] runs is excludes there = there
+not_beside command name other given (s ∷ run) runs is excludes (inl same) =
+    let free = subst (λ (n : OptionName). is_excluded (rival n) given ≡ false) same (not_barred s.name given runs.1).1 in
+    let new : is_given name given ≡ false = subst (λ (o : Option OptionName). is_excluded o given ≡ false) excludes free in
+    let clash : true ≡ false = sym is ∙ new in cc
+not_beside command name other given (s ∷ run) runs is excludes (inr later) = not_beside command name other (put s.name s.value given) run runs.3 (put_keeps name s.name s.value given is) excludes later
+
+apart_of : (command : CommandName) (given : Options) (run : List Spelling) → Runs command given run → AreApart run
+apart_of command given [] runs a b excludes first second = first
+apart_of command given (s ∷ run) runs a b excludes (inl here) (inl there) = (are_rivals a b excludes).1 (sym here ∙ there)
+apart_of command given (s ∷ run) runs a b excludes (inl here) (inr there) = not_beside command a b (put s.name s.value given) run runs.3 (subst (λ (n : OptionName). is_given n (put s.name s.value given) ≡ true) here (put_there s.name s.value given)) (are_rivals a b excludes).0 there
+apart_of command given (s ∷ run) runs a b excludes (inr here) (inl there) = not_beside command b a (put s.name s.value given) run runs.3 (subst (λ (n : OptionName). is_given n (put s.name s.value given) ≡ true) there (put_there s.name s.value given)) excludes here
+apart_of command given (s ∷ run) runs a b excludes (inr here) (inr there) = apart_of command (put s.name s.value given) run runs.3 a b excludes here there
 
 taken_of : (command : CommandName) (given : Options) (run : List Spelling) → Runs command given run → AllByRecursion (λ s. IsOneOf s.name ((row_of command).required ++ (row_of command).optional)) run
 taken_of command given [] runs = tt
@@ -190,6 +229,7 @@ fits_of command count run asked runs is =
     let done = complete_test (has_required command (all_put no_options run)) (asked_with command (all_put no_options run).values) asked count is in (
       record {
         once = once_of command no_options run runs;
+        apart = apart_of command no_options run runs;
         taken = taken_of command no_options run runs;
         formed = formed_of command no_options run runs;
         complete = all_of (row_of command).required run done.0;

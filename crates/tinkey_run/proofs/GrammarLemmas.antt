@@ -5,7 +5,7 @@ use Rattle.tink_spec.specs.Messages.{◌>>=◌}
 use Rattle.tinkey_run.specs.declared.words.rows.CommandName.{CommandName}
 use Rattle.tinkey_run.specs.declared.words.rows.OptionName.{OptionName}
 use Rattle.tinkey_run.specs.Rows.{command_of, option_row, option_of, takes, is_value}
-use Rattle.tinkey_run.specs.Words.{Asked, Options, is_given, new_option, put, with_value, own_value, option_word, word_after, next_word, ended, options_of, no_options, given_in, has_required, asked_with, complete, asked_of, words_of}
+use Rattle.tinkey_run.specs.Words.{Asked, Options, is_barred, new_option, put, with_value, own_value, option_word, word_after, next_word, ended, options_of, no_options, given_in, has_required, asked_with, complete, asked_of, words_of}
 use Rattle.tinkey_run.specs.Grammar.{PlacesAreDecided}
 
 -- what is at fault is at fault at this place
@@ -24,7 +24,7 @@ test_faults false given name place = refl
 
 option_faults : (command : CommandName) (name : Option OptionName) (place : ℕ) (given : Options) → FaultsAt (new_option command name place given) place
 option_faults command None place given = refl
-option_faults command (Some name) place given = test_faults (takes command name) (is_given name given) name place
+option_faults command (Some name) place given = test_faults (takes command name) (is_barred name given) name place
 
 form_faults : (formed : Bool) (place : ℕ) (given : Options) → FaultsAt {A = Options} (if formed then Ok given else Err place) place
 form_faults true place given = tt

@@ -5,6 +5,6 @@ pub mod ReportLemmas
 pub mod RowLemmas
 pub mod SpellingLemmas
 pub mod StepLemmas
-pub mod TagLemmas
+pub mod UseLemmas
 pub mod TemplateLemmas
 pub mod WordLemmas

@@ -7,15 +7,13 @@ use Rattle.tink_spec.specs.Outside.{SourceState, SinkState, EntropyState, Rose, 
 use Rattle.tink_spec.specs.Files.{Files, StoreState, KeptFiles, Holds, HoldsSome, HoldsLonger, Added, AddedFront, MayAdd}
 use Rattle.std.specs.FinMap as map
 use Rattle.tink_spec.proofs.Moves.{gave_same, gave_more, took_same, drew_nothing, drew_more}
-use Rattle.keyset_model.specs.Keyset.{Keys}
 use Rattle.tinkey_cmds.specs.Draws.{Draw, Drawn}
-use Rattle.tinkey_cmds.specs.Applying.{RanOut}
 use Rattle.tinkey_cmds.specs.declared.command.CmdFault.{CmdFault}
 use Rattle.tinkey_run.specs.declared.status.Status.{Status}
 use Rattle.tinkey_run.specs.declared.status.Status.TheVariants as status
-use Rattle.tinkey_run.specs.Plan.{Plan, ends, writes, creates, allocates, loads, reads_all, edits, Told, Answer, answer, refused, load_answer, create_answer, edit_answer, IsStated}
+use Rattle.tinkey_run.specs.Plan.{Plan, ends, writes, creates, allocates, loads, reads_all, draws, Told, Answer, answer, refused, load_answer, create_answer, draw_answer, IsStated}
 use Rattle.tinkey_run.specs.Ends.{World, Ends, Settles, OnlySource, OnlySink, OnlyStore, OnlyEntropy, loaded, load_absent, load_long, load_failed, load_starved, wrote, write_failed, made, name_taken, create_failed, create_starved, read, too_long, read_failed, read_starved, settled, draw_failed}
-use Rattle.tinkey_run.specs.Promises.{Tells, IsAnswer, Answers, HasCause, ShowsFaults, IsFront, Moved, nothing, IsLeft, Leaves, IsTorn, Stands, NoneFailed, Completes, Promised}
+use Rattle.tinkey_run.specs.Promises.{Tells, IsAnswer, Answers, HasCause, ShowsFaults, IsFront, nothing, IsLeft, Leaves, IsTorn, Stands, NoneFailed, Completes, Promised}
 
 -- a stated status is no fault, and no want of memory
 abbrev not_read_fault : (s : Status) → IsStated s → s ≡ status.ReadFault → ⊥
@@ -77,10 +75,10 @@ has_cause (reads_all limit long stated next) old s new (read all source gave sto
 has_cause (reads_all limit long stated next) old s new (too_long is only stood count) = no_fault old new s (rw is stated)
 has_cause (reads_all limit long stated next) old s new (read_failed is only rose upto) = record { read = λ h. rose; write = λ h. absurd (cc); store = λ h. absurd (cc); entropy = λ h. absurd (cc) }
 has_cause (reads_all limit long stated next) old s new (read_starved is only stood upto) = starved_cause old new s is
-has_cause (edits give next) old s new (settled drawn entropy given drew stood settles run) =
+has_cause (draws kind give next) old s new (settled drawn entropy given drew stood settles run) =
     let later = has_cause (next given) (record old { entropy = entropy }) s new run in
     record { read = later.read; write = later.write; store = later.store; entropy = λ h. rose_after _ _ _ drew.faults (later.entropy h) }
-has_cause (edits give next) old s new (draw_failed is only out) = record { read = λ h. absurd (cc); write = λ h. absurd (cc); store = λ h. absurd (cc); entropy = λ h. out.rose }
+has_cause (draws kind give next) old s new (draw_failed is only out) = record { read = λ h. absurd (cc); write = λ h. absurd (cc); store = λ h. absurd (cc); entropy = λ h. out.rose }
 
 -- No fault is hidden.
 
@@ -141,10 +139,10 @@ shows_faults (reads_all limit long stated next) old s new (read all source gave 
 shows_faults (reads_all limit long stated next) old s new (too_long is only stood count) = source_shown old new s only (λ other. stood)
 shows_faults (reads_all limit long stated next) old s new (read_failed is only rose upto) = source_shown old new s only (λ other. absurd (other is))
 shows_faults (reads_all limit long stated next) old s new (read_starved is only stood upto) = source_shown old new s only (λ other. stood)
-shows_faults (edits give next) old s new (settled drawn entropy given drew stood settles run) =
+shows_faults (draws kind give next) old s new (settled drawn entropy given drew stood settles run) =
     let later = shows_faults (next given) (record old { entropy = entropy }) s new run in
     record { read = later.read; write = later.write; store = later.store; entropy = λ other. later.entropy other ∙ stood }
-shows_faults (edits give next) old s new (draw_failed is only out) = entropy_shown old new s only (λ other. absurd (other is))
+shows_faults (draws kind give next) old s new (draw_failed is only out) = entropy_shown old new s only (λ other. absurd (other is))
 
 -- Completeness.
 
@@ -169,9 +167,9 @@ completes_from (reads_all limit long stated next) old s new (read all source gav
 completes_from (reads_all limit long stated next) old s new (too_long is only stood count) none memory = rw is stated
 completes_from (reads_all limit long stated next) old s new (read_failed is only rose upto) none memory = absurd (none.read rose)
 completes_from (reads_all limit long stated next) old s new (read_starved is only stood upto) none memory = absurd (memory is)
-completes_from (edits give next) old s new (settled drawn entropy given drew stood settles run) none memory =
+completes_from (draws kind give next) old s new (settled drawn entropy given drew stood settles run) none memory =
     completes_from (next given) (record old { entropy = entropy }) s new run (record { read = none.read; write = none.write; store = none.store; entropy = λ rose. none.entropy (rose_after _ _ _ drew.faults rose) }) memory
-completes_from (edits give next) old s new (draw_failed is only out) none memory = absurd (none.entropy out.rose)
+completes_from (draws kind give next) old s new (draw_failed is only out) none memory = absurd (none.entropy out.rose)
 
 pub completes : (p : Plan) (old : World) (s : Status) (new : World) → Ends p old s new → Completes old s new
 completes p old s new run = record { stated = completes_from p old s new run }
@@ -252,7 +250,7 @@ taken_answer : (found : Option (List ℕ)) (bytes : List ℕ) (told : Told) (nam
 taken_answer found bytes told name output taken is = rw is refl
 
 -- the answer goes on behind bytes that were drawn
-settled_answer : (give : Draw Keys) (drawn rest random : List ℕ) (given : Result Keys CmdFault) (short : Answer) (next : Drawn Keys → Answer) → Settles give drawn given → random ≡ drawn ++ rest → edit_answer (give random) short next ≡ next (record { answer = given; left = rest })
+settled_answer : {A : Type 0} (give : Draw A) (drawn rest random : List ℕ) (given : Result A CmdFault) (short : Answer) (next : Drawn A → Answer) → Settles give drawn given → random ≡ drawn ++ rest → draw_answer (give random) short next ≡ next (record { answer = given; left = rest })
 settled_answer give drawn rest random given short next settles is = rw (is, settles rest) refl
 
 -- nothing of the objects was used
@@ -337,12 +335,12 @@ answers_over (reads_all limit long stated next) old s new (too_long is only stoo
     })
 answers_over (reads_all limit long stated next) old s new (read_failed is only rose upto) told tells ok = absurd (not_read_fault s ok is)
 answers_over (reads_all limit long stated next) old s new (read_starved is only stood upto) told tells ok = absurd (not_no_memory s ok is)
-answers_over (edits give next) old s new (settled drawn entropy given drew stood settles run) told tells ok =
+answers_over (draws kind give next) old s new (settled drawn entropy given drew stood settles run) told tells ok =
     let split = split_told entropy.left old.entropy.left told.random drawn tells.random drew.left in
     let later = answers_over (next given) (record old { entropy = entropy }) s new run (record told { random = split.0 }) (record { input = tells.input; files = tells.files; random = split.1 }) ok in
     subst (λ (a : Answer). IsAnswer a old s new) (sym (settled_answer give drawn split.0 told.random given _ (λ x. answer (next x.answer) (record told { random = x.left })) settles split.2))
     (record { status = later.status; input = later.input; output = later.output; files = later.files; random = later.random })
-answers_over (edits give next) old s new (draw_failed is only out) told tells ok = absurd (not_entropy_fault s ok is)
+answers_over (draws kind give next) old s new (draw_failed is only out) told tells ok = absurd (not_entropy_fault s ok is)
 
 pub answers : (p : Plan) (old : World) (s : Status) (new : World) → Ends p old s new → Answers p old s new
 answers p old s new run = record { over = answers_over p old s new run }
@@ -438,12 +436,12 @@ stands (reads_all limit long stated next) old s new (read all source gave stood 
 stands (reads_all limit long stated next) old s new (too_long is only stood count) = untouched (reads_all limit long stated next) old s new (λ h. not_write_fault long stated (sym is ∙ h)) only.sink (same_files _ _ only.store)
 stands (reads_all limit long stated next) old s new (read_failed is only rose upto) = untouched (reads_all limit long stated next) old s new (λ h. absurd (cc)) only.sink (same_files _ _ only.store)
 stands (reads_all limit long stated next) old s new (read_starved is only stood upto) = untouched (reads_all limit long stated next) old s new (λ h. absurd (cc)) only.sink (same_files _ _ only.store)
-stands (edits give next) old s new (settled drawn entropy given drew stood settles run) =
-    goes_on (edits give next) (next given) old (record old { entropy = entropy }) s new (same_files old.store old.store refl) refl
+stands (draws kind give next) old s new (settled drawn entropy given drew stood settles run) =
+    goes_on (draws kind give next) (next given) old (record old { entropy = entropy }) s new (same_files old.store old.store refl) refl
     (λ told tells. let split = split_told entropy.left old.entropy.left told.random drawn tells.random drew.left in
     (record told { random = split.0 }, record { input = tells.input; files = tells.files; random = split.1 }, refl, settled_answer give drawn split.0 told.random given _ (λ x. answer (next x.answer) (record told { random = x.left })) settles split.2))
     (stands (next given) (record old { entropy = entropy }) s new run)
-stands (edits give next) old s new (draw_failed is only out) = untouched (edits give next) old s new (λ h. absurd (cc)) only.sink (same_files _ _ only.store)
+stands (draws kind give next) old s new (draw_failed is only out) = untouched (draws kind give next) old s new (λ h. absurd (cc)) only.sink (same_files _ _ only.store)
 
 -- What was taken, drawn and written.
 
@@ -495,10 +493,10 @@ leaves (reads_all limit long stated next) old s new (read all source gave stood 
 leaves (reads_all limit long stated next) old s new (too_long is only stood count) = some_taken _ old s new count.piece count.gave only (inl (refl, inl (is, count.exact)))
 leaves (reads_all limit long stated next) old s new (read_failed is only rose upto) = some_taken _ old s new upto.piece upto.gave only (inl (refl, inr (inl is, upto.within)))
 leaves (reads_all limit long stated next) old s new (read_starved is only stood upto) = some_taken _ old s new upto.piece upto.gave only (inl (refl, inr (inr is, upto.within)))
-leaves (edits give next) old s new (settled drawn entropy given drew stood settles run) =
+leaves (draws kind give next) old s new (settled drawn entropy given drew stood settles run) =
     let later = leaves (next given) (record old { entropy = entropy }) s new run in
     record { moved = record later.moved { drawn = drawn ++ later.moved.drawn }; gave = later.gave; drew = drew_more _ _ _ _ _ drew later.drew; took = later.took; is = inr (drawn, later.moved.drawn, given, refl, settles, later.is) }
-leaves (edits give next) old s new (draw_failed is only out) = record { moved = record nothing { drawn = out.drawn }; gave = gave_same _ _ only.source; drew = out.drew; took = took_same _ _ only.sink; is = inl (is, out.undecided, refl) }
+leaves (draws kind give next) old s new (draw_failed is only out) = record { moved = record nothing { drawn = out.drawn }; gave = gave_same _ _ only.source; drew = out.drew; took = took_same _ _ only.sink; is = inl (is, out.undecided, refl) }
 
 pub promised : (p : Plan) (old : World) (s : Status) (new : World) → Ends p old s new → Promised p old s new
 promised p old s new run = record {

@@ -1,7 +1,7 @@
 -- The tables of the words: an entry is found by its word and by its place, and a value is of its form.
 -- A further command or option is a line of `command_found` or of `is_found`.
-use Rattle.std.proofs.Common.{◌≡◌, ◌≢◌, ◌⊎◌, inl, inr, ◌∙◌, sym, refl, ap, subst, ℕ, ◌+◌, ◌<◌, ◌≤◌, Bool, true, false, List, [], ◌∷◌, ◌++◌, length, get_or, cond, arith, rules, length-append, Option, Some, None, Ok, Err, Result}
-use Rattle.std.specs.Prelude.{◌&&◌, nat_lt, nat_le, is_some, option_map, if◌then◌else◌, codes}
+use Rattle.std.proofs.Common.{◌≡◌, ◌≢◌, ◌⊎◌, inl, inr, ◌∙◌, sym, refl, ap, subst, ℕ, ◌+◌, ◌*◌, ◌%◌, ◌<◌, ◌≤◌, Bool, true, false, List, [], ◌∷◌, ◌++◌, length, get_or, cond, arith, rules, length-append, Option, Some, None, Ok, Err, Result}
+use Rattle.std.specs.Prelude.{◌==◌, ◌&&◌, nat_lt, nat_le, is_some, option_map, if◌then◌else◌, codes}
 use Rattle.std.specs.List.{find, list_all, position_or_len, before_first, after_first}
 use Rattle.std.specs.Result.{OkIff, result_ok}
 use Rattle.std.specs.Str.{bytes_eq, all_ascii_digits, str_eq_ignore_ascii_case, str_to_ascii_lowercase}
@@ -20,9 +20,10 @@ use Rattle.tinkey_run.specs.declared.words.rows.Form.{Form}
 use Rattle.tinkey_run.specs.declared.words.rows.Form.TheVariants as forms
 use Rattle.tinkey_run.specs.declared.words.rows.OptionName.{OptionName}
 use Rattle.tinkey_run.specs.declared.words.rows.OptionName.TheVariants as options
-use Rattle.tinkey_run.specs.Rows.{row_of, all_commands, command_of, option_row, all_options, option_of, same, digits_after, is_number, number_of, format_of, is_value}
+use Rattle.hex.specs.Hex.{is_hex_digit}
+use Rattle.tinkey_run.specs.Rows.{row_of, all_commands, command_of, option_row, all_options, option_of, rival, same, datum_limit, digits_after, is_number, number_of, format_of, is_hex, is_value}
 use Rattle.tinkey_run.specs.Words.{is_equals, own_value}
-use Rattle.tinkey_run.specs.Grammar.{IsNumber, IsValue}
+use Rattle.tinkey_run.specs.Grammar.{IsHex, IsNumber, IsValue}
 
 pub same_option : {A : Type 0} (o : Option A) → option_map (λ x. x) o ≡ o
 same_option None = refl
@@ -55,7 +56,13 @@ command_found commands.DeleteKey = refl
 command_found commands.ListKeyset = refl
 command_found commands.ConvertKeyset = refl
 command_found commands.ListKeyTemplates = refl
+command_found commands.Seal = refl
+command_found commands.Open = refl
+command_found commands.Dseal = refl
+command_found commands.Dopen = refl
 command_found commands.Tag = refl
+command_found commands.Verify = refl
+command_found commands.Derive = refl
 
 pub command_named : (text : List ℕ) (command : CommandName) → command_of text ≡ Some command → text ≡ (row_of command).word
 unfolding command_of
@@ -77,6 +84,10 @@ is_found options.Out = record { word = refl; plain = refl; place = refl }
 is_found options.OutFormat = record { word = refl; plain = refl; place = refl }
 is_found options.Keyset = record { word = refl; plain = refl; place = refl }
 is_found options.KeysetFormat = record { word = refl; plain = refl; place = refl }
+is_found options.Ad = record { word = refl; plain = refl; place = refl }
+is_found options.AdHex = record { word = refl; plain = refl; place = refl }
+is_found options.TagHex = record { word = refl; plain = refl; place = refl }
+is_found options.Length = record { word = refl; plain = refl; place = refl }
 
 pub option_found : (name : OptionName) → option_of (option_row name).word ≡ Some name
 option_found name = (is_found name).word
@@ -95,6 +106,24 @@ same_places a b is = grind (arith, nat_tests)
 
 pub same_is : (a b : OptionName) → same a b ≡ true → a ≡ b
 same_is a b is = sym (is_found a).place ∙ ap (λ (i : ℕ). get_or all_options i options.In) (same_places a b is) ∙ (is_found b).place
+
+-- options that exclude each other do so both ways, and are two
+abbrev AreRivals : OptionName → OptionName → Type 0
+AreRivals a b = (rival b ≡ Some a) × (a ≡ b → ⊥)
+
+pub are_rivals : (a b : OptionName) → rival a ≡ Some b → AreRivals a b
+are_rivals options.KeyTemplate b is = absurd (cc)
+are_rivals options.KeyId b is = absurd (cc)
+are_rivals options.In b is = absurd (cc)
+are_rivals options.InFormat b is = absurd (cc)
+are_rivals options.Out b is = absurd (cc)
+are_rivals options.OutFormat b is = absurd (cc)
+are_rivals options.Keyset b is = absurd (cc)
+are_rivals options.KeysetFormat b is = absurd (cc)
+are_rivals options.Ad b is = subst (λ (x : OptionName). AreRivals options.Ad x) (let other : options.AdHex ≡ b = cc in other) (refl, λ same. cc)
+are_rivals options.AdHex b is = subst (λ (x : OptionName). AreRivals options.AdHex x) (let other : options.Ad ≡ b = cc in other) (refl, λ same. cc)
+are_rivals options.TagHex b is = absurd (cc)
+are_rivals options.Length b is = absurd (cc)
 
 -- Words that are cut at their equals sign.
 
@@ -243,12 +272,41 @@ format_formed value is = elim (which_one (str_eq_ignore_ascii_case value (codes 
   | inr binary ↦ inr (is_lowered value (codes "binary") refl binary)
 ]
 
+three_pass : (a b c : Bool) → (a && b && c) ≡ true → (a ≡ true) × (b ≡ true) × (c ≡ true)
+three_pass true true true is = (refl, refl, refl)
+three_pass true true false is = absurd (cc)
+three_pass true false c is = absurd (cc)
+three_pass false b c is = absurd (cc)
+
+hex_taken : (value : List ℕ) → IsHex value → is_hex value ≡ true
+hex_taken value formed =
+    let a : nat_le (length value) (2 * datum_limit) ≡ true = grind (arith, nat_tests, formed.short) in
+    let b : (length value % 2 == 0) ≡ true = grind (arith, nat_tests, formed.even) in
+    rw (a, b, formed.digits) refl
+
+hex_formed : (value : List ℕ) → is_hex value ≡ true → IsHex value
+hex_formed value is =
+    let tests = three_pass (nat_le (length value) (2 * datum_limit)) (length value % 2 == 0) (list_all is_hex_digit value) is in
+    record {
+      digits = tests.2;
+      even = (let e = tests.1 in grind (arith, nat_tests));
+      short = (let e = tests.0 in grind (arith, nat_tests));
+    }
+
+datum_taken : (value : List ℕ) → length value ≤ datum_limit → nat_le (length value) datum_limit ≡ true
+datum_taken value within = grind (arith, nat_tests)
+
+datum_formed : (value : List ℕ) → nat_le (length value) datum_limit ≡ true → length value ≤ datum_limit
+datum_formed value is = grind (arith, nat_tests)
+
 pub value_taken : (form : Form) (value : List ℕ) → IsValue form value → is_value form value ≡ true
 unfolding is_value
 value_taken forms.Text value formed = refl
 value_taken forms.FileName value formed = not_empty value formed
 value_taken forms.Number value formed = number_taken value formed
 value_taken forms.Format value formed = format_taken value formed
+value_taken forms.Datum value formed = datum_taken value formed
+value_taken forms.Hex value formed = hex_taken value formed
 
 pub value_formed : (form : Form) (value : List ℕ) → is_value form value ≡ true → IsValue form value
 unfolding is_value
@@ -256,3 +314,5 @@ value_formed forms.Text value is = tt
 value_formed forms.FileName value is = some_byte value is
 value_formed forms.Number value is = number_formed value is
 value_formed forms.Format value is = format_formed value is
+value_formed forms.Datum value is = datum_formed value is
+value_formed forms.Hex value is = hex_formed value is

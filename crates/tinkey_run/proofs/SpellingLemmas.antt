@@ -9,7 +9,7 @@ use Rattle.tink_spec.specs.Messages.{◌>>=◌}
 use Rattle.tinkey_run.specs.declared.words.rows.CommandName.{CommandName}
 use Rattle.tinkey_run.specs.declared.words.rows.OptionName.{OptionName}
 use Rattle.tinkey_run.specs.Rows.{option_row, option_of, takes, is_value}
-use Rattle.tinkey_run.specs.Words.{Options, is_equals, own_value, is_given, new_option, put, with_value, option_word, word_after, next_word, ended, options_of}
+use Rattle.tinkey_run.specs.Words.{Options, is_equals, own_value, is_barred, new_option, put, with_value, option_word, word_after, next_word, ended, options_of}
 use Rattle.tinkey_run.specs.Grammar.{IsValue, Spelling, spelled_as, spelled}
 use Rattle.tinkey_run.proofs.RowLemmas.{option_found, option_named, own_plain, own_joined, value_taken, value_formed}
 
@@ -48,7 +48,7 @@ with_formed : (name : OptionName) (value : List ℕ) (place : ℕ) (given more :
 with_formed name value place given more is = form_test name value _ place given more refl is
 
 -- an option that is new and the command's is taken, and no other
-option_taken : (command : CommandName) (name : OptionName) (place : ℕ) (given : Options) → takes command name ≡ true → is_given name given ≡ false → new_option command (Some name) place given ≡ Ok name
+option_taken : (command : CommandName) (name : OptionName) (place : ℕ) (given : Options) → takes command name ≡ true → is_barred name given ≡ false → new_option command (Some name) place given ≡ Ok name
 option_taken command name place given taken new = rw (taken, new) refl
 
 option_test : (a b : Bool) (found name : OptionName) (place : ℕ) → (if a then (if b then Err place else Ok found) else Err place) ≡ Ok name → (a ≡ true) × (b ≡ false) × (found ≡ name)
@@ -60,16 +60,16 @@ option_test false b found name place is = let clash : Err place ≡ Ok name = is
 record Taken (command : CommandName) (text : List ℕ) (name : OptionName) (given : Options) : Type 0 where
   named : text ≡ (option_row name).word
   takes : takes command name ≡ true
-  new : is_given name given ≡ false
+  new : is_barred name given ≡ false
 
 option_is : (command : CommandName) (text : List ℕ) (found : Option OptionName) (place : ℕ) (given : Options) (name : OptionName) → option_of text ≡ found → new_option command found place given ≡ Ok name → Taken command text name given
 option_is command text None place given name named is = let clash : Err place ≡ Ok name = is in absurd (cc)
 option_is command text (Some other) place given name named is =
-    let test = option_test (takes command other) (is_given other given) other name place is in
+    let test = option_test (takes command other) (is_barred other given) other name place is in
     record {
       named = option_named text name (named ∙ ap (λ (n : OptionName). Some n) test.2);
       takes = subst (λ (n : OptionName). takes command n ≡ true) test.2 test.0;
-      new = subst (λ (n : OptionName). is_given n given ≡ false) test.2 test.1;
+      new = subst (λ (n : OptionName). is_barred n given ≡ false) test.2 test.1;
     }
 
 -- Runs of options.
@@ -77,17 +77,17 @@ option_is command text (Some other) place given name named is =
 -- each option in turn is the command's, new, and of its form
 abbrev pub Runs : CommandName → Options → List Spelling → Type 0
 Runs command given [] = Unit {0}
-Runs command given (s ∷ more) = (takes command s.name ≡ true) × (is_given s.name given ≡ false) × IsValue (option_row s.name).form s.value × Runs command (put s.name s.value given) more
+Runs command given (s ∷ more) = (takes command s.name ≡ true) × (is_barred s.name given ≡ false) × IsValue (option_row s.name).form s.value × Runs command (put s.name s.value given) more
 
 abbrev pub all_put : Options → List Spelling → Options
 all_put given [] = given
 all_put given (s ∷ more) = all_put (put s.name s.value given) more
 
 -- the words of a run are taken
-joined_word : (command : CommandName) (word : List ℕ) (first : ℕ) (given : Options) (name : OptionName) (value : List ℕ) → takes command name ≡ true → is_given name given ≡ false → IsValue (option_row name).form value → option_word command (Some ((option_row name).word, value)) word first given ≡ Ok (put name value given)
+joined_word : (command : CommandName) (word : List ℕ) (first : ℕ) (given : Options) (name : OptionName) (value : List ℕ) → takes command name ≡ true → is_barred name given ≡ false → IsValue (option_row name).form value → option_word command (Some ((option_row name).word, value)) word first given ≡ Ok (put name value given)
 joined_word command word first given name value taken new formed = rw (option_found name, taken, new, with_taken name value first given formed) refl
 
-joined_taken : (command : CommandName) (first : ℕ) (given : Options) (name : OptionName) (value : List ℕ) (rest : List (List ℕ)) → given.waiting ≡ None → takes command name ≡ true → is_given name given ≡ false → IsValue (option_row name).form value → options_of command first given (((option_row name).word ++ (61 ∷ value)) ∷ rest) ≡ options_of command (first + 1) (put name value given) rest
+joined_taken : (command : CommandName) (first : ℕ) (given : Options) (name : OptionName) (value : List ℕ) (rest : List (List ℕ)) → given.waiting ≡ None → takes command name ≡ true → is_barred name given ≡ false → IsValue (option_row name).form value → options_of command first given (((option_row name).word ++ (61 ∷ value)) ∷ rest) ≡ options_of command (first + 1) (put name value given) rest
 joined_taken command first given name value rest waits taken new formed =
     let word = (option_row name).word ++ (61 ∷ value) in
     let next : next_word command word first given ≡ Ok (put name value given) =
@@ -96,10 +96,10 @@ joined_taken command first given name value rest waits taken new formed =
     ∙ joined_word command word first given name value taken new formed in
     ap (λ (r : Result Options ℕ). r >>= (λ more. options_of command (first + 1) more rest)) next
 
-name_word : (command : CommandName) (first : ℕ) (given : Options) (name : OptionName) → takes command name ≡ true → is_given name given ≡ false → option_word command None ((option_row name).word) first given ≡ Ok (record given { waiting = Some name })
+name_word : (command : CommandName) (first : ℕ) (given : Options) (name : OptionName) → takes command name ≡ true → is_barred name given ≡ false → option_word command None ((option_row name).word) first given ≡ Ok (record given { waiting = Some name })
 name_word command first given name taken new = rw (option_found name, taken, new) refl
 
-apart_taken : (command : CommandName) (first : ℕ) (given : Options) (name : OptionName) (value : List ℕ) (rest : List (List ℕ)) → given.waiting ≡ None → takes command name ≡ true → is_given name given ≡ false → IsValue (option_row name).form value → options_of command first given ((option_row name).word ∷ value ∷ rest) ≡ options_of command (first + 1 + 1) (put name value given) rest
+apart_taken : (command : CommandName) (first : ℕ) (given : Options) (name : OptionName) (value : List ℕ) (rest : List (List ℕ)) → given.waiting ≡ None → takes command name ≡ true → is_barred name given ≡ false → IsValue (option_row name).form value → options_of command first given ((option_row name).word ∷ value ∷ rest) ≡ options_of command (first + 1 + 1) (put name value given) rest
 apart_taken command first given name value rest waits taken new formed =
     let word = (option_row name).word in
     let mid = record given { waiting = Some name } in
@@ -112,7 +112,7 @@ apart_taken command first given name value rest waits taken new formed =
     ap (λ (r : Result Options ℕ). r >>= (λ more. options_of command (first + 1) more (value ∷ rest))) next
     ∙ ap (λ (r : Result Options ℕ). r >>= (λ more. options_of command (first + 1 + 1) more rest)) then_value
 
-one_taken : (command : CommandName) (first : ℕ) (given : Options) (name : OptionName) (value : List ℕ) (joined : Bool) (more : List Spelling) → given.waiting ≡ None → takes command name ≡ true → is_given name given ≡ false → IsValue (option_row name).form value → ((place : ℕ) → options_of command place (put name value given) (flat_map spelled more) ≡ Ok (all_put (put name value given) more)) → options_of command first given (spelled_as joined ((option_row name).word) value ++ flat_map spelled more) ≡ Ok (all_put (put name value given) more)
+one_taken : (command : CommandName) (first : ℕ) (given : Options) (name : OptionName) (value : List ℕ) (joined : Bool) (more : List Spelling) → given.waiting ≡ None → takes command name ≡ true → is_barred name given ≡ false → IsValue (option_row name).form value → ((place : ℕ) → options_of command place (put name value given) (flat_map spelled more) ≡ Ok (all_put (put name value given) more)) → options_of command first given (spelled_as joined ((option_row name).word) value ++ flat_map spelled more) ≡ Ok (all_put (put name value given) more)
 one_taken command first given name value true more waits taken new formed later = joined_taken command first given name value (flat_map spelled more) waits taken new formed ∙ later (first + 1)
 one_taken command first given name value false more waits taken new formed later = apart_taken command first given name value (flat_map spelled more) waits taken new formed ∙ later (first + 1 + 1)
 

@@ -1,5 +1,5 @@
 -- Steps of a plan, one behind another.
-use Rattle.std.proofs.Common.{◌≡◌, refl, inl, inr, Result, Ok, Err, Option, Some, ℕ, ◌≤◌, List, length}
+use Rattle.std.proofs.Common.{◌≡◌, refl, inl, inr, Result, Ok, Err, Some, ℕ, ◌≤◌, List, length}
 use Rattle.std.specs.Result.{IsErrAnd}
 use Rattle.keyset_model.specs.declared.keyset.Keyset.{Keyset}
 use Rattle.keyset_model.specs.Keyset.{Keys}

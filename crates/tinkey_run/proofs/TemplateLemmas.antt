@@ -1,5 +1,5 @@
 -- The names of the templates, written one after another.
-use Rattle.std.proofs.Common.{◌≡◌, refl, sym, ap, ◌∙◌, ℕ, ◌+◌, ◌<◌, zero, suc, List, [], ◌∷◌, ◌++◌, length, take, drop, Some, None, Option, option_map, append_assoc, append-nil, length-append, subst, ◌≤◌, arith, inl, inr}
+use Rattle.std.proofs.Common.{◌≡◌, refl, sym, ap, ◌∙◌, ℕ, ◌+◌, List, [], ◌∷◌, ◌++◌, drop, Some, None, Option, option_map, append_assoc, append-nil, length-append, subst, ◌≤◌, arith, inl, inr}
 use Rattle.std.specs.Prelude.{slice_get, codes}
 use Rattle.std.specs.List.{flat_map}
 use Rattle.tink_spec.specs.Outside.{SinkState, Took, TookPrefix}

@@ -2,13 +2,12 @@
 use Rattle.std.specs.Prelude.{◌≡◌, ◌⊎◌, ℕ, ◌+◌, ◌≤◌, List, ◌++◌, length, Some, None, Result}
 use Rattle.tink_spec.specs.Files.{StoreState, KeptFiles, Holds, HoldsSome, HoldsLonger, Added, MayAdd}
 use Rattle.tink_spec.specs.Outside.{SourceState, SinkState, EntropyState, Rose, Stood, Gave, GaveUpTo, GaveCount, Took, TookPrefix, Drew, IsAtEnd}
-use Rattle.keyset_model.specs.Keyset.{Keys}
 use Rattle.tinkey_cmds.specs.Draws.{Draw, answered}
 use Rattle.tinkey_cmds.specs.Applying.{RanOut}
 use Rattle.tinkey_cmds.specs.declared.command.CmdFault.{CmdFault}
 use Rattle.tinkey_run.specs.declared.status.Status.{Status}
 use Rattle.tinkey_run.specs.declared.status.Status.TheVariants as status
-use Rattle.tinkey_run.specs.Plan.{Plan, ends, writes, creates, allocates, loads, reads_all, edits}
+use Rattle.tinkey_run.specs.Plan.{Plan, ends, writes, creates, allocates, loads, reads_all, draws}
 
 -- the outside objects at one moment
 pub record World : Type 0 where
@@ -112,20 +111,20 @@ pub data EndsReading (limit : ℕ) (long : Status) (Then : List ℕ → World �
       EndsReading limit long Then old s new
 
 -- these bytes are all that is drawn, whatever stands behind them, and they give this
-abbrev pub Settles : Draw Keys → (drawn : List ℕ) → Result Keys CmdFault → Type 0
+abbrev pub Settles : {A : Type 0} → Draw A → (drawn : List ℕ) → Result A CmdFault → Type 0
 Settles give drawn given = (more : List ℕ) → give (drawn ++ more) ≡ answered given more
 
--- the bytes were drawn that settle the keyset or its refusal, and then it went on; or the entropy
+-- the bytes were drawn that settle what is made or its refusal, and then it went on; or the entropy
 -- failed before they were there
-pub data EndsEditing (give : Draw Keys)
-    (Then : Result Keys CmdFault → World → Status → World → Type 0)
+pub data EndsDrawing {A : Type 0} (give : Draw A)
+    (Then : Result A CmdFault → World → Status → World → Type 0)
     (old : World) (s : Status) (new : World) : Type 0 where
-  settled : (drawn : List ℕ) (entropy : EntropyState) (given : Result Keys CmdFault) →
+  settled : (drawn : List ℕ) (entropy : EntropyState) (given : Result A CmdFault) →
       Drew old.entropy entropy drawn → Stood old.entropy.faults entropy.faults →
       Settles give drawn given → Then given (record old { entropy = entropy }) s new →
-      EndsEditing give Then old s new
+      EndsDrawing give Then old s new
   draw_failed : s ≡ status.EntropyFault → OnlyEntropy old new →
-      RanOut give old.entropy new.entropy → EndsEditing give Then old s new
+      RanOut give old.entropy new.entropy → EndsDrawing give Then old s new
 
 -- how a run of the plan may end, step by step
 abbrev pub Ends : Plan → World → Status → World → Type 0
@@ -137,4 +136,4 @@ Ends (loads name limit absent long a l next) old s new =
     EndsLoading name limit absent long (λ bytes. Ends (next bytes)) old s new
 Ends (reads_all limit long stated next) old s new =
     EndsReading limit long (λ all. Ends (next all)) old s new
-Ends (edits give next) old s new = EndsEditing give (λ given. Ends (next given)) old s new
+Ends (draws kind give next) old s new = EndsDrawing give (λ given. Ends (next given)) old s new

@@ -5,14 +5,15 @@
 --                      options that fit its row, in any order
 --
 -- The commands and options are those of the tables of Rows.
-use Rattle.std.specs.Prelude.{◌≡◌, ◌≢◌, ◌⊎◌, ◌↔◌, ℕ, ◌+◌, ◌<◌, ◌≤◌, List, [], ◌∷◌, ◌++◌, length, Bool, true, None, Some, if◌then◌else◌, Ok, Err, codes}
-use Rattle.std.specs.List.{AllByRecursion, flat_map}
+use Rattle.std.specs.Prelude.{◌≡◌, ◌≢◌, ◌⊎◌, ◌↔◌, ℕ, ◌+◌, ◌*◌, ◌%◌, ◌<◌, ◌≤◌, List, [], ◌∷◌, ◌++◌, length, Bool, true, None, Some, if◌then◌else◌, Ok, Err, codes}
+use Rattle.std.specs.List.{AllByRecursion, flat_map, list_all}
 use Rattle.std.specs.Str.{all_ascii_digits, str_to_ascii_lowercase}
 use Rattle.tinkey_run.specs.declared.words.rows.CommandName.{CommandName}
 use Rattle.tinkey_run.specs.declared.words.rows.Form.{Form}
 use Rattle.tinkey_run.specs.declared.words.rows.Form.TheVariants as forms
 use Rattle.tinkey_run.specs.declared.words.rows.OptionName.{OptionName}
-use Rattle.tinkey_run.specs.Rows.{Row, row_of, option_row, same, digits_after}
+use Rattle.hex.specs.Hex.{is_hex_digit}
+use Rattle.tinkey_run.specs.Rows.{Row, row_of, option_row, rival, same, datum_limit, digits_after}
 use Rattle.tinkey_run.specs.Words.{Asked, Values, asked_with, words_of}
 
 -- where the word of a place is at fault, it is so whatever words stand behind it
@@ -28,6 +29,12 @@ pub record IsNumber (text : List ℕ) : Type 0 where
   pub short : length text ≤ 10
   pub within : digits_after 0 text ≤ 4294967295
 
+-- a text of hexadecimal digits, two for each of at most 1,048,576 bytes
+pub record IsHex (text : List ℕ) : Type 0 where
+  pub digits : list_all is_hex_digit text ≡ true
+  pub even : length text % 2 ≡ 0
+  pub short : length text ≤ 2 * datum_limit
+
 -- the value is of the form
 abbrev pub IsValue : Form → List ℕ → Type 0
 IsValue forms.Text value = Unit {0}
@@ -36,6 +43,8 @@ IsValue forms.Number value = IsNumber value
 IsValue forms.Format value =
     (str_to_ascii_lowercase value ≡ codes "json")
     ⊎ (str_to_ascii_lowercase value ≡ codes "binary")
+IsValue forms.Datum value = length value ≤ datum_limit
+IsValue forms.Hex value = IsHex value
 
 -- an option with its value, and whether they stand in one word
 pub record Spelling : Type 0 where
@@ -61,15 +70,20 @@ abbrev pub IsOnce : List Spelling → Type 0
 IsOnce [] = Unit {0}
 IsOnce (s ∷ given) = (IsGiven s.name given → ⊥) × IsOnce given
 
+-- no two of them exclude each other
+abbrev pub AreApart : List Spelling → Type 0
+AreApart given = (a b : OptionName) → rival a ≡ Some b → IsGiven a given → IsGiven b given → ⊥
+
 -- the option is one of these
 abbrev pub IsOneOf : OptionName → List OptionName → Type 0
 IsOneOf name [] = ⊥
 IsOneOf name (other ∷ names) = (name ≡ other) ⊎ IsOneOf name names
 
--- the options fit a command: each is in its row, once and with a value of its form, and all that it
--- requires are there
+-- the options fit a command: each is in its row, once and with a value of its form, no two exclude
+-- each other, and all that it requires are there
 pub record Fits (row : Row) (given : List Spelling) : Type 0 where
   pub once : IsOnce given
+  pub apart : AreApart given
   pub taken : AllByRecursion (λ s. IsOneOf s.name (row.required ++ row.optional)) given
   pub formed : AllByRecursion (λ s. IsValue (option_row s.name).form s.value) given
   pub complete : AllByRecursion (λ name. IsGiven name given) row.required

@@ -1,14 +1,13 @@
 pub mod Commands
 pub mod Ends
 pub mod Grammar
+pub mod Laws
 pub mod Plan
 pub mod Promises
 pub mod Rows
 pub mod Status
 pub mod Steps
-pub mod TagAnswers
-pub mod TagSteps
-pub mod Tags
+pub mod Using
 pub mod Words
 pub use Rattle.keyset_model.specs.Keyset
 pub use Rattle.keyset_model.specs.Listing

@@ -18,6 +18,16 @@ IsStated status.StoreFault = ⊥
 IsStated status.NoMemory = ⊥
 IsStated _ = Unit {0}
 
+-- what a step makes of random bytes
+pub data Made : Type 0 where
+  keysets : Made
+  sealings : Made
+
+-- its type, as it is seen
+abbrev pub Of : Made → Type 0
+Of keysets = Keys
+Of sealings = List ℕ
+
 -- the steps of a command, in the order of refusals
 pub data Plan : Type 0 where
   -- this is the answer
@@ -33,8 +43,8 @@ pub data Plan : Type 0 where
       (next : List ℕ → Plan) → Plan
   -- the whole source is read; one of more bytes than the limit is answered so
   reads_all : (limit : ℕ) (long : Status) → IsStated long → (next : List ℕ → Plan) → Plan
-  -- a keyset is made of random bytes, as many as that takes; the keyset or its refusal goes on
-  edits : (give : Draw Keys) → (next : Result Keys CmdFault → Plan) → Plan
+  -- something is made of random bytes, as many as that takes; it or its refusal goes on
+  draws : (kind : Made) → (give : Draw (Of kind)) → (next : Result (Of kind) CmdFault → Plan) → Plan
 
 -- what the outside objects tell
 pub record Told : Type 0 where
@@ -74,9 +84,9 @@ create_answer None told name output taken = record (refused told status.Done) {
 }
 
 -- the answer after random bytes were drawn; where they don't suffice, the entropy can but fail
-abbrev pub edit_answer : Option (Drawn Keys) → Answer → (Drawn Keys → Answer) → Answer
-edit_answer None short next = short
-edit_answer (Some drawn) short next = next drawn
+abbrev pub draw_answer : {A : Type 0} → Option (Drawn A) → Answer → (Drawn A → Answer) → Answer
+draw_answer None short next = short
+draw_answer (Some drawn) short next = next drawn
 
 -- the stated answer over what is told
 abbrev pub answer : Plan → Told → Answer
@@ -91,6 +101,6 @@ answer (loads name limit absent long a l next) told =
 answer (reads_all limit long stated next) told =
     if nat_le (length told.input) limit then answer (next told.input) (record told { input = [] })
     else record (refused told long) { input = drop (limit + 1) told.input }
-answer (edits give next) told =
-    edit_answer (give told.random) (refused told status.EntropyFault)
+answer (draws kind give next) told =
+    draw_answer (give told.random) (refused told status.EntropyFault)
     (λ drawn. answer (next drawn.answer) (record told { random = drawn.left }))

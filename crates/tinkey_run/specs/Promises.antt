@@ -3,11 +3,10 @@ use Rattle.std.specs.Prelude.{◌≡◌, ◌≢◌, ◌⊎◌, ℕ, ◌+◌, ◌
 use Rattle.std.specs.FinMap as map
 use Rattle.tink_spec.specs.Files.{Files, StoreState, KeptFiles, Holds, HoldsSome, HoldsLonger, AddedFront}
 use Rattle.tink_spec.specs.Outside.{Rose, Stood, Gave, Took, TookPrefix, Drew}
-use Rattle.keyset_model.specs.Keyset.{Keys}
 use Rattle.tinkey_cmds.specs.declared.command.CmdFault.{CmdFault}
 use Rattle.tinkey_run.specs.declared.status.Status.{Status}
 use Rattle.tinkey_run.specs.declared.status.Status.TheVariants as status
-use Rattle.tinkey_run.specs.Plan.{Plan, ends, writes, creates, allocates, loads, reads_all, edits, Told, Answer, answer, IsStated}
+use Rattle.tinkey_run.specs.Plan.{Plan, ends, writes, creates, allocates, loads, reads_all, draws, Of, Told, Answer, answer, IsStated}
 use Rattle.tinkey_run.specs.Ends.{World, Ends, Settles}
 
 -- the objects tell these bytes
@@ -92,10 +91,10 @@ IsLeft (reads_all limit long stated next) files s moved =
     ⊎ (((s ≡ status.ReadFault) ⊎ (s ≡ status.NoMemory)) × (length moved.taken ≤ limit))))
     ⊎ ((all : List ℕ) × (more : List ℕ) × (all ++ more ≡ moved.taken) × (length all ≤ limit)
     × IsLeft (next all) files s (record moved { taken = more }))
-IsLeft (edits give next) files s moved =
+IsLeft (draws kind give next) files s moved =
     ((s ≡ status.EntropyFault) × (give moved.drawn ≡ None)
     × (moved ≡ record nothing { drawn = moved.drawn }))
-    ⊎ ((drawn : List ℕ) × (more : List ℕ) × (given : Result Keys CmdFault)
+    ⊎ ((drawn : List ℕ) × (more : List ℕ) × (given : Result (Of kind) CmdFault)
     × (drawn ++ more ≡ moved.drawn) × Settles give drawn given
     × IsLeft (next given) files s (record moved { drawn = more }))
 

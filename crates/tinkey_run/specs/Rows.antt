@@ -1,8 +1,9 @@
 -- The tables of the command's words: the commands with the options that each requires and may have,
 -- and the options with the form of the value of each. A further command or option is a row.
-use Rattle.std.specs.Prelude.{ℕ, ◌+◌, ◌-◌, ◌*◌, List, [], ◌∷◌, ◌++◌, length, Bool, true, Option, Some, None, is_some, ◌==◌, ◌&&◌, nat_lt, nat_le, if◌then◌else◌, codes}
-use Rattle.std.specs.List.{find, list_any}
+use Rattle.std.specs.Prelude.{ℕ, ◌+◌, ◌-◌, ◌*◌, ◌%◌, List, [], ◌∷◌, ◌++◌, length, Bool, true, Option, Some, None, is_some, ◌==◌, ◌&&◌, nat_lt, nat_le, if◌then◌else◌, codes}
+use Rattle.std.specs.List.{find, list_any, list_all}
 use Rattle.std.specs.Str.{bytes_eq, all_ascii_digits, str_eq_ignore_ascii_case}
+use Rattle.hex.specs.Hex.{is_hex_digit}
 use Rattle.tinkey_run.specs.declared.words.rows.CommandRow.{CommandRow as CodeRow}
 use Rattle.tinkey_run.specs.declared.words.rows.CommandName.{CommandName}
 use Rattle.tinkey_run.specs.declared.words.rows.CommandName.TheVariants as commands
@@ -41,6 +42,14 @@ by_template = options.KeyTemplate ∷ []
 abbrev pub by_key : List OptionName
 by_key = options.KeyId ∷ []
 
+-- what a command requires that uses the keys of a keyset, and what one may have that takes
+-- associated data
+abbrev pub by_keyset : List OptionName
+by_keyset = options.Keyset ∷ []
+
+abbrev pub with_ad : List OptionName
+with_ad = options.KeysetFormat ∷ options.Ad ∷ options.AdHex ∷ []
+
 -- the row of each command
 abbrev pub row_of : CommandName → Row
 row_of commands.CreateKeyset = row (codes "create-keyset") by_template put_out
@@ -54,15 +63,24 @@ row_of commands.DeleteKey = row (codes "delete-key") by_key in_and_out
 row_of commands.ListKeyset = row (codes "list-keyset") [] taken
 row_of commands.ConvertKeyset = row (codes "convert-keyset") [] in_and_out
 row_of commands.ListKeyTemplates = row (codes "list-key-templates") [] []
-row_of commands.Tag = row (codes "tag") (options.Keyset ∷ []) (options.KeysetFormat ∷ [])
+row_of commands.Seal = row (codes "seal") by_keyset with_ad
+row_of commands.Open = row (codes "open") by_keyset with_ad
+row_of commands.Dseal = row (codes "dseal") by_keyset with_ad
+row_of commands.Dopen = row (codes "dopen") by_keyset with_ad
+row_of commands.Tag = row (codes "tag") by_keyset (options.KeysetFormat ∷ [])
+row_of commands.Verify =
+    row (codes "verify") (options.Keyset ∷ options.TagHex ∷ []) (options.KeysetFormat ∷ [])
+row_of commands.Derive =
+    row (codes "derive") (options.Keyset ∷ options.Length ∷ []) (options.KeysetFormat ∷ [])
 
 -- all commands
 abbrev pub all_commands : List CommandName
 all_commands =
     commands.CreateKeyset ∷ commands.AddKey ∷ commands.RotateKeyset ∷ commands.PromoteKey
     ∷ commands.EnableKey ∷ commands.DisableKey ∷ commands.DestroyKey ∷ commands.DeleteKey
-    ∷ commands.ListKeyset ∷ commands.ConvertKeyset ∷ commands.ListKeyTemplates ∷ commands.Tag
-    ∷ []
+    ∷ commands.ListKeyset ∷ commands.ConvertKeyset ∷ commands.ListKeyTemplates ∷ commands.Seal
+    ∷ commands.Open ∷ commands.Dseal ∷ commands.Dopen ∷ commands.Tag ∷ commands.Verify
+    ∷ commands.Derive ∷ []
 
 -- the command of this name
 unfoldable pub command_of : List ℕ → Option CommandName
@@ -89,12 +107,17 @@ option_row options.Out = option 4 (codes "--out") forms.FileName
 option_row options.OutFormat = option 5 (codes "--out-format") forms.Format
 option_row options.Keyset = option 6 (codes "--keyset") forms.FileName
 option_row options.KeysetFormat = option 7 (codes "--keyset-format") forms.Format
+option_row options.Ad = option 8 (codes "--ad") forms.Datum
+option_row options.AdHex = option 9 (codes "--ad-hex") forms.Hex
+option_row options.TagHex = option 10 (codes "--tag-hex") forms.Hex
+option_row options.Length = option 11 (codes "--length") forms.Number
 
 -- all options, in the order of their places
 abbrev pub all_options : List OptionName
 all_options =
     options.KeyTemplate ∷ options.KeyId ∷ options.In ∷ options.InFormat ∷ options.Out
-    ∷ options.OutFormat ∷ options.Keyset ∷ options.KeysetFormat ∷ []
+    ∷ options.OutFormat ∷ options.Keyset ∷ options.KeysetFormat ∷ options.Ad ∷ options.AdHex
+    ∷ options.TagHex ∷ options.Length ∷ []
 
 -- the option of this name
 unfoldable pub option_of : List ℕ → Option OptionName
@@ -103,6 +126,12 @@ option_of name = find (λ option. bytes_eq (option_row option).word name) all_op
 -- the two are one option
 abbrev pub same : OptionName → OptionName → Bool
 same a b = (option_row a).place == (option_row b).place
+
+-- the option that must not stand beside this one, which gives the same thing
+abbrev pub rival : OptionName → Option OptionName
+rival options.Ad = Some options.AdHex
+rival options.AdHex = Some options.Ad
+rival _ = None
 
 -- the option is one of these
 abbrev pub is_one_of : OptionName → List OptionName → Bool
@@ -136,13 +165,28 @@ format_of text =
     else (if str_eq_ignore_ascii_case text (codes "binary") then Some formats.Binary
     else None)
 
--- the text is a value of this form: any text, the name of a file, which isn't empty, a number, or
--- the name of a keyset's form
+-- a datum of more bytes is too long
+abbrev pub datum_limit : ℕ
+datum_limit = 1048576
+
+-- the text isn't too long for a datum
+abbrev pub is_datum : List ℕ → Bool
+is_datum text = nat_le (length text) datum_limit
+
+-- hexadecimal digits of either case, two for each byte of a datum
+abbrev pub is_hex : List ℕ → Bool
+is_hex text =
+    nat_le (length text) (2 * datum_limit) && (length text % 2 == 0) && list_all is_hex_digit text
+
+-- the text is a value of this form: any text, the name of a file, which isn't empty, a number, the
+-- name of a keyset's form, or a datum as it stands or in hexadecimal
 unfoldable pub is_value : Form → List ℕ → Bool
 is_value forms.Text text = true
 is_value forms.FileName text = nat_lt 0 (length text)
 is_value forms.Number text = is_some (number_of text)
 is_value forms.Format text = is_some (format_of text)
+is_value forms.Datum text = is_datum text
+is_value forms.Hex text = is_hex text
 
 -- What the code's rows stand for.
 

@@ -15,15 +15,19 @@ use Rattle.tinkey_run.specs.declared.status.Status.TheVariants as status
 -- the exit code
 abbrev pub code_of : Status → ℕ
 code_of status.Done = 0
+code_of status.OpenFailed = 1
+code_of status.VerifyFailed = 1
 code_of (status.Usage word) = 2
 code_of status.UnknownTemplate = 2
 code_of status.AsymmetricTemplate = 2
+code_of (status.OutputTooLong asked greatest) = 2
 code_of (status.BadProto at) = 3
 code_of status.NotJson = 3
 code_of (status.Shape path) = 3
 code_of (status.Keyset fault) = 3
 code_of (status.NoManager i) = 3
 code_of (status.BadKey i rule) = 3
+code_of (status.NotRaw i) = 3
 code_of status.InMissing = 4
 code_of (status.Command fault) = 4
 code_of status.OutExists = 4
@@ -80,6 +84,8 @@ key_text (Some i) = codes " of key " ++ decimal i
 -- what the line says, behind the program's name
 unfoldable pub text_of : Status → List ℕ
 text_of status.Done = []
+text_of status.OpenFailed = codes "open failed"
+text_of status.VerifyFailed = codes "verify failed"
 text_of (status.Usage word) = codes "usage: word " ++ decimal word
 text_of (status.BadProto at) = codes "bad protobuf at byte " ++ decimal at
 text_of status.NotJson = codes "not JSON"
@@ -89,10 +95,13 @@ text_of status.KeysetTooLong = codes "keyset too long"
 text_of (status.NoManager i) = codes "key " ++ decimal i ++ codes " has no manager for this command"
 text_of (status.BadKey i rule) =
     codes "key " ++ decimal i ++ codes " is not valid: " ++ rule_text rule
+text_of (status.NotRaw i) = codes "key " ++ decimal i ++ codes " is not RAW"
 text_of status.InMissing = codes "input file missing"
 text_of status.InputTooLong = codes "input too long"
 text_of status.UnknownTemplate = codes "unknown key template"
 text_of status.AsymmetricTemplate = codes "asymmetric key template"
+text_of (status.OutputTooLong asked greatest) =
+    codes "output too long: " ++ decimal asked ++ codes " over " ++ decimal greatest
 text_of (status.Command fault) = edit_text fault
 text_of status.OutExists = codes "output file exists"
 text_of status.EntropyFault = codes "entropy fault"

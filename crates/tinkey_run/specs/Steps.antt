@@ -20,7 +20,7 @@ use Rattle.tinkey_cmds.specs.declared.command.CmdFault.{CmdFault}
 use Rattle.tinkey_run.specs.declared.status.Status.{Status}
 use Rattle.tinkey_run.specs.declared.status.Status.TheVariants as status
 use Rattle.tinkey_run.specs.Ends.{World, Ends}
-use Rattle.tinkey_run.specs.Plan.{Plan, ends, writes, creates, allocates, loads, reads_all, edits}
+use Rattle.tinkey_run.specs.Plan.{Plan, ends, writes, creates, allocates, loads, reads_all, draws, keysets}
 use Rattle.tinkey_run.specs.declared.words.rows.Format.{Format}
 use Rattle.tinkey_run.specs.declared.words.rows.Format.TheVariants as formats
 use Rattle.tinkey_run.specs.Words.{Place, AskedEdit, add, rotate, promote, enable, disable, destroy, delete}
@@ -117,14 +117,14 @@ edit_refusal (given.Refused fault) = status.Command fault
 edit_refusal given.EntropyFault = status.EntropyFault
 edit_refusal given.NoMemory = status.NoMemory
 
--- the keyset goes on, or the refusal of the edit is the answer
-abbrev pub with_edited : Result Keys CmdFault → (Keys → Plan) → Plan
-with_edited (Ok keys) next = next keys
-with_edited (Err fault) next = ends (status.Command fault) tt
+-- what was made goes on, or the refusal of the edit is the answer
+abbrev pub with_made : {A : Type 0} → Result A CmdFault → (A → Plan) → Plan
+with_made (Ok value) next = next value
+with_made (Err fault) next = ends (status.Command fault) tt
 
 -- the keyset that random bytes give
 abbrev pub makes_keyset : Draw Keys → (Keys → Plan) → Plan
-makes_keyset give next = edits give (λ given. allocates (with_edited given next))
+makes_keyset give next = draws keysets give (λ given. allocates (with_made given next))
 
 -- these bytes become a new file of this name, or where there is none, go to the sink
 abbrev pub puts : Option (List ℕ) → List ℕ → Plan

@@ -3,12 +3,17 @@
 -- options.
 --
 -- The answer is a command, or the place of the first word at fault: an unknown command or option,
--- one that the command doesn't have, a repeat, or one that holds a value that isn't of its form.
+-- one that the command doesn't have, a repeat, the second of two that exclude each other, or one that
+-- holds a value that isn't of its form.
 -- Where a value or a required option is missing at the end, the place is the number of words.
 -- Places count from 0.
-use Rattle.std.specs.Prelude.{◌≡◌, ℕ, ◌+◌, List, [], ◌∷◌, length, Bool, Option, Some, None, is_some, option_map, Result, Ok, Err, ◌==◌, nat_lt, if◌then◌else◌, slice_index_or}
+use Rattle.std.specs.Prelude.{◌≡◌, ℕ, ◌+◌, ◌*◌, List, [], ◌∷◌, length, Bool, false, ◌||◌, Option, Some, None, is_some, option_map, Result, Ok, Err, ◌==◌, nat_lt, nat_le, if◌then◌else◌, slice_index_or}
 use Rattle.std.specs.List.{list_all, position_or_len, before_first, after_first}
 use Rattle.std.specs.Borrow.{Bor}
+use Rattle.hex.specs.Hex.{decode_of}
+use Rattle.hex.specs.declared.error.FromHexError.{FromHexError}
+use Rattle.key_msgs.specs.declared.primitive.Primitive.{Primitive}
+use Rattle.key_msgs.specs.declared.primitive.Primitive.TheVariants.{Aead, Daead, Mac, Prf}
 use Rattle.tink_spec.specs.Messages.{◌>>=◌}
 use Rattle.tinkey_run.specs.declared.words.Command.{Command}
 use Rattle.tinkey_run.specs.declared.words.Command.TheVariants as asks
@@ -16,13 +21,17 @@ use Rattle.tinkey_run.specs.declared.words.EditWords.{EditWords}
 use Rattle.tinkey_run.specs.declared.words.EditWords.TheVariants as edits
 use Rattle.tinkey_run.specs.declared.words.Options.{Options as CodeOptions}
 use Rattle.tinkey_run.specs.declared.words.Place.{Place as CodePlace}
+use Rattle.tinkey_run.specs.declared.words.Datum.{Datum}
+use Rattle.tinkey_run.specs.declared.words.Datum.TheVariants as data'
+use Rattle.tinkey_run.specs.declared.words.Work.{Work}
+use Rattle.tinkey_run.specs.declared.words.Work.TheVariants as works
 use Rattle.tinkey_run.specs.declared.words.rows.Format.{Format}
 use Rattle.tinkey_run.specs.declared.words.rows.Format.TheVariants as formats
 use Rattle.tinkey_run.specs.declared.words.rows.CommandName.{CommandName}
 use Rattle.tinkey_run.specs.declared.words.rows.CommandName.TheVariants as commands
 use Rattle.tinkey_run.specs.declared.words.rows.OptionName.{OptionName}
 use Rattle.tinkey_run.specs.declared.words.rows.OptionName.TheVariants as options
-use Rattle.tinkey_run.specs.Rows.{row_of, command_of, option_row, option_of, same, takes, number_of, format_of, is_value}
+use Rattle.tinkey_run.specs.Rows.{row_of, command_of, option_row, option_of, rival, same, takes, datum_limit, number_of, format_of, is_value}
 
 -- What is asked.
 
@@ -37,6 +46,30 @@ pub data AskedEdit : Type 0 where
   disable : (id : ℕ) → AskedEdit
   destroy : (id : ℕ) → AskedEdit
   delete : (id : ℕ) → AskedEdit
+
+-- what is done with the whole input by the keys of a keyset
+pub data AskedWork : Type 0 where
+  -- it is sealed, or opened, with this associated data
+  to_seal : (ad : List ℕ) → AskedWork
+  to_open : (ad : List ℕ) → AskedWork
+  -- the same, deterministic
+  to_dseal : (ad : List ℕ) → AskedWork
+  to_dopen : (ad : List ℕ) → AskedWork
+  -- its tag is made, or this one is compared with it
+  to_tag : AskedWork
+  to_verify : (tag : List ℕ) → AskedWork
+  -- so many bytes are derived from it
+  to_derive : (size : ℕ) → AskedWork
+
+-- the primitive of the keys that do it
+abbrev pub primitive_for : AskedWork → Primitive
+primitive_for (to_seal ad) = Aead
+primitive_for (to_open ad) = Aead
+primitive_for (to_dseal ad) = Daead
+primitive_for (to_dopen ad) = Daead
+primitive_for to_tag = Mac
+primitive_for (to_verify tag) = Mac
+primitive_for (to_derive size) = Prf
 
 -- where a keyset is taken from or put, and in which form: the file of this name, or none for standard
 -- input and output
@@ -56,8 +89,8 @@ pub data Asked : Type 0 where
   convert_keyset : (in' out : Place) → Asked
   -- the names of the templates
   list_key_templates : Asked
-  -- the tag of the input under the keyset in the file of this name
-  tag : (keyset : List ℕ) (form : Format) → Asked
+  -- work on the input, by the keys of the keyset in the file of this name
+  use_keyset : (keyset : List ℕ) (form : Format) (work : AskedWork) → Asked
 
 -- the values that were given, by option
 abbrev pub Values : Type 0
@@ -75,6 +108,28 @@ or_zero (Some n) = n
 
 abbrev pub number : Option (List ℕ) → ℕ
 number value = or_zero (number_of (text value))
+
+-- a datum as it stands; one that is too long is none
+abbrev pub datum_as : List ℕ → List ℕ
+datum_as plain = if nat_le (length plain) datum_limit then plain else []
+
+-- what was decoded, or nothing
+abbrev pub decoded : Result (List ℕ) FromHexError → List ℕ
+decoded (Ok bytes) = bytes
+decoded (Err error) = []
+
+-- a datum in hexadecimal; one that is too long is none
+abbrev pub datum_of_hex : List ℕ → List ℕ
+datum_of_hex hex = if nat_le (length hex) (2 * datum_limit) then decoded (decode_of hex) else []
+
+-- a datum that is given as it stands or in hexadecimal, or isn't given
+abbrev pub datum : Option (List ℕ) → Option (List ℕ) → List ℕ
+datum (Some plain) hex = datum_as plain
+datum None hex = datum_of_hex (text hex)
+
+-- the associated data
+abbrev pub ad : Values → List ℕ
+ad values = datum (values options.Ad) (values options.AdHex)
 
 -- the key that is changed, the template of a new one, and the files
 abbrev pub id : Values → ℕ
@@ -102,6 +157,11 @@ put_to values = record { file = values options.Out; form = form_in (values optio
 abbrev pub edited : AskedEdit → Values → Asked
 edited edit values = edit_keyset edit (taken_from values) (put_to values)
 
+-- work by the keys of a keyset
+abbrev pub worked : AskedWork → Values → Asked
+worked work values =
+    use_keyset (text (values options.Keyset)) (form_in (values options.KeysetFormat)) work
+
 -- what each command asks with these values of its options
 abbrev pub asked_with : CommandName → Values → Asked
 asked_with commands.CreateKeyset values = create_keyset (template values) (put_to values)
@@ -115,8 +175,14 @@ asked_with commands.DeleteKey values = edited (delete (id values)) values
 asked_with commands.ListKeyset values = list_keyset (taken_from values)
 asked_with commands.ConvertKeyset values = convert_keyset (taken_from values) (put_to values)
 asked_with commands.ListKeyTemplates values = list_key_templates
-asked_with commands.Tag values =
-    tag (text (values options.Keyset)) (form_in (values options.KeysetFormat))
+asked_with commands.Seal values = worked (to_seal (ad values)) values
+asked_with commands.Open values = worked (to_open (ad values)) values
+asked_with commands.Dseal values = worked (to_dseal (ad values)) values
+asked_with commands.Dopen values = worked (to_dopen (ad values)) values
+asked_with commands.Tag values = worked to_tag values
+asked_with commands.Verify values =
+    worked (to_verify (datum_of_hex (text (values options.TagHex)))) values
+asked_with commands.Derive values = worked (to_derive (number (values options.Length))) values
 
 -- The words, one after another.
 
@@ -139,11 +205,20 @@ own_value word =
 abbrev pub is_given : OptionName → Options → Bool
 is_given name given = is_some (given.values name)
 
+-- the option that excludes this one was given
+abbrev pub is_excluded : Option OptionName → Options → Bool
+is_excluded None given = false
+is_excluded (Some other) given = is_given other given
+
+-- the option was given before, or one that excludes it
+abbrev pub is_barred : OptionName → Options → Bool
+is_barred name given = is_given name given || is_excluded (rival name) given
+
 -- an option of the command that isn't given yet; its word has this place
 abbrev pub new_option : CommandName → Option OptionName → ℕ → Options → Result OptionName ℕ
 new_option command None place given = Err place
 new_option command (Some name) place given =
-    if takes command name then (if is_given name given then Err place else Ok name) else Err place
+    if takes command name then (if is_barred name given then Err place else Ok name) else Err place
 
 -- these options and this one with its value
 abbrev pub put : OptionName → List ℕ → Options → Options
@@ -232,6 +307,20 @@ seen_name name = option_map (λ name. name.now) name
 abbrev pub seen_place : CodePlace → Place
 seen_place place = record { file = seen_name place.file; form = place.form }
 
+-- a datum, as its bytes
+abbrev pub seen_datum : Datum → List ℕ
+seen_datum (data'.Plain plain) = datum_as plain.now
+seen_datum (data'.Hex hex) = datum_of_hex hex.now
+
+abbrev pub seen_work : Work → AskedWork
+seen_work (works.Seal ad) = to_seal (seen_datum ad)
+seen_work (works.Open ad) = to_open (seen_datum ad)
+seen_work (works.Dseal ad) = to_dseal (seen_datum ad)
+seen_work (works.Dopen ad) = to_dopen (seen_datum ad)
+seen_work works.Tag = to_tag
+seen_work (works.Verify tag) = to_verify (seen_datum tag)
+seen_work (works.Derive size) = to_derive size
+
 abbrev pub seen_command : Command → Asked
 seen_command (asks.CreateKeyset template output) = create_keyset template.now (seen_place output)
 seen_command (asks.EditKeyset edit input output) =
@@ -240,7 +329,7 @@ seen_command (asks.ListKeyset input) = list_keyset (seen_place input)
 seen_command (asks.ConvertKeyset input output) =
     convert_keyset (seen_place input) (seen_place output)
 seen_command asks.ListKeyTemplates = list_key_templates
-seen_command (asks.Tag keyset form) = tag keyset.now form
+seen_command (asks.UseKeyset keyset form work) = use_keyset keyset.now form (seen_work work)
 
 -- the values, which the code keeps at the places of their options
 abbrev pub seen_values : List (Option (Bor (List ℕ))) → Values

@@ -1,12 +1,12 @@
 //! Laws of the definitions. These functions do nothing: their contracts are the laws.
 
 ghost use Rattle.tinkey_run.specs.Grammar.{PlacesAreDecided, WordsAreSpelled};
-ghost use Rattle.tinkey_run.specs.TagAnswers.{FitKeysetsTag};
+ghost use Rattle.tinkey_run.specs.Laws.{FitKeysetsAnswer};
 
-/// A keyset without a fault, each ENABLED record of which gives a key for tags, has a tag for all
-/// data.
-pub fn fit_keysets_tag()
-    ensures { FitKeysetsTag }
+/// A keyset without a fault, each ENABLED record of which can serve, has a primary key under its
+/// table, and what that makes is there for every input.
+pub fn fit_keysets_answer()
+    ensures { FitKeysetsAnswer }
 {}
 
 /// The place of a word at fault depends on the words up to it alone.

@@ -21,6 +21,15 @@ pub(crate) fn report<G: Sink>(diag: &mut G, status: Status)
     }
 }
 
+/// Tells on `diag` that memory was refused, where it was before a run. The answer is that status.
+pub fn starve<G: Sink>(diag: &mut G) -> Status
+    ensures status { result ≡ Status.NoMemory }
+    ensures line { Reports result (G.state diag.old) (G.state diag.new) }
+{
+    report(diag, Status::NoMemory);
+    Status::NoMemory
+}
+
 /// The line of a status.
 #[tactic(auto, unfolding(crate::specs::Status::line_of))]
 fn line(status: Status) -> Line
@@ -44,6 +53,8 @@ fn push_text(line: &mut Line, status: Status)
 {
     match status {
         Status::Done => {}
+        Status::OpenFailed => line.push("open failed"),
+        Status::VerifyFailed => line.push("verify failed"),
         Status::Usage(word) => {
             line.push("usage: word ");
             line.push_number(word);
@@ -64,9 +75,16 @@ fn push_text(line: &mut Line, status: Status)
             line.push(" is not valid: ");
             line.push(rule_name(rule));
         }
+        Status::NotRaw(i) => push_key(line, i, " is not RAW"),
         Status::InputTooLong => line.push("input too long"),
         Status::UnknownTemplate => line.push("unknown key template"),
         Status::AsymmetricTemplate => line.push("asymmetric key template"),
+        Status::OutputTooLong(asked, greatest) => {
+            line.push("output too long: ");
+            line.push_number(asked);
+            line.push(" over ");
+            line.push_number(greatest);
+        }
         Status::Command(fault) => push_refusal(line, fault),
         Status::OutExists => line.push("output file exists"),
         Status::EntropyFault => line.push("entropy fault"),

@@ -16,6 +16,10 @@ use tinkey_cmds::CmdFault;
 pub enum Status {
     /// The command was done.
     Done,
+    /// No key of the keyset opens the input.
+    OpenFailed,
+    /// The tag is none of the keyset's keys.
+    VerifyFailed,
     /// The word of this place is at fault, or missing where it is the number of words.
     Usage(usize),
     /// The field whose tag has this place can't be cut or read.
@@ -34,12 +38,16 @@ pub enum Status {
     NoManager(usize),
     /// The record of this place breaks this rule of its key message, the first one.
     BadKey(usize, Rule),
+    /// The record of this place has an output prefix, where the command has no place for one.
+    NotRaw(usize),
     /// The input has more than 16,777,216 bytes.
     InputTooLong,
     /// No template is known by the name.
     UnknownTemplate,
     /// The template is one of Tink for asymmetric keys.
     AsymmetricTemplate,
+    /// So many bytes were asked for, and the primary key gives at most so many.
+    OutputTooLong(usize, usize),
     /// The edit is refused so.
     Command(CmdFault),
     /// A file of the output's name is there.
@@ -65,13 +73,18 @@ impl Status {
     {
         match self {
             Status::Done => 0,
-            Status::Usage(_) | Status::UnknownTemplate | Status::AsymmetricTemplate => 2,
+            Status::OpenFailed | Status::VerifyFailed => 1,
+            Status::Usage(_)
+            | Status::UnknownTemplate
+            | Status::AsymmetricTemplate
+            | Status::OutputTooLong(_, _) => 2,
             Status::BadProto(_)
             | Status::NotJson
             | Status::Shape(_)
             | Status::Keyset(_)
             | Status::NoManager(_)
-            | Status::BadKey(_, _) => 3,
+            | Status::BadKey(_, _)
+            | Status::NotRaw(_) => 3,
             Status::InMissing | Status::Command(_) | Status::OutExists => 4,
             Status::ReadFault | Status::WriteFault | Status::EntropyFault | Status::StoreFault => 5,
             Status::KeysetTooLong | Status::InputTooLong => 6,

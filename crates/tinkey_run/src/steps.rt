@@ -123,11 +123,12 @@ fn refusal(e: ReadError) -> Status
     }
 }
 
-/// The whole input.
+/// The whole input, of at most 2^24 bytes.
 pub(crate) fn read_input<S: Source>(alloc: Global, source: &mut S) -> Result<Bytes, Status>
-    ensures { (w : World) → Passes reads_input
+    ensures passes { (w : World) → Passes reads_input
         (record w { source = S.state source.old }) result
         (record w { source = S.state source.new }) }
+    ensures within { IfOk result (λ input. length input ≤ 2 ^ 24) }
 {
     match read_all(alloc, source, INPUT_LIMIT) {
         Ok(data) => Ok(Bytes::own(data)),

@@ -13,15 +13,17 @@ use crate::list::list_keyset;
 use crate::output::{finish, finish_keyset};
 use crate::report::report;
 use crate::steps::take_keyset;
-use crate::tag::tag;
 use crate::templates::list_templates;
+use crate::using::use_keyset;
 use crate::words::{Command, parse};
+use managers::{KeyTable, Managers};
 use std::alloc::Global;
 use tink_base::{Entropy, Sink, Source, Store};
 
-/// Does what the words after the program's name ask for, and tells on `diag` what went wrong.
+/// Does what the words after the program's name ask for, and tells on `diag` what went wrong. Keys
+/// are used through the managers handed in.
 ///
-/// `promised` is over the plan of the words, in its parts: `answer` is the stated answer, over
+/// `promised` is over the plan of the words under the table of these managers, in its parts: `answer` is the stated answer, over
 /// objects that tell; `cause`, `shown` and `leaves` say when a fault comes, that none is hidden, and
 /// what was taken and written; `stands` says what the sink holds after any status; `complete` says
 /// that the status is a stated one where nothing fails and memory suffices; `ends`, from which they
@@ -29,18 +31,20 @@ use tink_base::{Entropy, Sink, Source, Store};
 pub fn run<S: Source, K: Sink, G: Sink, E: Entropy, D: Store>(
     alloc: Global,
     words: &[String],
+    managers: &Managers,
     source: &mut S,
     sink: &mut K,
     diag: &mut G,
     entropy: &mut E,
     store: &mut D,
 ) -> Status
-    ensures promised { Promised (plan_of (map string_bytes words.now))
+    ensures promised { Promised
+        (plan_of (⟦<Managers as KeyTable>⟧.table managers.now) (map string_bytes words.now))
         (world (S.state source.old) (K.state sink.old) (D.state store.old) (E.state entropy.old)) result
         (world (S.state source.new) (K.state sink.new) (D.state store.new) (E.state entropy.new)) }
     ensures line { Reports result (G.state diag.old) (G.state diag.new) }
 {
-    let status = obey(alloc, words, source, sink, entropy, store);
+    let status = obey(alloc, words, managers, source, sink, entropy, store);
     report(diag, status);
     status
 }
@@ -49,17 +53,19 @@ pub fn run<S: Source, K: Sink, G: Sink, E: Entropy, D: Store>(
 fn obey<S: Source, K: Sink, E: Entropy, D: Store>(
     alloc: Global,
     words: &[String],
+    managers: &Managers,
     source: &mut S,
     sink: &mut K,
     entropy: &mut E,
     store: &mut D,
 ) -> Status
-    ensures { Ends (plan_of (map string_bytes words.now))
+    ensures { Ends
+        (plan_of (⟦<Managers as KeyTable>⟧.table managers.now) (map string_bytes words.now))
         (world (S.state source.old) (K.state sink.old) (D.state store.old) (E.state entropy.old)) result
         (world (S.state source.new) (K.state sink.new) (D.state store.new) (E.state entropy.new)) }
 {
     match parse(words) {
-        Ok(command) => dispatch(alloc, command, source, sink, entropy, store),
+        Ok(command) => dispatch(alloc, command, managers, source, sink, entropy, store),
         Err(word) => Status::Usage(word),
     }
 }
@@ -68,12 +74,14 @@ fn obey<S: Source, K: Sink, E: Entropy, D: Store>(
 fn dispatch<S: Source, K: Sink, E: Entropy, D: Store>(
     alloc: Global,
     command: Command<'_>,
+    managers: &Managers,
     source: &mut S,
     sink: &mut K,
     entropy: &mut E,
     store: &mut D,
 ) -> Status
-    ensures { Ends (command_plan (seen_command command.entry))
+    ensures { Ends
+        (command_plan (⟦<Managers as KeyTable>⟧.table managers.now) (seen_command command.entry))
         (world (S.state source.old) (K.state sink.old) (D.state store.old) (E.state entropy.old)) result
         (world (S.state source.new) (K.state sink.new) (D.state store.new) (E.state entropy.new)) }
 {
@@ -99,6 +107,9 @@ fn dispatch<S: Source, K: Sink, E: Entropy, D: Store>(
             finish_keyset(alloc, output, sink, store, taken)
         }
         Command::ListKeyTemplates => list_templates(sink),
-        Command::Tag { keyset, form } => finish(sink, tag(alloc, keyset, form, source, store)),
+        Command::UseKeyset { keyset, form, work } => finish(
+            sink,
+            use_keyset(alloc, managers, keyset, form, work, source, entropy, store),
+        ),
     }
 }

@@ -2,11 +2,11 @@
 
 ghost use Rattle.std.specs.Prelude.{◌≡◌, ◌<◌, Some, length, map, option_map, slice_set, string_bytes};
 ghost use Rattle.tinkey_run.specs.Rows.{option_of};
-ghost use Rattle.tinkey_run.specs.Words.{words_of, given_in, next_word, option_word, own_value, new_option, with_value, no_options, has_required, complete, asked_with, text, number, id, template, edited, seen_command, seen_edit, seen_name, seen_options, Reads, form_in, taken_from, put_to, seen_place};
+ghost use Rattle.tinkey_run.specs.Words.{words_of, given_in, next_word, option_word, own_value, is_barred, new_option, with_value, no_options, has_required, complete, asked_with, text, number, id, template, ad, edited, worked, seen_command, seen_datum, seen_edit, seen_name, seen_options, seen_work, Reads, form_in, taken_from, put_to, seen_place};
 
 mod rows;
 
-pub use rows::Format;
+pub use rows::{DATUM_LIMIT, Format};
 use rows::{
     CommandName, OPTION_COUNT, OptionName, command_named, format_named, is_value, number_named,
     option_named, takes,
@@ -45,13 +45,43 @@ pub enum Command<'a> {
     },
     /// List the names of the templates.
     ListKeyTemplates,
-    /// Tag the input.
-    Tag {
+    /// Work on the input, by the keys of a keyset.
+    UseKeyset {
         /// The file of the keyset.
         keyset: &'a str,
         /// The form of the keyset.
         form: Format,
+        /// What is done.
+        work: Work<'a>,
     },
+}
+
+/// What is done with the whole input by the keys of a keyset.
+#[derive(Clone, Copy)]
+pub enum Work<'a> {
+    /// Seal it, with this associated data.
+    Seal(Datum<'a>),
+    /// Open it, with this associated data.
+    Open(Datum<'a>),
+    /// Seal it without an IV, with this associated data.
+    Dseal(Datum<'a>),
+    /// Open what was sealed without an IV, with this associated data.
+    Dopen(Datum<'a>),
+    /// Tag it.
+    Tag,
+    /// Compare its tag with this one.
+    Verify(Datum<'a>),
+    /// Derive so many bytes from it.
+    Derive(u32),
+}
+
+/// Bytes that stand in a word.
+#[derive(Clone, Copy)]
+pub enum Datum<'a> {
+    /// As they are.
+    Plain(&'a str),
+    /// In hexadecimal.
+    Hex(&'a str),
 }
 
 /// Where a keyset is taken from or put.
@@ -155,10 +185,15 @@ fn command_with<'a>(command: CommandName, given: &Options<'a>) -> Command<'a>
             output: given.put_to(),
         },
         CommandName::ListKeyTemplates => Command::ListKeyTemplates,
-        CommandName::Tag => Command::Tag {
-            keyset: given.text(OptionName::Keyset),
-            form: given.form(OptionName::KeysetFormat),
-        },
+        CommandName::Seal => given.worked(Work::Seal(given.ad())),
+        CommandName::Open => given.worked(Work::Open(given.ad())),
+        CommandName::Dseal => given.worked(Work::Dseal(given.ad())),
+        CommandName::Dopen => given.worked(Work::Dopen(given.ad())),
+        CommandName::Tag => given.worked(Work::Tag),
+        CommandName::Verify => given.worked(Work::Verify(Datum::Hex(given.text(
+            OptionName::TagHex,
+        )))),
+        CommandName::Derive => given.worked(Work::Derive(given.number(OptionName::Length))),
     }
 }
 
@@ -231,6 +266,41 @@ impl<'a> Options<'a> {
         Place {
             file: self.value(OptionName::Out),
             form: self.form(OptionName::OutFormat),
+        }
+    }
+
+    /// The associated data.
+    fn ad(&self) -> Datum<'a>
+        ensures { seen_datum result ≡ ad (seen_options self.now).values }
+    {
+        match self.value(OptionName::Ad) {
+            Some(text) => Datum::Plain(text),
+            None => Datum::Hex(self.text(OptionName::AdHex)),
+        }
+    }
+
+    /// Work by the keys of a keyset.
+    fn worked(&self, work: Work<'a>) -> Command<'a>
+        ensures { seen_command result
+            ≡ worked (seen_work work.entry) (seen_options self.now).values }
+    {
+        Command::UseKeyset {
+            keyset: self.text(OptionName::Keyset),
+            form: self.form(OptionName::KeysetFormat),
+            work,
+        }
+    }
+
+    /// The option was given before, or one that excludes it.
+    fn is_barred(&self, name: OptionName) -> bool
+        ensures { result ≡ is_barred name (seen_options self.now) }
+    {
+        if self.value(name).is_some() {
+            return true;
+        }
+        match name.rival() {
+            Some(other) => self.value(other).is_some(),
+            None => false,
         }
     }
 
@@ -323,7 +393,7 @@ fn own_value(word: &str) -> Option<(&str, &str)>
     word.split_once('=')
 }
 
-/// The option of this name, one of the command's that isn't given yet.
+/// The option of this name, one of the command's that isn't given yet, and none that excludes it.
 fn new_option(
     command: CommandName,
     name: &str,
@@ -334,7 +404,7 @@ fn new_option(
 {
     match option_named(name) {
         Some(name) => {
-            if takes(command, name) && so_far.value(name).is_none() {
+            if takes(command, name) && !so_far.is_barred(name) {
                 Ok(name)
             } else {
                 Err(place)

@@ -116,13 +116,43 @@ const CAMEL_JSON: &str =
 ///
 /// An item is hexadecimal digits (`0a2b`), digits with their count (`20x0b`), a name from the list
 /// in `named`, whole (`GCM`) or from a place to another (`GCM[5..]`, `GCM[..5]`, `GCM[9..57]`), or
-/// a text between backquotes, which has no space, and each of whose `'` stands for `"`.
+/// a text between backquotes, which has no space, and each of whose `'` stands for `"`. The items
+/// between `12(` and `)` are a message behind the tag `12` and its size.
 pub(crate) fn bytes_of(alloc: Global, cell: &str) -> Result<Vec<u8>, Fail> {
+    let mut around = Vec::new(alloc);
     let mut bytes = Vec::new(alloc);
     for item in cell.split_whitespace() {
-        push_item(alloc, &mut bytes, item)?;
+        if let Some(tag) = item.strip_suffix('(') {
+            push_item(alloc, &mut bytes, tag)?;
+            around.push(bytes)?;
+            bytes = Vec::new(alloc);
+        } else if item == ")" {
+            let message = bytes;
+            bytes = around.pop().ok_or("a ( before a )")?;
+            push_size(&mut bytes, message.len())?;
+            bytes.extend_from_slice(&message)?;
+        } else {
+            push_item(alloc, &mut bytes, item)?;
+        }
     }
-    Ok(bytes)
+    if around.is_empty() {
+        Ok(bytes)
+    } else {
+        Err("a ) behind each (")?
+    }
+}
+
+/// Appends a size as a varint of one byte or two.
+fn push_size(bytes: &mut Vec<u8>, size: usize) -> Result<(), Fail> {
+    if size < 128 {
+        bytes.push(u8::try_from(size)?)?;
+    } else if size < 16384 {
+        bytes.push(u8::try_from((size % 128).saturating_add(128))?)?;
+        bytes.push(u8::try_from(size / 128)?)?;
+    } else {
+        return Err(Fail::new(format_args!("a message of {size} bytes")));
+    }
+    Ok(())
 }
 
 /// Appends the bytes of one item.

@@ -5,7 +5,11 @@
 #![tactic(auto)]
 
 #[cfg(test)]
+mod aead;
+#[cfg(test)]
 mod bytes;
+#[cfg(test)]
+mod changed;
 #[cfg(test)]
 mod create;
 #[cfg(test)]
@@ -15,9 +19,13 @@ mod enabling;
 #[cfg(test)]
 mod faults;
 #[cfg(test)]
+mod handed;
+#[cfg(test)]
 mod json;
 #[cfg(test)]
 mod json_members;
+#[cfg(test)]
+mod keysets;
 #[cfg(test)]
 mod limits;
 #[cfg(test)]
@@ -25,10 +33,18 @@ mod list_keyset;
 #[cfg(test)]
 mod objects;
 #[cfg(test)]
+mod published;
+#[cfg(test)]
 mod records;
 #[cfg(test)]
 mod rows;
 #[cfg(test)]
+mod strange;
+#[cfg(test)]
 mod tag;
+#[cfg(test)]
+mod tink;
+#[cfg(test)]
+mod verify;
 #[cfg(test)]
 mod words;

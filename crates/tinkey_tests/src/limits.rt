@@ -1,5 +1,7 @@
-//! Keysets of 1,000 keys, which is the most that one may have.
+//! Keysets of 1,000 keys, which is the most that one may have; keysets of a hundred keys that serve; and
+//! the longest bytes in words.
 
+use crate::keysets::{run_by_keyset, run_by_keysets};
 use crate::rows::{Column, rows_of, run_row};
 use std::alloc::Global;
 use std::test::Fail;
@@ -42,6 +44,49 @@ fn takes_1000_keys(rt: HostRuntime) -> Result<(), Fail> {
         let output = row.cell(Column::Output).replace(alloc, '?', &keys)?;
         let filled = row.with(Column::Input, &input);
         run_row(alloc, &filled.with(Column::Output, &output))?;
+    }
+    Ok(())
+}
+
+// `*9` is nine digits 0. The tag under the longest associated data is by Python's cryptography.
+const LONGEST: &str = "random: 12x00
+
+shows | words | file | input | status | line | output | drawn
+--ad of 1,048,576 bytes | seal --ad *1048576 | GCM | | 0 Done | | 0101020304 12x00 8222a94721f554c53721e05293e9565d | 12
+one byte more | seal --ad=*1048577 | GCM | | 2 Usage(1) | tinkey: usage: word 1 | | 0
+--ad-hex of 2,097,154 digits | dopen --ad-hex *2097154 | GCM | | 2 Usage(2) | tinkey: usage: word 2 | | 0
+--tag-hex of 2,097,152 digits | verify --tag-hex *2097152 | HMAC | | 1 VerifyFailed | tinkey: verify failed | | 0
+two digits more | verify --tag-hex *2097154 | HMAC | | 2 Usage(2) | tinkey: usage: word 2 | | 0
+";
+
+#[test]
+fn takes_words_up_to_their_limits(rt: HostRuntime) -> Result<(), Fail> {
+    run_by_keysets(rt.alloc(), LONGEST, 5)
+}
+
+// The keyset is 99 RAW keys of 16 bytes 0xff, and behind them the key of the cell. The answer is AES-GCM's
+// second case.
+const HUNDRED: &str =
+    "input: 12x00 0388dace60b6a392f328c2b971b2fe78 ab6e47d42cec13bdf53a67b21257bddf
+
+shows | words | file | status | line | output
+the last RAW key opens | open | ENABLED RAW 64 @AesGcmKey 1a10 16x00 | 0 Done | | 16x00
+no key opens | open | ENABLED RAW 64 @AesGcmKey 1a10 16xfe | 1 OpenFailed | tinkey: open failed |
+the last key is DISABLED | open | DISABLED RAW 64 @AesGcmKey 1a10 16x00 | 1 OpenFailed | tinkey: open failed |
+the last key is broken | open | ENABLED RAW 64 @AesGcmKey 1a0f 15x00 | 3 BadKey(99, KeySize) | tinkey: key 99 is not valid: key size |
+";
+
+#[test]
+fn tries_a_hundred_keys(rt: HostRuntime) -> Result<(), Fail> {
+    let alloc = rt.alloc();
+    let mut keys = String::from_str(alloc, "01")?;
+    for id in 1..100 {
+        let key = format!(in alloc; "; ENABLED RAW {id:02x} @AesGcmKey 1a10 16xff")?;
+        keys.push_str(&key)?;
+    }
+    for row in &rows_of(alloc, HUNDRED, 4)? {
+        let file = format!(in alloc; "{keys}; {}", row.cell(Column::File))?;
+        run_by_keyset(alloc, &row.with(Column::File, &file))?;
     }
     Ok(())
 }

@@ -1,13 +1,16 @@
 //! Runs over objects in memory.
 
+use crate::handed::run_under;
 use std::alloc::Global;
 use std::test::Fail;
 use tink_base::{MemEntropy, MemSink, MemSource, MemStore};
-use tinkey_run::{Status, run};
+use tinkey_run::Status;
 
 /// The objects of a run.
 #[derive(Drop)]
 pub(crate) struct Objects<'a> {
+    /// The managers of keys, as `handed.rt` names them.
+    pub(crate) managers: &'a str,
     /// How many bytes they move at a time, at least 1.
     pub(crate) piece: usize,
     /// The call that fails: its name, and its number among those of this name, from 1.
@@ -42,6 +45,7 @@ pub(crate) fn run_over(
     objects: Objects<'_>,
 ) -> Result<Outcome, Fail> {
     let Objects {
+        managers,
         piece,
         fails,
         file,
@@ -50,23 +54,25 @@ pub(crate) fn run_over(
     } = objects;
     let piece = piece.max(1);
     let given = random.len();
+    let room = input.len().saturating_add(1 << 16);
     let mut source = MemSource::new(input, piece, calls(alloc, fails, "read")?);
-    let mut sink = MemSink::new(alloc, 1 << 16, piece, calls(alloc, fails, "write")?)?;
+    let mut sink = MemSink::new(alloc, room, piece, calls(alloc, fails, "write")?)?;
     let mut diag = MemSink::new(alloc, 256, piece, calls(alloc, fails, "line")?)?;
     let mut store = MemStore::new(alloc, calls(alloc, fails, "store")?);
     let mut entropy = MemEntropy::new(random, calls(alloc, fails, "fill")?);
     if let Some(bytes) = file {
         store.put("k", bytes)?;
     }
-    let status = run(
+    let status = run_under(
         alloc,
+        managers,
         words,
         &mut source,
         &mut sink,
         &mut diag,
         &mut entropy,
         &mut store,
-    );
+    )?;
     assert_kept(&store, file)?;
     Ok(Outcome {
         status,

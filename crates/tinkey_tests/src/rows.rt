@@ -14,7 +14,8 @@ use std::test::Fail;
 pub(crate) enum Column {
     /// What the row shows.
     Shows,
-    /// The words behind the program's name, with spaces between them.
+    /// The words behind the program's name, with spaces between them. `''` is the
+    /// empty word, and a word ends with nine digits 0 for `*9`.
     Words,
     /// The bytes of the file `k`, or `none` where there is none.
     File,
@@ -31,30 +32,32 @@ pub(crate) enum Column {
     Status,
     /// The diagnostic line without its newline; with `..` at the end, the front of it that is there.
     Line,
-    /// The bytes of the output.
+    /// The bytes of the output; of a long one the first, behind `~` their count, and the last.
     Output,
     /// The bytes of the new file `n`, or `none` where there is none.
     Made,
     /// How many random bytes were drawn.
     Drawn,
+    /// The managers of keys, as `handed.rt` names them.
+    Managers,
 }
 
 /// The names of the columns, in their order.
-const NAMES: [&str; 12] = [
+const NAMES: [&str; 13] = [
     "shows", "words", "file", "input", "random", "piece", "fails", "status", "line", "output",
-    "made", "drawn",
+    "made", "drawn", "managers",
 ];
 
 /// What a row runs, and how the run has to end: a cell for each column.
 #[derive(Clone, Copy)]
 pub(crate) struct Row<'a> {
-    cells: [&'a str; 12],
+    cells: [&'a str; 13],
 }
 
 /// The row that a table starts from: nothing fails, and nothing is written.
 pub(crate) const PLAIN: Row<'static> = Row {
     cells: [
-        "", "", "none", "", "", "4096", "none 0", "", "", "", "none", "0",
+        "", "", "none", "", "", "4096", "none 0", "", "", "", "none", "0", "program",
     ],
 };
 
@@ -136,7 +139,7 @@ pub(crate) fn run_row(alloc: Global, row: &Row<'_>) -> Result<(), Fail> {
     if got.line.as_slice() != line_of(alloc, row.cell(Column::Line))?.as_bytes() {
         return Err(unlike(row, &status, "line"));
     }
-    if got.output.as_slice() != bytes_of(alloc, row.cell(Column::Output))?.as_slice() {
+    if !is_output(alloc, &got.output, row.cell(Column::Output))? {
         return Err(unlike(row, &status, "output"));
     }
     if got.made.as_deref() != file_of(alloc, row.cell(Column::Made))?.as_deref() {
@@ -146,6 +149,23 @@ pub(crate) fn run_row(alloc: Global, row: &Row<'_>) -> Result<(), Fail> {
         return Err(unlike(row, &status, "count of random bytes"));
     }
     Ok(())
+}
+
+/// The output is as its cell tells.
+fn is_output(alloc: Global, output: &[u8], cell: &str) -> Result<bool, Fail> {
+    let Some((first, rest)) = cell.split_once('~') else {
+        return Ok(output == bytes_of(alloc, cell)?.as_slice());
+    };
+    let (count, last) = rest.split_once(' ').ok_or("a count and the last bytes")?;
+    let count = count.parse::<usize>()?;
+    let first = bytes_of(alloc, first)?;
+    let last = bytes_of(alloc, last)?;
+    let from = count.saturating_sub(last.len());
+    Ok(
+        output.len() == count
+            && output.get(..first.len()) == Some(first.as_slice())
+            && output.get(from..) == Some(last.as_slice()),
+    )
 }
 
 /// The failure of a row that ended with this status, and whose part of this name isn't the row's.
@@ -162,10 +182,11 @@ fn unlike(row: &Row<'_>, status: &str, part: &str) -> Fail {
 fn outcome_of(alloc: Global, row: &Row<'_>) -> Result<Outcome, Fail> {
     let mut words = Vec::new(alloc);
     for word in row.cell(Column::Words).split_whitespace() {
-        words.push(String::from_str(alloc, word)?)?;
+        words.push(word_of(alloc, word)?)?;
     }
     let file = file_of(alloc, row.cell(Column::File))?;
     let objects = Objects {
+        managers: row.cell(Column::Managers),
         piece: row.cell(Column::Piece).parse::<usize>()?,
         fails: failing(row.cell(Column::Fails))?,
         file: file.as_deref(),
@@ -173,6 +194,19 @@ fn outcome_of(alloc: Global, row: &Row<'_>) -> Result<Outcome, Fail> {
         random: bytes_of(alloc, row.cell(Column::Random))?,
     };
     run_over(alloc, &words, objects)
+}
+
+/// The word that is written so.
+fn word_of(alloc: Global, written: &str) -> Result<String, Fail> {
+    if written == "''" {
+        Ok(String::new(alloc))
+    } else if let Some((front, count)) = written.split_once('*') {
+        let mut word = String::from_str(alloc, front)?;
+        word.push_str(&"0".repeat(alloc, count.parse::<usize>()?)?)?;
+        Ok(word)
+    } else {
+        Ok(String::from_str(alloc, written)?)
+    }
 }
 
 /// The bytes of a file that a cell tells, where there is one.

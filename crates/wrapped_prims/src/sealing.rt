@@ -1,10 +1,10 @@
 //! Sealing with an IV.
 
-ghost use Rattle.std.specs.Prelude.{◌≡◌, ◌⊎◌, ◌++◌, ◌^◌, ◌≤◌, [], length, Err, IfOk, IfErr, OnOk, slice_get};
+ghost use Rattle.std.specs.Prelude.{◌≡◌, ◌⊎◌, ◌++◌, ◌^◌, ◌<◌, ◌≤◌, [], length, Err, IfOk, IfErr, OnOk, OnErr, slice_get};
 ghost use Rattle.key_msgs.specs.declared.primitive.Primitive.TheVariants.{Aead};
 ghost use Rattle.keyset_model.specs.Keyset.{Keys};
 ghost use Rattle.managers.specs.Uses.{iv_size, seal_of};
-ghost use Rattle.tink_spec.specs.Outside.{Stood};
+ghost use Rattle.tink_spec.specs.Outside.{Drew, RanShort, Stood};
 ghost use Rattle.wrapped_prims.specs.Candidates.{prefix_bytes};
 ghost use Rattle.wrapped_prims.specs.Held.{IsServedBy};
 ghost use Rattle.wrapped_prims.specs.Making.{IsOver};
@@ -16,7 +16,7 @@ use crate::making::{behind_prefix, primary};
 use key_msgs::Primitive;
 use managers::{AeadManager, KeyTable, Managers};
 use std::alloc::Global;
-use tink_base::{Entropy, NoMemory};
+use tink_base::{Entropy, Failed, NoMemory};
 
 /// Why nothing was sealed.
 #[derive(Clone, Copy, Debug, PartialEq, Eq)]
@@ -25,6 +25,22 @@ pub enum SealFault {
     EntropyFault,
     /// Memory was refused.
     NoMemory,
+}
+
+// Fills an IV with random bytes, in one fill. For an IV of no bytes nothing is drawn.
+fn draw_iv<E: Entropy>(entropy: &mut E, iv: &mut [u8]) -> Result<(), Failed>
+    ensures drew { OnOk result (Drew (E.state entropy.old) (E.state entropy.new) iv.new) }
+    ensures no_fault { OnOk result (Stood (E.state entropy.old).faults (E.state entropy.new).faults) }
+    ensures size { length iv.new ≡ length iv.old }
+    ensures some { OnErr result (0 < length iv.old) }
+    ensures short { OnErr result
+        (RanShort (E.state entropy.old) (E.state entropy.new) (length iv.old)) }
+    ensures kept { OnErr result (Drew (E.state entropy.old) (E.state entropy.new) []) }
+{
+    if iv.is_empty() {
+        return Ok(());
+    }
+    entropy.fill(iv)
 }
 
 // Seals under a kept key, behind its prefix.
@@ -51,7 +67,7 @@ fn seal_kept<E: Entropy>(
     let Ok(mut iv) = vec![in alloc; 0; manager.iv_size(&kept.key)] else {
         return Err(SealFault::NoMemory);
     };
-    if entropy.fill(&mut iv).is_err() {
+    if draw_iv(entropy, &mut iv).is_err() {
         return Err(SealFault::EntropyFault);
     }
     match sealed_behind(managers, alloc, kept, &iv, plain, ad) {
@@ -88,8 +104,8 @@ impl Handle<'_> {
     /// Seals a plaintext under the primary key: its prefix, IV, ciphertext and tag. Plaintext and
     /// associated data have at most 2^30 bytes each.
     ///
-    /// One IV is drawn, in one fill. `EntropyFault` comes only where the entropy failed at that, and
-    /// nothing was drawn then. After `NoMemory` nothing or the IV was drawn.
+    /// One IV is drawn, in one fill, unless it has no bytes. `EntropyFault` comes only where the
+    /// entropy failed at that, and nothing was drawn then. After `NoMemory` nothing or the IV was drawn.
     pub fn seal<E: Entropy>(
         &self,
         alloc: Global,

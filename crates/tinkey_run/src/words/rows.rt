@@ -2,7 +2,9 @@
 //! of their values.
 
 ghost use Rattle.std.specs.Prelude.{◌≡◌, ◌<◌};
-ghost use Rattle.tinkey_run.specs.Rows.{row, row_of, command_of, option_row, option_of, is_one_of, takes, number_of, format_of, is_value, seen_row};
+ghost use Rattle.std.specs.List.{list_all};
+ghost use Rattle.hex.specs.Hex.{is_hex_digit};
+ghost use Rattle.tinkey_run.specs.Rows.{row, row_of, command_of, option_row, option_of, rival, is_one_of, takes, number_of, format_of, is_hex, is_value, seen_row};
 
 /// A command by its name.
 #[derive(Clone, Copy)]
@@ -29,8 +31,20 @@ pub enum CommandName {
     ConvertKeyset,
     /// `list-key-templates`
     ListKeyTemplates,
+    /// `seal`
+    Seal,
+    /// `open`
+    Open,
+    /// `dseal`
+    Dseal,
+    /// `dopen`
+    Dopen,
     /// `tag`
     Tag,
+    /// `verify`
+    Verify,
+    /// `derive`
+    Derive,
 }
 
 /// An option by its name.
@@ -52,10 +66,21 @@ pub enum OptionName {
     Keyset,
     /// `--keyset-format`, the form of that keyset.
     KeysetFormat,
+    /// `--ad`, the associated data.
+    Ad,
+    /// `--ad-hex`, the associated data in hexadecimal.
+    AdHex,
+    /// `--tag-hex`, the tag that is verified, in hexadecimal.
+    TagHex,
+    /// `--length`, how many bytes are derived.
+    Length,
 }
 
 /// How many options there are.
-pub const OPTION_COUNT: usize = 8;
+pub const OPTION_COUNT: usize = 12;
+
+/// How many bytes a datum may have that stands in a word.
+pub const DATUM_LIMIT: usize = 1_048_576;
 
 /// The form of a keyset.
 #[derive(Clone, Copy)]
@@ -77,6 +102,10 @@ pub enum Form {
     Number,
     /// The form of a keyset: `json` or `binary`, in letters of either case.
     Format,
+    /// A text of at most 1,048,576 bytes, which are meant.
+    Datum,
+    /// An even number of hexadecimal digits of either case, at most 2,097,152.
+    Hex,
 }
 
 /// A command's word, the options that it requires, and those that it may have.
@@ -111,7 +140,15 @@ impl CommandName {
             CommandName::ListKeyset => row("list-keyset", &[], &IN),
             CommandName::ConvertKeyset => row("convert-keyset", &[], &IN_AND_OUT),
             CommandName::ListKeyTemplates => row("list-key-templates", &[], &[]),
-            CommandName::Tag => row("tag", &[OptionName::Keyset], &[OptionName::KeysetFormat]),
+            CommandName::Seal => row("seal", &BY_KEYSET, &WITH_AD),
+            CommandName::Open => row("open", &BY_KEYSET, &WITH_AD),
+            CommandName::Dseal => row("dseal", &BY_KEYSET, &WITH_AD),
+            CommandName::Dopen => row("dopen", &BY_KEYSET, &WITH_AD),
+            CommandName::Tag => row("tag", &BY_KEYSET, &[OptionName::KeysetFormat]),
+            CommandName::Verify => row("verify", &BY_KEYSET_AND_TAG, &[OptionName::KeysetFormat]),
+            CommandName::Derive => {
+                row("derive", &BY_KEYSET_AND_LENGTH, &[OptionName::KeysetFormat])
+            }
         }
     }
 }
@@ -121,6 +158,16 @@ const BY_TEMPLATE: [OptionName; 1] = [OptionName::KeyTemplate];
 
 /// What a command requires that changes one of a keyset's keys.
 const BY_KEY: [OptionName; 1] = [OptionName::KeyId];
+
+/// What a command requires that uses the keys of a keyset.
+const BY_KEYSET: [OptionName; 1] = [OptionName::Keyset];
+
+const BY_KEYSET_AND_TAG: [OptionName; 2] = [OptionName::Keyset, OptionName::TagHex];
+
+const BY_KEYSET_AND_LENGTH: [OptionName; 2] = [OptionName::Keyset, OptionName::Length];
+
+/// What such a command may have that takes associated data.
+const WITH_AD: [OptionName; 3] = [OptionName::KeysetFormat, OptionName::Ad, OptionName::AdHex];
 
 /// Where a keyset is taken from.
 const IN: [OptionName; 2] = [OptionName::In, OptionName::InFormat];
@@ -165,6 +212,10 @@ impl OptionName {
             OptionName::OutFormat => option("--out-format", Form::Format),
             OptionName::Keyset => option("--keyset", Form::FileName),
             OptionName::KeysetFormat => option("--keyset-format", Form::Format),
+            OptionName::Ad => option("--ad", Form::Datum),
+            OptionName::AdHex => option("--ad-hex", Form::Hex),
+            OptionName::TagHex => option("--tag-hex", Form::Hex),
+            OptionName::Length => option("--length", Form::Number),
         }
     }
 
@@ -174,6 +225,17 @@ impl OptionName {
         ensures within { result < OPTION_COUNT }
     {
         self as usize
+    }
+
+    /// The option that must not stand beside this one.
+    pub fn rival(self) -> Option<OptionName>
+        ensures { result ≡ rival self }
+    {
+        match self {
+            OptionName::Ad => Some(OptionName::AdHex),
+            OptionName::AdHex => Some(OptionName::Ad),
+            _ => None,
+        }
     }
 }
 
@@ -185,7 +247,7 @@ fn option(word: &'static str, form: Form) -> OptionRow
 }
 
 /// All commands.
-const COMMANDS: [CommandName; 12] = [
+const COMMANDS: [CommandName; 18] = [
     CommandName::CreateKeyset,
     CommandName::AddKey,
     CommandName::RotateKeyset,
@@ -197,7 +259,13 @@ const COMMANDS: [CommandName; 12] = [
     CommandName::ListKeyset,
     CommandName::ConvertKeyset,
     CommandName::ListKeyTemplates,
+    CommandName::Seal,
+    CommandName::Open,
+    CommandName::Dseal,
+    CommandName::Dopen,
     CommandName::Tag,
+    CommandName::Verify,
+    CommandName::Derive,
 ];
 
 /// All options, in the order of their places.
@@ -210,6 +278,10 @@ const OPTIONS: [OptionName; OPTION_COUNT] = [
     OptionName::OutFormat,
     OptionName::Keyset,
     OptionName::KeysetFormat,
+    OptionName::Ad,
+    OptionName::AdHex,
+    OptionName::TagHex,
+    OptionName::Length,
 ];
 
 /// The command of this name.
@@ -257,7 +329,30 @@ pub fn is_value(form: Form, text: &str) -> bool
         Form::FileName => !text.is_empty(),
         Form::Number => number_named(text).is_some(),
         Form::Format => format_named(text).is_some(),
+        Form::Datum => text.len() <= DATUM_LIMIT,
+        Form::Hex => is_hex(text),
     }
+}
+
+/// An even number of hexadecimal digits, two for each byte of a datum.
+fn is_hex(text: &str) -> bool
+    ensures { result ≡ is_hex text.now }
+{
+    text.len() <= 2 * DATUM_LIMIT && text.len().is_multiple_of(2) && has_hex_digits(text)
+}
+
+/// Hexadecimal digits of either case, and nothing else.
+fn has_hex_digits(text: &str) -> bool
+    ensures { result ≡ list_all is_hex_digit text.now }
+{
+    text.bytes().all(|b| is_hex_digit(b))
+}
+
+/// A hexadecimal digit of either case.
+fn is_hex_digit(b: u8) -> bool
+    ensures { result ≡ is_hex_digit b }
+{
+    matches!(b, b'0'..=b'9' | b'a'..=b'f' | b'A'..=b'F')
 }
 
 /// The form of a keyset of this name.

@@ -1,7 +1,8 @@
-use Rattle.tinkey_run.specs.Commands.{create_output, edit_output, list_keyset_output, tag_output}
+use Rattle.tinkey_run.specs.Commands.{create_output, edit_output, list_keyset_output}
 use Rattle.tinkey_run.specs.Ends.{world}
 use Rattle.tinkey_run.specs.Steps.{takes_keyset}
-use Rattle.tinkey_run.specs.Words.{seen_edit, seen_place}
+use Rattle.tinkey_run.specs.Using.{use_output}
+use Rattle.tinkey_run.specs.Words.{seen_edit, seen_place, seen_work}
 use Rattle.tinkey_run.proofs.top.dispatch.Goals as goal
 
 pub returns-in-CreateKeyset : goal.returns-in-CreateKeyset
@@ -29,7 +30,8 @@ returns-in-ListKeyTemplates g c =
     let w = world (g.S.Source.state c.args.source.now) (g.K.Sink.state c.args.sink.now) (g.D.Store.state c.args.store.now) (g.E.Entropy.state c.args.entropy.now) in
     rw c.in-ListKeyTemplates.is (c.list_templates.ensures w)
 
-pub returns-in-Tag : goal.returns-in-Tag
-returns-in-Tag g c =
+pub returns-in-UseKeyset : goal.returns-in-UseKeyset
+returns-in-UseKeyset g c =
     let w = world (g.S.Source.state c.args.source.now) (g.K.Sink.state c.args.sink.now) (g.D.Store.state c.args.store.now) (g.E.Entropy.state c.args.entropy.now) in
-    rw c.in-Tag.is (c.finish-in-Tag.ensures (tag_output c.in-Tag.keyset.now c.in-Tag.form) w (record w { source = g.S.Source.state c.tag.new.source; store = g.D.Store.state c.tag.new.store }) (c.tag.ensures w))
+    let new = record w { source = g.S.Source.state c.use_keyset.new.source; entropy = g.E.Entropy.state c.use_keyset.new.entropy; store = g.D.Store.state c.use_keyset.new.store } in
+    rw c.in-UseKeyset.is (c.finish-in-UseKeyset.ensures (use_output _ c.in-UseKeyset.keyset.now c.in-UseKeyset.form (seen_work c.in-UseKeyset.work)) w new (c.use_keyset.ensures w))

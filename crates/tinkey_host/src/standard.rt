@@ -1,0 +1,187 @@
+//! Runs over the managers of the program.
+
+ghost use Rattle.std.specs.Prelude.{◌≡◌, map, string_bytes};
+ghost use Rattle.managers.specs.Standard.{standard_table};
+ghost use Rattle.tinkey_run.specs.Ends.{world};
+ghost use Rattle.tinkey_run.specs.Promises.{Promised};
+ghost use Rattle.tinkey_run.specs.Status.{Reports};
+ghost use Rattle.tinkey_host.specs.Program.{start_plan, IsStarted};
+
+use key_msgs::KeyType;
+use managers::{
+    AeadManager, CmacManager, CmacPrfManager, CtrHmacManager, DaeadManager, EaxManager, GcmManager,
+    HkdfPrfManager, HmacManager, HmacPrfManager, KeyList, MacManager, Managers, PrfManager,
+    SameUrl, SivManager,
+};
+use std::alloc::Global;
+use tink_base::{Entropy, NoMemory, Sink, Source, Store};
+use tinkey_run::{Status, run, starve};
+
+/// Runs the words over these objects, as `tinkey_run::run` does over a manager for each kind of key
+/// that isn't for streams, under the type URL of that kind.
+///
+/// The promises are those of `run` over the table of these managers, but that `NoMemory` may come
+/// before any other step too.
+pub fn start<S: Source, K: Sink, G: Sink, E: Entropy, D: Store>(
+    alloc: Global,
+    words: &[String],
+    source: &mut S,
+    sink: &mut K,
+    diag: &mut G,
+    entropy: &mut E,
+    store: &mut D,
+) -> Status
+    ensures promised { Promised (start_plan (map string_bytes words.now))
+        (world (S.state source.old) (K.state sink.old) (D.state store.old) (E.state entropy.old)) result
+        (world (S.state source.new) (K.state sink.new) (D.state store.new) (E.state entropy.new)) }
+    ensures line { Reports result (G.state diag.old) (G.state diag.new) }
+{
+    match with_prfs(alloc, words, source, sink, diag, entropy, store) {
+        Ok(status) => status,
+        Err(_) => starve(diag),
+    }
+}
+
+/// Makes the managers of pseudo-random functions, and goes on.
+fn with_prfs<S: Source, K: Sink, G: Sink, E: Entropy, D: Store>(
+    alloc: Global,
+    words: &[String],
+    source: &mut S,
+    sink: &mut K,
+    diag: &mut G,
+    entropy: &mut E,
+    store: &mut D,
+) -> Result<Status, NoMemory>
+    ensures { IsStarted (map string_bytes words.now)
+        (world (S.state source.old) (K.state sink.old) (D.state store.old) (E.state entropy.old))
+        (G.state diag.old) result
+        (world (S.state source.new) (K.state sink.new) (D.state store.new) (E.state entropy.new))
+        (G.state diag.new) }
+{
+    let mut prf: Vec<Box<dyn PrfManager>> = Vec::new(alloc);
+    let hkdf = String::from_str(alloc, KeyType::HkdfPrf.url())?;
+    prf.push(Box::new(alloc, HkdfPrfManager::new(hkdf))?)?;
+    let hmac = String::from_str(alloc, KeyType::HmacPrf.url())?;
+    prf.push(Box::new(alloc, HmacPrfManager::new(hmac))?)?;
+    let cmac = String::from_str(alloc, KeyType::CmacPrf.url())?;
+    prf.push(Box::new(alloc, CmacPrfManager::new(cmac))?)?;
+    with_aeads(alloc, words, prf, source, sink, diag, entropy, store)
+}
+
+/// Makes the managers of AEADs, and goes on.
+fn with_aeads<S: Source, K: Sink, G: Sink, E: Entropy, D: Store>(
+    alloc: Global,
+    words: &[String],
+    prf: Vec<Box<dyn PrfManager>>,
+    source: &mut S,
+    sink: &mut K,
+    diag: &mut G,
+    entropy: &mut E,
+    store: &mut D,
+) -> Result<Status, NoMemory>
+    requires prf { ⟦<Vec<Box<dyn PrfManager>> as KeyList>⟧.entries prf ≡ standard_table.prf }
+    ensures { IsStarted (map string_bytes words.now)
+        (world (S.state source.old) (K.state sink.old) (D.state store.old) (E.state entropy.old))
+        (G.state diag.old) result
+        (world (S.state source.new) (K.state sink.new) (D.state store.new) (E.state entropy.new))
+        (G.state diag.new) }
+{
+    let mut aead: Vec<Box<dyn AeadManager>> = Vec::new(alloc);
+    let gcm = String::from_str(alloc, KeyType::AesGcm.url())?;
+    aead.push(Box::new(alloc, GcmManager::new(gcm))?)?;
+    let eax = String::from_str(alloc, KeyType::AesEax.url())?;
+    aead.push(Box::new(alloc, EaxManager::new(eax))?)?;
+    let ctr_hmac = String::from_str(alloc, KeyType::AesCtrHmac.url())?;
+    aead.push(Box::new(alloc, CtrHmacManager::new(ctr_hmac))?)?;
+    with_macs(alloc, words, prf, aead, source, sink, diag, entropy, store)
+}
+
+/// Makes the managers of MACs, and goes on.
+fn with_macs<S: Source, K: Sink, G: Sink, E: Entropy, D: Store>(
+    alloc: Global,
+    words: &[String],
+    prf: Vec<Box<dyn PrfManager>>,
+    aead: Vec<Box<dyn AeadManager>>,
+    source: &mut S,
+    sink: &mut K,
+    diag: &mut G,
+    entropy: &mut E,
+    store: &mut D,
+) -> Result<Status, NoMemory>
+    requires prf { ⟦<Vec<Box<dyn PrfManager>> as KeyList>⟧.entries prf ≡ standard_table.prf }
+    requires aead { ⟦<Vec<Box<dyn AeadManager>> as KeyList>⟧.entries aead ≡ standard_table.aead }
+    ensures { IsStarted (map string_bytes words.now)
+        (world (S.state source.old) (K.state sink.old) (D.state store.old) (E.state entropy.old))
+        (G.state diag.old) result
+        (world (S.state source.new) (K.state sink.new) (D.state store.new) (E.state entropy.new))
+        (G.state diag.new) }
+{
+    let mut mac: Vec<Box<dyn MacManager>> = Vec::new(alloc);
+    let hmac = String::from_str(alloc, KeyType::Hmac.url())?;
+    mac.push(Box::new(alloc, HmacManager::new(hmac))?)?;
+    let cmac = String::from_str(alloc, KeyType::AesCmac.url())?;
+    mac.push(Box::new(alloc, CmacManager::new(cmac))?)?;
+    with_daead(
+        alloc, words, prf, aead, mac, source, sink, diag, entropy, store,
+    )
+}
+
+/// Makes the manager of the deterministic AEAD, and goes on.
+fn with_daead<S: Source, K: Sink, G: Sink, E: Entropy, D: Store>(
+    alloc: Global,
+    words: &[String],
+    prf: Vec<Box<dyn PrfManager>>,
+    aead: Vec<Box<dyn AeadManager>>,
+    mac: Vec<Box<dyn MacManager>>,
+    source: &mut S,
+    sink: &mut K,
+    diag: &mut G,
+    entropy: &mut E,
+    store: &mut D,
+) -> Result<Status, NoMemory>
+    requires prf { ⟦<Vec<Box<dyn PrfManager>> as KeyList>⟧.entries prf ≡ standard_table.prf }
+    requires aead { ⟦<Vec<Box<dyn AeadManager>> as KeyList>⟧.entries aead ≡ standard_table.aead }
+    requires mac { ⟦<Vec<Box<dyn MacManager>> as KeyList>⟧.entries mac ≡ standard_table.mac }
+    ensures { IsStarted (map string_bytes words.now)
+        (world (S.state source.old) (K.state sink.old) (D.state store.old) (E.state entropy.old))
+        (G.state diag.old) result
+        (world (S.state source.new) (K.state sink.new) (D.state store.new) (E.state entropy.new))
+        (G.state diag.new) }
+{
+    let mut daead: Vec<Box<dyn DaeadManager>> = Vec::new(alloc);
+    let siv = String::from_str(alloc, KeyType::AesSiv.url())?;
+    daead.push(Box::new(alloc, SivManager::new(siv))?)?;
+    run_over(
+        alloc, words, aead, daead, mac, prf, source, sink, diag, entropy, store,
+    )
+}
+
+/// Runs over all these managers.
+fn run_over<S: Source, K: Sink, G: Sink, E: Entropy, D: Store>(
+    alloc: Global,
+    words: &[String],
+    aead: Vec<Box<dyn AeadManager>>,
+    daead: Vec<Box<dyn DaeadManager>>,
+    mac: Vec<Box<dyn MacManager>>,
+    prf: Vec<Box<dyn PrfManager>>,
+    source: &mut S,
+    sink: &mut K,
+    diag: &mut G,
+    entropy: &mut E,
+    store: &mut D,
+) -> Result<Status, NoMemory>
+    requires aead { ⟦<Vec<Box<dyn AeadManager>> as KeyList>⟧.entries aead ≡ standard_table.aead }
+    requires daead { ⟦<Vec<Box<dyn DaeadManager>> as KeyList>⟧.entries daead ≡ standard_table.daead }
+    requires mac { ⟦<Vec<Box<dyn MacManager>> as KeyList>⟧.entries mac ≡ standard_table.mac }
+    requires prf { ⟦<Vec<Box<dyn PrfManager>> as KeyList>⟧.entries prf ≡ standard_table.prf }
+    ensures { IsStarted (map string_bytes words.now)
+        (world (S.state source.old) (K.state sink.old) (D.state store.old) (E.state entropy.old))
+        (G.state diag.old) result
+        (world (S.state source.new) (K.state sink.new) (D.state store.new) (E.state entropy.new))
+        (G.state diag.new) }
+{
+    match Managers::new(aead, daead, mac, prf) {
+        Ok(managers) => Ok(run(alloc, words, &managers, source, sink, diag, entropy, store)),
+        Err(SameUrl) => unreachable!(),
+    }
+}

@@ -1,0 +1,227 @@
+-- Work by the keys of a keyset, as steps.
+use Rattle.std.proofs.Common.{◌≡◌, ◌∙◌, refl, sym, ap, subst, inl, inr, ℕ, ◌+◌, ◌*◌, ◌<◌, Bool, true, false, List, [], ◌∷◌, ◌++◌, length, length-append, Option, Some, None, Result, Ok, Err, arith}
+use Rattle.std.specs.Prelude.{IfSome, IsSome, find, nat_lt, take, drop, option_map, if◌then◌else◌}
+use Rattle.std.specs.Option.{option_and_then}
+use Rattle.std.proofs.lemmas.Bool.Decides.{nat_tests}
+use Rattle.std.proofs.lemmas.List.{take_at, drop_at}
+use Rattle.hex.specs.Hex.{decode_of, decode_pairs}
+use Rattle.hex.specs.declared.error.FromHexError.{FromHexError}
+use Rattle.hex.specs.declared.error.FromHexError.TheVariants as hex_errors
+use Rattle.hex.proofs.HexLemmas.{decode_pairs-ok}
+use Rattle.key_msgs.specs.declared.key.KeyKind.{KeyKind}
+use Rattle.key_msgs.specs.declared.primitive.Primitive.{Primitive}
+use Rattle.key_msgs.specs.declared.primitive.Primitive.TheVariants.{Aead, Prf}
+use Rattle.keyset_model.specs.Keyset.{Keys, is_enabled, is_primary, primary_of}
+use Rattle.keyset_model.specs.declared.record.Record.{Record}
+use Rattle.keyset_model.proofs.PrimaryLemmas.{primary_enabled, primary_there}
+use Rattle.managers.specs.Table.{Table}
+use Rattle.managers.specs.Uses.{iv_size, seal_of}
+use Rattle.tink_spec.specs.Outside.{EntropyState, Drew, Stood}
+use Rattle.wrapped_prims.specs.Answers.{Sealed, primary_key, seal_behind, seal_under, seal_answer, made, made_by, derive_under}
+use Rattle.wrapped_prims.specs.Candidates.{prefix_of, prefix_bytes}
+use Rattle.wrapped_prims.specs.Fitness.{fault_of_record, key_of_record, unfit_from}
+use Rattle.wrapped_prims.specs.Sealing.{IsSealing, IsSealFault}
+use Rattle.wrapped_prims.specs.declared.sealing.SealFault.TheVariants as seal_faults
+use Rattle.wrapped_prims.proofs.OpenLemmas.{none_here, kept_as, KeptAs, off, on}
+use Rattle.tinkey_run.specs.declared.status.Status.{Status}
+use Rattle.tinkey_run.specs.declared.status.Status.TheVariants as status
+use Rattle.tinkey_run.specs.Ends.{World, Ends, settled, draw_failed}
+use Rattle.tinkey_run.specs.Laws.{IsFit, FitKeysetsAnswer}
+use Rattle.tinkey_run.specs.Plan.{Plan, allocates}
+use Rattle.tinkey_run.specs.Steps.{loads_keyset, reads_input, Passes}
+use Rattle.tinkey_run.specs.declared.words.rows.Format.{Format}
+use Rattle.tinkey_run.proofs.StepLemmas.{passes_then, ends_there}
+use Rattle.std.specs.Result.{IsErrAnd}
+use Rattle.tinkey_run.specs.Using.{handles, as_drawn, with_opened, seals, works, use_output}
+use Rattle.tinkey_run.specs.Words.{AskedWork, to_seal, primitive_for}
+
+-- a step behind which memory isn't wanting
+pub behind_memory : {A : Type 0} (step : (A → Plan) → Plan) (old new : World) (r : Result A Status) → Passes step old r new → Passes (λ next. allocates (step next)) old r new
+behind_memory step old new (Ok value) passes = λ next s last run. inl (passes next s last run)
+behind_memory step old new (Err s) passes = λ next. inl (passes next)
+
+-- the plaintext that was found, or none
+pub opened_passes : (found answer : Option (List ℕ)) (old new : World) (r : Result (List ℕ) Status) → found ≡ answer → Passes (with_opened found) old r new → Passes (λ next. allocates (with_opened answer next)) old r new
+opened_passes found answer old new r is passes = subst (λ (o : Option (List ℕ)). Passes (λ next. allocates (with_opened o next)) old r new) is (behind_memory (with_opened found) old new r passes)
+
+-- Sealing.
+
+pub sealed_passes : (table : Table) (keys : Keys) (plain ad sealed : List ℕ) (old : World) (entropy : EntropyState) → IsSealing keys table plain ad old.entropy entropy sealed → Stood old.entropy.faults entropy.faults → Passes (works table keys (to_seal ad) plain) old (Ok sealed) (record old { entropy = entropy })
+sealed_passes table keys plain ad sealed old entropy is stood = λ next s last run.
+    inl (settled is.drawn entropy (Ok sealed) is.drew stood (λ more. ap (option_map as_drawn) (is.answer more)) (inl run))
+
+-- what a sealing is under the primary key
+sealed_with : (r : Record) (key : KeyKind) (table : Table) (keys : Keys) (plain ad random : List ℕ) → primary_of keys ≡ Some r → key_of_record table Aead r ≡ Some key → seal_answer keys table plain ad random ≡ seal_behind (prefix_bytes (prefix_of r)) plain ad random key
+sealed_with r key table keys plain ad random primary there = ap (option_and_then (seal_under table plain ad random)) primary ∙ ap (option_and_then (seal_behind (prefix_bytes (prefix_of r)) plain ad random)) there
+
+primary_is : (table : Table) (found : Option Record) (key : KeyKind) → option_and_then (key_of_record table Aead) found ≡ Some key → (r : Record) × (found ≡ Some r) × (key_of_record table Aead r ≡ Some key)
+primary_is table None key is = absurd (cc)
+primary_is table (Some r) key is = (r, refl, is)
+
+-- too few random bytes seal nothing
+too_few : (b : Bool) (sealed : Sealed) → b ≡ true → option_map as_drawn (if b then None else Some sealed) ≡ None
+too_few true sealed is = refl
+too_few false sealed is = absurd (cc)
+
+short_random : (key : KeyKind) (table : Table) (keys : Keys) (plain ad random : List ℕ) → primary_key keys table Aead ≡ Some key → length random < iv_size key → seals keys table plain ad random ≡ None
+short_random key table keys plain ad random primary short =
+    let under = primary_is table (primary_of keys) key primary in
+    ap (option_map as_drawn) (sealed_with under.0 key table keys plain ad random under.1 under.2)
+    ∙ too_few (nat_lt (length random) (iv_size key)) _ (grind (arith, nat_tests))
+
+short_left : (key : KeyKind) (table : Table) (keys : Keys) (plain ad : List ℕ) (left : Option (List ℕ)) → primary_key keys table Aead ≡ Some key → IfSome left (λ random. length random < iv_size key) → IfSome left (λ random. seals keys table plain ad random ≡ None)
+short_left key table keys plain ad None primary short = tt
+short_left key table keys plain ad (Some random) primary short = short_random key table keys plain ad random primary short
+
+-- the entropy failed at the IV
+pub draw_failed_there : (table : Table) (keys : Keys) (plain ad : List ℕ) (old : World) (entropy : EntropyState) → IsSealFault keys table old.entropy entropy seal_faults.EntropyFault → (next : List ℕ → Plan) → Ends (works table keys (to_seal ad) plain next) old status.EntropyFault (record old { entropy = entropy })
+draw_failed_there table keys plain ad old entropy fault next =
+    inl (draw_failed refl (record { source = refl; sink = refl; store = refl }) (record {
+      rose = fault.entropy.1.rose;
+      drawn = [];
+      drew = fault.entropy.2;
+      undecided = short_random fault.key table keys plain ad [] fault.primary fault.entropy.0;
+      short = λ steady. short_left fault.key table keys plain ad old.entropy.left fault.primary (fault.entropy.1.short steady);
+    }))
+
+-- an IV that was drawn whole
+iv_test : (b : Bool) (sealed : Sealed) → b ≡ false → (if b then None else Some sealed) ≡ Some sealed
+iv_test false sealed is = refl
+iv_test true sealed is = absurd (cc)
+
+whole_iv : (key : KeyKind) (prefix plain ad drawn more : List ℕ) → length drawn ≡ iv_size key → seal_behind prefix plain ad (drawn ++ more) key ≡ Some (record { bytes = prefix ++ seal_of key drawn plain ad; left = more })
+whole_iv key prefix plain ad drawn more whole =
+    let front : take (iv_size key) (drawn ++ more) ≡ drawn = take_at drawn more (iv_size key) whole in
+    let rest : drop (iv_size key) (drawn ++ more) ≡ more = drop_at drawn more (iv_size key) whole in
+    iv_test (nat_lt (length (drawn ++ more)) (iv_size key)) _ (grind (arith, nat_tests, length-append drawn more))
+    ∙ ap (λ (iv : List ℕ). Some (record { bytes = prefix ++ seal_of key iv plain ad; left = drop (iv_size key) (drawn ++ more) })) front
+    ∙ ap (λ (left : List ℕ). Some (record { bytes = prefix ++ seal_of key drawn plain ad; left = left })) rest
+
+nothing_drawn : (left before : Option (List ℕ)) → before ≡ option_map (λ rest. [] ++ rest) left → before ≡ left
+nothing_drawn None before is = is
+nothing_drawn (Some rest) before is = is
+
+-- an entropy that gave nothing and didn't fail is as it was
+same_entropy : (old new : EntropyState) → Drew old new [] → Stood old.faults new.faults → old ≡ new
+same_entropy old new drew stood =
+    let left = nothing_drawn new.left old.left drew.left in
+    let faults = sym stood in
+    let steady = sym drew.steady in
+    rw (← left, ← faults, ← steady) refl
+
+-- memory was wanting, before the IV was drawn or behind it
+pub starved_sealing : (table : Table) (keys : Keys) (plain ad : List ℕ) (old : World) (entropy : EntropyState) → IsSealFault keys table old.entropy entropy seal_faults.NoMemory → (next : List ℕ → Plan) → Ends (works table keys (to_seal ad) plain next) old status.NoMemory (record old { entropy = entropy })
+starved_sealing table keys plain ad old entropy fault next = elim fault.entropy.1 [
+  | inl none ↦ inr (refl, ap (λ (e : EntropyState). record old { entropy = e }) (same_entropy old.entropy entropy none fault.entropy.0))
+  | inr iv ↦ inl (settled iv.drawn entropy (Ok (prefix_bytes (prefix_of under.0) ++ seal_of fault.key iv.drawn plain ad)) iv.drew fault.entropy.0 (settles iv.drawn iv.whole) (inr (refl, refl)))
+]
+  where
+    under : (r : Record) × (primary_of keys ≡ Some r) × (key_of_record table Aead r ≡ Some fault.key)
+    under = primary_is table (primary_of keys) fault.key fault.primary
+
+    settles : (drawn : List ℕ) → length drawn ≡ iv_size fault.key → (more : List ℕ) → seals keys table plain ad (drawn ++ more) ≡ Some (record { answer = Ok (prefix_bytes (prefix_of under.0) ++ seal_of fault.key drawn plain ad); left = more })
+    settles drawn whole more =
+        ap (option_map as_drawn) (sealed_with under.0 fault.key table keys plain ad (drawn ++ more) under.1 under.2 ∙ whole_iv fault.key (prefix_bytes (prefix_of under.0)) plain ad drawn more whole)
+
+-- The steps of work, one behind another.
+
+-- the plan from the input on, and from the handle on
+abbrev reads : Table → AskedWork → Keys → (List ℕ → Plan) → Plan
+reads table work keys next = reads_input (λ input. works table keys work input next)
+
+abbrev checks : Table → AskedWork → Keys → (List ℕ → Plan) → Plan
+checks table work keys next = handles table (primitive_for work) keys (λ fit. reads table work keys next)
+
+-- no keyset was loaded
+pub no_keyset : (table : Table) (name : List ℕ) (form : Format) (work : AskedWork) (old new : World) (r : Result (List ℕ) Status) (s : Status) → IsErrAnd r (λ e. e ≡ s) → Passes {A = Keys} (loads_keyset name form) old (Err s) new → Passes (use_output table name form work) old r new
+no_keyset table name form work old new r s is one = ends_there (loads_keyset name form) (checks table work) old new r s is one
+
+-- its records can't serve
+pub no_handle : (table : Table) (name : List ℕ) (form : Format) (work : AskedWork) (old mid : World) (keys : Keys) (primitive : Primitive) (r : Result (List ℕ) Status) (s : Status) → IsErrAnd r (λ e. e ≡ s) → primitive ≡ primitive_for work → Passes (loads_keyset name form) old (Ok keys) mid → ((next : Unit {0} → Plan) → Ends (handles table primitive keys next) mid s mid) → Passes (use_output table name form work) old r mid
+no_handle table name form work old mid keys primitive r s is same one two =
+    passes_then (loads_keyset name form) (checks table work) old mid mid keys r one
+    (ends_there (handles table (primitive_for work) keys) (λ fit. reads table work keys) mid mid r s is (λ next. subst (λ (p : Primitive). Ends (handles table p keys next) mid s mid) same (two next)))
+
+-- the records can serve, and the rest ended so
+pub with_handle : (table : Table) (name : List ℕ) (form : Format) (work : AskedWork) (old mid new : World) (keys : Keys) (primitive : Primitive) (r : Result (List ℕ) Status) → primitive ≡ primitive_for work → Passes (loads_keyset name form) old (Ok keys) mid → Passes (handles table primitive keys) mid (Ok tt) mid → Passes (reads table work keys) mid r new → Passes (use_output table name form work) old r new
+with_handle table name form work old mid new keys primitive r same one two rest =
+    passes_then (loads_keyset name form) (checks table work) old mid new keys r one
+    (passes_then (handles table (primitive_for work) keys) (λ fit. reads table work keys) mid mid new tt r (subst (λ (p : Primitive). Passes (handles table p keys) mid (Ok tt) mid) same two) rest)
+
+-- the input wasn't read
+pub no_input : (table : Table) (name : List ℕ) (form : Format) (work : AskedWork) (old mid new : World) (keys : Keys) (primitive : Primitive) (r : Result (List ℕ) Status) (s : Status) → primitive ≡ primitive_for work → Passes (loads_keyset name form) old (Ok keys) mid → Passes (handles table primitive keys) mid (Ok tt) mid → IsErrAnd r (λ e. e ≡ s) → Passes {A = List ℕ} reads_input mid (Err s) new → Passes (use_output table name form work) old r new
+no_input table name form work old mid new keys primitive r s same one two is three =
+    with_handle table name form work old mid new keys primitive r same one two (ends_there reads_input (works table keys work) mid new r s is three)
+
+-- it was, and the work ended so
+pub with_input : (table other : Table) (work : AskedWork) (old mid new : World) (keys : Keys) (input : List ℕ) (r : Result (List ℕ) Status) → other ≡ table → Passes reads_input old (Ok input) mid → Passes (works other keys work input) mid r new → Passes (reads table work keys) old r new
+with_input table other work old mid new keys input r same one two =
+    passes_then reads_input (works table keys work) old mid new input r one (subst (λ (t : Table). Passes (works t keys work input) mid r new) same two)
+
+-- Data in hexadecimal.
+
+even_test : (b : Bool) (digits bytes : List ℕ) (error : FromHexError) → (if b then Err error else decode_pairs 0 digits) ≡ Ok bytes → decode_pairs 0 digits ≡ Ok bytes
+even_test true digits bytes error is = let clash : Err error ≡ Ok bytes = is in absurd (cc)
+even_test false digits bytes error is = is
+
+-- a datum has half as many bytes as digits
+pub decoded_length : (digits bytes : List ℕ) → decode_of digits ≡ Ok bytes → length digits ≡ 2 * length bytes
+decoded_length digits bytes is = (decode_pairs-ok 0 digits bytes (even_test _ digits bytes hex_errors.OddLength is)).1
+
+-- A keyset that can serve has a primary key, and what that makes.
+
+found_fits : (b : Bool) (p : Record → Bool) (table : Table) (primitive : Primitive) (x r : Record) (rs : List Record) → p x ≡ b → fault_of_record table primitive x ≡ None → find p (x ∷ rs) ≡ Some r → (find p rs ≡ Some r → fault_of_record table primitive r ≡ None) → fault_of_record table primitive r ≡ None
+found_fits true p table primitive x r rs test fit found later =
+    let same : Some x ≡ Some r = rw test at found in
+    let is : x ≡ r = cc in
+    subst (λ (y : Record). fault_of_record table primitive y ≡ None) is fit
+found_fits false p table primitive x r rs test fit found later = later (rw test at found)
+
+primary_fits : (p : Record → Bool) (n : ℕ) (table : Table) (primitive : Primitive) (rs : List Record) (r : Record) → unfit_from n table primitive rs ≡ None → find p rs ≡ Some r → fault_of_record table primitive r ≡ None
+primary_fits p n table primitive [] r fit found = absurd (cc)
+primary_fits p n table primitive (x ∷ rs) r fit found =
+    let parts = none_here n (fault_of_record table primitive x) (unfit_from (n + 1) table primitive rs) fit in
+    found_fits (p x) p table primitive x r rs refl parts.0 found (λ later. primary_fits p (n + 1) table primitive rs r parts.1 later)
+
+-- the primary record with its key
+record HasKey (table : Table) (primitive : Primitive) (keys : Keys) : Type 0 where
+  under : Record
+  key : KeyKind
+  primary : primary_of keys ≡ Some under
+  there : key_of_record table primitive under ≡ Some key
+
+enabled_clash : (r : Record) → r.status ≡ 1 → is_enabled r ≡ false → ⊥
+enabled_clash r status other = grind (arith, nat_tests)
+
+with_kept : (table : Table) (primitive : Primitive) (keys : Keys) (r : Record) → primary_of keys ≡ Some r → r.status ≡ 1 → KeptAs table primitive r → HasKey table primitive keys
+with_kept table primitive keys r primary enabled (off other none) = absurd (enabled_clash r enabled other)
+with_kept table primitive keys r primary enabled (on at key is there some) = record { under = r; key = key; primary = primary; there = there }
+
+has_key : (table : Table) (primitive : Primitive) (keys : Keys) → IsFit table primitive keys → HasKey table primitive keys
+has_key table primitive keys fit =
+    let primary = primary_there keys fit.faultless in
+    with_kept table primitive keys primary.0 primary.1 (primary_enabled keys primary.0 primary.1)
+    (kept_as table primitive primary.0 (primary_fits (is_primary keys.primary) 0 table primitive keys.records primary.0 fit.fit primary.1))
+
+key_there : (table : Table) (primitive : Primitive) (keys : Keys) (has : HasKey table primitive keys) → primary_key keys table primitive ≡ Some has.key
+key_there table primitive keys has = ap (option_and_then (key_of_record table primitive)) has.primary ∙ has.there
+
+made_there : (table : Table) (primitive : Primitive) (keys : Keys) (make : KeyKind → Record → List ℕ) → HasKey table primitive keys → IsSome (made keys table primitive make)
+made_there table primitive keys make has =
+    let is : made keys table primitive make ≡ Some (prefix_bytes (prefix_of has.under) ++ make has.key has.under) =
+    ap (option_and_then (made_by table primitive make)) has.primary ∙ ap (option_map (λ key. prefix_bytes (prefix_of has.under) ++ make key has.under)) has.there in
+    rw is refl
+
+some_key : (found : Option KeyKind) (key : KeyKind) → found ≡ Some key → IsSome found
+some_key found key is = rw is refl
+
+derived_there : (found : Option KeyKind) (key : KeyKind) (input : List ℕ) (size : ℕ) → found ≡ Some key → IsSome (option_map (derive_under input size) found)
+derived_there found key input size is = rw is refl
+
+pub fit_keysets_answer : FitKeysetsAnswer
+fit_keysets_answer = record {
+  primary = λ table primitive keys fit. let has = has_key table primitive keys fit in some_key (primary_key keys table primitive) has.key (key_there table primitive keys has);
+  dseal = λ table keys plain ad fit. made_there table _ keys _ (has_key table _ keys fit);
+  tag = λ table keys body fit. made_there table _ keys _ (has_key table _ keys fit);
+  derive = λ table keys input size fit. let has = has_key table _ keys fit in derived_there (primary_key keys table Prf) has.key input size (key_there table _ keys has);
+}

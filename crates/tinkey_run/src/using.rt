@@ -1,0 +1,290 @@
+//! Work by the keys of a keyset: seal, open, dseal, dopen, tag, verify and derive.
+
+ghost use Rattle.std.specs.Prelude.{◌≡◌, ◌≢◌, ◌≤◌, ◌^◌, length, IfOk, option_map};
+ghost use Rattle.key_msgs.specs.declared.primitive.Primitive.TheVariants.{Aead, Daead, Mac, Prf, Stream};
+ghost use Rattle.wrapped_prims.specs.Making.{IsOver};
+ghost use Rattle.tinkey_run.specs.Ends.{World};
+ghost use Rattle.tinkey_run.specs.Steps.{Passes, PassesAs};
+ghost use Rattle.tinkey_run.specs.Using.{handles, handle_refusal, use_output, with_opened, IsServing, Works};
+ghost use Rattle.tinkey_run.specs.Words.{primitive_for, datum_as, datum_of_hex, seen_datum, seen_work, to_seal, to_open, to_dseal, to_dopen, to_tag, to_verify, to_derive};
+
+use crate::Status;
+use crate::steps::{load_keyset, read_input};
+use crate::words::{DATUM_LIMIT, Datum, Format, Work};
+use hex::FromHexError;
+use key_msgs::Primitive;
+use keyset_model::Keyset;
+use managers::{KeyTable, Managers};
+use std::alloc::Global;
+use tink_base::{Bytes, Entropy, NoMemory, Source, Store, Trials};
+use wrapped_prims::{DeriveFault, Handle, HandleFault, SealFault};
+
+/// Work on the whole input, by the keys of the keyset in the file of this name: what is put out.
+pub(crate) fn use_keyset<S: Source, E: Entropy, D: Store>(
+    alloc: Global,
+    managers: &Managers,
+    name: &str,
+    form: Format,
+    work: Work<'_>,
+    source: &mut S,
+    entropy: &mut E,
+    store: &mut D,
+) -> Result<Bytes, Status>
+    ensures { (w : World) → Passes
+        (use_output (⟦<Managers as KeyTable>⟧.table managers.now) name.now form
+        (seen_work work.entry))
+        (record w {
+          source = S.state source.old;
+          store = D.state store.old;
+          entropy = E.state entropy.old;
+        }) result
+        (record w {
+          source = S.state source.new;
+          store = D.state store.new;
+          entropy = E.state entropy.new;
+        }) }
+{
+    let keyset = load_keyset(alloc, name, form, store)?;
+    let handle = handle_of(alloc, &keyset, managers, primitive_for(work))?;
+    let input = read_input(alloc, source)?;
+    do_work(alloc, &handle, work, input.as_slice(), entropy)
+}
+
+/// The primitive of the keys that do the work.
+fn primitive_for(work: Work<'_>) -> Primitive
+    ensures { result ≡ primitive_for (seen_work work.entry) }
+{
+    match work {
+        Work::Seal(_) | Work::Open(_) => Primitive::Aead,
+        Work::Dseal(_) | Work::Dopen(_) => Primitive::Daead,
+        Work::Tag | Work::Verify(_) => Primitive::Mac,
+        Work::Derive(_) => Primitive::Prf,
+    }
+}
+
+/// The handle of the keyset's keys for a primitive, or the first record that can't serve.
+fn handle_of<'m>(
+    alloc: Global,
+    keyset: &Keyset,
+    managers: &'m Managers,
+    primitive: Primitive,
+) -> Result<Handle<'m>, Status>
+    requires no_stream { primitive ≢ Stream }
+    ensures passes { (w : World) → PassesAs (λ h. tt)
+        (handles (⟦<Managers as KeyTable>⟧.table managers.now) primitive keyset.now) w result w }
+    ensures over { IfOk result (λ h. IsOver (⟦<Managers as KeyTable>⟧.table h.managers.now)
+        primitive keyset.now h.held) }
+    ensures table { IfOk result (λ h. ⟦<Managers as KeyTable>⟧.table h.managers.now
+        ≡ ⟦<Managers as KeyTable>⟧.table managers.now) }
+{
+    match Handle::new(alloc, keyset, managers, primitive) {
+        Ok(handle) => Ok(handle),
+        Err(fault) => Err(refusal(fault)),
+    }
+}
+
+/// The status of a keyset that can't serve.
+fn refusal(fault: HandleFault) -> Status
+    ensures { result ≡ handle_refusal fault }
+{
+    match fault {
+        HandleFault::NoManager(i) => Status::NoManager(i),
+        HandleFault::BadKey(i, rule) => Status::BadKey(i, rule),
+        HandleFault::NotRaw(i) => Status::NotRaw(i),
+        HandleFault::NoMemory => Status::NoMemory,
+    }
+}
+
+/// What is put out for the input.
+fn do_work<E: Entropy>(
+    alloc: Global,
+    handle: &Handle<'_>,
+    work: Work<'_>,
+    input: &[u8],
+    entropy: &mut E,
+) -> Result<Bytes, Status>
+    requires serving { IsServing (⟦<Managers as KeyTable>⟧.table handle.now.managers.now)
+        (primitive_for (seen_work work)) handle.now.held }
+    requires bound { length input.now ≤ 2 ^ 24 }
+    ensures { (w : World) → Works (⟦<Managers as KeyTable>⟧.table handle.now.managers.now)
+        handle.now.held (seen_work work.entry) input.now
+        (record w { entropy = E.state entropy.old }) result (record w { entropy = E.state entropy.new }) }
+{
+    match work {
+        Work::Seal(ad) => seal(alloc, handle, ad, input, entropy),
+        Work::Open(ad) => open(alloc, handle, ad, input),
+        Work::Dseal(ad) => dseal(alloc, handle, ad, input),
+        Work::Dopen(ad) => dopen(alloc, handle, ad, input),
+        Work::Tag => tag(alloc, handle, input),
+        Work::Verify(tag) => verify(alloc, handle, tag, input),
+        Work::Derive(size) => derive(alloc, handle, size, input),
+    }
+}
+
+/// seal: prefix, IV, ciphertext and tag.
+fn seal<E: Entropy>(
+    alloc: Global,
+    handle: &Handle<'_>,
+    ad: Datum<'_>,
+    plain: &[u8],
+    entropy: &mut E,
+) -> Result<Bytes, Status>
+    requires serving { IsServing (⟦<Managers as KeyTable>⟧.table handle.now.managers.now) Aead
+        handle.now.held }
+    requires bound { length plain.now ≤ 2 ^ 24 }
+    ensures { (w : World) → Works (⟦<Managers as KeyTable>⟧.table handle.now.managers.now)
+        handle.now.held (to_seal (seen_datum ad.entry)) plain.now
+        (record w { entropy = E.state entropy.old }) result (record w { entropy = E.state entropy.new }) }
+{
+    let ad = datum(alloc, ad)?;
+    match handle.seal(alloc, plain, ad.as_slice(), entropy) {
+        Ok(sealed) => Ok(Bytes::own(sealed)),
+        Err(SealFault::EntropyFault) => Err(Status::EntropyFault),
+        Err(SealFault::NoMemory) => Err(Status::NoMemory),
+    }
+}
+
+/// open: the plaintext of the first candidate that opens.
+fn open(alloc: Global, handle: &Handle<'_>, ad: Datum<'_>, sealed: &[u8]) -> Result<Bytes, Status>
+    requires serving { IsServing (⟦<Managers as KeyTable>⟧.table handle.now.managers.now) Aead
+        handle.now.held }
+    requires bound { length sealed.now ≤ 2 ^ 24 }
+    ensures { (w : World) → Works (⟦<Managers as KeyTable>⟧.table handle.now.managers.now)
+        handle.now.held (to_open (seen_datum ad.entry)) sealed.now
+        w result w }
+{
+    let ad = datum(alloc, ad)?;
+    match handle.open(alloc, sealed, ad.as_slice(), &mut Trials::new()) {
+        Ok(opened) => or_failed(opened),
+        Err(_) => Err(Status::NoMemory),
+    }
+}
+
+/// dseal: prefix, tag and ciphertext.
+fn dseal(alloc: Global, handle: &Handle<'_>, ad: Datum<'_>, plain: &[u8]) -> Result<Bytes, Status>
+    requires serving { IsServing (⟦<Managers as KeyTable>⟧.table handle.now.managers.now) Daead
+        handle.now.held }
+    requires bound { length plain.now ≤ 2 ^ 24 }
+    ensures { (w : World) → Works (⟦<Managers as KeyTable>⟧.table handle.now.managers.now)
+        handle.now.held (to_dseal (seen_datum ad.entry)) plain.now
+        w result w }
+{
+    let ad = datum(alloc, ad)?;
+    match handle.dseal(alloc, plain, ad.as_slice()) {
+        Ok(sealed) => Ok(Bytes::own(sealed)),
+        Err(_) => Err(Status::NoMemory),
+    }
+}
+
+/// dopen: the plaintext of the first candidate that opens.
+fn dopen(alloc: Global, handle: &Handle<'_>, ad: Datum<'_>, sealed: &[u8]) -> Result<Bytes, Status>
+    requires serving { IsServing (⟦<Managers as KeyTable>⟧.table handle.now.managers.now) Daead
+        handle.now.held }
+    requires bound { length sealed.now ≤ 2 ^ 24 }
+    ensures { (w : World) → Works (⟦<Managers as KeyTable>⟧.table handle.now.managers.now)
+        handle.now.held (to_dopen (seen_datum ad.entry)) sealed.now
+        w result w }
+{
+    let ad = datum(alloc, ad)?;
+    match handle.dopen(alloc, sealed, ad.as_slice(), &mut Trials::new()) {
+        Ok(opened) => or_failed(opened),
+        Err(_) => Err(Status::NoMemory),
+    }
+}
+
+/// tag: prefix and tag.
+fn tag(alloc: Global, handle: &Handle<'_>, body: &[u8]) -> Result<Bytes, Status>
+    requires serving { IsServing (⟦<Managers as KeyTable>⟧.table handle.now.managers.now) Mac
+        handle.now.held }
+    requires bound { length body.now ≤ 2 ^ 24 }
+    ensures { (w : World) → Works (⟦<Managers as KeyTable>⟧.table handle.now.managers.now)
+        handle.now.held to_tag body.now
+        w result w }
+{
+    match handle.tag(alloc, body) {
+        Ok(tag) => Ok(Bytes::own(tag)),
+        Err(_) => Err(Status::NoMemory),
+    }
+}
+
+/// verify: nothing, where some candidate's tag of the body is this one.
+fn verify(alloc: Global, handle: &Handle<'_>, tag: Datum<'_>, body: &[u8]) -> Result<Bytes, Status>
+    requires serving { IsServing (⟦<Managers as KeyTable>⟧.table handle.now.managers.now) Mac
+        handle.now.held }
+    requires bound { length body.now ≤ 2 ^ 24 }
+    ensures { (w : World) → Works (⟦<Managers as KeyTable>⟧.table handle.now.managers.now)
+        handle.now.held (to_verify (seen_datum tag.entry)) body.now
+        w result w }
+{
+    let tag = datum(alloc, tag)?;
+    if handle.verify(tag.as_slice(), body, &mut Trials::new()) {
+        Ok(Bytes::own(Vec::new(alloc)))
+    } else {
+        Err(Status::VerifyFailed)
+    }
+}
+
+/// derive: so many bytes, where the primary key gives them.
+fn derive(alloc: Global, handle: &Handle<'_>, size: u32, input: &[u8]) -> Result<Bytes, Status>
+    requires serving { IsServing (⟦<Managers as KeyTable>⟧.table handle.now.managers.now) Prf
+        handle.now.held }
+    requires bound { length input.now ≤ 2 ^ 24 }
+    ensures { (w : World) → Works (⟦<Managers as KeyTable>⟧.table handle.now.managers.now)
+        handle.now.held (to_derive size) input.now
+        w result w }
+{
+    match handle.derive(alloc, input, size as usize) {
+        Ok(bytes) => Ok(Bytes::own(bytes)),
+        Err(DeriveFault::OutputTooLong(greatest)) => {
+            Err(Status::OutputTooLong(size as usize, greatest))
+        }
+        Err(DeriveFault::NoMemory) => Err(Status::NoMemory),
+    }
+}
+
+/// The plaintext, or the status where nothing opened.
+fn or_failed(opened: Option<Vec<u8>>) -> Result<Bytes, Status>
+    ensures { (w : World) → Passes (with_opened (option_map (λ plain. plain.items) opened)) w result w }
+{
+    match opened {
+        Some(plain) => Ok(Bytes::own(plain)),
+        None => Err(Status::OpenFailed),
+    }
+}
+
+/// The bytes of a datum, of which there are at most 2^20.
+fn datum(alloc: Global, from: Datum<'_>) -> Result<Bytes, NoMemory>
+    ensures bytes { IfOk result (λ bytes. bytes ≡ seen_datum from.entry) }
+    ensures within { IfOk result (λ bytes. length bytes ≤ 2 ^ 20) }
+{
+    match from {
+        Datum::Plain(text) => plain_datum(alloc, text),
+        Datum::Hex(text) => hex_datum(alloc, text),
+    }
+}
+
+/// The bytes of a datum as it stands.
+fn plain_datum(alloc: Global, text: &str) -> Result<Bytes, NoMemory>
+    ensures bytes { IfOk result (λ bytes. bytes ≡ datum_as text.now) }
+    ensures within { IfOk result (λ bytes. length bytes ≤ 2 ^ 20) }
+{
+    if text.len() > DATUM_LIMIT {
+        return Ok(Bytes::own(Vec::new(alloc)));
+    }
+    Bytes::copy(alloc, text.as_bytes())
+}
+
+/// The bytes of a datum in hexadecimal.
+fn hex_datum(alloc: Global, text: &str) -> Result<Bytes, NoMemory>
+    ensures bytes { IfOk result (λ bytes. bytes ≡ datum_of_hex text.now) }
+    ensures within { IfOk result (λ bytes. length bytes ≤ 2 ^ 20) }
+{
+    if text.len() > 2 * DATUM_LIMIT {
+        return Ok(Bytes::own(Vec::new(alloc)));
+    }
+    match hex::decode(alloc, text) {
+        Ok(bytes) => Ok(Bytes::own(bytes)),
+        Err(FromHexError::OutOfMemory) => Err(NoMemory),
+        Err(_) => Ok(Bytes::own(Vec::new(alloc))),
+    }
+}
