@@ -1,0 +1,7 @@
+pub mod LineExamples
+pub mod Options
+pub mod StandardLemmas
+pub mod UsableLemmas
+pub mod MadeLemmas
+pub mod ServingExamples
+pub mod SoundLemmas

@@ -1,0 +1,98 @@
+-- The grammar of one line of a session, a list of bytes without its newline.
+--
+--   Line           what a line asks
+--   bytes_in       the bytes that a word spells in hexadecimal
+--   number_in      the number that a word spells
+--   line_of        what the bytes of a line ask
+--
+-- Words are separated by one space each: what stands between two spaces is a word, also an empty
+-- one. An edit's template stands by its name, whether or not there is one of that name.
+use Rattle.std.specs.Prelude.{ℕ, ◌^◌, List, [], ◌∷◌, length, Bool, ◌&&◌, ◌==◌, nat_le, nat_lt, Option, Some, None, if◌then◌else◌, codes}
+use Rattle.std.specs.List.{slice_split}
+use Rattle.std.specs.Result.{result_ok}
+use Rattle.std.specs.Str.{all_ascii_digits, bytes_eq, is_utf8}
+use Rattle.std.specs.Str.Parse.{digits_value}
+use Rattle.hex.specs.Hex.{decode_of}
+
+-- what a line asks
+pub data Line : Type 0 where
+  Seal Dseal : (plain ad : List ℕ) → Line
+  Open Dopen : (sealed ad : List ℕ) → Line
+  Tag : (body : List ℕ) → Line
+  Verify : (tag body : List ℕ) → Line
+  Derive : (size : ℕ) (input : List ℕ) → Line
+  Add Rotate : (name : List ℕ) → Line
+  Promote Enable Disable Destroy Delete : (id : ℕ) → Line
+  -- any other line
+  Bad : Line
+
+-- ---- words
+
+-- the words between spaces
+abbrev pub words_of : List ℕ → List (List ℕ)
+words_of text = slice_split (λ b. b == 32) text
+
+-- an even number of digits, at least two, of either case, or `-` for no bytes
+abbrev pub bytes_in : List ℕ → Option (List ℕ)
+bytes_in word =
+    if bytes_eq word (codes "-") then Some []
+    else (if length word == 0 then None
+    else result_ok (decode_of word))
+
+-- 1 to 10 decimal digits, of a number up to 4,294,967,295
+abbrev pub is_number : List ℕ → Bool
+is_number word =
+    nat_le 1 (length word) && (nat_le (length word) 10
+    && (all_ascii_digits word && nat_lt (digits_value 10 word) (2 ^ 32)))
+
+abbrev pub number_in : List ℕ → Option ℕ
+number_in word = if is_number word then Some (digits_value 10 word) else None
+
+-- a name isn't empty
+abbrev pub name_in : List ℕ → Option (List ℕ)
+name_in word = if length word == 0 then None else Some word
+
+-- ---- lines
+
+-- the line of what a word spells
+abbrev pub with_one : {A : Type 0} → (A → Line) → Option A → Line
+with_one asks (Some a) = asks a
+with_one asks None = Bad
+
+-- of what two words spell
+abbrev pub with_two : {A B : Type 0} → (A → B → Line) → Option A → Option B → Line
+with_two asks (Some a) word = with_one (asks a) word
+with_two asks None word = Bad
+
+-- the lines of a name and one word
+abbrev pub line_with_one : (name a : List ℕ) → Line
+line_with_one name a =
+    if bytes_eq name (codes "tag") then with_one Tag (bytes_in a)
+    else (if bytes_eq name (codes "add") then with_one Add (name_in a)
+    else (if bytes_eq name (codes "rotate") then with_one Rotate (name_in a)
+    else (if bytes_eq name (codes "promote") then with_one Promote (number_in a)
+    else (if bytes_eq name (codes "enable") then with_one Enable (number_in a)
+    else (if bytes_eq name (codes "disable") then with_one Disable (number_in a)
+    else (if bytes_eq name (codes "destroy") then with_one Destroy (number_in a)
+    else (if bytes_eq name (codes "delete") then with_one Delete (number_in a)
+    else Bad)))))))
+
+-- the lines of a name and two words
+abbrev pub line_with_two : (name a b : List ℕ) → Line
+line_with_two name a b =
+    if bytes_eq name (codes "seal") then with_two Seal (bytes_in a) (bytes_in b)
+    else (if bytes_eq name (codes "open") then with_two Open (bytes_in a) (bytes_in b)
+    else (if bytes_eq name (codes "dseal") then with_two Dseal (bytes_in a) (bytes_in b)
+    else (if bytes_eq name (codes "dopen") then with_two Dopen (bytes_in a) (bytes_in b)
+    else (if bytes_eq name (codes "verify") then with_two Verify (bytes_in a) (bytes_in b)
+    else (if bytes_eq name (codes "derive") then with_two Derive (number_in a) (bytes_in b)
+    else Bad)))))
+
+abbrev pub line_of_words : List (List ℕ) → Line
+line_of_words (name ∷ a ∷ []) = line_with_one name a
+line_of_words (name ∷ a ∷ b ∷ []) = line_with_two name a b
+line_of_words _ = Bad
+
+-- what a line asks; one that isn't UTF-8 is bad
+unfoldable pub line_of : List ℕ → Line
+line_of text = if is_utf8 text then line_of_words (words_of text) else Bad

@@ -1,0 +1,152 @@
+-- What a line of a session answers, and the keyset that it leaves. This is the only place where a
+-- line's meaning stands.
+--
+--   Refusal, Reply   the answer of a line, as a value
+--   Served           a reply, the keyset after the line, and the random bytes that are left
+--   serve            a line over a keyset, under a table of managers
+--
+-- The causes of a refusal come in this order: the line's form, its template, the first record that
+-- can't serve, what the edit or the length is refused for, the draws, the computing.
+use Rattle.std.specs.Prelude.{ℕ, List, [], ◌∷◌, Bool, true, false, Option, Some, None, option_map, Result, Ok, Err}
+use Rattle.key_msgs.specs.Templates.{Row, is_asymmetric, row_named}
+use Rattle.key_msgs.specs.declared.primitive.Primitive.{Primitive}
+use Rattle.key_msgs.specs.declared.primitive.Primitive.TheVariants.{Aead, Daead, Mac, Prf}
+use Rattle.keyset_model.specs.Keyset.{Keys}
+use Rattle.keyset_model.specs.declared.record.Record.{Record}
+use Rattle.managers.specs.Table.{Table}
+use Rattle.tinkey_cmds.specs.Edits.{Edit, Stepped, step}
+use Rattle.tinkey_cmds.specs.Edits as edits
+use Rattle.tinkey_cmds.specs.declared.command.CmdFault.{CmdFault}
+use Rattle.tinkey_session.specs.Lines.{Line, Seal, Dseal, Open, Dopen, Tag, Verify, Derive, Add, Rotate, Promote, Enable, Disable, Destroy, Delete, Bad}
+use Rattle.wrapped_prims.specs.Answers.{Sealed, derive_answer, dopen_answer, dseal_answer, open_answer, seal_answer, tag_answer, verify_answer}
+use Rattle.wrapped_prims.specs.Fitness.{Unfit, unfit}
+
+-- why a line is refused
+pub data Refusal : Type 0 where
+  -- it isn't of the grammar
+  BadLine : Refusal
+  -- no template has the name; one of Tink's for asymmetric keys has it
+  UnknownTemplate AsymmetricTemplate : Refusal
+  -- the record of this place can't serve
+  CannotServe : (place : ℕ) (why : Unfit) → Refusal
+  -- there are no more bytes to derive than so many
+  OutputTooLong : (asked greatest : ℕ) → Refusal
+  EditRefused : (fault : CmdFault) → Refusal
+  OpenFailed VerifyFailed : Refusal
+
+-- the answer of a line
+pub data Reply : Type 0 where
+  Done : Reply
+  Gives : (bytes : List ℕ) → Reply
+  -- the id of the key that was made
+  NewId : (id : ℕ) → Reply
+  Refuses : (why : Refusal) → Reply
+
+-- what a line gives: its reply, the keyset after it, and the random bytes that are left
+pub record Served : Type 0 where
+  pub reply : Reply
+  pub keys : Keys
+  pub left : List ℕ
+
+-- ---- lines that leave the keyset
+
+abbrev pub answered : Keys → (random : List ℕ) → Reply → Served
+answered keys random reply = record { reply = reply; keys = keys; left = random }
+
+-- the first record that can't serve is named, before anything else
+abbrev pub unless_unfit : Option (ℕ × Unfit) → Keys → List ℕ → Option Served → Option Served
+unless_unfit None keys random served = served
+unless_unfit (Some found) keys random served =
+    Some (answered keys random (Refuses (CannotServe found.0 found.1)))
+
+-- under a keyset whose ENABLED records all serve the primitive
+abbrev pub by_handle : Primitive → Table → Keys → List ℕ → Option Served → Option Served
+by_handle primitive table keys random served =
+    unless_unfit (unfit keys primitive table) keys random served
+
+-- the reply to what is computed without a draw; of a keyset without a fault something is
+abbrev pub computed : {A : Type 0} → Keys → List ℕ → (A → Reply) → Option A → Option Served
+computed keys random reply answer =
+    option_map (λ value. answered keys random (reply value)) answer
+
+abbrev pub opened_reply : Option (List ℕ) → Reply
+opened_reply (Some plain) = Gives plain
+opened_reply None = Refuses OpenFailed
+
+abbrev pub verified_reply : Bool → Reply
+verified_reply true = Done
+verified_reply false = Refuses VerifyFailed
+
+-- the bytes, or how many there can be at the most
+abbrev pub derived_reply : (size : ℕ) → Result (List ℕ) ℕ → Reply
+derived_reply size (Ok bytes) = Gives bytes
+derived_reply size (Err greatest) = Refuses (OutputTooLong size greatest)
+
+abbrev pub sealed_reply : Keys → Sealed → Served
+sealed_reply keys sealed = answered keys sealed.left (Gives sealed.bytes)
+
+-- ---- edits
+
+-- an edit that makes a key answers its id, which the last record has
+abbrev pub last_id : List Record → Reply
+last_id [] = Done
+last_id (r ∷ []) = NewId r.id
+last_id (r ∷ s ∷ later) = last_id (s ∷ later)
+
+abbrev pub edited_reply : Edit → Keys → Reply
+edited_reply (edits.Add row) keys = last_id keys.records
+edited_reply (edits.Rotate row) keys = last_id keys.records
+edited_reply edit keys = Done
+
+-- a refused edit leaves the keyset
+abbrev pub edit_served : Edit → Keys → Result Keys CmdFault → (left : List ℕ) → Served
+edit_served edit keys (Ok edited) left = answered edited left (edited_reply edit edited)
+edit_served edit keys (Err fault) left = answered keys left (Refuses (EditRefused fault))
+
+abbrev pub stepped : Edit → Keys → Stepped → Served
+stepped edit keys s = edit_served edit keys s.answer s.left
+
+abbrev pub edit_line : Keys → List ℕ → Edit → Option Served
+edit_line keys random edit = option_map (stepped edit keys) (step keys edit random)
+
+-- the template of a name, or why there is none
+abbrev pub template_or : Option Row → (asymmetric : Bool) → Result Row Refusal
+template_or (Some row) asymmetric = Ok row
+template_or None true = Err AsymmetricTemplate
+template_or None false = Err UnknownTemplate
+
+abbrev pub template_of : List ℕ → Result Row Refusal
+template_of name = template_or (row_named name) (is_asymmetric name)
+
+-- an edit by a template, which is looked for first
+abbrev pub with_template : (Row → Edit) → Keys → List ℕ → Result Row Refusal → Option Served
+with_template edit keys random (Ok row) = edit_line keys random (edit row)
+with_template edit keys random (Err why) = Some (answered keys random (Refuses why))
+
+-- ---- every line
+
+-- A line over a keyset, with these random bytes to draw from. None where they run out; of a keyset
+-- without a fault nothing else gives none.
+unfoldable pub serve : Table → Keys → Line → (random : List ℕ) → Option Served
+serve table keys (Seal plain ad) random = by_handle Aead table keys random
+    (option_map (sealed_reply keys) (seal_answer keys table plain ad random))
+serve table keys (Dseal plain ad) random = by_handle Daead table keys random
+    (computed keys random Gives (dseal_answer keys table plain ad))
+serve table keys (Open sealed ad) random = by_handle Aead table keys random
+    (Some (answered keys random (opened_reply (open_answer keys table sealed ad))))
+serve table keys (Dopen sealed ad) random = by_handle Daead table keys random
+    (Some (answered keys random (opened_reply (dopen_answer keys table sealed ad))))
+serve table keys (Tag body) random = by_handle Mac table keys random
+    (computed keys random Gives (tag_answer keys table body))
+serve table keys (Verify tag body) random = by_handle Mac table keys random
+    (Some (answered keys random (verified_reply (verify_answer keys table tag body))))
+serve table keys (Derive size input) random = by_handle Prf table keys random
+    (computed keys random (derived_reply size) (derive_answer keys table input size))
+serve table keys (Add name) random = with_template edits.Add keys random (template_of name)
+serve table keys (Rotate name) random = with_template edits.Rotate keys random (template_of name)
+serve table keys (Promote id) random = edit_line keys random (edits.Promote id)
+serve table keys (Enable id) random = edit_line keys random (edits.Enable id)
+serve table keys (Disable id) random = edit_line keys random (edits.Disable id)
+serve table keys (Destroy id) random = edit_line keys random (edits.Destroy id)
+serve table keys (Delete id) random = edit_line keys random (edits.Delete id)
+serve table keys Bad random = Some (answered keys random (Refuses BadLine))

@@ -1,0 +1,4 @@
+//! Lines of a session: their grammar, what each answers, and what stays readable.
+#![tactic(auto)]
+
+pub mod laws;
