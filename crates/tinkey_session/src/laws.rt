@@ -2,8 +2,11 @@
 
 ghost use Rattle.key_msgs.specs.declared.primitive.Primitive.TheVariants.{Aead, Daead, Mac};
 ghost use Rattle.tinkey_session.specs.Laws.{EditsKeepSound, FirstsAreSound, SoundIsUsable};
+ghost use Rattle.tinkey_session.specs.Laws.{KeptDopen, KeptDopenRaw, KeptOpen, KeptOpenRaw, KeptTag};
 
 use key_msgs::laws::made_is_valid;
+use managers::laws::{dopens_sealings, sealings_open};
+use wrapped_prims::laws::{same_key_dopens, same_key_opens, same_key_verifies};
 
 /// No record of a keyset is unfit under the standard table exactly where the keyset is sound: each
 /// ENABLED record has the URL of a key type for the primitive, and a valid key of that type.
@@ -20,4 +23,41 @@ pub fn sound_kept()
     ensures firsts { FirstsAreSound }
 {
     made_is_valid();
+}
+
+/// What a keyset sealed it opens after any edits, accepted or refused, while it has the key that
+/// sealed, ENABLED: with the same associated data, to the plaintext. The key isn't RAW.
+pub fn kept_open()
+    ensures { KeptOpen }
+{
+    same_key_opens();
+}
+
+/// The same of sealing without an IV.
+pub fn kept_dopen()
+    ensures { KeptDopen }
+{
+    same_key_dopens();
+}
+
+/// What was sealed under a RAW key opens to some plaintext.
+pub fn kept_open_raw()
+    ensures { KeptOpenRaw }
+{
+    sealings_open();
+}
+
+/// The same of sealing without an IV.
+pub fn kept_dopen_raw()
+    ensures { KeptDopenRaw }
+{
+    dopens_sealings();
+}
+
+/// A tag verifies after any edits, while the keyset has the key that made it, ENABLED. The key may
+/// be of any output prefix type.
+pub fn kept_tag()
+    ensures { KeptTag }
+{
+    same_key_verifies();
 }
