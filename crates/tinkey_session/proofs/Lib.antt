@@ -3,6 +3,8 @@ pub mod Options
 pub mod StandardLemmas
 pub mod UsableLemmas
 pub mod MadeLemmas
-pub mod OpenLemmas
 pub mod ServingExamples
 pub mod SoundLemmas
+pub mod OpenLemmas
+pub mod TurnLemmas
+pub mod SessionLemmas

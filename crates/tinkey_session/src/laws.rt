@@ -3,6 +3,8 @@
 ghost use Rattle.key_msgs.specs.declared.primitive.Primitive.TheVariants.{Aead, Daead, Mac};
 ghost use Rattle.tinkey_session.specs.Laws.{EditsKeepSound, FirstsAreSound, SoundIsUsable};
 ghost use Rattle.tinkey_session.specs.Laws.{KeptDopen, KeptDopenRaw, KeptOpen, KeptOpenRaw, KeptTag};
+ghost use Rattle.tinkey_session.specs.Laws.{SessionDopens, SessionDopensRaw, SessionOpens, SessionOpensRaw};
+ghost use Rattle.tinkey_session.specs.Laws.{LinesGoOn, SessionIsEdits, SessionVerifies, TurnIsEdits, TurnsAreLines};
 
 use key_msgs::laws::made_is_valid;
 use managers::laws::{dopens_sealings, sealings_open};
@@ -60,4 +62,63 @@ pub fn kept_tag()
     ensures { KeptTag }
 {
     same_key_verifies();
+}
+
+/// A session's keyset is the first one after some edits: that before each line, and the last one.
+pub fn session_is_edits()
+    ensures last { SessionIsEdits }
+    ensures each { TurnIsEdits }
+{}
+
+/// A turn is that of the line of its place, and a text goes on line by line.
+pub fn turns_are_lines()
+    ensures turns { TurnsAreLines }
+    ensures lines { LinesGoOn }
+{}
+
+/// What a line `seal` gave, a later line `open` with the same associated data answers with its
+/// plaintext, while the keyset has the key that sealed, ENABLED. The key isn't RAW.
+pub fn session_opens()
+    ensures { SessionOpens }
+{
+    sound_usable();
+    sound_kept();
+    kept_open();
+}
+
+/// The same of `dseal` and `dopen`.
+pub fn session_dopens()
+    ensures { SessionDopens }
+{
+    sound_usable();
+    sound_kept();
+    kept_dopen();
+}
+
+/// What a line `seal` gave under a RAW key, a later line `open` answers with some plaintext.
+pub fn session_opens_raw()
+    ensures { SessionOpensRaw }
+{
+    sound_usable();
+    sound_kept();
+    kept_open_raw();
+}
+
+/// The same of `dseal` and `dopen`.
+pub fn session_dopens_raw()
+    ensures { SessionDopensRaw }
+{
+    sound_usable();
+    sound_kept();
+    kept_dopen_raw();
+}
+
+/// What a line `tag` gave, a later line `verify` accepts, while the keyset has the key that made
+/// it, ENABLED. The key may be of any output prefix type.
+pub fn session_verifies()
+    ensures { SessionVerifies }
+{
+    sound_usable();
+    sound_kept();
+    kept_tag();
 }
