@@ -3,6 +3,7 @@ pub mod Options
 pub mod StandardLemmas
 pub mod UsableLemmas
 pub mod MadeLemmas
+pub mod ReadingLemmas
 pub mod ServingExamples
 pub mod SoundLemmas
 pub mod OpenLemmas

@@ -64,29 +64,39 @@ abbrev pub with_two : {A B : Type 0} → (A → B → Line) → Option A → Opt
 with_two asks (Some a) word = with_one (asks a) word
 with_two asks None word = Bad
 
+-- the lines of a name and a number
+abbrev pub line_with_id : (name : List ℕ) → (id : ℕ) → Line
+line_with_id name id =
+    if bytes_eq name (codes "promote") then Promote id
+    else (if bytes_eq name (codes "enable") then Enable id
+    else (if bytes_eq name (codes "disable") then Disable id
+    else (if bytes_eq name (codes "destroy") then Destroy id
+    else (if bytes_eq name (codes "delete") then Delete id
+    else Bad))))
+
 -- the lines of a name and one word
 abbrev pub line_with_one : (name a : List ℕ) → Line
 line_with_one name a =
     if bytes_eq name (codes "tag") then with_one Tag (bytes_in a)
     else (if bytes_eq name (codes "add") then with_one Add (name_in a)
     else (if bytes_eq name (codes "rotate") then with_one Rotate (name_in a)
-    else (if bytes_eq name (codes "promote") then with_one Promote (number_in a)
-    else (if bytes_eq name (codes "enable") then with_one Enable (number_in a)
-    else (if bytes_eq name (codes "disable") then with_one Disable (number_in a)
-    else (if bytes_eq name (codes "destroy") then with_one Destroy (number_in a)
-    else (if bytes_eq name (codes "delete") then with_one Delete (number_in a)
-    else Bad)))))))
+    else with_one (line_with_id name) (number_in a)))
+
+-- the lines of a name and twice bytes
+abbrev pub line_with_bytes : (name a b : List ℕ) → Line
+line_with_bytes name a b =
+    if bytes_eq name (codes "seal") then Seal a b
+    else (if bytes_eq name (codes "open") then Open a b
+    else (if bytes_eq name (codes "dseal") then Dseal a b
+    else (if bytes_eq name (codes "dopen") then Dopen a b
+    else (if bytes_eq name (codes "verify") then Verify a b
+    else Bad))))
 
 -- the lines of a name and two words
 abbrev pub line_with_two : (name a b : List ℕ) → Line
 line_with_two name a b =
-    if bytes_eq name (codes "seal") then with_two Seal (bytes_in a) (bytes_in b)
-    else (if bytes_eq name (codes "open") then with_two Open (bytes_in a) (bytes_in b)
-    else (if bytes_eq name (codes "dseal") then with_two Dseal (bytes_in a) (bytes_in b)
-    else (if bytes_eq name (codes "dopen") then with_two Dopen (bytes_in a) (bytes_in b)
-    else (if bytes_eq name (codes "verify") then with_two Verify (bytes_in a) (bytes_in b)
-    else (if bytes_eq name (codes "derive") then with_two Derive (number_in a) (bytes_in b)
-    else Bad)))))
+    if bytes_eq name (codes "derive") then with_two Derive (number_in a) (bytes_in b)
+    else with_two (line_with_bytes name) (bytes_in a) (bytes_in b)
 
 abbrev pub line_of_words : List (List ℕ) → Line
 line_of_words (name ∷ a ∷ []) = line_with_one name a

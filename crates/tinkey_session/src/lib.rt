@@ -2,3 +2,6 @@
 #![tactic(auto)]
 
 pub mod laws;
+mod line;
+
+pub use line::{Line, read_line};

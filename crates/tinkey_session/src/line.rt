@@ -1,0 +1,183 @@
+//! One line of a session, read by the grammar of `specs/Lines.antt`.
+
+ghost use Rattle.std.specs.Prelude.{◌≡◌, IfOk, option_map};
+ghost use Rattle.tinkey_session.specs.Lines.{bytes_in, line_of, line_of_words, line_with_bytes, line_with_id, line_with_one, line_with_two, name_in, number_in, words_of};
+ghost use Rattle.tinkey_session.specs.Reading.{seen_line, seen_name};
+
+use hex::FromHexError;
+use std::alloc::Global;
+use std::str::from_utf8;
+use tink_base::{Bytes, NoMemory};
+
+/// What a line asks.
+#[derive(Drop)]
+pub enum Line<'a> {
+    /// Seal this plaintext with this associated data.
+    Seal(Bytes, Bytes),
+    /// The same without an IV.
+    Dseal(Bytes, Bytes),
+    /// Open these bytes with this associated data.
+    Open(Bytes, Bytes),
+    /// The same of bytes that were sealed without an IV.
+    Dopen(Bytes, Bytes),
+    /// Tag these bytes.
+    Tag(Bytes),
+    /// Verify this tag of these bytes.
+    Verify(Bytes, Bytes),
+    /// Derive so many bytes from this input.
+    Derive(u32, Bytes),
+    /// Add a new key by the template of this name, whether or not there is one.
+    Add(&'a str),
+    /// The same, and the new key is primary.
+    Rotate(&'a str),
+    /// Make the key of this id primary.
+    Promote(u32),
+    /// Make it ENABLED.
+    Enable(u32),
+    /// Make it DISABLED.
+    Disable(u32),
+    /// Make it DESTROYED.
+    Destroy(u32),
+    /// Remove it.
+    Delete(u32),
+    /// None of these.
+    Bad,
+}
+
+/// What the line asks, whose bytes come without a newline. Memory is taken for the bytes that the
+/// line spells in hexadecimal, and for nothing else.
+#[tactic(auto, unfolding(crate::specs::Lines::line_of))]
+pub fn read_line(alloc: Global, line: &[u8]) -> Result<Line<'_>, NoMemory>
+    ensures { IfOk result (λ read. seen_line read ≡ line_of line.now) }
+{
+    match from_utf8(line) {
+        Ok(text) => read_words(alloc, text),
+        Err(_) => Ok(Line::Bad),
+    }
+}
+
+/// What a line of text asks.
+fn read_words(alloc: Global, text: &str) -> Result<Line<'_>, NoMemory>
+    ensures { IfOk result (λ read. seen_line read ≡ line_of_words (words_of text.now)) }
+{
+    match text.split_once(' ') {
+        None => Ok(Line::Bad),
+        Some((name, words)) => match words.split_once(' ') {
+            None => line_with_one(alloc, name, words),
+            Some((first, second)) => match second.split_once(' ') {
+                None => line_with_two(alloc, name, first, second),
+                Some(_) => Ok(Line::Bad),
+            },
+        },
+    }
+}
+
+/// The line of a name and one word.
+fn line_with_one<'a>(alloc: Global, name: &str, word: &'a str) -> Result<Line<'a>, NoMemory>
+    ensures { IfOk result (λ read. seen_line read ≡ line_with_one name.now word.now) }
+{
+    Ok(match name {
+        "tag" => match bytes_in(alloc, word)? {
+            Some(body) => Line::Tag(body),
+            None => Line::Bad,
+        },
+        "add" => match name_in(word) {
+            Some(template) => Line::Add(template),
+            None => Line::Bad,
+        },
+        "rotate" => match name_in(word) {
+            Some(template) => Line::Rotate(template),
+            None => Line::Bad,
+        },
+        _ => match number_in(word) {
+            Some(id) => line_with_id(name, id),
+            None => Line::Bad,
+        },
+    })
+}
+
+/// The line of a name and a key id.
+fn line_with_id<'a>(name: &str, id: u32) -> Line<'a>
+    ensures { seen_line result ≡ line_with_id name.now id }
+{
+    match name {
+        "promote" => Line::Promote(id),
+        "enable" => Line::Enable(id),
+        "disable" => Line::Disable(id),
+        "destroy" => Line::Destroy(id),
+        "delete" => Line::Delete(id),
+        _ => Line::Bad,
+    }
+}
+
+/// The line of a name and two words.
+fn line_with_two<'a>(
+    alloc: Global,
+    name: &str,
+    first: &str,
+    second: &str,
+) -> Result<Line<'a>, NoMemory>
+    ensures { IfOk result (λ read. seen_line read ≡ line_with_two name.now first.now second.now) }
+{
+    if name == "derive" {
+        return Ok(match (number_in(first), bytes_in(alloc, second)?) {
+            (Some(size), Some(input)) => Line::Derive(size, input),
+            _ => Line::Bad,
+        });
+    }
+    Ok(match (bytes_in(alloc, first)?, bytes_in(alloc, second)?) {
+        (Some(a), Some(b)) => line_with_bytes(name, a, b),
+        _ => Line::Bad,
+    })
+}
+
+/// The line of a name and twice bytes.
+fn line_with_bytes<'a>(name: &str, a: Bytes, b: Bytes) -> Line<'a>
+    ensures { seen_line result ≡ line_with_bytes name.now a b }
+{
+    match name {
+        "seal" => Line::Seal(a, b),
+        "open" => Line::Open(a, b),
+        "dseal" => Line::Dseal(a, b),
+        "dopen" => Line::Dopen(a, b),
+        "verify" => Line::Verify(a, b),
+        _ => Line::Bad,
+    }
+}
+
+/// The bytes that the word spells in hexadecimal.
+fn bytes_in(alloc: Global, word: &str) -> Result<Option<Bytes>, NoMemory>
+    ensures { IfOk result (λ found. found ≡ bytes_in word.now) }
+{
+    if word == "-" {
+        return Ok(Some(Bytes::own(Vec::new(alloc))));
+    }
+    if word.is_empty() {
+        return Ok(None);
+    }
+    match hex::decode(alloc, word) {
+        Ok(bytes) => Ok(Some(Bytes::own(bytes))),
+        Err(FromHexError::OutOfMemory) => Err(NoMemory),
+        Err(_) => Ok(None),
+    }
+}
+
+/// How many digits a number may have.
+const MOST_DIGITS: usize = 10;
+
+/// The number that the word spells.
+fn number_in(word: &str) -> Option<u32>
+    ensures { result ≡ number_in word.now }
+{
+    if word.len() > MOST_DIGITS || !word.bytes().all(|b| b.is_ascii_digit()) {
+        return None;
+    }
+    word.parse::<u32>().ok()
+}
+
+/// The name, where it isn't empty.
+fn name_in(word: &str) -> Option<&str>
+    ensures { seen_name result ≡ name_in word.now }
+{
+    if word.is_empty() { None } else { Some(word) }
+}
