@@ -5,3 +5,6 @@ pub mod laws;
 mod line;
 
 pub use line::{Line, read_line};
+
+#[cfg(test)]
+mod tests;
