@@ -1,3 +1,5 @@
+pub mod DrawLemmas
+pub mod FewLemmas
 pub mod LineExamples
 pub mod Options
 pub mod StandardLemmas

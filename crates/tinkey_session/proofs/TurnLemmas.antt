@@ -85,7 +85,7 @@ computed_keeps keys random reply answer x e = ap (λ y. y.keys) (map_some (λ va
 same_Ok : (a b : Row) → ◌≡◌ {A = Result Row Refusal} (Ok a) (Ok b) → a ≡ b
 same_Ok a b e = cc
 
-template_there : (name : List ℕ) (row : Row) → template_of name ≡ Ok row → IsTemplate row
+pub template_there : (name : List ℕ) (row : Row) → template_of name ≡ Ok row → IsTemplate row
 unfolding row_named
 template_there name row e = by (row_named name) (is_asymmetric name) refl e
   where

@@ -78,7 +78,7 @@ has_keyed primitive r served is =
 
 -- ---- records that can serve
 
-fit_reading : (reading : Option (Result KeyKind Rule)) (later : Option Unfit) → first_of_three reading later ≡ None → (key : KeyKind) × (reading ≡ Some (Ok key))
+pub fit_reading : (reading : Option (Result KeyKind Rule)) (later : Option Unfit) → first_of_three reading later ≡ None → (key : KeyKind) × (reading ≡ Some (Ok key))
 fit_reading None later e = clash (sym e)
 fit_reading (Some (Err rule)) later e = clash (sym e)
 fit_reading (Some (Ok key)) later e = (key, refl)

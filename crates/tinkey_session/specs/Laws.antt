@@ -5,20 +5,22 @@
 --   after       the keyset after edits, accepted or refused
 --   IsEdited    one keyset is another one after some edits
 --   HasTurns    two turns of one session
-use Rattle.std.specs.Prelude.{◌≡◌, ◌↔◌, ℕ, ◌<◌, List, [], ◌∷◌, ◌++◌, true, Option, Some, None, Result, Ok, Err, option_and_then, slice_get, not, ◌==◌}
+--
+-- Of lines by themselves: what they draw, and what a refusal leaves.
+use Rattle.std.specs.Prelude.{◌≡◌, ◌↔◌, ℕ, ◌+◌, ◌<◌, ◌≤◌, List, [], ◌∷◌, ◌++◌, length, true, Option, Some, None, Result, Ok, Err, option_and_then, slice_get, not, ◌==◌}
 use Rattle.std.specs.List.{AllByRecursion, list_all}
 use Rattle.key_msgs.specs.KeyTypes.{primitive_of_type}
 use Rattle.key_msgs.specs.Templates.{Row, type_made}
 use Rattle.key_msgs.specs.declared.primitive.Primitive.{Primitive}
-use Rattle.keyset_model.specs.Keyset.{Keys, is_enabled, primary_of}
+use Rattle.keyset_model.specs.Keyset.{Keys, fault_of, is_enabled, primary_of}
 use Rattle.keyset_model.specs.declared.record.Record.{Record}
 use Rattle.managers.specs.Standard.{standard_table}
 use Rattle.managers.specs.Table.{Table}
 use Rattle.tinkey_cmds.specs.Edits.{Edit, Stepped, first, primitive_of, rule_of, step}
 use Rattle.tinkey_cmds.specs.Laws.{HasTemplate, IsTemplate}
 use Rattle.tinkey_cmds.specs.declared.command.CmdFault.{CmdFault}
-use Rattle.tinkey_session.specs.Lines.{Line, Seal, Dseal, Open, Dopen, Tag, Verify}
-use Rattle.tinkey_session.specs.Serving.{Done, Gives}
+use Rattle.tinkey_session.specs.Lines.{Line, Seal, Dseal, Open, Dopen, Tag, Verify, bytes_in, word_of}
+use Rattle.tinkey_session.specs.Serving.{Done, Gives, Refusal, Refuses, Served, serve}
 use Rattle.tinkey_session.specs.Session.{Remains, Turn, lines_of, remains, turns}
 use Rattle.wrapped_prims.specs.Answers.{Sealed, dopen_answer, dseal_answer, open_answer, seal_answer, tag_answer, verify_answer}
 use Rattle.wrapped_prims.specs.Candidates.{prefix_of}
@@ -127,6 +129,35 @@ KeptTag = (old new : Keys) (r : Record) (tag body : List ℕ)
     → tag_answer old standard_table body ≡ Some tag
     → verify_answer new standard_table tag body ≡ true
 
+-- ---- lines
+
+-- a refused line leaves the keyset
+abbrev pub RefusalsLeave : Type 0
+RefusalsLeave = (table : Table) (keys : Keys) (line : Line) (random : List ℕ) (x : Served)
+    (why : Refusal) → serve table keys line random ≡ Some x → x.reply ≡ Refuses why
+    → x.keys ≡ keys
+
+-- The bytes drawn stand in front of those left, and whatever stands behind them, the line gives the
+-- same.
+abbrev pub LinesDrawFronts : Type 0
+LinesDrawFronts = (table : Table) (keys : Keys) (line : Line) (random : List ℕ) (x : Served)
+    → serve table keys line random ≡ Some x
+    → (drawn : List ℕ) × (random ≡ drawn ++ x.left)
+    × ((more : List ℕ) → serve table keys line (drawn ++ more) ≡ Some (record x { left = more }))
+
+-- Over a keyset a line that has 320 random bytes is answered, and draws no more. An edit draws at most
+-- 64 ids of four bytes and a key of 64, and a seal at most 16 bytes.
+abbrev pub LinesDrawFew : Type 0
+LinesDrawFew = (table : Table) (keys : Keys) (line : Line) (random : List ℕ)
+    → fault_of keys ≡ None → 320 ≤ length random
+    → (x : Served) × (serve table keys line random ≡ Some x)
+    × (length random ≤ length x.left + 320)
+
+-- a word that spells bytes in lower case is read as these bytes
+abbrev pub WordsReadBack : Type 0
+WordsReadBack = (bytes : List ℕ) → AllByRecursion (λ b. b < 256) bytes
+    → bytes_in (word_of bytes) ≡ Some bytes
+
 -- ---- sessions
 
 -- two turns of the session of these lines over these keys, the second one later
@@ -200,3 +231,11 @@ TurnIsEdits = (table : Table) (keys : Keys) (lines : List Line) (random : List �
 abbrev pub LinesGoOn : Type 0
 LinesGoOn = (line more : List ℕ) → list_all (λ b. not (b == 10)) line ≡ true
     → lines_of (line ++ 10 ∷ more) ≡ line ∷ lines_of more
+
+-- a session over more lines is that over the first of them, and one over what it left
+abbrev pub SessionGoesOn : Type 0
+SessionGoesOn = (table : Table) (keys : Keys) (lines more : List Line) (random : List ℕ)
+    (m : Remains) → remains table keys lines random ≡ Some m
+    → (turns table keys (lines ++ more) random
+    ≡ turns table keys lines random ++ turns table m.keys more m.left)
+    × (remains table keys (lines ++ more) random ≡ remains table m.keys more m.left)

@@ -2,6 +2,7 @@
 --
 --   Line           what a line asks
 --   bytes_in       the bytes that a word spells in hexadecimal
+--   word_of        the word that spells bytes
 --   number_in      the number that a word spells
 --   line_of        what the bytes of a line ask
 --
@@ -12,7 +13,7 @@ use Rattle.std.specs.List.{slice_split}
 use Rattle.std.specs.Result.{result_ok}
 use Rattle.std.specs.Str.{all_ascii_digits, bytes_eq, is_utf8}
 use Rattle.std.specs.Str.Parse.{digits_value}
-use Rattle.hex.specs.Hex.{decode_of}
+use Rattle.hex.specs.Hex.{decode_of, encode_lower}
 
 -- what a line asks
 pub data Line : Type 0 where
@@ -38,6 +39,11 @@ bytes_in word =
     if bytes_eq word (codes "-") then Some []
     else (if length word == 0 then None
     else result_ok (decode_of word))
+
+-- the word that spells bytes, in lower case
+abbrev pub word_of : List ℕ → List ℕ
+word_of [] = codes "-"
+word_of (b ∷ bytes) = encode_lower (b ∷ bytes)
 
 -- 1 to 10 decimal digits, of a number up to 4,294,967,295
 abbrev pub is_number : List ℕ → Bool

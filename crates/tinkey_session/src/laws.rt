@@ -2,9 +2,10 @@
 
 ghost use Rattle.key_msgs.specs.declared.primitive.Primitive.TheVariants.{Aead, Daead, Mac};
 ghost use Rattle.tinkey_session.specs.Laws.{EditsKeepSound, FirstsAreSound, SoundIsUsable};
+ghost use Rattle.tinkey_session.specs.Laws.{LinesDrawFew, LinesDrawFronts, RefusalsLeave, WordsReadBack};
 ghost use Rattle.tinkey_session.specs.Laws.{KeptDopen, KeptDopenRaw, KeptOpen, KeptOpenRaw, KeptTag};
 ghost use Rattle.tinkey_session.specs.Laws.{SessionDopens, SessionDopensRaw, SessionOpens, SessionOpensRaw};
-ghost use Rattle.tinkey_session.specs.Laws.{LinesGoOn, SessionIsEdits, SessionVerifies, TurnIsEdits, TurnsAreLines};
+ghost use Rattle.tinkey_session.specs.Laws.{LinesGoOn, SessionGoesOn, SessionIsEdits, SessionVerifies, TurnIsEdits, TurnsAreLines};
 
 use key_msgs::laws::made_is_valid;
 use managers::laws::{dopens_sealings, sealings_open};
@@ -74,6 +75,31 @@ pub fn session_is_edits()
 pub fn turns_are_lines()
     ensures turns { TurnsAreLines }
     ensures lines { LinesGoOn }
+{}
+
+/// A session over more lines is that over the first of them, and one over what it left.
+pub fn session_goes_on()
+    ensures { SessionGoesOn }
+{}
+
+/// A refused line leaves the keyset.
+pub fn refusals_leave()
+    ensures { RefusalsLeave }
+{}
+
+/// A line looks at no random byte behind those that it draws.
+pub fn lines_draw_fronts()
+    ensures { LinesDrawFronts }
+{}
+
+/// Over a keyset a line that has 320 random bytes is answered, and draws no more.
+pub fn lines_draw_few()
+    ensures { LinesDrawFew }
+{}
+
+/// A word that spells bytes in lower case is read as these bytes.
+pub fn words_read_back()
+    ensures { WordsReadBack }
 {}
 
 /// What a line `seal` gave, a later line `open` with the same associated data answers with its
