@@ -17,7 +17,8 @@ use Rattle.tinkey_cmds.specs.Edits.{Edit, added, effect_of, grown, id_of, is_tak
 use Rattle.tinkey_cmds.specs.Edits as edits
 use Rattle.tinkey_cmds.specs.declared.command.CmdFault.{CmdFault}
 use Rattle.tinkey_session.proofs.Options.{clash, map_some}
-use Rattle.tinkey_session.specs.Laws.{LinesDrawFronts, RefusalsLeave, SessionGoesOn}
+use Rattle.tinkey_session.specs.LineLaws.{LinesDrawFronts, RefusalsLeave}
+use Rattle.tinkey_session.specs.SessionLaws.{SessionGoesOn}
 use Rattle.tinkey_session.specs.Lines.{Line, Seal, Dseal, Open, Dopen, Tag, Verify, Derive, Add, Rotate, Promote, Enable, Disable, Destroy, Delete, Bad}
 use Rattle.tinkey_session.specs.Serving.{CannotServe, Gives, Refusal, Refuses, Reply, Served, answered, computed, derived_reply, edit_line, edit_served, last_id, edited_reply, sealed_reply, serve, stepped, template_of, unless_unfit, with_template}
 use Rattle.tinkey_session.specs.Session.{remains, turn_then, turns}

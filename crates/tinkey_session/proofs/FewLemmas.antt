@@ -23,7 +23,7 @@ use Rattle.managers.specs.Uses.{dseal_of, iv_size, seal_of, tag_of, tagged}
 use Rattle.tinkey_cmds.proofs.Among.{Among, among-all, find-among}
 use Rattle.tinkey_cmds.proofs.Kept.{most_random}
 use Rattle.tinkey_cmds.specs.Draws.{Draw, Drawn, and_then, answered as answers, fill, unless_err}
-use Rattle.tinkey_cmds.specs.Edits.{Edit, added, effect_of, grown, id_of, is_taken, new_id, new_record, record_of, refusal_of, rotated, step, unless_refused, with_key}
+use Rattle.tinkey_cmds.specs.Edits.{Edit, added, alone, effect_of, grown, id_of, is_taken, new_id, new_record, record_of, refusal_of, rotated, step, unless_refused, with_key}
 use Rattle.tinkey_cmds.specs.Edits as edits
 use Rattle.tinkey_cmds.specs.Laws.{HasTemplate, IsTemplate}
 use Rattle.tinkey_cmds.specs.declared.command.CmdFault.{CmdFault}
@@ -32,7 +32,7 @@ use Rattle.tinkey_session.proofs.DrawLemmas.{served_left}
 use Rattle.tinkey_session.proofs.Options.{clash, no_truth}
 use Rattle.tinkey_session.proofs.TurnLemmas.{template_there}
 use Rattle.tinkey_session.proofs.UsableLemmas.{fit_reading}
-use Rattle.tinkey_session.specs.Laws.{LinesDrawFew}
+use Rattle.tinkey_session.specs.LineLaws.{FirstsDrawFew, LinesDrawFew}
 use Rattle.tinkey_session.specs.Lines.{Line, Seal, Dseal, Open, Dopen, Tag, Verify, Derive, Add, Rotate, Promote, Enable, Disable, Destroy, Delete, Bad}
 use Rattle.tinkey_session.specs.Serving.{CannotServe, Gives, Refusal, Refuses, Reply, Served, answered, computed, derived_reply, edit_line, sealed_reply, serve, stepped, template_of, unless_unfit, with_template}
 use Rattle.wrapped_prims.proofs.OpenLemmas.{none_here}
@@ -261,3 +261,7 @@ few-line table keys Bad random k enough = few-answered keys random _
 pub lines_draw_few : LinesDrawFew
 unfolding Few
 lines_draw_few table keys line random k enough = few-line table keys line random k enough
+
+pub firsts_draw_few : FirstsDrawFew
+unfolding Takes
+firsts_draw_few row random is enough = takes-grown alone row [] is random enough

@@ -1,5 +1,5 @@
 -- What a line sealed or tagged, a later line of the session.
-use Rattle.std.proofs.Common.{◌≡◌, ◌∙◌, inl, inr, sym, ap, ℕ, List, Option, Some, None, option_map}
+use Rattle.std.proofs.Common.{◌≡◌, ◌∙◌, inl, inr, refl, sym, ap, ℕ, List, Option, Some, None, option_map}
 use Rattle.std.proofs.lemmas.Option.{same_Some}
 use Rattle.key_msgs.specs.declared.primitive.Primitive.{Primitive}
 use Rattle.key_msgs.specs.declared.primitive.Primitive.TheVariants.{Aead, Daead, Mac}
@@ -8,7 +8,9 @@ use Rattle.managers.specs.Standard.{standard_table}
 use Rattle.tinkey_session.proofs.Options.{map_some}
 use Rattle.tinkey_session.proofs.SoundLemmas.{edited_keyset, edited_sound}
 use Rattle.tinkey_session.proofs.TurnLemmas.{both_reached, handle_cases}
-use Rattle.tinkey_session.specs.Laws.{EditsKeepSound, HasTurns, IsEdited, KeptDopen, KeptDopenRaw, KeptOpen, KeptOpenRaw, KeptTag, SessionDopens, SessionDopensRaw, SessionOpens, SessionOpensRaw, SessionVerifies, SoundIsUsable}
+use Rattle.tinkey_session.specs.Laws.{EditsKeepSound, IsEdited, KeptDopen, KeptDopenRaw, KeptOpen, KeptOpenRaw, KeptTag, SoundIsUsable}
+use Rattle.tinkey_session.specs.LineLaws.{LinesOpen}
+use Rattle.tinkey_session.specs.SessionLaws.{HasTurns, SessionDopens, SessionDopensRaw, SessionOpens, SessionOpensRaw, SessionVerifies}
 use Rattle.tinkey_session.specs.Lines.{Line, Seal, Dseal, Open, Dopen, Tag, Verify}
 use Rattle.tinkey_session.specs.Serving.{CannotServe, Gives, Refusal, Refuses, Reply, Served, answered, by_handle, computed, opened_reply, sealed_reply, serve, unless_unfit, verified_reply}
 use Rattle.tinkey_session.specs.Session.{Turn}
@@ -107,15 +109,18 @@ computed_gave p keys random answer bytes x reply e same is =
     let there = map_some (λ value. answered keys random (Gives value)) answer x g.is in
     (g.fit, there.1 ∙ ap Some (same_bytes _ _ (ap (λ y. y.reply) there.2 ∙ sym same ∙ is)))
 
-pub session_opens : SoundIsUsable Aead → EditsKeepSound → KeptOpen → SessionOpens
+pub lines_open : SoundIsUsable Aead → EditsKeepSound → KeptOpen → LinesOpen
 unfolding serve
-session_opens usable kept_sound law keys lines random prefix plain ad sealed s t r k h s_line s_reply primary is t_line has =
+lines_open usable kept_sound law old new r prefix plain ad sealed random drawn x y k edited has primary is first reply second =
+    let g = seal_gave old plain ad random sealed x x.reply first refl reply in
+    answer_is Aead new drawn _ y (serves_later Aead usable kept_sound old new k edited g.fit) second
+    ∙ ap (λ bytes. opened_reply (open_answer new standard_table bytes ad)) (sym g.bytes)
+    ∙ ap opened_reply (law old new r prefix plain ad random g.made k edited has primary is g.is)
+
+pub session_opens : LinesOpen → SessionOpens
+session_opens law keys lines random prefix plain ad sealed s t r k h s_line s_reply primary is t_line has =
     let p = is_pair keys lines random s t (Seal plain ad) (Open sealed ad) k h s_line t_line in
-    let g = seal_gave s.before plain ad p.random sealed p.one s.reply p.serves_one p.reply_one s_reply in
-    p.reply_two
-    ∙ answer_is Aead t.before p.drawn _ p.two (serves_later Aead usable kept_sound s.before t.before p.before p.edited g.fit) p.serves_two
-    ∙ ap (λ bytes. opened_reply (open_answer t.before standard_table bytes ad)) (sym g.bytes)
-    ∙ ap opened_reply (law s.before t.before r prefix plain ad p.random g.made p.before p.edited has primary is g.is)
+    p.reply_two ∙ law s.before t.before r prefix plain ad sealed p.random p.drawn p.one p.two p.before p.edited has primary is p.serves_one (sym p.reply_one ∙ s_reply) p.serves_two
 
 pub session_opens_raw : SoundIsUsable Aead → EditsKeepSound → KeptOpenRaw → SessionOpensRaw
 unfolding serve

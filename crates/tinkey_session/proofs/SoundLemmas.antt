@@ -21,7 +21,7 @@ use Rattle.tinkey_cmds.specs.Laws.{HasTemplate, IsTemplate}
 use Rattle.tinkey_cmds.specs.declared.command.CmdFault.{CmdFault}
 use Rattle.tinkey_session.proofs.MadeLemmas.{made_key}
 use Rattle.tinkey_session.proofs.Options.{clash, no_truth}
-use Rattle.tinkey_session.specs.Laws.{Asked, EditsKeepSound, FirstsAreSound, IsAsked, IsEdited, IsKeyFor, IsSound, IsUsable, after, kept}
+use Rattle.tinkey_session.specs.Laws.{Asked, EditedIsKeyset, EditedIsSound, EditsKeepSound, FirstsAreSound, IsAsked, IsKeyFor, IsSound, IsUsable, after, kept}
 use Rattle.wrapped_prims.specs.Laws.{IsKeyset}
 use Rattle.wrapped_prims.specs.Making.{HasWordId}
 
@@ -145,8 +145,8 @@ after_kept P each (asked ∷ later) old new is p e = elim (step old asked.edit a
   | Some s ↦ λ t k. after_kept P each later (kept old s.answer) new is.1 (kept_one P each old asked.edit asked.random s s.answer is.0 p t refl) k
 ] refl e
 
-pub edited_keyset : (old new : Keys) → IsEdited old new → IsKeyset old → IsKeyset new
+pub edited_keyset : EditedIsKeyset
 edited_keyset old new edited k = after_kept IsKeyset keyset_kept edited.edits old new edited.asked k edited.last
 
-pub edited_sound : EditsKeepSound → (primitive : Primitive) (old new : Keys) → IsEdited old new → IsSound primitive old → IsSound primitive new
+pub edited_sound : EditsKeepSound → EditedIsSound
 edited_sound law primitive old new edited s = after_kept (IsSound primitive) (law primitive) edited.edits old new edited.asked s edited.last

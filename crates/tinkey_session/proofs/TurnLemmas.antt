@@ -16,7 +16,8 @@ use Rattle.tinkey_cmds.specs.Edits as edits
 use Rattle.tinkey_cmds.specs.Laws.{HasTemplate, IsTemplate}
 use Rattle.tinkey_cmds.specs.declared.command.CmdFault.{CmdFault}
 use Rattle.tinkey_session.proofs.Options.{clash, map_some}
-use Rattle.tinkey_session.specs.Laws.{Asked, IsAsked, IsEdited, SessionIsEdits, after, kept}
+use Rattle.tinkey_session.specs.Laws.{Asked, IsAsked, IsEdited, after, kept}
+use Rattle.tinkey_session.specs.SessionLaws.{SessionIsEdits}
 use Rattle.tinkey_session.specs.Lines.{Line, Seal, Dseal, Open, Dopen, Tag, Verify, Derive, Add, Rotate, Promote, Enable, Disable, Destroy, Delete, Bad}
 use Rattle.tinkey_session.specs.Serving.{CannotServe, Refusal, Refuses, Reply, Served, answered, by_handle, computed, edit_line, edit_served, sealed_reply, serve, stepped, template_of, template_or, unless_unfit, with_template}
 use Rattle.tinkey_session.specs.Session.{Turn, remains, turn_then, turns}

@@ -125,8 +125,8 @@ with_template edit keys random (Err why) = Some (answered keys random (Refuses w
 
 -- ---- every line
 
--- A line over a keyset, with these random bytes to draw from. None where they run out; of a keyset
--- without a fault nothing else gives none.
+-- A line over a keyset, with these random bytes to draw from. None where they run out, and where
+-- there is no primary key to compute with, which every keyset without a fault has.
 unfoldable pub serve : Table → Keys → Line → (random : List ℕ) → Option Served
 serve table keys (Seal plain ad) random = by_handle Aead table keys random
     (option_map (sealed_reply keys) (seal_answer keys table plain ad random))

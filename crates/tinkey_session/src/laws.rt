@@ -1,11 +1,13 @@
 //! Laws of the definitions. Each is the contract of a function that does nothing else.
 
 ghost use Rattle.key_msgs.specs.declared.primitive.Primitive.TheVariants.{Aead, Daead, Mac};
-ghost use Rattle.tinkey_session.specs.Laws.{EditsKeepSound, FirstsAreSound, SoundIsUsable};
-ghost use Rattle.tinkey_session.specs.Laws.{LinesDrawFew, LinesDrawFronts, RefusalsLeave, WordsReadBack};
-ghost use Rattle.tinkey_session.specs.Laws.{KeptDopen, KeptDopenRaw, KeptOpen, KeptOpenRaw, KeptTag};
-ghost use Rattle.tinkey_session.specs.Laws.{SessionDopens, SessionDopensRaw, SessionOpens, SessionOpensRaw};
-ghost use Rattle.tinkey_session.specs.Laws.{LinesGoOn, SessionGoesOn, SessionIsEdits, SessionVerifies, TurnIsEdits, TurnsAreLines};
+ghost use Rattle.tinkey_session.specs.Laws.{EditedIsKeyset, EditedIsSound, EditsKeepSound, FirstsAreSound};
+ghost use Rattle.tinkey_session.specs.Laws.{KeptDopen, KeptDopenRaw, KeptOpen, KeptOpenRaw, KeptTag, SoundIsUsable};
+ghost use Rattle.tinkey_session.specs.LineLaws.{FirstsDrawFew, LinesDrawFew, LinesDrawFronts, LinesOpen};
+ghost use Rattle.tinkey_session.specs.LineLaws.{RefusalsLeave, WordsReadBack};
+ghost use Rattle.tinkey_session.specs.SessionLaws.{LinesGoOn, SessionGoesOn, SessionIsEdits, SessionVerifies};
+ghost use Rattle.tinkey_session.specs.SessionLaws.{SessionDopens, SessionDopensRaw, SessionOpens, SessionOpensRaw};
+ghost use Rattle.tinkey_session.specs.SessionLaws.{TurnIsEdits, TurnsAreLines};
 
 use key_msgs::laws::made_is_valid;
 use managers::laws::{dopens_sealings, sealings_open};
@@ -26,6 +28,15 @@ pub fn sound_kept()
     ensures firsts { FirstsAreSound }
 {
     made_is_valid();
+}
+
+/// After any edits, accepted or refused, a keyset is one, and a sound one is sound for the same
+/// primitive.
+pub fn edited_kept()
+    ensures keysets { EditedIsKeyset }
+    ensures sound { EditedIsSound }
+{
+    sound_kept();
 }
 
 /// What a keyset sealed it opens after any edits, accepted or refused, while it has the key that
@@ -92,10 +103,22 @@ pub fn lines_draw_fronts()
     ensures { LinesDrawFronts }
 {}
 
-/// Over a keyset a line that has 320 random bytes is answered, and draws no more.
+/// Over a keyset a line that has 320 random bytes is answered, and draws no more; so is the first
+/// keyset of a template.
 pub fn lines_draw_few()
-    ensures { LinesDrawFew }
+    ensures lines { LinesDrawFew }
+    ensures firsts { FirstsDrawFew }
 {}
+
+/// What a line `seal` gave, a line `open` with the same associated data answers with its plaintext,
+/// after any edits, while the keyset has the key that sealed, ENABLED. The key isn't RAW.
+pub fn lines_open()
+    ensures { LinesOpen }
+{
+    sound_usable();
+    sound_kept();
+    kept_open();
+}
 
 /// A word that spells bytes in lower case is read as these bytes.
 pub fn words_read_back()
@@ -107,9 +130,7 @@ pub fn words_read_back()
 pub fn session_opens()
     ensures { SessionOpens }
 {
-    sound_usable();
-    sound_kept();
-    kept_open();
+    lines_open();
 }
 
 /// The same of `dseal` and `dopen`.

@@ -6,8 +6,8 @@ use std::alloc::Global;
 use std::test::Fail;
 use tink_base::Bytes;
 
-// What a row shows, a line, and how it is read: spelled again, in lower case, with no leading zeros. The
-// answers are those of Python's regular expressions, with `bytes.fromhex` and `int`.
+// What a row shows, a line, and how it is read: spelled again, in lower case, with no leading zeros.
+// The answers are those of Python's regular expressions, with `bytes.fromhex` and `int`.
 const LINES: &str = "\
 twice bytes|seal 00fF -|seal 00ff -
 no bytes|dseal - aBcD|dseal - abcd
@@ -118,8 +118,9 @@ fn reads_lines_by_the_grammar(rt: HostRuntime) -> Result<(), Fail> {
     Ok(())
 }
 
-// Bytes that a table can't hold: a tab, a carriage return and a letter of two bytes stand in names; half
-// a letter, a surrogate, an overlong form and the byte 255 are no UTF-8; and only a space parts words.
+// Bytes that a table can't hold: a tab, a carriage return and a letter of two bytes stand in names;
+// half a letter, a surrogate, an overlong form and the byte 255 are no UTF-8; only a space parts
+// words, and only ASCII has digits. The answers are Python's, as above.
 #[test]
 fn reads_only_text(rt: HostRuntime) -> Result<(), Fail> {
     let rows: [(&[u8], &str); 10] = [

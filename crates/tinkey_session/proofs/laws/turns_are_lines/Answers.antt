@@ -2,7 +2,7 @@ use Rattle.std.proofs.Common.{◌≡◌, ap, refl, [], ◌∷◌, ◌++◌, ◌=
 use Rattle.std.specs.List.{list_all, onto_first}
 use Rattle.tinkey_session.proofs.Options.{no_truth}
 use Rattle.tinkey_session.proofs.TurnLemmas.{turn_line}
-use Rattle.tinkey_session.specs.Laws.{LinesGoOn}
+use Rattle.tinkey_session.specs.SessionLaws.{LinesGoOn}
 use Rattle.tinkey_session.specs.Session.{lines_of}
 use Rattle.tinkey_session.proofs.laws.turns_are_lines.Goals as goal
 

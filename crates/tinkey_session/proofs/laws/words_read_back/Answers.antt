@@ -5,7 +5,7 @@ use Rattle.std.specs.Result.{result_ok}
 use Rattle.hex.proofs.HexLemmas.{decode_of-encode_lower, length-encode_with}
 use Rattle.hex.specs.Hex.{IsBytes, decode_of, encode_lower, encode_with, lower_digits}
 use Rattle.std.proofs.lemmas.Bool.{and_right, ne_eqb}
-use Rattle.tinkey_session.specs.Laws.{WordsReadBack}
+use Rattle.tinkey_session.specs.LineLaws.{WordsReadBack}
 use Rattle.tinkey_session.proofs.laws.words_read_back.Goals as goal
 
 are_bytes : (bytes : List ℕ) → AllByRecursion (λ b. b < 256) bytes → IsBytes bytes
