@@ -8,6 +8,7 @@ pub mod MadeLemmas
 pub mod ReadingLemmas
 pub mod ServingExamples
 pub mod SoundLemmas
+pub mod NewIdLemmas
 pub mod OpenLemmas
 pub mod TurnLemmas
 pub mod SessionLemmas

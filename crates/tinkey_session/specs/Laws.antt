@@ -93,8 +93,8 @@ EditedIsSound = (primitive : Primitive) (old new : Keys)
     → IsEdited old new → IsSound primitive old → IsSound primitive new
 
 -- What the primary record of a keyset sealed, the keyset opens to its plaintext after any edits,
--- while it has that record's key, ENABLED. The record has a prefix. That it is a valid key, and the
--- others too, need not be said: it has sealed.
+-- while it has that record's key, ENABLED. The record has a prefix. That it is a valid key need not
+-- be said, since it has sealed, and the other records may be anything.
 abbrev pub KeptOpen : Type 0
 KeptOpen = (old new : Keys) (r : Record) (prefix plain ad random : List ℕ) (sealed : Sealed)
     → IsKeyset old → IsEdited old new → HasSameKey r new

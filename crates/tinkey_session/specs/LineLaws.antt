@@ -1,5 +1,5 @@
 -- The laws of a line by itself: what it draws, what a refusal leaves, and what is opened again.
-use Rattle.std.specs.Prelude.{◌≡◌, ℕ, ◌+◌, ◌<◌, ◌≤◌, List, ◌++◌, length, Some, None}
+use Rattle.std.specs.Prelude.{◌≡◌, ◌⊎◌, ◌∷◌, [], ℕ, ◌+◌, ◌<◌, ◌≤◌, List, ◌++◌, length, Some, None}
 use Rattle.std.specs.List.{AllByRecursion}
 use Rattle.key_msgs.specs.Templates.{Row}
 use Rattle.keyset_model.specs.Keyset.{Keys, fault_of, primary_of}
@@ -10,7 +10,7 @@ use Rattle.tinkey_cmds.specs.Edits.{Stepped, first}
 use Rattle.tinkey_cmds.specs.Laws.{IsTemplate}
 use Rattle.tinkey_session.specs.Laws.{IsEdited}
 use Rattle.tinkey_session.specs.Lines.{Line, Seal, Open, bytes_in, word_of}
-use Rattle.tinkey_session.specs.Serving.{Gives, Refusal, Refuses, Served, serve}
+use Rattle.tinkey_session.specs.Serving.{Gives, NewId, Refusal, Refuses, Served, serve}
 use Rattle.wrapped_prims.specs.Candidates.{prefix_of}
 use Rattle.wrapped_prims.specs.Laws.{HasSameKey, IsKeyset}
 
@@ -19,6 +19,14 @@ abbrev pub RefusalsLeave : Type 0
 RefusalsLeave = (table : Table) (keys : Keys) (line : Line) (random : List ℕ) (x : Served)
     (why : Refusal) → serve table keys line random ≡ Some x → x.reply ≡ Refuses why
     → x.keys ≡ keys
+
+-- An accepted line that makes a key answers the id of the one new record, which stands last. Any
+-- other answer of it is a refusal.
+abbrev pub TellsNewId : (List ℕ → Line) → Type 0
+TellsNewId asks = (table : Table) (keys : Keys) (name random : List ℕ) (x : Served)
+    → serve table keys (asks name) random ≡ Some x
+    → ((why : Refusal) × (x.reply ≡ Refuses why))
+    ⊎ ((r : Record) × (x.reply ≡ NewId r.id) × (x.keys.records ≡ keys.records ++ r ∷ []))
 
 -- The bytes drawn stand in front of those left, and whatever stands behind them, the line gives the
 -- same.

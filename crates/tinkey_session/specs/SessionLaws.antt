@@ -9,9 +9,9 @@ use Rattle.keyset_model.specs.declared.record.Record.{Record}
 use Rattle.managers.specs.Standard.{standard_table}
 use Rattle.managers.specs.Table.{Table}
 use Rattle.tinkey_session.specs.Laws.{IsEdited}
-use Rattle.tinkey_session.specs.Lines.{Line, Seal, Dseal, Open, Dopen, Tag, Verify}
+use Rattle.tinkey_session.specs.Lines.{Line, Seal, Dseal, Open, Dopen, Tag, Verify, line_of}
 use Rattle.tinkey_session.specs.Serving.{Done, Gives}
-use Rattle.tinkey_session.specs.Session.{Remains, Turn, lines_of, remains, turns}
+use Rattle.tinkey_session.specs.Session.{Remains, Turn, asked_in, lines_of, remains, turns}
 use Rattle.wrapped_prims.specs.Candidates.{prefix_of}
 use Rattle.wrapped_prims.specs.Laws.{HasSameKey, IsKeyset}
 
@@ -72,6 +72,12 @@ abbrev pub TurnsAreLines : Type 0
 TurnsAreLines = (table : Table) (keys : Keys) (lines : List Line) (random : List ℕ) (i : ℕ)
     (t : Turn) → slice_get (turns table keys lines random) i ≡ Some t
     → slice_get lines i ≡ Some t.line
+
+-- of the lines of an input it is that of the line that stands there
+abbrev pub TurnsAreSpelled : Type 0
+TurnsAreSpelled = (table : Table) (keys : Keys) (input random : List ℕ) (i : ℕ) (t : Turn)
+    → slice_get (turns table keys (asked_in input) random) i ≡ Some t
+    → (line : List ℕ) × (slice_get (lines_of input) i ≡ Some line) × (line_of line ≡ t.line)
 
 -- the keyset that a session leaves is the first one after some edits
 abbrev pub SessionIsEdits : Type 0

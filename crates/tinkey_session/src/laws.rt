@@ -4,10 +4,11 @@ ghost use Rattle.key_msgs.specs.declared.primitive.Primitive.TheVariants.{Aead, 
 ghost use Rattle.tinkey_session.specs.Laws.{EditedIsKeyset, EditedIsSound, EditsKeepSound, FirstsAreSound};
 ghost use Rattle.tinkey_session.specs.Laws.{KeptDopen, KeptDopenRaw, KeptOpen, KeptOpenRaw, KeptTag, SoundIsUsable};
 ghost use Rattle.tinkey_session.specs.LineLaws.{FirstsDrawFew, LinesDrawFew, LinesDrawFronts, LinesOpen};
-ghost use Rattle.tinkey_session.specs.LineLaws.{RefusalsLeave, WordsReadBack};
+ghost use Rattle.tinkey_session.specs.LineLaws.{RefusalsLeave, TellsNewId, WordsReadBack};
+ghost use Rattle.tinkey_session.specs.Lines.{Add, Rotate};
 ghost use Rattle.tinkey_session.specs.SessionLaws.{LinesGoOn, SessionGoesOn, SessionIsEdits, SessionVerifies};
 ghost use Rattle.tinkey_session.specs.SessionLaws.{SessionDopens, SessionDopensRaw, SessionOpens, SessionOpensRaw};
-ghost use Rattle.tinkey_session.specs.SessionLaws.{TurnIsEdits, TurnsAreLines};
+ghost use Rattle.tinkey_session.specs.SessionLaws.{TurnIsEdits, TurnsAreLines, TurnsAreSpelled};
 
 use key_msgs::laws::made_is_valid;
 use managers::laws::{dopens_sealings, sealings_open};
@@ -82,9 +83,10 @@ pub fn session_is_edits()
     ensures each { TurnIsEdits }
 {}
 
-/// A turn is that of the line of its place, and a text goes on line by line.
+/// A turn is that of the line of its place, as the input spells it, and a text goes on line by line.
 pub fn turns_are_lines()
     ensures turns { TurnsAreLines }
+    ensures spelled { TurnsAreSpelled }
     ensures lines { LinesGoOn }
 {}
 
@@ -96,6 +98,12 @@ pub fn session_goes_on()
 /// A refused line leaves the keyset.
 pub fn refusals_leave()
     ensures { RefusalsLeave }
+{}
+
+/// An accepted line `add` or `rotate` answers the id of the new record, which stands last.
+pub fn new_ids_are_told()
+    ensures add { TellsNewId Add }
+    ensures rotate { TellsNewId Rotate }
 {}
 
 /// A line looks at no random byte behind those that it draws.
