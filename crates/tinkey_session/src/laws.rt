@@ -83,7 +83,8 @@ pub fn session_is_edits()
     ensures each { TurnIsEdits }
 {}
 
-/// A turn is that of the line of its place, as the input spells it, and a text goes on line by line.
+/// A turn is that of the line of its place, as the input spells it, and a text goes on line by
+/// line.
 pub fn turns_are_lines()
     ensures turns { TurnsAreLines }
     ensures spelled { TurnsAreSpelled }

@@ -6,8 +6,8 @@ use std::alloc::Global;
 use std::test::Fail;
 use tink_base::Bytes;
 
-// What a row shows, a line, and how it is read: spelled again, in lower case, with no leading zeros.
-// The answers are those of Python's regular expressions, with `bytes.fromhex` and `int`.
+// What a row shows, a line, and how it is read: spelled again, in lower case, with no leading
+// zeros. The answers are those of Python's regular expressions, with `bytes.fromhex` and `int`.
 const LINES: &str = "\
 twice bytes|seal 00fF -|seal 00ff -
 no bytes|dseal - aBcD|dseal - abcd
