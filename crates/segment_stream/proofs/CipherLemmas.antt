@@ -16,7 +16,7 @@ use Rattle.aead_kinds.specs.Gcm.{gcm_tag, gcm_text}
 use Rattle.aead_kinds.specs.Segment.{body_of, opened_with, sealed_with, segment_open, segment_seal, segment_tag, segment_text, tag_of}
 use Rattle.aead_kinds.proofs.GcmLemmas.{gcm_text-gcm_text, length-gcm_tag, length-gcm_text}
 use Rattle.segment_stream.specs.Cipher.{IsCipher}
-use Rattle.segment_stream.specs.Segments.{HasTag, IsSound, cipher_of, keys_by, nonce, nonce_prefix, opens_under, seals_under, start_of, tag_size_of}
+use Rattle.segment_stream.specs.Segments.{HasTag, IsSound, cipher_of, keys_under, nonce, nonce_prefix, opens_under, salt_of, seals_under, start_of, tag_size_of}
 use Rattle.segment_stream.specs.declared.key.StreamKey.{StreamKey}
 use Rattle.segment_stream.specs.declared.key.SegmentScheme.{SegmentScheme}
 use Rattle.segment_stream.specs.declared.key.SegmentScheme.TheVariants as schemes
@@ -131,34 +131,34 @@ ctr_hmac-is_pair aes hash mac t start h = record {
       (omega (arith, h, length-hmac hash mac (start ++ text)));
 }
 
-scheme-lengthens : (scheme : SegmentScheme) (key : StreamKey) (ad header prefix : List ℕ)
+scheme-lengthens : (scheme : SegmentScheme) (key : StreamKey) (ad salt prefix : List ℕ)
     (number : ℕ) (last : Bool) (plain : List ℕ) → HasTag scheme
-    → length (seals_under (keys_by scheme key ad header) prefix number last plain)
+    → length (seals_under (keys_under scheme key ad salt) prefix number last plain)
     ≡ length plain + tag_size_of scheme
-unfolding keys_by seals_under segment_seal
-scheme-lengthens schemes.Gcm key ad header prefix number last plain h =
+unfolding keys_under seals_under segment_seal
+scheme-lengthens schemes.Gcm key ad salt prefix number last plain h =
     length-sealed_with _ _ 16 plain (gcm-is_pair _ (nonce prefix number last))
-scheme-lengthens (schemes.CtrHmac hash t) key ad header prefix number last plain h =
+scheme-lengthens (schemes.CtrHmac hash t) key ad salt prefix number last plain h =
     length-sealed_with _ _ t plain (ctr_hmac-is_pair _ hash _ t (start_of prefix number last) h.1)
 
-scheme-opens : (scheme : SegmentScheme) (key : StreamKey) (ad header prefix : List ℕ)
+scheme-opens : (scheme : SegmentScheme) (key : StreamKey) (ad salt prefix : List ℕ)
     (number : ℕ) (last : Bool) (plain : List ℕ) → HasTag scheme
-    → opens_under (keys_by scheme key ad header) prefix number last
-    (seals_under (keys_by scheme key ad header) prefix number last plain) ≡ Some plain
-unfolding keys_by seals_under opens_under segment_seal segment_open
-scheme-opens schemes.Gcm key ad header prefix number last plain h =
+    → opens_under (keys_under scheme key ad salt) prefix number last
+    (seals_under (keys_under scheme key ad salt) prefix number last plain) ≡ Some plain
+unfolding keys_under seals_under opens_under segment_seal segment_open
+scheme-opens schemes.Gcm key ad salt prefix number last plain h =
     sealed_with-opens _ _ 16 plain (gcm-is_pair _ (nonce prefix number last))
-scheme-opens (schemes.CtrHmac hash t) key ad header prefix number last plain h =
+scheme-opens (schemes.CtrHmac hash t) key ad salt prefix number last plain h =
     sealed_with-opens _ _ t plain (ctr_hmac-is_pair _ hash _ t (start_of prefix number last) h.1)
 
-scheme-shortens : (scheme : SegmentScheme) (key : StreamKey) (ad header prefix : List ℕ)
+scheme-shortens : (scheme : SegmentScheme) (key : StreamKey) (ad salt prefix : List ℕ)
     (number : ℕ) (last : Bool) (segment plain : List ℕ) → HasTag scheme
-    → opens_under (keys_by scheme key ad header) prefix number last segment ≡ Some plain
+    → opens_under (keys_under scheme key ad salt) prefix number last segment ≡ Some plain
     → length segment ≡ length plain + tag_size_of scheme
-unfolding keys_by opens_under segment_open
-scheme-shortens schemes.Gcm key ad header prefix number last segment plain h =
+unfolding keys_under opens_under segment_open
+scheme-shortens schemes.Gcm key ad salt prefix number last segment plain h =
     opened_with-length _ _ 16 segment plain (gcm-is_pair _ (nonce prefix number last))
-scheme-shortens (schemes.CtrHmac hash t) key ad header prefix number last segment plain h =
+scheme-shortens (schemes.CtrHmac hash t) key ad salt prefix number last segment plain h =
     opened_with-length _ _ t segment plain
     (ctr_hmac-is_pair _ hash _ t (start_of prefix number last) h.1)
 
@@ -172,10 +172,10 @@ cipher_of-is_cipher ad key sound = record {
   room = sound.room;
   byte = header-is_byte key.derived sound.derived;
   lengthens = λ header number last plain.
-      scheme-lengthens key.scheme key ad header (nonce_prefix key header) number last plain sound.tag;
+      scheme-lengthens key.scheme key ad (salt_of key header) (nonce_prefix key header) number last plain sound.tag;
   opens_back = λ header number last plain a b c d e.
-      scheme-opens key.scheme key ad header (nonce_prefix key header) number last plain sound.tag;
+      scheme-opens key.scheme key ad (salt_of key header) (nonce_prefix key header) number last plain sound.tag;
   shortens = λ header number last bytes plain.
-      scheme-shortens key.scheme key ad header (nonce_prefix key header) number last bytes plain
+      scheme-shortens key.scheme key ad (salt_of key header) (nonce_prefix key header) number last bytes plain
       sound.tag;
 }

@@ -19,3 +19,4 @@ pub mod First
 pub mod SealPass
 pub mod KeyLemmas
 pub mod KeysLemmas
+pub mod SegmentLemmas

@@ -10,3 +10,4 @@ pub mod Segments
 pub mod Reading
 pub mod StreamKeys
 pub mod KeysModel
+pub mod Streams

@@ -39,19 +39,19 @@ salt_of key header = take key.derived (drop 1 header)
 abbrev pub nonce_prefix : StreamKey → List ℕ → List ℕ
 nonce_prefix key header = drop (key.derived + 1) header
 
--- so many bytes of HKDF of the key value, with the salt, and the associated data as info
-abbrev pub material : StreamKey → (ad header : List ℕ) → ℕ → List ℕ
-material key ad header size = hkdf key.hash key.value (salt_of key header) ad size
+-- so many bytes of HKDF of the key value under a salt, with the associated data as info
+abbrev pub material : StreamKey → (ad salt : List ℕ) → ℕ → List ℕ
+material key ad salt size = hkdf key.hash key.value salt ad size
 
 -- the AES key; for AES-CTR-HMAC it is followed by a key of HMAC of 32 bytes
-unfoldable pub keys_by : SegmentScheme → StreamKey → (ad header : List ℕ) → SegmentKeys
-keys_by schemes.Gcm key ad header = keys_for.Gcm (material key ad header key.derived)
-keys_by (schemes.CtrHmac hash tag_size) key ad header =
-    keys_for.CtrHmac (take key.derived (material key ad header (key.derived + 32))) hash
-    (drop key.derived (material key ad header (key.derived + 32))) tag_size
+unfoldable pub keys_under : SegmentScheme → StreamKey → (ad salt : List ℕ) → SegmentKeys
+keys_under schemes.Gcm key ad salt = keys_for.Gcm (material key ad salt key.derived)
+keys_under (schemes.CtrHmac hash tag_size) key ad salt =
+    keys_for.CtrHmac (take key.derived (material key ad salt (key.derived + 32))) hash
+    (drop key.derived (material key ad salt (key.derived + 32))) tag_size
 
 abbrev pub keys_of : StreamKey → (ad header : List ℕ) → SegmentKeys
-keys_of key ad header = keys_by key.scheme key ad header
+keys_of key ad header = keys_under key.scheme key ad (salt_of key header)
 
 -- the nonce prefix, the number in four bytes, and a byte that is 1 for the last segment
 abbrev pub nonce : List ℕ → ℕ → Bool → List ℕ
@@ -76,6 +76,15 @@ opens_under (keys_for.Gcm aes) prefix number last segment =
     (gcm_tag aes (nonce prefix number last) []) 16 segment
 opens_under (keys_for.CtrHmac aes hash mac tag_size) prefix number last segment =
     segment_open aes hash mac tag_size (start_of prefix number last) segment
+
+-- the bytes of a tag under these keys; for AES-CTR-HMAC no more than a digest has
+abbrev pub tag_size_under : SegmentKeys → ℕ
+tag_size_under (keys_for.Gcm aes) = 16
+tag_size_under (keys_for.CtrHmac aes hash mac tag_size) = tag_size
+
+abbrev pub FitsHash : SegmentKeys → Type 0
+FitsHash (keys_for.Gcm aes) = Unit {0}
+FitsHash (keys_for.CtrHmac aes hash mac tag_size) = tag_size ≤ hash_size hash
 
 -- the cipher of segments of a key, with associated data
 abbrev pub cipher_of : (ad : List ℕ) → StreamKey → SegmentCipher

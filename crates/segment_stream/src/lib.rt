@@ -1,6 +1,7 @@
 //! Tink's streaming AEAD, AES-GCM-HKDF and AES-CTR-HMAC: streams sealed and opened in one pass.
 #![tactic(auto)]
 
+mod derived;
 mod fault;
 mod key;
 mod keys;

@@ -1,7 +1,19 @@
-//! Segments under the keys of their stream, in place.
+//! The segments of one stream, sealed and opened in place.
 
+ghost use Rattle.std.specs.Prelude.{◌≡◌, ◌<◌, ◌≤◌, ◌^◌, ◌++◌, length, take, replicate, None, Some, MatchOption};
+ghost use Rattle.std.specs.Bool.{OnTrue, OnFalse};
+ghost use Rattle.segment_stream.specs.Segments.{nonce, opens_under, seals_under, tag_size_under};
+
+use crate::key::GCM_TAG;
+use aead_kinds::{
+    ctr_hmac_open_in_place, ctr_hmac_seal_in_place, gcm_open_in_place, gcm_seal_in_place,
+};
 use aes_core::Aes;
+use std::marker::Model;
 use tink_base::Hash;
+
+/// The bytes of a nonce prefix.
+pub(crate) const PREFIX: usize = 7;
 
 /// The keys of one stream, derived from its key, its associated data and its header.
 #[derive(Drop)]
@@ -15,4 +27,137 @@ pub(crate) enum SegmentKeys {
         mac: [u8; 32],
         tag_size: u32,
     },
+}
+
+/// What seals and opens the segments of one stream.
+#[derive(Drop)]
+pub(crate) struct Stream {
+    pub(crate) keys: SegmentKeys,
+    /// The front of each nonce.
+    pub(crate) prefix: [u8; 7],
+    /// The size of a full segment, in bytes.
+    pub(crate) size: usize,
+}
+
+impl Model for Stream {
+    ghost use Rattle.std.specs.Prelude.{◌<◌, ◌^◌};
+    ghost use Rattle.segment_stream.specs.Segments.{FitsHash};
+    ghost use Rattle.segment_stream.specs.Streams.{StreamState};
+
+    ghost Value = { StreamState };
+
+    ghost view = { λ s. record { keys = s.keys; prefix = s.prefix; size = s.size } };
+
+    ghost invariant = { λ s. FitsHash s.keys × (s.size < 2 ^ 31) };
+}
+
+impl Stream {
+    /// The size of a full segment, in bytes.
+    pub(crate) fn size(&self) -> usize
+        ensures size { result ≡ self.now.size }
+        ensures bound { result < 2 ^ 31 }
+    {
+        self.size
+    }
+
+    /// The bytes of a tag, at most 64.
+    pub(crate) fn tag_size(&self) -> usize
+        ensures size { result ≡ tag_size_under self.now.keys }
+        ensures bound { result ≤ 64 }
+    {
+        match &self.keys {
+            SegmentKeys::Gcm { .. } => GCM_TAG,
+            SegmentKeys::CtrHmac { tag_size, .. } => *tag_size as usize,
+        }
+    }
+
+    /// Seals a segment in its place, and writes its tag beside it.
+    pub(crate) fn seal(&self, number: u64, last: bool, segment: &mut [u8], tag: &mut [u8])
+        requires number { number < 2 ^ 32 }
+        requires bound { length segment.old ≤ 2 ^ 31 }
+        requires tag { length tag.old ≡ tag_size_under self.now.keys }
+        ensures { segment.new ++ tag.new
+            ≡ seals_under self.now.keys self.now.prefix number last segment.old }
+    {
+        let nonce = nonce(&self.prefix, number, last);
+        match &self.keys {
+            SegmentKeys::Gcm { aes } => {
+                tag.copy_from_slice(&gcm_seal_in_place(aes, &nonce, &[], segment));
+            }
+            SegmentKeys::CtrHmac { aes, hash, mac, .. } => {
+                ctr_hmac_seal_in_place(aes, *hash, mac, &start(&nonce), segment, tag);
+            }
+        }
+    }
+
+    /// Opens a segment in its place, and answers how many bytes its plaintext has, which stand in
+    /// front then. Where the segment doesn't open it stays as it was.
+    pub(crate) fn open(&self, number: u64, last: bool, segment: &mut [u8]) -> Option<usize>
+        requires number { number < 2 ^ 32 }
+        requires bound { length segment.old ≤ 2 ^ 31 }
+        ensures { MatchOption result
+            ((opens_under self.now.keys self.now.prefix number last segment.old ≡ None)
+            × (segment.new ≡ segment.old))
+            (λ n. (n ≤ length segment.old)
+            × (opens_under self.now.keys self.now.prefix number last segment.old
+            ≡ Some (take n segment.new))) }
+    {
+        let size = self.tag_size();
+        if segment.len() < size {
+            return None;
+        }
+        let plain = segment.len() - size;
+        let (body, tag) = segment.split_at_mut(plain);
+        if self.open_body(number, last, body, tag) {
+            Some(plain)
+        } else {
+            None
+        }
+    }
+
+    // Decrypts the ciphertext of a segment in its place, where the tag is the right one.
+    fn open_body(&self, number: u64, last: bool, body: &mut [u8], tag: &[u8]) -> bool
+        requires number { number < 2 ^ 32 }
+        requires bound { length body.old ≤ 2 ^ 31 }
+        requires tag { length tag.now ≡ tag_size_under self.now.keys }
+        ensures opened { OnTrue result
+            (opens_under self.now.keys self.now.prefix number last (body.old ++ tag.now)
+            ≡ Some body.new) }
+        ensures refused { OnFalse result
+            (opens_under self.now.keys self.now.prefix number last (body.old ++ tag.now) ≡ None) }
+        ensures kept { OnFalse result (body.new ≡ body.old) }
+    {
+        let nonce = nonce(&self.prefix, number, last);
+        match &self.keys {
+            SegmentKeys::Gcm { aes } => {
+                let mut whole = [0; GCM_TAG];
+                whole.copy_from_slice(tag);
+                gcm_open_in_place(aes, &nonce, &[], body, &whole)
+            }
+            SegmentKeys::CtrHmac { aes, hash, mac, .. } => {
+                ctr_hmac_open_in_place(aes, *hash, mac, &start(&nonce), body, tag)
+            }
+        }
+    }
+}
+
+// The nonce of a segment.
+fn nonce(prefix: &[u8; 7], number: u64, last: bool) -> [u8; 12]
+    requires { number < 2 ^ 32 }
+    ensures { result ≡ nonce prefix.now number last }
+{
+    let mut nonce = [0; 12];
+    nonce[..PREFIX].copy_from_slice(prefix);
+    nonce[PREFIX..11].copy_from_slice(&(number as u32).to_be_bytes());
+    nonce[11] = u8::from(last);
+    nonce
+}
+
+// The counter block at which a segment of AES-CTR-HMAC begins.
+fn start(nonce: &[u8; 12]) -> [u8; 16]
+    ensures { result ≡ nonce.now ++ replicate 4 0 }
+{
+    let mut start = [0; 16];
+    start[..12].copy_from_slice(nonce);
+    start
 }
