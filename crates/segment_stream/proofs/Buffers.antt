@@ -1,6 +1,6 @@
 -- A buffer that is filled from behind and emptied from the front.
-use Rattle.std.proofs.Common.{◌≡◌, ℕ, ◌+◌, ◌-◌, ◌<◌, ◌≤◌, List, [], ◌∷◌, ◌++◌, length, take, drop, refl, sym, ◌∙◌, ap, subst, arith}
-use Rattle.std.proofs.lemmas.List.{length-take-le, take-take, drop_at, drop-take, length-append, length-drop, take_at}
+use Rattle.std.proofs.Common.{◌≡◌, ℕ, ◌+◌, ◌-◌, ◌<◌, ◌≤◌, List, [], ◌∷◌, ◌++◌, length, set, take, drop, refl, sym, ◌∙◌, ap, subst, arith}
+use Rattle.std.proofs.lemmas.List.{length-set, take_all, length-take-le, take-take, drop_at, drop-take, length-append, length-drop, take_at}
 use Rattle.std.proofs.lemmas.Slice.{take-put_mid}
 use Rattle.std.proofs.Math.Seq.{take-append-add}
 use borrow.Rule.Slice.PartMut.{put_mid}
@@ -64,3 +64,16 @@ read_none old new before after n r e = by_piece r.piece (r.size ∙ e) r.is r.ga
     by_piece : (piece : List ℕ) → length piece ≡ 0 → after ≡ before ++ piece → Gave old new piece → (after ≡ before) × Gave old new []
     by_piece [] size is gave = (is ∙ append-nil before, gave)
     by_piece (b ∷ bs) size is gave = absurd (omega arith)
+
+-- a byte in front, and bytes behind it
+first_set : (buffer : List ℕ) (byte : ℕ) → 0 < length buffer → take 1 (set buffer 0 byte) ≡ byte ∷ []
+first_set [] byte some = absurd (omega arith)
+first_set (x ∷ xs) byte some = refl
+
+pub header_there : (size : ℕ) (buffer random : List ℕ) → 0 < size → size ≤ length buffer → length random ≡ size - 1 → take size (put_mid 1 (size - 1) (set buffer 0 size) random) ≡ size ∷ random
+header_there size buffer random some fits e =
+    let whole : size ≡ 1 + (size - 1) = omega arith in
+    ap (λ n. take n (put_mid 1 (size - 1) (set buffer 0 size) random)) whole
+    ∙ put_front 1 (size - 1) (size - 1) (set buffer 0 size) random (omega arith) (omega (arith, length-set buffer 0 size))
+    ∙ ap (λ (l : List ℕ). l ++ take (size - 1) random) (first_set buffer size (omega arith))
+    ∙ ap (λ (l : List ℕ). size ∷ l) (take_all (size - 1) random (omega arith))

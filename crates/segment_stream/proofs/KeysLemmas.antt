@@ -1,16 +1,20 @@
 -- The records of a keyset, one after another: their keys for streams, or the first that has none.
-use Rattle.std.proofs.Common.{◌≡◌, ◌∙◌, sym, refl, ap, ℕ, ◌+◌, suc, List, [], ◌∷◌, ◌++◌, length, drop, ◌≤◌, Bool, false, Option, Some, None, Ok, Err, arith, append_assoc, append-nil, add-one, drop-cons, get_or, inl, inr, ◌<◌}
-use Rattle.std.specs.Prelude.{fold, slice_get, ◌==◌, if◌then◌else◌}
-use Rattle.std.specs.Ordering.{nat_cmp, ord_max}
+use Rattle.std.proofs.Common.{◌≡◌, ◌∙◌, sym, refl, ap, ℕ, ◌+◌, suc, List, [], ◌∷◌, ◌++◌, length, drop, ◌≤◌, Bool, true, false, cond, subst, Option, Some, None, Ok, Err, arith, append_assoc, append-nil, add-one, drop-cons, get_or, inl, inr, ◌<◌}
+use Rattle.std.specs.Prelude.{◌^◌, find, fold, slice_get, ◌==◌, if◌then◌else◌}
+use Rattle.std.specs.Ordering.{MatchOrdering, is_lt, nat_cmp, ord_max}
+use Rattle.std.specs.declared.cmp.Ordering.{Ordering}
+use Rattle.std.specs.declared.cmp.Ordering.TheVariants.{Less, Equal, Greater}
+use Rattle.std.proofs.lemmas.Cmp.{ranked}
 use Rattle.std.specs.List.{AllByRecursion, filter_map}
 use Rattle.std.proofs.lemmas.Bool.Decides.{eqb_tells}
 use Rattle.std.proofs.lemmas.List.{length-drop, nil_from_length}
-use Rattle.std.proofs.lemmas.Option.{slice_get_within, get_or_from_slice_get}
-use Rattle.keyset_model.specs.Keyset.{Keys, primary_of}
+use Rattle.std.proofs.lemmas.Option.{same_Some, slice_get_within, get_or_from_slice_get}
+use Rattle.keyset_model.specs.Keyset.{Keys, is_primary, primary_of}
 use Rattle.keyset_model.specs.declared.record.Record.{Record}
 use Rattle.segment_stream.specs.declared.reading.StreamFault.{StreamFault}
 use Rattle.segment_stream.specs.declared.reading.StreamFault.TheVariants as why
-use Rattle.segment_stream.specs.StreamKeys.{GivesStreamKey, IsUnfit, Unfit, at_place, bad_key, not_stream, given_by, primary_key, given, key_in, refused, stream_key_of, unfit, unfit_record, unfit_records}
+use Rattle.segment_stream.specs.StreamKeys.{GivesStreamKey, IsUnfit, Unfit, at_place, bad_key, not_stream, given_by, primary_key, given, key_in, refused, stream_key_of, unfit, unfit_record, unfit_records, largest_of, stream_keys}
+use Rattle.segment_stream.specs.Segments.{IsSound}
 use Rattle.segment_stream.specs.declared.key.StreamKey.{StreamKey}
 
 -- the records from a place on
@@ -159,3 +163,79 @@ pub largest_last : (keys : List StreamKey) (i : ℕ) (so_far : ℕ) → length k
 largest_last keys i so_far past =
     ap (λ l. largest_from so_far l)
     (nil_from_length (drop i keys) (omega (arith, length-drop i keys)))
+
+of_order : (a b n : ℕ) (o : Ordering) → MatchOrdering o (b < a) (b ≡ a) (a < b)
+    → (a ≤ cond (is_lt o) a b) × (b ≤ cond (is_lt o) a b)
+    × (a < n → b < n → cond (is_lt o) a b < n)
+of_order a b n Less h = (omega arith, omega arith, λ f g. f)
+of_order a b n Equal h = (omega arith, omega arith, λ f g. g)
+of_order a b n Greater h = (omega arith, omega arith, λ f g. g)
+
+-- the larger of two is at least each of them, and below what both are below
+larger : (a b n : ℕ) → (a ≤ ord_max nat_cmp a b) × (b ≤ ord_max nat_cmp a b)
+    × (a < n → b < n → ord_max nat_cmp a b < n)
+larger a b n = of_order a b n (nat_cmp b a) (ranked b a (nat_cmp b a) refl)
+
+-- a size so far is no larger than the largest
+so_far-within : (keys : List StreamKey) (so_far : ℕ) → so_far ≤ largest_from so_far keys
+so_far-within [] so_far = omega arith
+so_far-within (key ∷ keys) so_far =
+    let next = ord_max nat_cmp so_far key.segment in
+    omega (arith, (larger so_far key.segment 0).0, so_far-within keys next)
+
+-- nor is a key's
+key-within : (key : StreamKey) (keys : List StreamKey) (so_far : ℕ)
+    → key.segment ≤ largest_from so_far (key ∷ keys)
+key-within key keys so_far =
+    let next = ord_max nat_cmp so_far key.segment in
+    omega (arith, (larger so_far key.segment 0).1, so_far-within keys next)
+
+pub all-within : (keys : List StreamKey) (so_far most : ℕ) → largest_from so_far keys ≡ most
+    → AllByRecursion (λ key. key.segment ≤ most) keys
+all-within [] so_far most e = tt
+all-within (key ∷ keys) so_far most e = (
+  omega (arith, key-within key keys so_far, e),
+  all-within keys (ord_max nat_cmp so_far key.segment) most e,
+)
+
+pub largest-bound : (keys : List StreamKey) (so_far : ℕ) → so_far < 2 ^ 31
+    → AllByRecursion IsSound keys → largest_from so_far keys < 2 ^ 31
+largest-bound [] so_far low sound = low
+largest-bound (key ∷ keys) so_far low sound =
+    largest-bound keys (ord_max nat_cmp so_far key.segment)
+    ((larger so_far key.segment (2 ^ 31)).2 low sound.0.most) sound.1
+
+-- ---- the primary record's key is among them
+
+on_others : (x : Record) (xs : List Record) (o : Option StreamKey) (n so_far : ℕ) → key_in x ≡ o
+    → ((s : ℕ) → n ≤ largest_from s (filter_map key_in xs))
+    → n ≤ largest_from so_far (filter_map key_in (x ∷ xs))
+on_others x xs None n so_far e rest =
+    subst (λ (l : List StreamKey). n ≤ largest_from so_far l) (sym (no_key_next x xs e)) (rest so_far)
+on_others x xs (Some k) n so_far e rest =
+    subst (λ (l : List StreamKey). n ≤ largest_from so_far l) (sym (key_next x xs k e))
+    (rest (ord_max nat_cmp so_far k.segment))
+
+on_test_of : (p : Record → Bool) (x : Record) (xs : List Record) (r : Record) (key : StreamKey)
+    (so_far : ℕ) (b : Bool) → (if b then Some x else find p xs) ≡ Some r → key_in r ≡ Some key
+    → (find p xs ≡ Some r → (s : ℕ) → key.segment ≤ largest_from s (filter_map key_in xs))
+    → key.segment ≤ largest_from so_far (filter_map key_in (x ∷ xs))
+on_test_of p x xs r key so_far true e k rest =
+    subst (λ (l : List StreamKey). key.segment ≤ largest_from so_far l)
+    (sym (key_next x xs key (ap (λ y. key_in y) (same_Some x r e) ∙ k)))
+    (key-within key (filter_map key_in xs) so_far)
+on_test_of p x xs r key so_far false e k rest =
+    on_others x xs (key_in x) key.segment so_far refl (rest e)
+
+found-within : (p : Record → Bool) (records : List Record) (r : Record) (key : StreamKey)
+    (so_far : ℕ) → find p records ≡ Some r → key_in r ≡ Some key
+    → key.segment ≤ largest_from so_far (filter_map key_in records)
+found-within p [] r key so_far e k = absurd cc
+found-within p (x ∷ xs) r key so_far e k =
+    on_test_of p x xs r key so_far (p x) e k (λ f s. found-within p xs r key s f k)
+
+pub primary-within : (keys : Keys) (r : Record) (key : StreamKey) → primary_of keys ≡ Some r
+    → r.status ≡ 1 → stream_key_of r ≡ Ok key → key.segment ≤ largest_of (stream_keys keys)
+unfolding stream_keys
+primary-within keys r key primary enabled read =
+    found-within (is_primary keys.primary) keys.records r key 0 primary (key_is r key enabled read)

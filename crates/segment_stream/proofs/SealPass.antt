@@ -8,6 +8,8 @@ use Rattle.segment_stream.specs.Cipher.{SegmentCipher, IsCipher, most_segments, 
 use Rattle.segment_stream.specs.Opening.{too_many}
 use Rattle.segment_stream.specs.Sealing.{plain_size}
 use Rattle.segment_stream.specs.Under.{SealStanding}
+use Rattle.segment_stream.specs.Segments.{seals_under, tag_size_under}
+use Rattle.segment_stream.specs.Streams.{IsUnder, StreamState}
 use Rattle.segment_stream.specs.Pumping.{Pumps, pumped, refused, unread, unwritten, sealing}
 use Rattle.segment_stream.specs.Reading.{ReadBehind}
 use Rattle.segment_stream.specs.declared.fault.OpenPumpFault.TheVariants as fault
@@ -49,6 +51,22 @@ pub plain_full : (header number from size plain len : ℕ) (buffer : List ℕ) �
 plain_full header number from size plain len buffer e le room first later =
     plain_is header number from size buffer first later (λ n. room)
     ∙ held_plain header number size len buffer le ∙ ap (λ n. behind_header header number (take n (take len buffer))) e
+
+pub plain_under : (stream : StreamState) (key : SegmentCipher) (header : List ℕ) (size : ℕ) → IsUnder stream key header → size ≡ stream.size - tag_size_under stream.keys → size ≡ plain_size key
+plain_under stream key header size u e = e ∙ ap (λ n. n - tag_size_under stream.keys) u.size ∙ ap (λ n. key.size - n) u.tag
+
+-- what is sealed in the buffer is the segment of the cipher
+pub seals_full : (stream : StreamState) (key : SegmentCipher) (header : List ℕ) (number from size len : ℕ) (buffer : List ℕ) → IsUnder stream key header → size ≡ plain_size key → size ≤ len → (number ≡ 0 → from ≡ key.header) → (0 < number → from ≡ 0)
+    → seals_under stream.keys stream.prefix number false (take (size - from) (drop from buffer)) ≡ key.seals header number false (behind_header key.header number (take (plain_size key) (take len buffer)))
+seals_full stream key header number from size len buffer u e le first later =
+    u.seals number false (take (size - from) (drop from buffer))
+    ∙ ap (λ (l : List ℕ). key.seals header number false l) (plain_full key.header number from size (plain_size key) len buffer e le (omega (arith, u.is.room, e)) first later)
+
+pub seals_last : (stream : StreamState) (key : SegmentCipher) (header : List ℕ) (number from len : ℕ) (buffer : List ℕ) → IsUnder stream key header → (number ≡ 0 → from ≡ key.header) → (0 < number → from ≡ 0) → (number ≡ 0 → key.header ≤ len)
+    → seals_under stream.keys stream.prefix number true (take (len - from) (drop from buffer)) ≡ key.seals header number true (behind_header key.header number (take len buffer))
+seals_last stream key header number from len buffer u first later le =
+    u.seals number true (take (len - from) (drop from buffer))
+    ∙ ap (λ (l : List ℕ). key.seals header number true l) (plain_is key.header number from len buffer first later le)
 
 pub sgo_begins : (key : SegmentCipher) (header : List ℕ) (source : SourceState) (old new : SinkState) (held : List ℕ) → held ≡ header → Took old new header → SealGoing key header false source source old new held 0
 sgo_begins key header source old new held e took = record { more = []; out = header; gave = gave_nothing source; took = took; stands = subst (λ (l : List ℕ). SealStanding key header [] 0 l header) (sym e) (sealing_begins key header); end = λ n. absurd cc }

@@ -11,3 +11,4 @@ pub mod Reading
 pub mod StreamKeys
 pub mod KeysModel
 pub mod Streams
+pub mod PumpModels

@@ -1,6 +1,6 @@
 -- A pass over a stream, from a source into a sink, with its faults.
 use Rattle.std.specs.Prelude.{◌≡◌, ℕ, List, [], ◌++◌, length, Bool, true, false, Option, Some, None, Result, Ok, Err, ◌<◌}
-use Rattle.tink_spec.specs.Outside.{SourceState, SinkState, Rose, Gave, Took, IsAtEnd}
+use Rattle.tink_spec.specs.Outside.{SourceState, SinkState, Rose, Stood, Gave, Took, IsAtEnd}
 use Rattle.segment_stream.specs.declared.fault.OpenPumpFault.{OpenPumpFault}
 use Rattle.segment_stream.specs.declared.fault.OpenPumpFault.TheVariants as fault
 use Rattle.segment_stream.specs.Cipher.{SegmentCipher}
@@ -69,3 +69,10 @@ pub data Pumps (part : Part) (taken written : List ℕ) (whole : Bool)
 abbrev pub result_of : Option StreamRefusal → Result (Unit {0}) OpenPumpFault
 result_of None = Ok tt
 result_of (Some refusal) = Err (fault_of refusal)
+
+-- no fault is hidden: each count of faults stood, but for that of the object that the result names
+abbrev pub ShowsFaults : Result (Unit {0}) OpenPumpFault → (was now : SourceState)
+    → (old new : SinkState) → Type 0
+ShowsFaults (Err fault.ReadFault) was now old new = Stood old.faults new.faults
+ShowsFaults (Err fault.WriteFault) was now old new = Stood was.faults now.faults
+ShowsFaults _ was now old new = Stood was.faults now.faults × Stood old.faults new.faults

@@ -1,6 +1,6 @@
 //! The keys for streams of a keyset.
 
-ghost use Rattle.std.specs.Prelude.{◌≡◌, [], ◌∷◌, ◌++◌, ◌+◌, None, IfOk, IfErr, OnOk};
+ghost use Rattle.std.specs.Prelude.{◌≡◌, [], ◌∷◌, ◌++◌, ◌+◌, ◌≤◌, ◌<◌, ◌^◌, None, IfOk, IfErr, OnOk};
 ghost use Rattle.std.specs.List.{AllByRecursion};
 ghost use Rattle.segment_stream.specs.Segments.{IsSound};
 ghost use Rattle.segment_stream.specs.StreamKeys.{IsUnfit, at_place, largest_of, stream_keys, unfit};
@@ -45,15 +45,18 @@ pub struct StreamKeys {
 }
 
 impl Model for StreamKeys {
+    ghost use Rattle.std.specs.Prelude.{◌≤◌};
     ghost use Rattle.std.specs.List.{AllByRecursion};
     ghost use Rattle.segment_stream.specs.Segments.{IsSound};
     ghost use Rattle.segment_stream.specs.KeysModel.{KeysForStreams};
+    ghost use Rattle.segment_stream.specs.StreamKeys.{largest_of};
 
     ghost Value = { KeysForStreams };
 
     ghost view = { λ s. record { primary = s.primary; keys = s.keys.items } };
 
-    ghost invariant = { λ s. IsSound s.primary × AllByRecursion IsSound s.keys.items };
+    ghost invariant = { λ s. IsSound s.primary × AllByRecursion IsSound s.keys.items
+        × (s.primary.segment ≤ largest_of s.keys.items) };
 }
 
 impl StreamKeys {
@@ -76,9 +79,28 @@ impl StreamKeys {
 
     /// The size of the largest segment, in bytes. No memory is taken.
     pub fn largest(&self) -> usize
-        ensures { result ≡ largest_of self.now.keys }
+        ensures size { result ≡ largest_of self.now.keys }
+        ensures bound { result < 2 ^ 31 }
     {
         largest_of(&self.keys)
+    }
+
+    // The key that seals.
+    pub(crate) fn primary(&self) -> &StreamKey
+        ensures key { result.now ≡ self.now.primary }
+        ensures sound { IsSound result.now }
+        ensures within { result.now.segment ≤ largest_of self.now.keys }
+    {
+        &self.primary
+    }
+
+    // The keys that open.
+    pub(crate) fn keys(&self) -> &[StreamKey]
+        ensures keys { result.now ≡ self.now.keys }
+        ensures sound { AllByRecursion IsSound result.now }
+        ensures within { AllByRecursion (λ key. key.segment ≤ largest_of self.now.keys) result.now }
+    {
+        &self.keys
     }
 
     /// How many random bytes a stream takes, as salt and nonce prefix: 23 or 39.

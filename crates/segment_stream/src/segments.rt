@@ -15,6 +15,9 @@ use tink_base::Hash;
 /// The bytes of a nonce prefix.
 pub(crate) const PREFIX: usize = 7;
 
+/// The number of the last segment that a stream may have.
+pub(crate) const LAST_NUMBER: u64 = 4294967295;
+
 /// The keys of one stream, derived from its key, its associated data and its header.
 #[derive(Drop)]
 pub(crate) enum SegmentKeys {

@@ -1,0 +1,31 @@
+use Rattle.std.proofs.Common.{◌≡◌, ◌∷◌, List, ℕ, take, ap, arith, subst, sym, ◌∙◌}
+use Rattle.std.proofs.lemmas.List.{take_at}
+use Rattle.segment_stream.specs.Segments.{cipher_of, header_size}
+use Rattle.segment_stream.specs.Streams.{IsUnder}
+use Rattle.segment_stream.specs.declared.key.StreamKey.{StreamKey}
+use Rattle.segment_stream.proofs.sealer.Sealer.new.Goals as goal
+
+pub returns-clause-made : goal.returns-clause-made
+returns-clause-made g c =
+    let drawn = c.in-Ok-draw_header.ensures.drawn in
+    let size = c.header_size-header.result in
+    let front : take c.header_size-header.result c.deref.result.now ≡ c.header_size-header.result ∷ drawn.random
+    = ap (take c.header_size-header.result) (c.deref.ensures.value
+    ∙ take_at c.draw_header.new.buffer _ c.in-Ok.buffer.len (c.draw_header.auto.buffer ∙ c.deref_mut.ensures.len))
+    ∙ drawn.is in
+    record {
+      random = drawn.random;
+      drew = drawn.drew;
+      whole = omega (
+        arith,
+        drawn.whole,
+        c.header_size-header.ensures,
+        ap (λ (k : StreamKey). k.derived) c.primary-key.ensures.key,
+      );
+      header = ap (take c.header_size-header.result) (sym c.deref.ensures.value) ∙ front
+          ∙ ap (λ n. n ∷ drawn.random)
+          (c.header_size-header.ensures ∙ ap (λ (k : StreamKey). header_size k) c.primary-key.ensures.key);
+      under = subst (λ (l : List ℕ). IsUnder c.new-stream.result (cipher_of c.args.ad.now c.args.keys.now.primary) (take c.header_size-header.result l)) c.deref.ensures.value
+          (subst (λ (k : StreamKey). IsUnder c.new-stream.result (cipher_of c.args.ad.now k) (take c.header_size-header.result c.deref.result.now)) c.primary-key.ensures.key
+          c.new-stream.ensures);
+    }

@@ -1,0 +1,223 @@
+//! Streams sealed in one pass.
+
+ghost use Rattle.std.specs.Prelude.{◌≡◌, ℕ, ◌+◌, ◌-◌, ◌≤◌, ◌<◌, ◌^◌, List, [], length, take, false, IfErr, IfOk, OnErr, OnOk};
+ghost use Rattle.tink_spec.specs.Outside.{Drew, RanShort, Rose, SinkState, Stood, Took, TookPrefix};
+ghost use Rattle.segment_stream.specs.Cipher.{SegmentCipher};
+ghost use Rattle.segment_stream.specs.PumpModels.{HasRoom, IsHeader, IsMade, IsSealerFault, SealsUnder, pump_result};
+ghost use Rattle.segment_stream.specs.Pumping.{Pumps, ShowsFaults, sealing};
+ghost use Rattle.segment_stream.specs.Segments.{seals_under, tag_size_under};
+ghost use Rattle.segment_stream.specs.StreamKeys.{largest_of};
+ghost use Rattle.segment_stream.specs.Streams.{IsUnder};
+
+use crate::buffer::{fill, turn};
+use crate::segments::{LAST_NUMBER, Stream};
+use crate::{SealPumpFault, StreamKeys};
+use std::alloc::Global;
+use std::marker::Model;
+use tink_base::{Entropy, Failed, Sink, Source, write_all};
+
+/// Why no sealer was made.
+#[derive(Clone, Copy, Debug, PartialEq, Eq)]
+pub enum SealerFault {
+    /// The entropy failed.
+    EntropyFault,
+    /// Memory was refused.
+    NoMemory,
+}
+
+/// What seals one stream under the primary key of a keyset.
+#[derive(Drop)]
+pub struct Sealer {
+    stream: Stream,
+    /// The bytes of the header, which stands in front of the buffer.
+    header: usize,
+    buffer: Vec<u8>,
+}
+
+impl Model for Sealer {
+    ghost use Rattle.std.specs.Prelude.{take, vec_len};
+    ghost use Rattle.segment_stream.specs.PumpModels.{HasRoom, SealerState};
+
+    ghost Value = { SealerState };
+
+    ghost view = { λ s. record {
+      stream = s.stream;
+      header = take s.header s.buffer.items;
+      room = vec_len s.buffer;
+    } };
+
+    ghost invariant = { λ s. HasRoom s.stream s.header (vec_len s.buffer) };
+}
+
+impl Sealer {
+    /// Makes ready to seal a stream under the primary key, with this associated data, which may
+    /// have any length.
+    ///
+    /// The buffer is reserved here, once: one byte more than the largest segment under these keys.
+    /// Then salt and nonce prefix are drawn, in one fill. `EntropyFault` comes only where the
+    /// entropy failed at that, and nothing was drawn then. After `NoMemory` nothing was drawn.
+    pub fn new<E: Entropy>(
+        alloc: Global,
+        keys: &StreamKeys,
+        ad: &[u8],
+        entropy: &mut E,
+    ) -> Result<Sealer, SealerFault>
+        ensures made { IfOk result
+            (IsMade keys.now ad.now (E.state entropy.old) (E.state entropy.new)) }
+        ensures no_fault { OnOk result
+            (Stood (E.state entropy.old).faults (E.state entropy.new).faults) }
+        ensures room { IfOk result (λ sealer. sealer.room ≡ largest_of keys.now.keys + 1) }
+        ensures fault { IfErr result
+            (IsSealerFault keys.now (E.state entropy.old) (E.state entropy.new)) }
+    {
+        let Ok(mut buffer) = vec![in alloc; 0; keys.largest() + 1] else {
+            return Err(SealerFault::NoMemory);
+        };
+        let key = keys.primary();
+        let header = key.header_size();
+        match draw_header(&mut buffer, header, entropy) {
+            Ok(()) => {}
+            Err(_) => return Err(SealerFault::EntropyFault),
+        }
+        let stream = Stream::new(key, ad, &buffer[..header]);
+        Ok(Sealer {
+            stream,
+            header,
+            buffer,
+        })
+    }
+
+    /// Seals what the source gives, and writes the stream. The header is written before the first
+    /// read, and each segment when one byte more than its plaintext was taken, or the end was seen.
+    /// `Ok` says that the input was read to its end.
+    ///
+    /// `TooManySegments` comes exactly where 2^32 full segments of plaintext and one more byte were
+    /// taken. `ReadFault` comes only where the source failed, and `WriteFault` only where the sink
+    /// failed. But at a write fault exactly that was written which the bytes taken seal, and then a
+    /// front of it. Nothing is read after the end was seen, and nothing that failed is tried again.
+    /// No memory is taken.
+    pub fn pump<S: Source, K: Sink>(self, source: &mut S, sink: &mut K) -> Result<(), SealPumpFault>
+        ensures pumps { (cipher : SegmentCipher) → SealsUnder self cipher
+            → Pumps (sealing cipher self.header) [] [] false (pump_result result)
+            (S.state source.old) (S.state source.new) (K.state sink.old) (K.state sink.new) }
+        ensures shown { ShowsFaults (pump_result result) (S.state source.old) (S.state source.new)
+            (K.state sink.old) (K.state sink.new) }
+    {
+        let mut buffer = self.buffer;
+        match write_all(sink, &buffer[..self.header]) {
+            Ok(()) => seal_behind(&self.stream, self.header, &mut buffer, source, sink),
+            Err(_) => Err(SealPumpFault::WriteFault),
+        }
+    }
+}
+
+/// Puts a header of so many bytes in front of the buffer: that number, and random bytes.
+fn draw_header<E: Entropy>(buffer: &mut [u8], header: usize, entropy: &mut E) -> Result<(), Failed>
+    requires some { 0 < header }
+    requires byte { header < 256 }
+    requires fits { header ≤ length buffer.old }
+    ensures drawn { OnOk result (IsHeader (E.state entropy.old) (E.state entropy.new) header
+        (take header buffer.new)) }
+    ensures no_fault { OnOk result
+        (Stood (E.state entropy.old).faults (E.state entropy.new).faults) }
+    ensures failed { OnErr result
+        (RanShort (E.state entropy.old) (E.state entropy.new) (header - 1)) }
+    ensures kept { OnErr result (Drew (E.state entropy.old) (E.state entropy.new) []) }
+{
+    buffer[0] = header as u8;
+    match entropy.fill(&mut buffer[1..header]) {
+        Ok(()) => Ok(()),
+        Err(_) => Err(Failed),
+    }
+}
+
+/// Seals a segment in its place, and writes it with its tag.
+fn write_sealed<K: Sink>(
+    stream: &Stream,
+    number: u64,
+    last: bool,
+    segment: &mut [u8],
+    sink: &mut K,
+) -> Result<(), Failed>
+    requires number { number < 2 ^ 32 }
+    requires bound { length segment.old ≤ 2 ^ 31 }
+    ensures all { OnOk result (Took (K.state sink.old) (K.state sink.new)
+        (seals_under stream.now.keys stream.now.prefix number last segment.old)) }
+    ensures no_fault { OnOk result (Stood (K.state sink.old).faults (K.state sink.new).faults) }
+    ensures failed { OnErr result (Rose (K.state sink.old).faults (K.state sink.new).faults) }
+    ensures prefix { OnErr result (TookPrefix (K.state sink.old) (K.state sink.new)
+        (seals_under stream.now.keys stream.now.prefix number last segment.old)) }
+{
+    let mut longest = [0; 64];
+    let size = stream.tag_size();
+    stream.seal(number, last, segment, &mut longest[..size]);
+    // in two calls, since the byte that follows the segment lies where its tag would go
+    match write_all(sink, segment) {
+        Ok(()) => {}
+        Err(_) => return Err(Failed),
+    }
+    match write_all(sink, &longest[..size]) {
+        Ok(()) => Ok(()),
+        Err(_) => Err(Failed),
+    }
+}
+
+/// Where the plaintext of a segment begins in the buffer: behind the header in the first.
+fn plain_from(number: u64, header: usize) -> usize
+    ensures first { number ≡ 0 → result ≡ header }
+    ensures later { 0 < number → result ≡ 0 }
+{
+    if number == 0 { header } else { 0 }
+}
+
+/// Seals a stream whose header was written, and stands in front of the buffer.
+fn seal_behind<S: Source, K: Sink>(
+    stream: &Stream,
+    header: usize,
+    buffer: &mut [u8],
+    source: &mut S,
+    sink: &mut K,
+) -> Result<(), SealPumpFault>
+    requires room { HasRoom stream.now header (length buffer.old) }
+    ensures pumps { (cipher : SegmentCipher) (old : SinkState)
+        → IsUnder stream.now cipher (take header buffer.old)
+        → Took old (K.state sink.old) (take header buffer.old)
+        → Pumps (sealing cipher (take header buffer.old)) [] [] false (pump_result result)
+        (S.state source.old) (S.state source.new) old (K.state sink.new) }
+    ensures shown { ShowsFaults (pump_result result) (S.state source.old) (S.state source.new)
+        (K.state sink.old) (K.state sink.new) }
+{
+    let size = stream.size() - stream.tag_size();
+    let mut len = header;
+    let mut ended = false;
+    let mut number = 0u64;
+    loop {
+        let from = plain_from(number, header);
+        if len > size {
+            match write_sealed(stream, number, false, &mut buffer[from..size], sink) {
+                Ok(()) => {}
+                Err(_) => return Err(SealPumpFault::WriteFault),
+            }
+            number += 1;
+            if number > LAST_NUMBER {
+                return Err(SealPumpFault::TooManySegments);
+            }
+            turn(buffer, size, len);
+            len -= size;
+        } else if ended {
+            return match write_sealed(stream, number, true, &mut buffer[from..len], sink) {
+                Ok(()) => Ok(()),
+                Err(_) => Err(SealPumpFault::WriteFault),
+            };
+        } else {
+            let n = match fill(source, buffer, len, size + 1) {
+                Ok(n) => n,
+                Err(_) => return Err(SealPumpFault::ReadFault),
+            };
+            if n == 0 {
+                ended = true;
+            }
+            len += n;
+        }
+    }
+}
