@@ -5,13 +5,13 @@ use Rattle.std.specs.Option.{is_some}
 use Rattle.std.proofs.lemmas.Bool.{cases_lt}
 use Rattle.std.proofs.lemmas.Bool.Decides.{nat_tests}
 use Rattle.std.proofs.lemmas.List.{length-append, drop_all, drop_more}
-use Rattle.tink_spec.specs.Outside.{SourceState, SinkState, Rose, Gave, Took, TookPrefix, IsAtEnd}
+use Rattle.tink_spec.specs.Outside.{SourceState, SinkState, Rose, Stood, Gave, Took, TookPrefix, IsAtEnd}
 use Rattle.tink_spec.proofs.Moves.{gave_nothing, gave_more, took_nothing, took_more}
 use Rattle.segment_stream.specs.Pieces.{followed}
 use Rattle.segment_stream.specs.Cipher.{SegmentCipher, IsCipher, most_segments, behind_header}
 use Rattle.segment_stream.specs.Opening.{has_header, piece_opens, opens_at, is_decided, fits, Choice, undecided, no_key, chosen, choose, released_by, decides_by, failed}
 use Rattle.segment_stream.specs.Under.{Standing}
-use Rattle.segment_stream.specs.Pumping.{Pumps, pumped, refused, unread, unwritten, opening_under, opening_any, Follows}
+use Rattle.segment_stream.specs.Pumping.{Pumps, pumped, refused, unread, unwritten, opening_under, opening_any, Follows, ShowsFaults}
 use Rattle.segment_stream.specs.Reading.{Decided, Undecided}
 use Rattle.segment_stream.specs.declared.fault.OpenPumpFault.{OpenPumpFault}
 use Rattle.segment_stream.specs.declared.fault.OpenPumpFault.TheVariants as fault
@@ -168,3 +168,11 @@ pumps_unwritten ciphers key was now old new taken p ended c is gave end decided 
       | inl full ↦ standing_front key (take key.header taken) taken 1 (drop key.size taken) p ended (first_stands key taken p is full opens)
       | inr short ↦ ([], append-nil p ∙ sym ((first_last key taken p is short opens).released) ∙ ap (λ (b : Bool). released_by (chosen key) taken b) (sym (short_true ended decided short)))
     ]
+
+-- no fault is hidden by a pass behind calls that met none
+pub shows_after : (result : Result (Unit {0}) OpenPumpFault) (was mid now : SourceState) (old halfway new : SinkState) → Stood was.faults mid.faults → Stood old.faults halfway.faults → ShowsFaults result mid now halfway new → ShowsFaults result was now old new
+shows_after (Ok done) was mid now old halfway new r w s = (s.0 ∙ r, s.1 ∙ w)
+shows_after (Err fault.ReadFault) was mid now old halfway new r w s = s ∙ w
+shows_after (Err fault.WriteFault) was mid now old halfway new r w s = s ∙ r
+shows_after (Err fault.TooManySegments) was mid now old halfway new r w s = (s.0 ∙ r, s.1 ∙ w)
+shows_after (Err (fault.StreamFailed number)) was mid now old halfway new r w s = (s.0 ∙ r, s.1 ∙ w)

@@ -11,4 +11,5 @@ pub mod Reading
 pub mod StreamKeys
 pub mod KeysModel
 pub mod Streams
+pub mod Ending
 pub mod PumpModels

@@ -7,10 +7,14 @@ mod fault;
 mod key;
 mod keys;
 pub mod laws;
+mod opener;
+mod opening;
 mod reading;
 mod sealer;
 mod segments;
+mod trying;
 
 pub use fault::{OpenPumpFault, SealPumpFault};
 pub use keys::{StreamKeys, StreamKeysFault};
+pub use opener::Opener;
 pub use sealer::{Sealer, SealerFault};

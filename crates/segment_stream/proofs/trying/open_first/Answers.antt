@@ -1,0 +1,80 @@
+use Rattle.std.proofs.Common.{◌∙◌, sym, refl, take}
+use Rattle.segment_stream.specs.Segments.{cipher_of}
+use Rattle.segment_stream.proofs.First.{AtFirst, first_opens, first_rest, first_under}
+use Rattle.segment_stream.proofs.Trials.{no_piece}
+use Rattle.segment_stream.proofs.trying.open_first.Goals as goal
+
+pub returns-then-not-begins-clause-ends : goal.returns-then-not-begins-clause-ends
+returns-then-not-begins-clause-ends g c = (
+  no_piece (cipher_of c.args.ad.now c.args.key.now) (take c.args.len c.args.buffer.now) 0 _
+      (sym c.begins.ensures ∙ c.if-not-begins.true),
+  refl,
+)
+
+pub returns-in-Written-clause-ends : goal.returns-in-Written-clause-ends
+returns-in-Written-clause-ends g c =
+    let h = c.in-Written.ensures.ends in
+    let key = cipher_of c.args.ad.now c.args.key.now in
+    let a : AtFirst c.new-stream.result key c.args.buffer.now c.args.len c.header_size-from.result c.size-size.result c.min-end.result = record {
+      under = c.new-stream.ensures;
+      header = c.header_size-from.ensures;
+      long = c.size-size.ensures.size;
+      fits = c.requires.within;
+      has = sym c.begins.ensures ∙ c.if-not-begins.false;
+      ends = c.min-end.ensures;
+    } in
+    (h.0, first_opens _ key c.args.buffer.now _ _ _ _ a ∙ h.1, h.2, h.3, first_under _ key c.args.buffer.now _ _ _ _ a)
+
+pub returns-in-Written-clause-rest : goal.returns-in-Written-clause-rest
+returns-in-Written-clause-rest g c =
+    let key = cipher_of c.args.ad.now c.args.key.now in
+    let a : AtFirst c.new-stream.result key c.args.buffer.now c.args.len c.header_size-from.result c.size-size.result c.min-end.result = record {
+      under = c.new-stream.ensures;
+      header = c.header_size-from.ensures;
+      long = c.size-size.ensures.size;
+      fits = c.requires.within;
+      has = sym c.begins.ensures ∙ c.if-not-begins.false;
+      ends = c.min-end.ensures;
+    } in
+    first_rest _ key c.args.buffer.now c.write_segment.new.segment _ _ _ _ a c.write_segment.auto.segment
+
+pub returns-in-Unwritten-clause-ends : goal.returns-in-Unwritten-clause-ends
+returns-in-Unwritten-clause-ends g c =
+    let h = c.in-Unwritten.ensures.ends in
+    let key = cipher_of c.args.ad.now c.args.key.now in
+    let a : AtFirst c.new-stream.result key c.args.buffer.now c.args.len c.header_size-from.result c.size-size.result c.min-end.result = record {
+      under = c.new-stream.ensures;
+      header = c.header_size-from.ensures;
+      long = c.size-size.ensures.size;
+      fits = c.requires.within;
+      has = sym c.begins.ensures ∙ c.if-not-begins.false;
+      ends = c.min-end.ensures;
+    } in
+    (h.0, first_opens _ key c.args.buffer.now _ _ _ _ a ∙ h.1, h.2, h.3)
+
+pub returns-in-Unwritten-clause-rest : goal.returns-in-Unwritten-clause-rest
+returns-in-Unwritten-clause-rest g c =
+    let key = cipher_of c.args.ad.now c.args.key.now in
+    let a : AtFirst c.new-stream.result key c.args.buffer.now c.args.len c.header_size-from.result c.size-size.result c.min-end.result = record {
+      under = c.new-stream.ensures;
+      header = c.header_size-from.ensures;
+      long = c.size-size.ensures.size;
+      fits = c.requires.within;
+      has = sym c.begins.ensures ∙ c.if-not-begins.false;
+      ends = c.min-end.ensures;
+    } in
+    first_rest _ key c.args.buffer.now c.write_segment.new.segment _ _ _ _ a c.write_segment.auto.segment
+
+pub returns-in-Refused-clause-ends : goal.returns-in-Refused-clause-ends
+returns-in-Refused-clause-ends g c =
+    let h = c.in-Refused.ensures.ends in
+    let key = cipher_of c.args.ad.now c.args.key.now in
+    let a : AtFirst c.new-stream.result key c.args.buffer.now c.args.len c.header_size-from.result c.size-size.result c.min-end.result = record {
+      under = c.new-stream.ensures;
+      header = c.header_size-from.ensures;
+      long = c.size-size.ensures.size;
+      fits = c.requires.within;
+      has = sym c.begins.ensures ∙ c.if-not-begins.false;
+      ends = c.min-end.ensures;
+    } in
+    (first_opens _ key c.args.buffer.now _ _ _ _ a ∙ h.0, h.1)

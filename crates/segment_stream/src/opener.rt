@@ -1,0 +1,70 @@
+//! Streams opened in one pass.
+
+ghost use Rattle.std.specs.Prelude.{◌≡◌, ◌+◌, [], false, IfOk};
+ghost use Rattle.segment_stream.specs.Pumping.{Pumps, ShowsFaults, opening_any};
+ghost use Rattle.segment_stream.specs.Segments.{ciphers_of};
+ghost use Rattle.segment_stream.specs.StreamKeys.{largest_of};
+
+use crate::trying::open_any;
+use crate::{OpenPumpFault, StreamKeys};
+use std::alloc::Global;
+use std::marker::Model;
+use tink_base::{NoMemory, Sink, Source};
+
+/// What opens one stream under the keys of a keyset.
+#[derive(Drop)]
+pub struct Opener<'k> {
+    keys: &'k StreamKeys,
+    ad: &'k [u8],
+    buffer: Vec<u8>,
+}
+
+impl<'k> Model for Opener<'k> {
+    ghost use Rattle.std.specs.Prelude.{◌≡◌, ◌+◌, vec_len};
+    ghost use Rattle.segment_stream.specs.PumpModels.{OpenerState};
+    ghost use Rattle.segment_stream.specs.StreamKeys.{largest_of};
+
+    ghost Value = { OpenerState };
+
+    ghost view = { λ o. record { keys = o.keys.now; ad = o.ad.now; room = vec_len o.buffer } };
+
+    ghost invariant = { λ o. vec_len o.buffer ≡ largest_of o.keys.now.keys + 1 };
+}
+
+impl<'k> Opener<'k> {
+    /// Makes ready to open a stream with this associated data, which may have any length.
+    ///
+    /// The buffer is reserved here, once: one byte more than the largest segment under these keys.
+    pub fn new(alloc: Global, keys: &'k StreamKeys, ad: &'k [u8]) -> Result<Opener<'k>, NoMemory>
+        ensures { IfOk result (λ opener. opener ≡
+            record { keys = keys.now; ad = ad.now; room = largest_of keys.now.keys + 1 }) }
+    {
+        match vec![in alloc; 0; keys.largest() + 1] {
+            Ok(buffer) => Ok(Opener { keys, ad, buffer }),
+            Err(_) => Err(NoMemory),
+        }
+    }
+
+    /// Opens the stream that the source gives, and writes its plaintext.
+    ///
+    /// The stream's key is the first whose first segment authenticates, in the order of the keyset;
+    /// a key is tried when one byte more than its segment was taken or the end was seen, and that
+    /// key alone opens the rest. Plaintext is written once its segment has authenticated in its
+    /// place, and all of it before the next read. `Ok` says that the input was read to its end, and
+    /// each segment has opened.
+    ///
+    /// `StreamFailed` comes exactly where the bytes taken decide it, and so does `TooManySegments`.
+    /// `ReadFault` comes only where the source failed before anything was decided, and
+    /// `WriteFault` only where the sink failed. But at a write fault exactly that was written which
+    /// the bytes taken release, and then a front of it. Nothing is read after the end was seen, and
+    /// nothing that failed is tried again. No memory is taken.
+    pub fn pump<S: Source, K: Sink>(self, source: &mut S, sink: &mut K) -> Result<(), OpenPumpFault>
+        ensures pumps { Pumps (opening_any (ciphers_of self.entry.ad self.entry.keys.keys)) [] [] false result
+            (S.state source.old) (S.state source.new) (K.state sink.old) (K.state sink.new) }
+        ensures shown { ShowsFaults result (S.state source.old) (S.state source.new)
+            (K.state sink.old) (K.state sink.new) }
+    {
+        let mut buffer = self.buffer;
+        open_any(self.keys.keys(), self.ad, &mut buffer, source, sink)
+    }
+}

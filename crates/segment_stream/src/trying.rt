@@ -1,0 +1,140 @@
+//! Opening a stream under the first of several keys that opens its first segment.
+
+ghost use Rattle.std.specs.Prelude.{◌≡◌, ◌+◌, ◌≤◌, [], length, take, drop, false, true, OnErr, OnOk, IfOk, All};
+ghost use Rattle.std.specs.List.{AllByRecursion};
+ghost use Rattle.tink_spec.specs.Outside.{IsAtEnd, Stood};
+ghost use Rattle.segment_stream.specs.Ending.{EndsFirst};
+ghost use Rattle.segment_stream.specs.Opening.{has_header};
+ghost use Rattle.segment_stream.specs.Pumping.{Pumps, ShowsFaults, opening_any};
+ghost use Rattle.segment_stream.specs.Reading.{Decided, Undecided};
+ghost use Rattle.segment_stream.specs.Segments.{IsSound, cipher_of, ciphers_of};
+
+use crate::OpenPumpFault;
+use crate::buffer::{fill_until, turn};
+use crate::key::StreamKey;
+use crate::opening::{SegmentEnd, open_rest, write_segment};
+use crate::segments::Stream;
+use tink_base::{Failed, Sink, Source};
+
+/// How the trial of a key ended.
+#[derive(Drop)]
+pub(crate) enum Trial {
+    /// Its first segment opened, and the plaintext was written.
+    Written(Stream),
+    /// Its first segment opened, and the plaintext was not written to its end.
+    Unwritten,
+    /// Its first segment doesn't open.
+    Refused,
+}
+
+/// Reads, unless the end was seen, until it is decided whether the first segment opens under a key
+/// of this segment size. Answers how many bytes the buffer holds, and whether the end was seen.
+fn decide<S: Source>(
+    source: &mut S,
+    buffer: &mut [u8],
+    held: usize,
+    whole: bool,
+    size: usize,
+) -> Result<(usize, bool), Failed>
+    requires fits { size + 1 ≤ length buffer.old }
+    requires within { held ≤ length buffer.old }
+    requires end { whole ≡ true → IsAtEnd (S.state source.old) }
+    ensures bound { IfOk result (λ r. r.0 ≤ length buffer.old) }
+    ensures decides { IfOk result (λ r. Decided (S.state source.old) (S.state source.new)
+        (take held buffer.old) (take r.0 buffer.new) whole r.1 size) }
+    ensures short { IfOk result (λ r. r.0 ≤ size → r.1 ≡ true) }
+    ensures no_fault { OnOk result (Stood (S.state source.old).faults (S.state source.new).faults) }
+    ensures failed { OnErr result (Undecided (S.state source.old) (S.state source.new)
+        (take held buffer.old) whole size) }
+{
+    if whole || held > size {
+        return Ok((held, whole));
+    }
+    match fill_until(source, buffer, held, size + 1) {
+        Ok(len) => Ok((len, len <= size)),
+        Err(_) => Err(Failed),
+    }
+}
+
+/// Whether a header of the key's length stands in front.
+fn begins(key: &StreamKey, taken: &[u8]) -> bool
+    requires { IsSound key.now }
+    ensures { result ≡ has_header (cipher_of [] key.now) taken.now }
+{
+    let header = key.header_size();
+    taken.len() >= header && taken[0] as usize == header
+}
+
+/// Opens the first segment, of those bytes that the buffer holds, and writes its plaintext. Where it
+/// doesn't open the buffer stays as it was.
+fn open_first<K: Sink>(
+    key: &StreamKey,
+    ad: &[u8],
+    buffer: &mut [u8],
+    len: usize,
+    sink: &mut K,
+) -> Trial
+    requires sound { IsSound key.now }
+    requires within { len ≤ length buffer.old }
+    ensures ends { EndsFirst (cipher_of ad.now key.now) (take len buffer.old) result
+        (K.state sink.old) (K.state sink.new) }
+    ensures kept { result ≡ Trial.Refused → buffer.new ≡ buffer.old }
+    ensures rest { drop key.now.segment (take len buffer.new)
+        ≡ drop key.now.segment (take len buffer.old) }
+{
+    if !begins(key, &buffer[..len]) {
+        return Trial::Refused;
+    }
+    let from = key.header_size();
+    // the keys of the stream come from the header, so they are derived before anything is opened
+    let stream = Stream::new(key, ad, &buffer[..from]);
+    let size = stream.size();
+    let end = len.min(size);
+    match write_segment(&stream, 0, len <= size, &mut buffer[from..end], sink) {
+        SegmentEnd::Written => Trial::Written(stream),
+        SegmentEnd::Unwritten => Trial::Unwritten,
+        SegmentEnd::Refused => Trial::Refused,
+    }
+}
+
+/// Opens a stream under the first of the keys that opens its first segment. The keys are tried in
+/// their order, each when it is decided.
+pub(crate) fn open_any<S: Source, K: Sink>(
+    keys: &[StreamKey],
+    ad: &[u8],
+    buffer: &mut [u8],
+    source: &mut S,
+    sink: &mut K,
+) -> Result<(), OpenPumpFault>
+    requires sound { AllByRecursion IsSound keys.now }
+    requires fits { AllByRecursion (λ key. key.segment + 1 ≤ length buffer.old) keys.now }
+    ensures pumps { Pumps (opening_any (ciphers_of ad.now keys.now)) [] [] false result
+        (S.state source.old) (S.state source.new) (K.state sink.old) (K.state sink.new) }
+    ensures shown { ShowsFaults result (S.state source.old) (S.state source.new)
+        (K.state sink.old) (K.state sink.new) }
+{
+    let mut len = 0;
+    let mut ended = false;
+    for key in keys {
+        let size = key.segment as usize;
+        match decide(source, buffer, len, ended, size) {
+            Ok(decided) => {
+                len = decided.0;
+                ended = decided.1;
+            }
+            Err(_) => return Err(OpenPumpFault::ReadFault),
+        }
+        match open_first(key, ad, buffer, len, sink) {
+            Trial::Refused => {}
+            Trial::Unwritten => return Err(OpenPumpFault::WriteFault),
+            Trial::Written(stream) => {
+                if len <= size {
+                    return Ok(());
+                }
+                turn(buffer, size, len);
+                return open_rest(&stream, buffer, len - size, ended, source, sink);
+            }
+        }
+    }
+    Err(OpenPumpFault::StreamFailed(0))
+}
