@@ -1,8 +1,10 @@
 -- Both of Tink's schemes are ciphers of segments.
-use Rattle.std.proofs.Common.{◌≡◌, ℕ, ◌+◌, ◌-◌, ◌<◌, ◌≤◌, ◌⊎◌, cond, nat_lt, Some, None, List, [], ◌++◌, length, refl, sym, ap, ◌∙◌, arith, inl, inr}
-use Rattle.std.specs.Prelude.{Bool}
+use Rattle.std.proofs.Common.{◌≡◌, ℕ, ◌+◌, ◌-◌, ◌<◌, ◌≤◌, ◌⊎◌, cond, nat_lt, Some, None, List, [], ◌∷◌, ◌++◌, length, refl, sym, ap, ◌∙◌, arith, inl, inr}
+use Rattle.std.specs.Prelude.{All, Bool}
+use Rattle.std.specs.List.{AllByRecursion}
 use Rattle.std.proofs.lemmas.Bool.{cond-false, cond-true, cond_both, le-ltb, lt-ltb, ltb-false}
 use Rattle.std.proofs.lemmas.List.{drop_at, length-append, length-take-le, take_at}
+use Rattle.std.proofs.lemmas.List.Elements.{All-cons}
 use Rattle.std.proofs.lemmas.Option.{none-some, same_Some}
 use Rattle.std.proofs.lemmas.Slice.Eq.{bytes_eq-Decides}
 use Rattle.std.specs.Str.{bytes_eq}
@@ -16,7 +18,7 @@ use Rattle.aead_kinds.specs.Gcm.{gcm_tag, gcm_text}
 use Rattle.aead_kinds.specs.Segment.{body_of, opened_with, sealed_with, segment_open, segment_seal, segment_tag, segment_text, tag_of}
 use Rattle.aead_kinds.proofs.GcmLemmas.{gcm_text-gcm_text, length-gcm_tag, length-gcm_text}
 use Rattle.segment_stream.specs.Cipher.{IsCipher}
-use Rattle.segment_stream.specs.Segments.{HasTag, IsSound, cipher_of, keys_under, nonce, nonce_prefix, opens_under, salt_of, seals_under, start_of, tag_size_of}
+use Rattle.segment_stream.specs.Segments.{HasTag, IsSound, cipher_of, ciphers_of, keys_under, nonce, nonce_prefix, opens_under, salt_of, seals_under, start_of, tag_size_of}
 use Rattle.segment_stream.specs.declared.key.StreamKey.{StreamKey}
 use Rattle.segment_stream.specs.declared.key.SegmentScheme.{SegmentScheme}
 use Rattle.segment_stream.specs.declared.key.SegmentScheme.TheVariants as schemes
@@ -179,3 +181,10 @@ cipher_of-is_cipher ad key sound = record {
       scheme-shortens key.scheme key ad (salt_of key header) (nonce_prefix key header) number last bytes plain
       sound.tag;
 }
+
+pub ciphers_of-are_ciphers : (ad : List ℕ) (keys : List StreamKey) → AllByRecursion IsSound keys
+    → All IsCipher (ciphers_of ad keys)
+ciphers_of-are_ciphers ad [] sound = λ k d lt. absurd (omega arith)
+ciphers_of-are_ciphers ad (key ∷ keys) sound =
+    All-cons IsCipher (cipher_of ad key) (ciphers_of ad keys) (cipher_of-is_cipher ad key sound.0)
+    (ciphers_of-are_ciphers ad keys sound.1)

@@ -14,7 +14,8 @@ use Rattle.segment_stream.specs.declared.fault.OpenPumpFault.{OpenPumpFault}
 use Rattle.segment_stream.specs.declared.fault.OpenPumpFault.TheVariants.{ReadFault, WriteFault}
 use Rattle.segment_stream.specs.Pumping.{Pumps, opening_any, sealing, result_of}
 use Rattle.std.specs.Prelude.{Ok, Err, nat_lt}
-use Rattle.segment_stream.specs.Segments.{cipher_of, IsSound}
+use Rattle.segment_stream.specs.KeysModel.{AreSound, KeysForStreams}
+use Rattle.segment_stream.specs.Segments.{cipher_of, ciphers_of, IsSound}
 use Rattle.segment_stream.specs.declared.key.StreamKey.{StreamKey}
 use Rattle.segment_stream.specs.Sealing.{sealed, sealed_behind, many_plain, seal_decides, plain_size, header_of}
 
@@ -146,3 +147,8 @@ SealPassAnswers = (key : SegmentCipher) (header bytes before : List ℕ)
 -- a key with Tink's sizes gives a cipher of segments, under any associated data
 abbrev pub SchemesAreCiphers : Type 0
 SchemesAreCiphers = (ad : List ℕ) (key : StreamKey) → IsSound key → IsCipher (cipher_of ad key)
+
+-- so do the keys of a keyset for streams, the primary and all of them
+abbrev pub KeysAreCiphers : Type 0
+KeysAreCiphers = (ad : List ℕ) (those : KeysForStreams) → AreSound those
+    → IsCipher (cipher_of ad those.primary) × All IsCipher (ciphers_of ad those.keys)

@@ -4,7 +4,7 @@ ghost use Rattle.std.specs.Prelude.{◌≡◌, [], ◌∷◌, ◌++◌, ◌+◌,
 ghost use Rattle.std.specs.List.{AllByRecursion};
 ghost use Rattle.segment_stream.specs.Segments.{IsSound};
 ghost use Rattle.segment_stream.specs.StreamKeys.{IsUnfit, at_place, largest_of, stream_keys, unfit};
-ghost use Rattle.segment_stream.specs.KeysModel.{AreOf};
+ghost use Rattle.segment_stream.specs.KeysModel.{AreOf, AreSound};
 
 use crate::key::StreamKey;
 use crate::reading::{StreamFault, stream_key_of};
@@ -66,6 +66,7 @@ impl StreamKeys {
     /// name the first such record with its first fault.
     pub fn new(alloc: Global, keyset: &Keyset) -> Result<StreamKeys, StreamKeysFault>
         ensures keys { IfOk result (λ keys. AreOf keys keyset.now) }
+        ensures sound { IfOk result AreSound }
         ensures fit { OnOk result (unfit keyset.now ≡ None) }
         ensures fault { IfErr result (λ fault. IsUnfit fault (unfit keyset.now)) }
     {

@@ -1,6 +1,6 @@
 //! Laws of the definitions of streams. These functions do nothing: their contracts are the laws.
 
-ghost use Rattle.segment_stream.specs.Laws.{DecidedStays, HoldsMore};
+ghost use Rattle.segment_stream.specs.Laws.{DecidedStays, HoldsMore, KeysAreCiphers};
 ghost use Rattle.segment_stream.specs.Laws.{OpensOneMore, PassAnswers, PiecesAreAll, RangeIsSlice, ReleasedPrefix, SealedLength};
 ghost use Rattle.segment_stream.specs.Laws.{SealPassAnswers, SealedPrefix, SealsOneMore, StandsReleased, StreamBack, TooManyOutput, TrialsInOrder, SchemesAreCiphers};
 
@@ -82,4 +82,9 @@ pub fn seal_pass_answers()
 /// Both of Tink's schemes are ciphers of segments, as these laws want them.
 pub fn schemes_are_ciphers()
     ensures { SchemesAreCiphers }
+{}
+
+/// So do all keys of a keyset for streams.
+pub fn keys_are_ciphers()
+    ensures { KeysAreCiphers }
 {}
