@@ -25,10 +25,6 @@ pub record SealGoing (key : SegmentCipher) (header : List ℕ) (seen : Bool) (wa
   pub stands : SealStanding key header more number held out
   pub end : seen ≡ true → IsAtEnd now
 
--- of a segment in two parts
-pub prefix_first : (old new : SinkState) (a b whole : List ℕ) → a ++ b ≡ whole → TookPrefix old new a → TookPrefix old new whole
-prefix_first old new a b whole e t = record { front = t.front; rest = t.rest ++ b; some = omega (arith, t.some, length-append t.rest b); whole = sym (append_assoc t.front t.rest b) ∙ ap (λ (l : List ℕ). l ++ b) t.whole ∙ e; took = t.took }
-
 pub prefix_second : (old mid new : SinkState) (a b whole : List ℕ) → a ++ b ≡ whole → Took old mid a → TookPrefix mid new b → TookPrefix old new whole
 prefix_second old mid new a b whole e took t = record { front = a ++ t.front; rest = t.rest; some = t.some; whole = append_assoc a t.front t.rest ∙ ap (λ (l : List ℕ). a ++ l) t.whole ∙ e; took = took_more _ _ _ _ _ took t.took }
 

@@ -1,12 +1,12 @@
 -- The order of trials: the first key that fits, each earlier one decided.
-use Rattle.std.proofs.Common.{◌≡◌, ℕ, ◌+◌, ◌<◌, ◌≤◌, List, [], ◌∷◌, ◌++◌, length, take, drop, get_or, refl, sym, ◌∙◌, ap, subst, arith, inl, inr, append_assoc, append-nil}
+use Rattle.std.proofs.Common.{◌≡◌, ℕ, ◌+◌, ◌<◌, ◌≤◌, List, [], ◌∷◌, ◌++◌, length, take, drop, refl, sym, ◌∙◌, ap, subst, arith, inl, inr, append_assoc, append-nil}
 use Rattle.std.specs.Prelude.{Bool, true, false, Option, Some, None, Result, Ok, Err, ◌||◌, ◌&&◌, nat_lt, if◌then◌else◌}
 use Rattle.std.specs.Option.{is_some}
 use Rattle.std.proofs.lemmas.Bool.{cases_lt}
 use Rattle.std.proofs.lemmas.Bool.Decides.{nat_tests}
-use Rattle.std.proofs.lemmas.List.{length-append, drop_all, drop_more}
+use Rattle.std.proofs.lemmas.List.{length-append, drop_all}
 use Rattle.tink_spec.specs.Outside.{SourceState, SinkState, Rose, Stood, Gave, Took, TookPrefix, IsAtEnd}
-use Rattle.tink_spec.proofs.Moves.{gave_nothing, gave_more, took_nothing, took_more}
+use Rattle.tink_spec.proofs.Moves.{gave_more, took_nothing, took_more}
 use Rattle.segment_stream.specs.Pieces.{followed}
 use Rattle.segment_stream.specs.Cipher.{SegmentCipher, IsCipher, most_segments, behind_header}
 use Rattle.segment_stream.specs.Opening.{has_header, piece_opens, opens_at, is_decided, fits, Choice, undecided, no_key, chosen, choose, released_by, decides_by, failed}
@@ -25,9 +25,6 @@ pub record Trying (ciphers : List SegmentCipher) (index : ℕ) (was now : Source
   pub gave : Gave was now taken
   pub end : ended ≡ true → IsAtEnd now
   pub passed : (more : List ℕ) (e : Bool) → Follows ended more e → choose ciphers (taken ++ more) e ≡ choose (drop index ciphers) (taken ++ more) e
-
-pub trying_begins : (ciphers : List SegmentCipher) (s : SourceState) → Trying ciphers 0 s s [] false
-trying_begins ciphers s = record { gave = gave_nothing s; end = λ e. absurd cc; passed = λ more e f. refl }
 
 pub trying_reads : (ciphers : List SegmentCipher) (index size : ℕ) (was mid now : SourceState) (taken after : List ℕ) (ended later : Bool) → Trying ciphers index was mid taken ended → Decided mid now taken after ended later size → Trying ciphers index was now after later
 trying_reads ciphers index size was mid now taken after ended later t d = subst (λ (l : List ℕ). Trying ciphers index was now l later) (sym d.is) (record {
@@ -60,9 +57,6 @@ by_first : (key : SegmentCipher) (others : List SegmentCipher) (taken : List ℕ
 by_first key others taken e o d opens =
     ap (λ (b : Bool). if b then (if fits key taken then chosen key else choose others taken e) else undecided) d
     ∙ ap (λ (x : Option (List ℕ)). if is_some x then chosen key else choose others taken e) opens
-
-pub drop_here : (keys : List SegmentCipher) (i : ℕ) (key : SegmentCipher) → i < length keys → key ≡ get_or keys i key → drop i keys ≡ key ∷ drop (i + 1) keys
-drop_here keys i key lt is = drop_more keys i key lt ∙ ap (λ (k : SegmentCipher). k ∷ drop (i + 1) keys) (sym is)
 
 -- a key that doesn't fit is passed
 pub trying_passes : (ciphers : List SegmentCipher) (index : ℕ) (key : SegmentCipher) (was now : SourceState) (taken : List ℕ) (ended : Bool) → Trying ciphers index was now taken ended → drop index ciphers ≡ key ∷ drop (index + 1) ciphers → IsCipher key

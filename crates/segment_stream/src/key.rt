@@ -1,7 +1,7 @@
 //! The key of a stream.
 
 ghost use Rattle.std.specs.Prelude.{◌≡◌};
-ghost use Rattle.segment_stream.specs.Segments.{header_size, tag_size_of};
+ghost use Rattle.segment_stream.specs.Segments.{header_size};
 
 use tink_base::{Bytes, Hash};
 
@@ -44,15 +44,5 @@ impl StreamKey {
         ensures { result ≡ header_size self.now }
     {
         self.derived as usize + BESIDE_SALT
-    }
-
-    /// The bytes of a tag.
-    pub(crate) fn tag_size(&self) -> usize
-        ensures { result ≡ tag_size_of self.now.scheme }
-    {
-        match self.scheme {
-            SegmentScheme::Gcm => GCM_TAG,
-            SegmentScheme::CtrHmac { tag_size, .. } => tag_size as usize,
-        }
     }
 }

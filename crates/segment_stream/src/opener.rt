@@ -55,9 +55,9 @@ impl<'k> Opener<'k> {
     ///
     /// `StreamFailed` comes exactly where the bytes taken decide it, and so does `TooManySegments`.
     /// `ReadFault` comes only where the source failed before anything was decided, and
-    /// `WriteFault` only where the sink failed. But at a write fault exactly that was written which
-    /// the bytes taken release, and then a front of it. Nothing is read after the end was seen, and
-    /// nothing that failed is tried again. No memory is taken.
+    /// `WriteFault` only where the sink failed: then a front of what the bytes taken release was
+    /// written, and with every other answer exactly that. Nothing is read after the end was seen,
+    /// and nothing that failed is tried again. No memory is taken.
     pub fn pump<S: Source, K: Sink>(self, source: &mut S, sink: &mut K) -> Result<(), OpenPumpFault>
         ensures pumps { Pumps (opening_any (ciphers_of self.entry.ad self.entry.keys.keys)) [] [] false result
             (S.state source.old) (S.state source.new) (K.state sink.old) (K.state sink.new) }
