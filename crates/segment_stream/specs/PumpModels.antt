@@ -41,8 +41,8 @@ pub record IsHeader (old new : EntropyState) (size : ℕ) (header : List ℕ) : 
   pub is : header ≡ size ∷ random
   pub whole : length random ≡ size - 1
 
--- the bytes of a header behind the first were drawn, and with that header the sealer seals under the
--- primary key
+-- the bytes of a header behind the first were drawn, and with that header the sealer seals under
+-- the primary key
 pub record IsMade (keys : KeysForStreams) (ad : List ℕ) (old new : EntropyState)
     (sealer : SealerState) : Type 0 where
   pub random : List ℕ

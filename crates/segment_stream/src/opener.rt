@@ -59,8 +59,9 @@ impl<'k> Opener<'k> {
     /// written, and with every other answer exactly that. Nothing is read after the end was seen,
     /// and nothing that failed is tried again. No memory is taken.
     pub fn pump<S: Source, K: Sink>(self, source: &mut S, sink: &mut K) -> Result<(), OpenPumpFault>
-        ensures pumps { Pumps (opening_any (ciphers_of self.entry.ad self.entry.keys.keys)) [] [] false result
-            (S.state source.old) (S.state source.new) (K.state sink.old) (K.state sink.new) }
+        ensures pumps { Pumps (opening_any (ciphers_of self.entry.ad self.entry.keys.keys)) [] []
+            false result (S.state source.old) (S.state source.new) (K.state sink.old)
+            (K.state sink.new) }
         ensures shown { ShowsFaults result (S.state source.old) (S.state source.new)
             (K.state sink.old) (K.state sink.new) }
     {

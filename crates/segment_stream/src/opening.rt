@@ -25,7 +25,7 @@ pub(crate) enum SegmentEnd {
     Refused,
 }
 
-/// Opens a segment in its place, and writes its plaintext. Where it doesn't open it stays as it was.
+/// Opens a segment in its place, and writes its plaintext. One that doesn't open stays as it was.
 pub(crate) fn write_segment<K: Sink>(
     stream: &Stream,
     number: u64,

@@ -94,8 +94,8 @@ impl Sealer {
     /// `TooManySegments` comes exactly where 2^32 full segments of plaintext and one more byte were
     /// taken. `ReadFault` comes only where the source failed, and `WriteFault` only where the sink
     /// failed: then a front of what the bytes taken seal was written, and with every other answer
-    /// exactly that. Nothing is read after the end was seen, and nothing that failed is tried again.
-    /// No memory is taken.
+    /// exactly that. Nothing is read after the end was seen, and nothing that failed is tried
+    /// again. No memory is taken.
     pub fn pump<S: Source, K: Sink>(self, source: &mut S, sink: &mut K) -> Result<(), SealPumpFault>
         ensures pumps { (cipher : SegmentCipher) → SealsUnder self cipher
             → Pumps (sealing cipher self.header) [] [] false (pump_result result)

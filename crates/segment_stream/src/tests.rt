@@ -1,5 +1,5 @@
-//! Streams of other implementations, opened and sealed; streams that were cut, altered and reordered;
-//! and sources and sinks that fail.
+//! Streams of other implementations, opened and sealed; streams that were cut, altered and
+//! reordered; and sources and sinks that fail.
 
 use crate::{Opener, Sealer, StreamKeys};
 use keyset_model::read_binary;
@@ -10,8 +10,8 @@ use std::str::from_utf8;
 use std::test::Fail;
 use tink_base::{Hash, MemEntropy, MemSink, MemSource};
 
-// A row has what it shows, a keyset in binary form, the associated data, the stream, what is released
-// of it, and how the pass ends.
+// A row has what it shows, a keyset in binary form, the associated data, the stream, what is
+// released of it, and how the pass ends.
 
 // Streams that tink-go 2.4.0 sealed, and what it answered to them, some altered before.
 const TINK: &str = "\
@@ -48,9 +48,9 @@ const CTR_HMAC: &str =
 const SECOND: &str =
     "080212770a6f0a3d747970652e676f6f676c65617069732e636f6d2f676f6f676c652e63727970746f2e74696e6b2e41657347636d486b646653747265616d696e674b6579122c120808808040102018031a20000102030405060708090a0b0c0d0e0f101112131415161718191a1b1c1d1e1f180110011801200312660a5e0a3d747970652e676f6f676c65617069732e636f6d2f676f6f676c652e63727970746f2e74696e6b2e41657347636d486b646653747265616d696e674b6579121b1207088020101018031a10000102030405060708090a0b0c0d0e0f1801100118022003";
 
-// Full segments: a keyset, the size of the plaintext 0, 1, 2, .. and of its stream, and the digest of
-// that, by Python's cryptography. The random bytes are 16, 17, 18, .., the associated data are "ad",
-// and the digest is HMAC with SHA-256 under the empty key.
+// Full segments: a keyset, the size of the plaintext 0, 1, 2, .. and of its stream, and the digest
+// of that, by Python's cryptography. The random bytes are 16, 17, 18, .., the associated data are
+// "ad", and the digest is HMAC with SHA-256 under the empty key.
 const FULL: &str = "\
 GCM|0|40|db1fb7bc42f4d136b6295595bf8469920ea196752b1f1f7f4f97959b7fa650c8
 GCM|4056|4096|a9b1de27e9631e544e0cf137cc9331b8ac28eba7d8a37570f665456793f0ab50
@@ -63,8 +63,8 @@ CTR|8137|8273|a814dddc6abf374737fce3039a83883127bacc6916928355c0574ddee67e6b85";
 
 // Of the stream of 8,137 bytes, which has segments of 4,096, 4,096 and 17 bytes: a keyset, which of
 // them come, one behind another, whether the end is seen then, how many bytes are released, and how
-// the pass ends. `e` is an empty segment 1 that is sealed as last under the same header, `+` a byte 0,
-// and `h` puts another byte in front.
+// the pass ends. `e` is an empty segment 1 that is sealed as last under the same header, `+` a byte
+// 0, and `h` puts another byte in front.
 const PARTS: &str = "\
 GCM|012|ended|8137|done
 GCM|01|ended|4056|StreamFailed(1)
@@ -400,8 +400,8 @@ fn assert_made(
     Ok(())
 }
 
-// Byte by byte, the first row of Python's: a header of 24, and segments of 42 with a tag of 16. What
-// is written when a read fails follows from the number of bytes that came.
+// Byte by byte, the first row of Python's: a header of 24, and segments of 42 with a tag of 16.
+// What is written when a read fails follows from the number of bytes that came.
 #[test]
 fn fails_at_each_call_in_turn(rt: HostRuntime) -> Result<(), Fail> {
     let alloc = rt.alloc();

@@ -65,8 +65,8 @@ fn begins(key: &StreamKey, taken: &[u8]) -> bool
     taken.len() >= header && taken[0] as usize == header
 }
 
-/// Opens the first segment, of those bytes that the buffer holds, and writes its plaintext. Where it
-/// doesn't open the buffer stays as it was.
+/// Opens the first segment, of those bytes that the buffer holds, and writes its plaintext. Where
+/// it doesn't open the buffer stays as it was.
 fn open_first<K: Sink>(
     key: &StreamKey,
     ad: &[u8],
