@@ -5,6 +5,8 @@ pub mod ReportLemmas
 pub mod RowLemmas
 pub mod SpellingLemmas
 pub mod StepLemmas
+pub mod StreamLemmas
 pub mod UseLemmas
 pub mod TemplateLemmas
 pub mod WordLemmas
+pub mod WholeLemmas

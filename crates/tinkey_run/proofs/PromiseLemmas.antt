@@ -1,19 +1,24 @@
 -- Each promise, proved once for every end of every plan.
 use Rattle.std.proofs.Common.{◌≡◌, ◌≢◌, ◌⊎◌, inl, inr, ℕ, ◌+◌, ◌<◌, ◌≤◌, List, [], ◌++◌, length, drop, refl, sym, ◌∙◌, ap, subst, arith, append-nil, length-append}
-use Rattle.std.specs.Prelude.{Option, Some, None, option_map, IfSome, Result, nat_le, true, false}
+use Rattle.std.specs.Prelude.{Option, Some, None, option_map, IfSome, Result, Ok, Err, nat_le, true, false}
 use Rattle.std.proofs.lemmas.List.{drop_at}
 use Rattle.std.proofs.lemmas.Bool.Decides.{nat_tests}
 use Rattle.tink_spec.specs.Outside.{SourceState, SinkState, EntropyState, Rose, Stood, Gave, GaveCount, Took, TookPrefix, Drew, IsAtEnd}
 use Rattle.tink_spec.specs.Files.{Files, StoreState, KeptFiles, Holds, HoldsSome, HoldsLonger, Added, AddedFront, MayAdd}
 use Rattle.std.specs.FinMap as map
 use Rattle.tink_spec.proofs.Moves.{gave_same, gave_more, took_same, drew_nothing, drew_more}
+use Rattle.segment_stream.specs.Opening.{StreamRefusal, too_many, failed}
+use Rattle.segment_stream.specs.Pumping.{Part, Pumps, fault_of}
+use Rattle.segment_stream.specs.Pumping as pass
+use Rattle.segment_stream.specs.declared.fault.OpenPumpFault.{OpenPumpFault}
+use Rattle.segment_stream.specs.declared.fault.OpenPumpFault.TheVariants as faults
 use Rattle.tinkey_cmds.specs.Draws.{Draw, Drawn}
 use Rattle.tinkey_cmds.specs.declared.command.CmdFault.{CmdFault}
 use Rattle.tinkey_run.specs.declared.status.Status.{Status}
 use Rattle.tinkey_run.specs.declared.status.Status.TheVariants as status
-use Rattle.tinkey_run.specs.Plan.{Plan, ends, writes, creates, allocates, loads, reads_all, draws, Told, Answer, answer, refused, load_answer, create_answer, draw_answer, IsStated}
-use Rattle.tinkey_run.specs.Ends.{World, Ends, Settles, OnlySource, OnlySink, OnlyStore, OnlyEntropy, loaded, load_absent, load_long, load_failed, load_starved, wrote, write_failed, made, name_taken, create_failed, create_starved, read, too_long, read_failed, read_starved, settled, draw_failed}
-use Rattle.tinkey_run.specs.Promises.{Tells, IsAnswer, Answers, HasCause, ShowsFaults, IsFront, nothing, IsLeft, Leaves, IsTorn, Stands, NoneFailed, Completes, Promised}
+use Rattle.tinkey_run.specs.Plan.{Plan, ends, writes, creates, allocates, loads, reads_all, draws, pumps, Told, Answer, answer, refused, stream_status, load_answer, create_answer, draw_answer, IsStated}
+use Rattle.tinkey_run.specs.Ends.{World, Ends, Settles, IsLasting, OnlyStreams, pump_status, OnlySource, OnlySink, OnlyStore, OnlyEntropy, loaded, load_absent, load_long, load_failed, load_starved, wrote, write_failed, made, name_taken, create_failed, create_starved, read, too_long, read_failed, read_starved, settled, draw_failed}
+use Rattle.tinkey_run.specs.Promises.{Tells, IsAnswer, Answers, HasCause, ShowsFaults, IsFront, nothing, IsPassLeft, pass_done, pass_refused, pass_unread, pass_unwritten, IsWhole, IsLeft, Leaves, IsTorn, Stands, NoneFailed, Completes, Promised}
 
 -- a stated status is no fault, and no want of memory
 abbrev not_read_fault : (s : Status) → IsStated s → s ≡ status.ReadFault → ⊥
@@ -35,6 +40,22 @@ rose_after : (a b c : ℕ) → a ≤ b → Rose b c → Rose a c
 rose_after a b c le (inl lt) = inl (omega arith)
 rose_after a b c le (inr last) = inr last
 
+-- the status of a refused pass
+refusal_status : (refusal : StreamRefusal) → pump_status (Err (fault_of refusal)) ≡ stream_status refusal
+refusal_status too_many = refl
+refusal_status (failed number) = refl
+
+refusal_stated : (refusal : StreamRefusal) → IsStated (stream_status refusal)
+refusal_stated too_many = tt
+refusal_stated (failed number) = tt
+
+-- the status of a pass with this result
+of_result : (s : Status) (result other : Result (Unit {0}) OpenPumpFault) → s ≡ pump_status result → result ≡ other → s ≡ pump_status other
+of_result s result other is same = is ∙ ap pump_status same
+
+of_refusal : (s : Status) (result : Result (Unit {0}) OpenPumpFault) (refusal : StreamRefusal) → s ≡ pump_status result → result ≡ Err (fault_of refusal) → s ≡ stream_status refusal
+of_refusal s result refusal is same = of_result s result (Err (fault_of refusal)) is same ∙ refusal_status refusal
+
 -- The causes of faults.
 
 no_fault : (old new : World) (s : Status) → IsStated s → HasCause old s new
@@ -51,6 +72,12 @@ starved_cause old new s is = record { read = λ h. absurd (cc); write = λ h. ab
 
 store_cause : (old new : World) (s : Status) → s ≡ status.StoreFault → Rose old.store.faults new.store.faults → HasCause old s new
 store_cause old new s is rose = record { read = λ h. absurd (cc); write = λ h. absurd (cc); store = λ h. rose; entropy = λ h. absurd (cc) }
+
+pump_cause : (part : Part) (result : Result (Unit {0}) OpenPumpFault) (old : World) (s : Status) (new : World) → s ≡ pump_status result → Pumps part [] [] false result old.source new.source old.sink new.sink → HasCause old s new
+pump_cause part result old s new is (pass.pumped more out r gave follows end took o d) = no_fault old new s (rw (of_result s result (Ok tt) is r) tt)
+pump_cause part result old s new is (pass.refused more out ended refusal r gave follows end took o d) = no_fault old new s (rw (of_refusal s result refusal is r) (refusal_stated refusal))
+pump_cause part result old s new is (pass.unread more out r rose gave follows took o d) = let fault : s ≡ status.ReadFault = of_result s result (Err faults.ReadFault) is r in record { read = λ h. rose; write = λ h. absurd (cc); store = λ h. absurd (cc); entropy = λ h. absurd (cc) }
+pump_cause part result old s new is (pass.unwritten more out rest ended r rose gave follows end took some o) = let fault : s ≡ status.WriteFault = of_result s result (Err faults.WriteFault) is r in record { read = λ h. absurd (cc); write = λ h. rose; store = λ h. absurd (cc); entropy = λ h. absurd (cc) }
 
 pub has_cause : (p : Plan) (old : World) (s : Status) (new : World) → Ends p old s new → HasCause old s new
 has_cause (ends answered stated) old s new (is, same) = no_fault old new s (rw is stated)
@@ -79,6 +106,7 @@ has_cause (draws kind give next) old s new (settled drawn entropy given drew sto
     let later = has_cause (next given) (record old { entropy = entropy }) s new run in
     record { read = later.read; write = later.write; store = later.store; entropy = λ h. rose_after _ _ _ drew.faults (later.entropy h) }
 has_cause (draws kind give next) old s new (draw_failed is only out) = record { read = λ h. absurd (cc); write = λ h. absurd (cc); store = λ h. absurd (cc); entropy = λ h. out.rose }
+has_cause (pumps part) old s new e = pump_cause part e.result old s new e.status e.pass
 
 -- No fault is hidden.
 
@@ -116,6 +144,13 @@ source_shown old new s only stood = record { read = stood; write = λ other. sin
 entropy_shown : (old new : World) (s : Status) → OnlyEntropy old new → (s ≢ status.EntropyFault → Stood old.entropy.faults new.entropy.faults) → ShowsFaults old s new
 entropy_shown old new s only stood = record { read = λ other. source_stood old new only.source; write = λ other. sink_stood old new only.sink; store = λ other. store_stood old new only.store; entropy = stood }
 
+pump_shown : (result : Result (Unit {0}) OpenPumpFault) (old : World) (s : Status) (new : World) → s ≡ pump_status result → OnlyStreams old new → pass.ShowsFaults result old.source new.source old.sink new.sink → ShowsFaults old s new
+pump_shown (Ok done) old s new is only shown = record { read = λ other. shown.0; write = λ other. shown.1; store = λ other. store_stood old new only.store; entropy = λ other. entropy_stood old new only.entropy }
+pump_shown (Err faults.ReadFault) old s new is only shown = record { read = λ other. absurd (other is); write = λ other. shown; store = λ other. store_stood old new only.store; entropy = λ other. entropy_stood old new only.entropy }
+pump_shown (Err faults.WriteFault) old s new is only shown = record { read = λ other. shown; write = λ other. absurd (other is); store = λ other. store_stood old new only.store; entropy = λ other. entropy_stood old new only.entropy }
+pump_shown (Err faults.TooManySegments) old s new is only shown = record { read = λ other. shown.0; write = λ other. shown.1; store = λ other. store_stood old new only.store; entropy = λ other. entropy_stood old new only.entropy }
+pump_shown (Err (faults.StreamFailed number)) old s new is only shown = record { read = λ other. shown.0; write = λ other. shown.1; store = λ other. store_stood old new only.store; entropy = λ other. entropy_stood old new only.entropy }
+
 pub shows_faults : (p : Plan) (old : World) (s : Status) (new : World) → Ends p old s new → ShowsFaults old s new
 shows_faults (ends answered stated) old s new (is, same) = all_stood old new s same
 shows_faults (writes output) old s new (wrote is only stood took) = sink_shown old new s only (λ other. stood)
@@ -143,8 +178,15 @@ shows_faults (draws kind give next) old s new (settled drawn entropy given drew 
     let later = shows_faults (next given) (record old { entropy = entropy }) s new run in
     record { read = later.read; write = later.write; store = later.store; entropy = λ other. later.entropy other ∙ stood }
 shows_faults (draws kind give next) old s new (draw_failed is only out) = entropy_shown old new s only (λ other. absurd (other is))
+shows_faults (pumps part) old s new e = pump_shown e.result old s new e.status e.only e.shown
 
 -- Completeness.
+
+pump_stated : (part : Part) (result : Result (Unit {0}) OpenPumpFault) (old : World) (s : Status) (new : World) → s ≡ pump_status result → Pumps part [] [] false result old.source new.source old.sink new.sink → NoneFailed old new → IsStated s
+pump_stated part result old s new is (pass.pumped more out r gave follows end took o d) none = rw (of_result s result (Ok tt) is r) tt
+pump_stated part result old s new is (pass.refused more out ended refusal r gave follows end took o d) none = rw (of_refusal s result refusal is r) (refusal_stated refusal)
+pump_stated part result old s new is (pass.unread more out r rose gave follows took o d) none = absurd (none.read rose)
+pump_stated part result old s new is (pass.unwritten more out rest ended r rose gave follows end took some o) none = absurd (none.write rose)
 
 completes_from : (p : Plan) (old : World) (s : Status) (new : World) → Ends p old s new → NoneFailed old new → s ≢ status.NoMemory → IsStated s
 completes_from (ends answered stated) old s new (is, same) none memory = rw is stated
@@ -170,6 +212,7 @@ completes_from (reads_all limit long stated next) old s new (read_starved is onl
 completes_from (draws kind give next) old s new (settled drawn entropy given drew stood settles run) none memory =
     completes_from (next given) (record old { entropy = entropy }) s new run (record { read = none.read; write = none.write; store = none.store; entropy = λ rose. none.entropy (rose_after _ _ _ drew.faults rose) }) memory
 completes_from (draws kind give next) old s new (draw_failed is only out) none memory = absurd (none.entropy out.rose)
+completes_from (pumps part) old s new e none memory = pump_stated part e.result old s new e.status e.pass none
 
 pub completes : (p : Plan) (old : World) (s : Status) (new : World) → Ends p old s new → Completes old s new
 completes p old s new run = record { stated = completes_from p old s new run }
@@ -280,8 +323,46 @@ added_told old new files name bytes told added = added.files ∙ ap (λ (o : Opt
 read_answer : (limit : ℕ) (long : Status) (stated : IsStated long) (next : List ℕ → Plan) (told : Told) (all : List ℕ) → told.input ≡ all → length all ≤ limit → answer (reads_all limit long stated next) told ≡ answer (next all) (record told { input = [] })
 read_answer limit long stated next told all is le = rw (is, fits_test (length all) limit le) refl
 
-long_answer : (limit : ℕ) (long : Status) (stated : IsStated long) (next : List ℕ → Plan) (told : Told) → limit < length told.input → answer (reads_all limit long stated next) told ≡ record (refused told long) { input = drop (limit + 1) told.input }
+long_answer : (limit : ℕ) (long : Status) (stated : IsStated long) (next : List ℕ → Plan) (told : Told) → limit < length told.input → answer (reads_all limit long stated next) told ≡ record (refused told long) { input = Some (drop (limit + 1) told.input) }
 long_answer limit long stated next told lt = rw (past_test (length told.input) limit lt) refl
+
+-- the answer of a pass that comes to its end, and of one that is refused
+done_answer : (part : Part) (told : Told) → part.refusal told.input true ≡ None → answer (pumps part) told ≡ record (refused told status.Done) { input = Some []; output = part.output told.input true }
+done_answer part told is = rw is refl
+
+refused_answer : (part : Part) (told : Told) (refusal : StreamRefusal) → part.refusal told.input true ≡ Some refusal → answer (pumps part) told ≡ record (refused told (stream_status refusal)) { input = None; output = part.output told.input true }
+refused_answer part told refusal is = rw is refl
+
+-- a pass that was refused, by what the whole input decides
+refused_pass : (part : Part) (told : Told) (refusal : StreamRefusal) (out : List ℕ) (old : World) (s : Status) (new : World) → s ≡ stream_status refusal → OnlyStreams old new → Tells old told → Took old.sink new.sink out → part.refusal told.input true ≡ Some refusal → out ≡ part.output told.input true → IsAnswer (answer (pumps part) told) old s new
+refused_pass part told refusal out old s new is only tells took decided same =
+    subst (λ (a : Answer). IsAnswer a old s new) (sym (refused_answer part told refusal decided)) (record {
+      status = is;
+      input = tt;
+      output = subst (λ (o : List ℕ). Took old.sink new.sink o) same took;
+      files = files_told old new told tells only.store;
+      random = random_told old new told tells only.entropy;
+    })
+
+pump_answers : (part : Part) (result : Result (Unit {0}) OpenPumpFault) (old : World) (s : Status) (new : World) → IsLasting part → s ≡ pump_status result → OnlyStreams old new → Pumps part [] [] false result old.source new.source old.sink new.sink → (told : Told) → Tells old told → IsStated s → IsAnswer (answer (pumps part) told) old s new
+pump_answers part result old s new lasting is only (pass.pumped more out r gave follows end took o d) told tells ok =
+    let whole = whole_input old.source new.source told.input more tells.input gave end in
+    subst (λ (a : Answer). IsAnswer a old s new) (sym (done_answer part told (ap (λ (l : List ℕ). part.refusal l true) whole.1 ∙ d))) (record {
+      status = of_result s result (Ok tt) is r;
+      input = whole.0;
+      output = subst (λ (x : List ℕ). Took old.sink new.sink x) (o ∙ ap (λ (l : List ℕ). part.output l true) (sym whole.1)) took;
+      files = files_told old new told tells only.store;
+      random = random_told old new told tells only.entropy;
+    })
+pump_answers part result old s new lasting is only (pass.refused more out true refusal r gave follows end took o d) told tells ok =
+    let whole = whole_input old.source new.source told.input more tells.input gave (end refl) in
+    refused_pass part told refusal out old s new (of_refusal s result refusal is r) only tells took (ap (λ (l : List ℕ). part.refusal l true) whole.1 ∙ d) (o ∙ ap (λ (l : List ℕ). part.output l true) (sym whole.1))
+pump_answers part result old s new lasting is only (pass.refused more out false refusal r gave follows end took o d) told tells ok =
+    let split = split_told new.source.left old.source.left told.input more tells.input gave.left in
+    let stays = lasting.stays more split.0 refusal d in
+    refused_pass part told refusal out old s new (of_refusal s result refusal is r) only tells took (ap (λ (l : List ℕ). part.refusal l true) split.2 ∙ stays.0) (o ∙ sym stays.1 ∙ ap (λ (l : List ℕ). part.output l true) (sym split.2))
+pump_answers part result old s new lasting is only (pass.unread more out r rose gave follows took o d) told tells ok = absurd (not_read_fault s ok (of_result s result (Err faults.ReadFault) is r))
+pump_answers part result old s new lasting is only (pass.unwritten more out rest ended r rose gave follows end took some o) told tells ok = absurd (not_write_fault s ok (of_result s result (Err faults.WriteFault) is r))
 
 answers_over : (p : Plan) (old : World) (s : Status) (new : World) → Ends p old s new → (told : Told) → Tells old told → IsStated s → IsAnswer (answer p told) old s new
 answers_over (ends answered stated) old s new (is, same) told tells ok = used_none told answered s old new is tells same
@@ -341,6 +422,7 @@ answers_over (draws kind give next) old s new (settled drawn entropy given drew 
     subst (λ (a : Answer). IsAnswer a old s new) (sym (settled_answer give drawn split.0 told.random given _ (λ x. answer (next x.answer) (record told { random = x.left })) settles split.2))
     (record { status = later.status; input = later.input; output = later.output; files = later.files; random = later.random })
 answers_over (draws kind give next) old s new (draw_failed is only out) told tells ok = absurd (not_entropy_fault s ok is)
+answers_over (pumps part) old s new e told tells ok = pump_answers part e.result old s new e.lasting e.status e.only e.pass told tells ok
 
 pub answers : (p : Plan) (old : World) (s : Status) (new : World) → Ends p old s new → Answers p old s new
 answers p old s new run = record { over = answers_over p old s new run }
@@ -349,7 +431,7 @@ answers p old s new run = record { over = answers_over p old s new run }
 
 -- a sink and files that are as before, at a status that isn't the write fault
 untouched : (p : Plan) (old : World) (s : Status) (new : World) → (s ≡ status.WriteFault → ⊥) → old.sink ≡ new.sink → KeptFiles old.store new.store → Stands p old s new
-untouched p old s new other same files = record { files = λ done fault. files; torn = λ h. inl files; kept = λ done fault. took_same old.sink new.sink same; front = λ h. absurd (other h); last = λ h. absurd (other h) }
+untouched p old s new other same files = record { files = λ done fault. files; torn = λ h. inl files; kept = λ whole done fault. took_same old.sink new.sink same; front = λ whole h. absurd (other h); last = λ whole h. absurd (other h) }
 
 -- a file that is new after a step that kept all files
 added_later : (old mid new : StoreState) (name bytes : List ℕ) → KeptFiles old mid → AddedFront mid new name bytes → AddedFront old new name bytes
@@ -365,15 +447,15 @@ added_later old mid new name bytes kept front = record {
 }
 
 -- what stands behind a step that has used this object alone, where the answer goes on so
-goes_on : (p rest : Plan) (old mid : World) (s : Status) (new : World) → KeptFiles old.store mid.store → old.sink ≡ mid.sink → ((told : Told) → Tells old told → (later : Told) × Tells mid later × (later.files ≡ told.files) × (answer p told ≡ answer rest later)) → Stands rest mid s new → Stands p old s new
-goes_on p rest old mid s new kept sink ahead later = record {
+goes_on : (p rest : Plan) (old mid : World) (s : Status) (new : World) → (IsWhole p → IsWhole rest) → KeptFiles old.store mid.store → old.sink ≡ mid.sink → ((told : Told) → Tells old told → (later : Told) × Tells mid later × (later.files ≡ told.files) × (answer p told ≡ answer rest later)) → Stands rest mid s new → Stands p old s new
+goes_on p rest old mid s new still kept sink ahead later = record {
   files = λ done fault. kept_twice _ _ _ kept (later.files done fault);
   torn = λ h. torn (later.torn h);
-  kept = λ done fault. subst (λ (x : SinkState). Took x new.sink []) (sym sink) (later.kept done fault);
-  front = λ h told tells. let a = ahead told tells in
+  kept = λ whole done fault. subst (λ (x : SinkState). Took x new.sink []) (sym sink) (later.kept (still whole) done fault);
+  front = λ whole h told tells. let a = ahead told tells in
       subst (λ (x : SinkState). TookPrefix x new.sink (answer p told).output) (sym sink)
-      (subst (λ (r : Answer). TookPrefix mid.sink new.sink r.output) (sym a.3) (later.front h a.0 a.1));
-  last = λ h told tells. let a = ahead told tells in ap (λ (r : Answer). r.status) a.3 ∙ later.last h a.0 a.1;
+      (subst (λ (r : Answer). TookPrefix mid.sink new.sink r.output) (sym a.3) (later.front (still whole) h a.0 a.1));
+  last = λ whole h told tells. let a = ahead told tells in ap (λ (r : Answer). r.status) a.3 ∙ later.last (still whole) h a.0 a.1;
 }
   where
     torn : KeptFiles mid.store new.store ⊎ IsTorn rest mid new → KeptFiles old.store new.store ⊎ IsTorn p old new
@@ -402,16 +484,16 @@ torn_file name output taken stated old new (inr front) = inr (record {
 
 pub stands : (p : Plan) (old : World) (s : Status) (new : World) → Ends p old s new → Stands p old s new
 stands (ends answered stated) old s new (is, same) = untouched (ends answered stated) old s new (λ h. not_write_fault answered stated (sym is ∙ h)) (ap (λ (w : World). w.sink) same) (same_files _ _ (ap (λ (w : World). w.store) same))
-stands (writes output) old s new (wrote is only stood took) = record { files = λ done fault. same_files _ _ only.store; torn = λ h. inl (same_files _ _ only.store); kept = λ done fault. absurd (done is); front = λ h. absurd (cc); last = λ h. absurd (cc) }
-stands (writes output) old s new (write_failed is only rose front) = record { files = λ done fault. same_files _ _ only.store; torn = λ h. inl (same_files _ _ only.store); kept = λ done fault. absurd (fault is); front = λ h told tells. front; last = λ h told tells. refl }
-stands (creates name output taken stated) old s new (made is only stood added) = record { files = λ done fault. absurd (done is); torn = λ h. absurd (cc); kept = λ done fault. absurd (done is); front = λ h. absurd (cc); last = λ h. absurd (cc) }
+stands (writes output) old s new (wrote is only stood took) = record { files = λ done fault. same_files _ _ only.store; torn = λ h. inl (same_files _ _ only.store); kept = λ whole done fault. absurd (done is); front = λ whole h. absurd (cc); last = λ whole h. absurd (cc) }
+stands (writes output) old s new (write_failed is only rose front) = record { files = λ done fault. same_files _ _ only.store; torn = λ h. inl (same_files _ _ only.store); kept = λ whole done fault. absurd (fault is); front = λ whole h told tells. front; last = λ whole h told tells. refl }
+stands (creates name output taken stated) old s new (made is only stood added) = record { files = λ done fault. absurd (done is); torn = λ h. absurd (cc); kept = λ whole done fault. absurd (done is); front = λ whole h. absurd (cc); last = λ whole h. absurd (cc) }
 stands (creates name output taken stated) old s new (name_taken is only kept stood there) = untouched (creates name output taken stated) old s new (λ h. not_write_fault taken stated (sym is ∙ h)) only.sink kept
 stands (creates name output taken stated) old s new (create_failed is only rose may) = record {
   files = λ done fault. absurd (fault is);
   torn = λ h. torn_file name output taken stated old new may;
-  kept = λ done fault. took_same old.sink new.sink only.sink;
-  front = λ h. absurd (cc);
-  last = λ h. absurd (cc);
+  kept = λ whole done fault. took_same old.sink new.sink only.sink;
+  front = λ whole h. absurd (cc);
+  last = λ whole h. absurd (cc);
 }
 stands (creates name output taken stated) old s new (create_starved is only kept stood) = untouched (creates name output taken stated) old s new (λ h. absurd (cc)) only.sink kept
 stands (allocates next) old s new (inl run) = let later = stands next old s new run in record { files = later.files; torn = λ h. torn_later (later.torn h); kept = later.kept; front = later.front; last = later.last }
@@ -421,7 +503,7 @@ stands (allocates next) old s new (inl run) = let later = stands next old s new 
     torn_later (inr t) = inr (record { name = t.name; bytes = t.bytes; added = t.added; answered = t.answered; files = t.files })
 stands (allocates next) old s new (inr (is, same)) = untouched (allocates next) old s new (λ h. absurd (cc)) (ap (λ (w : World). w.sink) same) (same_files _ _ (ap (λ (w : World). w.store) same))
 stands (loads name limit absent long a l next) old s new (loaded bytes store kept stood within holds run) =
-    goes_on (loads name limit absent long a l next) (next bytes) old (record old { store = store }) s new kept refl
+    goes_on (loads name limit absent long a l next) (next bytes) old (record old { store = store }) s new (λ whole. whole bytes) kept refl
     (λ told tells. (told, record { input = tells.input; files = sym kept.files ∙ tells.files; random = tells.random }, refl, loaded_answer _ bytes limit _ _ _ (file_told old.store told.files name (Some bytes) tells.files holds) within))
     (stands (next bytes) (record old { store = store }) s new run)
 stands (loads name limit absent long a l next) old s new (load_absent is only kept stood holds) = untouched (loads name limit absent long a l next) old s new (λ h. not_write_fault absent a (sym is ∙ h)) only.sink kept
@@ -429,7 +511,7 @@ stands (loads name limit absent long a l next) old s new (load_long is only kept
 stands (loads name limit absent long a l next) old s new (load_failed is only kept rose) = untouched (loads name limit absent long a l next) old s new (λ h. absurd (cc)) only.sink kept
 stands (loads name limit absent long a l next) old s new (load_starved is only kept stood) = untouched (loads name limit absent long a l next) old s new (λ h. absurd (cc)) only.sink kept
 stands (reads_all limit long stated next) old s new (read all source gave stood within end run) =
-    goes_on (reads_all limit long stated next) (next all) old (record old { source = source }) s new (same_files old.store old.store refl) refl
+    goes_on (reads_all limit long stated next) (next all) old (record old { source = source }) s new (λ whole. whole all) (same_files old.store old.store refl) refl
     (λ told tells. let whole = whole_input old.source source told.input all tells.input gave end in
     (record told { input = [] }, record { input = whole.0; files = tells.files; random = tells.random }, refl, read_answer limit long stated next told all whole.1 within))
     (stands (next all) (record old { source = source }) s new run)
@@ -437,11 +519,12 @@ stands (reads_all limit long stated next) old s new (too_long is only stood coun
 stands (reads_all limit long stated next) old s new (read_failed is only rose upto) = untouched (reads_all limit long stated next) old s new (λ h. absurd (cc)) only.sink (same_files _ _ only.store)
 stands (reads_all limit long stated next) old s new (read_starved is only stood upto) = untouched (reads_all limit long stated next) old s new (λ h. absurd (cc)) only.sink (same_files _ _ only.store)
 stands (draws kind give next) old s new (settled drawn entropy given drew stood settles run) =
-    goes_on (draws kind give next) (next given) old (record old { entropy = entropy }) s new (same_files old.store old.store refl) refl
+    goes_on (draws kind give next) (next given) old (record old { entropy = entropy }) s new (λ whole. whole given) (same_files old.store old.store refl) refl
     (λ told tells. let split = split_told entropy.left old.entropy.left told.random drawn tells.random drew.left in
     (record told { random = split.0 }, record { input = tells.input; files = tells.files; random = split.1 }, refl, settled_answer give drawn split.0 told.random given _ (λ x. answer (next x.answer) (record told { random = x.left })) settles split.2))
     (stands (next given) (record old { entropy = entropy }) s new run)
 stands (draws kind give next) old s new (draw_failed is only out) = untouched (draws kind give next) old s new (λ h. absurd (cc)) only.sink (same_files _ _ only.store)
+stands (pumps part) old s new e = record { files = λ done fault. same_files _ _ e.only.store; torn = λ h. inl (same_files _ _ e.only.store); kept = λ whole. absurd whole; front = λ whole. absurd whole; last = λ whole. absurd whole }
 
 -- What was taken, drawn and written.
 
@@ -470,6 +553,22 @@ some_written p old s new written took only is = record { moved = record nothing 
 some_taken : (p : Plan) (old : World) (s : Status) (new : World) (taken : List ℕ) → Gave old.source new.source taken → OnlySource old new → IsLeft p old.store.files s (record nothing { taken = taken }) → Leaves p old s new
 some_taken p old s new taken gave only is = record { moved = record nothing { taken = taken }; gave = gave; drew = drew_same _ _ only.entropy; took = took_same _ _ only.sink; is = is }
 
+-- what a pass took and wrote
+passed : (part : Part) (old : World) (s : Status) (new : World) (taken written : List ℕ) → OnlyStreams old new → Gave old.source new.source taken → Took old.sink new.sink written → IsPassLeft part s taken written → Leaves (pumps part) old s new
+passed part old s new taken written only gave took is = record {
+  moved = record nothing { taken = taken; written = written };
+  gave = gave;
+  drew = drew_same _ _ only.entropy;
+  took = took;
+  is = (refl, is);
+}
+
+pump_leaves : (part : Part) (result : Result (Unit {0}) OpenPumpFault) (old : World) (s : Status) (new : World) → s ≡ pump_status result → OnlyStreams old new → Pumps part [] [] false result old.source new.source old.sink new.sink → Leaves (pumps part) old s new
+pump_leaves part result old s new is only (pass.pumped more out r gave follows end took o d) = passed part old s new more out only gave took (pass_done (of_result s result (Ok tt) is r) d o)
+pump_leaves part result old s new is only (pass.refused more out ended refusal r gave follows end took o d) = passed part old s new more out only gave took (pass_refused ended refusal (of_refusal s result refusal is r) d o)
+pump_leaves part result old s new is only (pass.unread more out r rose gave follows took o d) = passed part old s new more out only gave took (pass_unread (of_result s result (Err faults.ReadFault) is r) d o)
+pump_leaves part result old s new is only (pass.unwritten more out rest ended r rose gave follows end took some o) = passed part old s new more out only gave took (pass_unwritten ended (of_result s result (Err faults.WriteFault) is r) (record { rest = rest; some = some; is = o }))
+
 pub leaves : (p : Plan) (old : World) (s : Status) (new : World) → Ends p old s new → Leaves p old s new
 leaves (ends answered stated) old s new (is, same) = none_moved _ old s new same (is, refl)
 leaves (writes output) old s new (wrote is only stood took) = some_written _ old s new output took only (inl (is, refl))
@@ -497,6 +596,7 @@ leaves (draws kind give next) old s new (settled drawn entropy given drew stood 
     let later = leaves (next given) (record old { entropy = entropy }) s new run in
     record { moved = record later.moved { drawn = drawn ++ later.moved.drawn }; gave = later.gave; drew = drew_more _ _ _ _ _ drew later.drew; took = later.took; is = inr (drawn, later.moved.drawn, given, refl, settles, later.is) }
 leaves (draws kind give next) old s new (draw_failed is only out) = record { moved = record nothing { drawn = out.drawn }; gave = gave_same _ _ only.source; drew = out.drew; took = took_same _ _ only.sink; is = inl (is, out.undecided, refl) }
+leaves (pumps part) old s new e = pump_leaves part e.result old s new e.status e.only e.pass
 
 pub promised : (p : Plan) (old : World) (s : Status) (new : World) → Ends p old s new → Promised p old s new
 promised p old s new run = record {

@@ -10,8 +10,9 @@ use Rattle.tinkey_cmds.specs.Edits.{first, step}
 use Rattle.tinkey_run.specs.declared.status.Status.TheVariants as status
 use Rattle.tinkey_run.specs.Plan.{Plan, ends, writes}
 use Rattle.tinkey_run.specs.Steps.{takes_keyset, works_out, finds_template, finds_edit, makes_keyset, puts_keyset}
+use Rattle.tinkey_run.specs.Streaming.{loads_stream_keys, seals_stream, opens_stream}
 use Rattle.tinkey_run.specs.Using.{use_output}
-use Rattle.tinkey_run.specs.Words.{Place, AskedEdit, Asked, create_keyset, edit_keyset, list_keyset, convert_keyset, list_key_templates, use_keyset, words_of}
+use Rattle.tinkey_run.specs.Words.{Place, AskedEdit, Asked, create_keyset, edit_keyset, list_keyset, convert_keyset, list_key_templates, use_keyset, seal_stream, open_stream, words_of}
 
 -- create-keyset: a keyset of one new key
 abbrev pub create_output : List ℕ → (Keys → Plan) → Plan
@@ -40,6 +41,10 @@ command_plan table (list_keyset in') = list_keyset_output in' writes
 command_plan table (convert_keyset in' out) = takes_keyset in' (puts_keyset out)
 command_plan table list_key_templates = writes template_names
 command_plan table (use_keyset name form work) = use_output table name form work writes
+command_plan table (seal_stream name form ad) =
+    loads_stream_keys name form (λ keys. seals_stream keys ad)
+command_plan table (open_stream name form ad) =
+    loads_stream_keys name form (λ keys. opens_stream keys ad)
 
 -- the command's plan, or the word at fault is the answer
 abbrev pub asked_plan : Table → Result Asked ℕ → Plan

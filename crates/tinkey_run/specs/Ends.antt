@@ -1,13 +1,17 @@
 -- How a run of a plan may end, whatever fails.
-use Rattle.std.specs.Prelude.{◌≡◌, ◌⊎◌, ℕ, ◌+◌, ◌≤◌, List, ◌++◌, length, Some, None, Result}
+use Rattle.std.specs.Prelude.{◌≡◌, ◌⊎◌, ℕ, ◌+◌, ◌≤◌, List, [], ◌++◌, length, true, false, Some, None, Result, Ok, Err}
 use Rattle.tink_spec.specs.Files.{StoreState, KeptFiles, Holds, HoldsSome, HoldsLonger, Added, MayAdd}
 use Rattle.tink_spec.specs.Outside.{SourceState, SinkState, EntropyState, Rose, Stood, Gave, GaveUpTo, GaveCount, Took, TookPrefix, Drew, IsAtEnd}
+use Rattle.segment_stream.specs.Opening.{StreamRefusal}
+use Rattle.segment_stream.specs.Pumping.{Part, Pumps, ShowsFaults}
+use Rattle.segment_stream.specs.declared.fault.OpenPumpFault.{OpenPumpFault}
+use Rattle.segment_stream.specs.declared.fault.OpenPumpFault.TheVariants as faults
 use Rattle.tinkey_cmds.specs.Draws.{Draw, answered}
 use Rattle.tinkey_cmds.specs.Applying.{RanOut}
 use Rattle.tinkey_cmds.specs.declared.command.CmdFault.{CmdFault}
 use Rattle.tinkey_run.specs.declared.status.Status.{Status}
 use Rattle.tinkey_run.specs.declared.status.Status.TheVariants as status
-use Rattle.tinkey_run.specs.Plan.{Plan, ends, writes, creates, allocates, loads, reads_all, draws}
+use Rattle.tinkey_run.specs.Plan.{Plan, ends, writes, creates, allocates, loads, reads_all, draws, pumps}
 
 -- the outside objects at one moment
 pub record World : Type 0 where
@@ -126,6 +130,35 @@ pub data EndsDrawing {A : Type 0} (give : Draw A)
   draw_failed : s ≡ status.EntropyFault → OnlyEntropy old new →
       RanOut give old.entropy new.entropy → EndsDrawing give Then old s new
 
+-- what is decided before the end, the whole input decides too, with what was given out by then
+pub record IsLasting (part : Part) : Type 0 where
+  pub stays : (taken more : List ℕ) (refusal : StreamRefusal)
+      → part.refusal taken false ≡ Some refusal
+      → (part.refusal (taken ++ more) true ≡ Some refusal)
+      × (part.output (taken ++ more) true ≡ part.output taken false)
+
+-- the status of a pass
+abbrev pub pump_status : Result (Unit {0}) OpenPumpFault → Status
+pump_status (Ok done) = status.Done
+pump_status (Err faults.ReadFault) = status.ReadFault
+pump_status (Err faults.WriteFault) = status.WriteFault
+pump_status (Err faults.TooManySegments) = status.TooManySegments
+pump_status (Err (faults.StreamFailed number)) = status.StreamFailed number
+
+-- all objects but source and sink are as before
+pub record OnlyStreams (old new : World) : Type 0 where
+  pub store : old.store ≡ new.store
+  pub entropy : old.entropy ≡ new.entropy
+
+-- the pass came to its end, or was refused, or the source or the sink failed in it
+pub record EndsPumping (part : Part) (old : World) (s : Status) (new : World) : Type 0 where
+  pub result : Result (Unit {0}) OpenPumpFault
+  pub status : s ≡ pump_status result
+  pub only : OnlyStreams old new
+  pub pass : Pumps part [] [] false result old.source new.source old.sink new.sink
+  pub shown : ShowsFaults result old.source new.source old.sink new.sink
+  pub lasting : IsLasting part
+
 -- how a run of the plan may end, step by step
 abbrev pub Ends : Plan → World → Status → World → Type 0
 Ends (ends stated_status stated) old s new = (s ≡ stated_status) × (old ≡ new)
@@ -137,3 +170,4 @@ Ends (loads name limit absent long a l next) old s new =
 Ends (reads_all limit long stated next) old s new =
     EndsReading limit long (λ all. Ends (next all)) old s new
 Ends (draws kind give next) old s new = EndsDrawing give (λ given. Ends (next given)) old s new
+Ends (pumps part) old s new = EndsPumping part old s new

@@ -1,11 +1,14 @@
 -- The laws of what the program answers, over the definitions alone. Grammar has those of its words.
-use Rattle.std.specs.Prelude.{◌≡◌, List, ℕ, None, IsSome}
+use Rattle.std.specs.Prelude.{◌≡◌, ◌⊎◌, List, ℕ, None, IsSome}
 use Rattle.key_msgs.specs.declared.primitive.Primitive.{Primitive}
 use Rattle.key_msgs.specs.declared.primitive.Primitive.TheVariants.{Daead, Mac, Prf}
 use Rattle.keyset_model.specs.Keyset.{Keys, fault_of}
 use Rattle.managers.specs.Table.{Table}
 use Rattle.wrapped_prims.specs.Answers.{primary_key, dseal_answer, tag_answer, derive_answer}
 use Rattle.wrapped_prims.specs.Fitness.{unfit}
+use Rattle.tinkey_run.specs.Commands.{command_plan}
+use Rattle.tinkey_run.specs.Promises.{IsWhole}
+use Rattle.tinkey_run.specs.Words.{Asked, seal_stream, open_stream}
 
 -- a keyset without a fault, each record of which can serve for the primitive
 pub record IsFit (table : Table) (primitive : Primitive) (keys : Keys) : Type 0 where
@@ -22,3 +25,14 @@ pub record FitKeysetsAnswer : Type 0 where
       IsFit table Mac keys → IsSome (tag_answer keys table body)
   pub derive : (table : Table) (keys : Keys) (input : List ℕ) (size : ℕ) →
       IsFit table Prf keys → IsSome (derive_answer keys table input size)
+
+-- a stream is asked for
+abbrev pub IsStream : Asked → Type 0
+IsStream (seal_stream keyset form ad) = Unit {0}
+IsStream (open_stream keyset form ad) = Unit {0}
+IsStream _ = ⊥
+
+-- every other command writes nothing but at its end
+abbrev pub CommandsAreWhole : Type 0
+CommandsAreWhole = (table : Table) (asked : Asked) →
+    IsWhole (command_plan table asked) ⊎ IsStream asked

@@ -7,6 +7,7 @@ pub mod Promises
 pub mod Rows
 pub mod Status
 pub mod Steps
+pub mod Streaming
 pub mod Using
 pub mod Words
 pub use Rattle.keyset_model.specs.Keyset

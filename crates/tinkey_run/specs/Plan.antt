@@ -1,9 +1,11 @@
 -- What a command does, step by step in the order of refusals, and the answer that it has where
 -- nothing fails.
-use Rattle.std.specs.Prelude.{ℕ, ◌+◌, List, [], length, drop, Option, Some, None, Result, nat_le, if◌then◌else◌}
+use Rattle.std.specs.Prelude.{ℕ, ◌+◌, List, [], length, drop, true, Option, Some, None, Result, nat_le, if◌then◌else◌}
 use Rattle.std.specs.FinMap as map
 use Rattle.tink_spec.specs.Files.{Files}
 use Rattle.keyset_model.specs.Keyset.{Keys}
+use Rattle.segment_stream.specs.Opening.{StreamRefusal, too_many, failed}
+use Rattle.segment_stream.specs.Pumping.{Part}
 use Rattle.tinkey_cmds.specs.Draws.{Draw, Drawn}
 use Rattle.tinkey_cmds.specs.declared.command.CmdFault.{CmdFault}
 use Rattle.tinkey_run.specs.declared.status.Status.{Status}
@@ -45,6 +47,9 @@ pub data Plan : Type 0 where
   reads_all : (limit : ℕ) (long : Status) → IsStated long → (next : List ℕ → Plan) → Plan
   -- something is made of random bytes, as many as that takes; it or its refusal goes on
   draws : (kind : Made) → (give : Draw (Of kind)) → (next : Result (Of kind) CmdFault → Plan) → Plan
+  -- the source is read and the sink written in turn: what is settled is given out, and what is decided
+  -- is the answer
+  pumps : (part : Part) → Plan
 
 -- what the outside objects tell
 pub record Told : Type 0 where
@@ -52,10 +57,11 @@ pub record Told : Type 0 where
   pub files : Files
   pub random : List ℕ
 
--- the status, the output, the files after it, and the input and the random bytes that are left
+-- the status, the output, the files after it, and the input and the random bytes that are left. Of the
+-- input nothing is said where a stream is refused, as that may come before its end.
 pub record Answer : Type 0 where
   pub status : Status
-  pub input : List ℕ
+  pub input : Option (List ℕ)
   pub output : List ℕ
   pub files : Files
   pub random : List ℕ
@@ -64,10 +70,26 @@ pub record Answer : Type 0 where
 abbrev pub refused : Told → Status → Answer
 refused told s = record {
   status = s;
-  input = told.input;
+  input = Some told.input;
   output = [];
   files = told.files;
   random = told.random;
+}
+
+-- the status of a stream that is refused
+abbrev pub stream_status : StreamRefusal → Status
+stream_status too_many = status.TooManySegments
+stream_status (failed number) = status.StreamFailed number
+
+-- the answer of a pass over the whole input
+abbrev pub pump_answer : Part → Told → Option StreamRefusal → Answer
+pump_answer part told None = record (refused told status.Done) {
+  input = Some [];
+  output = part.output told.input true;
+}
+pump_answer part told (Some refusal) = record (refused told (stream_status refusal)) {
+  input = None;
+  output = part.output told.input true;
 }
 
 -- the answer after a load
@@ -100,7 +122,8 @@ answer (loads name limit absent long a l next) told =
     (λ bytes. answer (next bytes) told)
 answer (reads_all limit long stated next) told =
     if nat_le (length told.input) limit then answer (next told.input) (record told { input = [] })
-    else record (refused told long) { input = drop (limit + 1) told.input }
+    else record (refused told long) { input = Some (drop (limit + 1) told.input) }
 answer (draws kind give next) told =
     draw_answer (give told.random) (refused told status.EntropyFault)
     (λ drawn. answer (next drawn.answer) (record told { random = drawn.left }))
+answer (pumps part) told = pump_answer part told (part.refusal told.input true)

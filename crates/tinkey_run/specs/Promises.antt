@@ -1,12 +1,14 @@
 -- What is promised of every run, over its plan, the objects before and after, and its status.
-use Rattle.std.specs.Prelude.{◌≡◌, ◌≢◌, ◌⊎◌, ℕ, ◌+◌, ◌<◌, ◌≤◌, List, [], ◌++◌, length, Option, Some, None, Result}
+use Rattle.std.specs.Prelude.{◌≡◌, ◌≢◌, ◌⊎◌, ℕ, ◌+◌, ◌<◌, ◌≤◌, List, [], ◌++◌, length, true, false, Bool, Option, Some, None, IfSome, Result}
 use Rattle.std.specs.FinMap as map
 use Rattle.tink_spec.specs.Files.{Files, StoreState, KeptFiles, Holds, HoldsSome, HoldsLonger, AddedFront}
 use Rattle.tink_spec.specs.Outside.{Rose, Stood, Gave, Took, TookPrefix, Drew}
+use Rattle.segment_stream.specs.Opening.{StreamRefusal}
+use Rattle.segment_stream.specs.Pumping.{Part}
 use Rattle.tinkey_cmds.specs.declared.command.CmdFault.{CmdFault}
 use Rattle.tinkey_run.specs.declared.status.Status.{Status}
 use Rattle.tinkey_run.specs.declared.status.Status.TheVariants as status
-use Rattle.tinkey_run.specs.Plan.{Plan, ends, writes, creates, allocates, loads, reads_all, draws, Of, Told, Answer, answer, IsStated}
+use Rattle.tinkey_run.specs.Plan.{Plan, ends, writes, creates, allocates, loads, reads_all, draws, pumps, Of, Told, Answer, answer, stream_status, IsStated}
 use Rattle.tinkey_run.specs.Ends.{World, Ends, Settles}
 
 -- the objects tell these bytes
@@ -19,7 +21,7 @@ pub record Tells (w : World) (told : Told) : Type 0 where
 -- those of the answer
 pub record IsAnswer (a : Answer) (old : World) (s : Status) (new : World) : Type 0 where
   pub status : s ≡ a.status
-  pub input : new.source.left ≡ Some a.input
+  pub input : IfSome a.input (λ left. new.source.left ≡ Some left)
   pub output : Took old.sink new.sink a.output
   pub files : new.store.files ≡ Some a.files
   pub random : new.entropy.left ≡ Some a.random
@@ -64,6 +66,20 @@ pub record Moved : Type 0 where
 abbrev pub nothing : Moved
 nothing = record { taken = []; drawn = []; written = [] }
 
+-- A pass is left where all is done; where what was taken decides this status; where a read failed before
+-- that; or where a write failed and a byte of what was to be given out is still to come. But for that,
+-- exactly what is settled by the bytes taken was given out.
+pub data IsPassLeft (part : Part) (s : Status) (taken written : List ℕ) : Type 0 where
+  pass_done : s ≡ status.Done → part.refusal taken true ≡ None → written ≡ part.output taken true →
+      IsPassLeft part s taken written
+  pass_refused : (ended : Bool) (refusal : StreamRefusal) → s ≡ stream_status refusal →
+      part.refusal taken ended ≡ Some refusal → written ≡ part.output taken ended →
+      IsPassLeft part s taken written
+  pass_unread : s ≡ status.ReadFault → part.refusal taken false ≡ None →
+      written ≡ part.output taken false → IsPassLeft part s taken written
+  pass_unwritten : (ended : Bool) → s ≡ status.WriteFault → IsFront written (part.output taken ended) →
+      IsPassLeft part s taken written
+
 -- A run of the plan over these files may be left with this status where exactly these bytes were
 -- taken, drawn and written. Where it is left at a step, the steps before it have gone on, and later
 -- steps have moved nothing.
@@ -97,6 +113,19 @@ IsLeft (draws kind give next) files s moved =
     ⊎ ((drawn : List ℕ) × (more : List ℕ) × (given : Result (Of kind) CmdFault)
     × (drawn ++ more ≡ moved.drawn) × Settles give drawn given
     × IsLeft (next given) files s (record moved { drawn = more }))
+IsLeft (pumps part) files s moved =
+    (moved ≡ record moved { drawn = [] }) × IsPassLeft part s moved.taken moved.written
+
+-- the plan writes nothing but at its end: it pumps no stream
+abbrev pub IsWhole : Plan → Type 0
+IsWhole (ends stated_status stated) = Unit {0}
+IsWhole (writes output) = Unit {0}
+IsWhole (creates name output taken stated) = Unit {0}
+IsWhole (allocates next) = IsWhole next
+IsWhole (loads name limit absent long a l next) = (bytes : List ℕ) → IsWhole (next bytes)
+IsWhole (reads_all limit long stated next) = (all : List ℕ) → IsWhole (next all)
+IsWhole (draws kind give next) = (given : Result (Of kind) CmdFault) → IsWhole (next given)
+IsWhole (pumps part) = ⊥
 
 -- What was taken, drawn and written, whatever the status: a fault comes before each refusal that the
 -- files and the bytes taken and drawn decide, and what was written is what the plan gives out for
@@ -119,16 +148,16 @@ pub record IsTorn (p : Plan) (old new : World) : Type 0 where
       (answer p told).files ≡ map.insert told.files name bytes
 
 -- What stands. No file has changed, unless the run is Done or the store failed: at a store fault the
--- new file may be there with the first of its bytes. The sink has gained nothing, unless the run is
--- Done or the write failed; then it has gained the first bytes of the answer's output, and the
--- answer's status is Done.
+-- new file may be there with the first of its bytes. But for streams, of which `Leaves` speaks, the sink
+-- has gained nothing, unless the run is Done or the write failed; then it has gained the first bytes of
+-- the answer's output, and the answer's status is Done.
 pub record Stands (p : Plan) (old : World) (s : Status) (new : World) : Type 0 where
   pub files : s ≢ status.Done → s ≢ status.StoreFault → KeptFiles old.store new.store
   pub torn : s ≡ status.StoreFault → KeptFiles old.store new.store ⊎ IsTorn p old new
-  pub kept : s ≢ status.Done → s ≢ status.WriteFault → Took old.sink new.sink []
-  pub front : s ≡ status.WriteFault → (told : Told) → Tells old told →
+  pub kept : IsWhole p → s ≢ status.Done → s ≢ status.WriteFault → Took old.sink new.sink []
+  pub front : IsWhole p → s ≡ status.WriteFault → (told : Told) → Tells old told →
       TookPrefix old.sink new.sink (answer p told).output
-  pub last : s ≡ status.WriteFault → (told : Told) → Tells old told →
+  pub last : IsWhole p → s ≡ status.WriteFault → (told : Told) → Tells old told →
       (answer p told).status ≡ status.Done
 
 -- no object has failed

@@ -67,6 +67,8 @@ row_of commands.Seal = row (codes "seal") by_keyset with_ad
 row_of commands.Open = row (codes "open") by_keyset with_ad
 row_of commands.Dseal = row (codes "dseal") by_keyset with_ad
 row_of commands.Dopen = row (codes "dopen") by_keyset with_ad
+row_of commands.Sseal = row (codes "sseal") by_keyset with_ad
+row_of commands.Sopen = row (codes "sopen") by_keyset with_ad
 row_of commands.Tag = row (codes "tag") by_keyset (options.KeysetFormat ∷ [])
 row_of commands.Verify =
     row (codes "verify") (options.Keyset ∷ options.TagHex ∷ []) (options.KeysetFormat ∷ [])
@@ -79,8 +81,8 @@ all_commands =
     commands.CreateKeyset ∷ commands.AddKey ∷ commands.RotateKeyset ∷ commands.PromoteKey
     ∷ commands.EnableKey ∷ commands.DisableKey ∷ commands.DestroyKey ∷ commands.DeleteKey
     ∷ commands.ListKeyset ∷ commands.ConvertKeyset ∷ commands.ListKeyTemplates ∷ commands.Seal
-    ∷ commands.Open ∷ commands.Dseal ∷ commands.Dopen ∷ commands.Tag ∷ commands.Verify
-    ∷ commands.Derive ∷ []
+    ∷ commands.Open ∷ commands.Dseal ∷ commands.Dopen ∷ commands.Sseal ∷ commands.Sopen
+    ∷ commands.Tag ∷ commands.Verify ∷ commands.Derive ∷ []
 
 -- the command of this name
 unfoldable pub command_of : List ℕ → Option CommandName

@@ -17,6 +17,7 @@ abbrev pub code_of : Status → ℕ
 code_of status.Done = 0
 code_of status.OpenFailed = 1
 code_of status.VerifyFailed = 1
+code_of (status.StreamFailed number) = 1
 code_of (status.Usage word) = 2
 code_of status.UnknownTemplate = 2
 code_of status.AsymmetricTemplate = 2
@@ -37,6 +38,7 @@ code_of status.EntropyFault = 5
 code_of status.StoreFault = 5
 code_of status.KeysetTooLong = 6
 code_of status.InputTooLong = 6
+code_of status.TooManySegments = 6
 code_of status.NoMemory = 7
 
 -- the text of a keyset's fault
@@ -86,6 +88,7 @@ unfoldable pub text_of : Status → List ℕ
 text_of status.Done = []
 text_of status.OpenFailed = codes "open failed"
 text_of status.VerifyFailed = codes "verify failed"
+text_of (status.StreamFailed number) = codes "stream failed at segment " ++ decimal number
 text_of (status.Usage word) = codes "usage: word " ++ decimal word
 text_of (status.BadProto at) = codes "bad protobuf at byte " ++ decimal at
 text_of status.NotJson = codes "not JSON"
@@ -98,6 +101,7 @@ text_of (status.BadKey i rule) =
 text_of (status.NotRaw i) = codes "key " ++ decimal i ++ codes " is not RAW"
 text_of status.InMissing = codes "input file missing"
 text_of status.InputTooLong = codes "input too long"
+text_of status.TooManySegments = codes "too many segments"
 text_of status.UnknownTemplate = codes "unknown key template"
 text_of status.AsymmetricTemplate = codes "asymmetric key template"
 text_of (status.OutputTooLong asked greatest) =

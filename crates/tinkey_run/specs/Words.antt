@@ -91,6 +91,9 @@ pub data Asked : Type 0 where
   list_key_templates : Asked
   -- work on the input, by the keys of the keyset in the file of this name
   use_keyset : (keyset : List ℕ) (form : Format) (work : AskedWork) → Asked
+  -- the input as a stream, sealed or opened by such a keyset, with this associated data
+  seal_stream : (keyset : List ℕ) (form : Format) (ad : List ℕ) → Asked
+  open_stream : (keyset : List ℕ) (form : Format) (ad : List ℕ) → Asked
 
 -- the values that were given, by option
 abbrev pub Values : Type 0
@@ -179,6 +182,10 @@ asked_with commands.Seal values = worked (to_seal (ad values)) values
 asked_with commands.Open values = worked (to_open (ad values)) values
 asked_with commands.Dseal values = worked (to_dseal (ad values)) values
 asked_with commands.Dopen values = worked (to_dopen (ad values)) values
+asked_with commands.Sseal values =
+    seal_stream (text (values options.Keyset)) (form_in (values options.KeysetFormat)) (ad values)
+asked_with commands.Sopen values =
+    open_stream (text (values options.Keyset)) (form_in (values options.KeysetFormat)) (ad values)
 asked_with commands.Tag values = worked to_tag values
 asked_with commands.Verify values =
     worked (to_verify (datum_of_hex (text (values options.TagHex)))) values
@@ -330,6 +337,8 @@ seen_command (asks.ConvertKeyset input output) =
     convert_keyset (seen_place input) (seen_place output)
 seen_command asks.ListKeyTemplates = list_key_templates
 seen_command (asks.UseKeyset keyset form work) = use_keyset keyset.now form (seen_work work)
+seen_command (asks.SealStream keyset form ad) = seal_stream keyset.now form (seen_datum ad)
+seen_command (asks.OpenStream keyset form ad) = open_stream keyset.now form (seen_datum ad)
 
 -- the values, which the code keeps at the places of their options
 abbrev pub seen_values : List (Option (Bor (List ℕ))) → Values

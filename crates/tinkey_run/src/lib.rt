@@ -16,6 +16,7 @@ mod output;
 mod report;
 mod status;
 mod steps;
+mod streaming;
 mod templates;
 mod top;
 mod using;

@@ -55,6 +55,7 @@ fn push_text(line: &mut Line, status: Status)
         Status::Done => {}
         Status::OpenFailed => line.push("open failed"),
         Status::VerifyFailed => line.push("verify failed"),
+        Status::StreamFailed(number) => push_segment(line, number),
         Status::Usage(word) => {
             line.push("usage: word ");
             line.push_number(word);
@@ -77,6 +78,7 @@ fn push_text(line: &mut Line, status: Status)
         }
         Status::NotRaw(i) => push_key(line, i, " is not RAW"),
         Status::InputTooLong => line.push("input too long"),
+        Status::TooManySegments => line.push("too many segments"),
         Status::UnknownTemplate => line.push("unknown key template"),
         Status::AsymmetricTemplate => line.push("asymmetric key template"),
         Status::OutputTooLong(asked, greatest) => {
@@ -93,6 +95,16 @@ fn push_text(line: &mut Line, status: Status)
         Status::WriteFault => line.push("write fault"),
         Status::NoMemory => line.push("out of memory"),
     }
+}
+
+/// Adds that a stream failed at this segment, for which there is room.
+fn push_segment(line: &mut Line, number: u64)
+    requires room { length line.old ≤ 16 }
+    ensures text { line.new ≡ line.old ++ (codes "stream failed at segment " ++ decimal number) }
+    ensures short { length line.new ≤ 127 }
+{
+    line.push("stream failed at segment ");
+    line.push_number(number as usize);
 }
 
 /// Adds that the member of this path isn't of its form, for which there is room.

@@ -20,6 +20,8 @@ pub enum Status {
     OpenFailed,
     /// The tag is none of the keyset's keys.
     VerifyFailed,
+    /// This segment of the stream, counted from 0, is the first that doesn't authenticate in its place.
+    StreamFailed(u64),
     /// The word of this place is at fault, or missing where it is the number of words.
     Usage(usize),
     /// The field whose tag has this place can't be cut or read.
@@ -42,6 +44,8 @@ pub enum Status {
     NotRaw(usize),
     /// The input has more than 16,777,216 bytes.
     InputTooLong,
+    /// A byte follows 2^32 segments of the stream.
+    TooManySegments,
     /// No template is known by the name.
     UnknownTemplate,
     /// The template is one of Tink for asymmetric keys.
@@ -73,7 +77,7 @@ impl Status {
     {
         match self {
             Status::Done => 0,
-            Status::OpenFailed | Status::VerifyFailed => 1,
+            Status::OpenFailed | Status::VerifyFailed | Status::StreamFailed(_) => 1,
             Status::Usage(_)
             | Status::UnknownTemplate
             | Status::AsymmetricTemplate
@@ -87,7 +91,7 @@ impl Status {
             | Status::NotRaw(_) => 3,
             Status::InMissing | Status::Command(_) | Status::OutExists => 4,
             Status::ReadFault | Status::WriteFault | Status::EntropyFault | Status::StoreFault => 5,
-            Status::KeysetTooLong | Status::InputTooLong => 6,
+            Status::KeysetTooLong | Status::InputTooLong | Status::TooManySegments => 6,
             Status::NoMemory => 7,
         }
     }

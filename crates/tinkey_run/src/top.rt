@@ -13,6 +13,7 @@ use crate::list::list_keyset;
 use crate::output::{finish, finish_keyset};
 use crate::report::report;
 use crate::steps::take_keyset;
+use crate::streaming::{load_stream_keys, open_stream, seal_stream};
 use crate::templates::list_templates;
 use crate::using::use_keyset;
 use crate::words::{Command, parse};
@@ -111,5 +112,13 @@ fn dispatch<S: Source, K: Sink, E: Entropy, D: Store>(
             sink,
             use_keyset(alloc, managers, keyset, form, work, source, entropy, store),
         ),
+        Command::SealStream { keyset, form, ad } => {
+            let keys = load_stream_keys(alloc, keyset, form, store);
+            seal_stream(alloc, keys, ad, source, sink, entropy)
+        }
+        Command::OpenStream { keyset, form, ad } => {
+            let keys = load_stream_keys(alloc, keyset, form, store);
+            open_stream(alloc, keys, ad, source, sink)
+        }
     }
 }

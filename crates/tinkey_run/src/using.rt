@@ -253,7 +253,7 @@ fn or_failed(opened: Option<Vec<u8>>) -> Result<Bytes, Status>
 }
 
 /// The bytes of a datum, of which there are at most 2^20.
-fn datum(alloc: Global, from: Datum<'_>) -> Result<Bytes, NoMemory>
+pub(crate) fn datum(alloc: Global, from: Datum<'_>) -> Result<Bytes, NoMemory>
     ensures bytes { IfOk result (λ bytes. bytes ≡ seen_datum from.entry) }
     ensures within { IfOk result (λ bytes. length bytes ≤ 2 ^ 20) }
 {

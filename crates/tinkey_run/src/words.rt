@@ -54,6 +54,24 @@ pub enum Command<'a> {
         /// What is done.
         work: Work<'a>,
     },
+    /// Seal the input as a stream.
+    SealStream {
+        /// The file of the keyset.
+        keyset: &'a str,
+        /// The form of the keyset.
+        form: Format,
+        /// The associated data.
+        ad: Datum<'a>,
+    },
+    /// Open the input as a stream.
+    OpenStream {
+        /// The file of the keyset.
+        keyset: &'a str,
+        /// The form of the keyset.
+        form: Format,
+        /// The associated data.
+        ad: Datum<'a>,
+    },
 }
 
 /// What is done with the whole input by the keys of a keyset.
@@ -189,6 +207,16 @@ fn command_with<'a>(command: CommandName, given: &Options<'a>) -> Command<'a>
         CommandName::Open => given.worked(Work::Open(given.ad())),
         CommandName::Dseal => given.worked(Work::Dseal(given.ad())),
         CommandName::Dopen => given.worked(Work::Dopen(given.ad())),
+        CommandName::Sseal => Command::SealStream {
+            keyset: given.text(OptionName::Keyset),
+            form: given.form(OptionName::KeysetFormat),
+            ad: given.ad(),
+        },
+        CommandName::Sopen => Command::OpenStream {
+            keyset: given.text(OptionName::Keyset),
+            form: given.form(OptionName::KeysetFormat),
+            ad: given.ad(),
+        },
         CommandName::Tag => given.worked(Work::Tag),
         CommandName::Verify => given.worked(Work::Verify(Datum::Hex(given.text(
             OptionName::TagHex,

@@ -41,6 +41,8 @@ mod rows;
 #[cfg(test)]
 mod strange;
 #[cfg(test)]
+mod streams;
+#[cfg(test)]
 mod tag;
 #[cfg(test)]
 mod tink;

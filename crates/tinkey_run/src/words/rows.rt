@@ -39,6 +39,10 @@ pub enum CommandName {
     Dseal,
     /// `dopen`
     Dopen,
+    /// `sseal`
+    Sseal,
+    /// `sopen`
+    Sopen,
     /// `tag`
     Tag,
     /// `verify`
@@ -144,6 +148,8 @@ impl CommandName {
             CommandName::Open => row("open", &BY_KEYSET, &WITH_AD),
             CommandName::Dseal => row("dseal", &BY_KEYSET, &WITH_AD),
             CommandName::Dopen => row("dopen", &BY_KEYSET, &WITH_AD),
+            CommandName::Sseal => row("sseal", &BY_KEYSET, &WITH_AD),
+            CommandName::Sopen => row("sopen", &BY_KEYSET, &WITH_AD),
             CommandName::Tag => row("tag", &BY_KEYSET, &[OptionName::KeysetFormat]),
             CommandName::Verify => row("verify", &BY_KEYSET_AND_TAG, &[OptionName::KeysetFormat]),
             CommandName::Derive => {
@@ -247,7 +253,7 @@ fn option(word: &'static str, form: Form) -> OptionRow
 }
 
 /// All commands.
-const COMMANDS: [CommandName; 18] = [
+const COMMANDS: [CommandName; 20] = [
     CommandName::CreateKeyset,
     CommandName::AddKey,
     CommandName::RotateKeyset,
@@ -263,6 +269,8 @@ const COMMANDS: [CommandName; 18] = [
     CommandName::Open,
     CommandName::Dseal,
     CommandName::Dopen,
+    CommandName::Sseal,
+    CommandName::Sopen,
     CommandName::Tag,
     CommandName::Verify,
     CommandName::Derive,

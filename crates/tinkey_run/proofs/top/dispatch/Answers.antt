@@ -1,6 +1,7 @@
 use Rattle.tinkey_run.specs.Commands.{create_output, edit_output, list_keyset_output}
 use Rattle.tinkey_run.specs.Ends.{world}
 use Rattle.tinkey_run.specs.Steps.{takes_keyset}
+use Rattle.tinkey_run.specs.Streaming.{loads_stream_keys}
 use Rattle.tinkey_run.specs.Using.{use_output}
 use Rattle.tinkey_run.specs.Words.{seen_edit, seen_place, seen_work}
 use Rattle.tinkey_run.proofs.top.dispatch.Goals as goal
@@ -35,3 +36,13 @@ returns-in-UseKeyset g c =
     let w = world (g.S.Source.state c.args.source.now) (g.K.Sink.state c.args.sink.now) (g.D.Store.state c.args.store.now) (g.E.Entropy.state c.args.entropy.now) in
     let new = record w { source = g.S.Source.state c.use_keyset.new.source; entropy = g.E.Entropy.state c.use_keyset.new.entropy; store = g.D.Store.state c.use_keyset.new.store } in
     rw c.in-UseKeyset.is (c.finish-in-UseKeyset.ensures (use_output _ c.in-UseKeyset.keyset.now c.in-UseKeyset.form (seen_work c.in-UseKeyset.work)) w new (c.use_keyset.ensures w))
+
+pub returns-in-SealStream : goal.returns-in-SealStream
+returns-in-SealStream g c =
+    let w = world (g.S.Source.state c.args.source.now) (g.K.Sink.state c.args.sink.now) (g.D.Store.state c.args.store.now) (g.E.Entropy.state c.args.entropy.now) in
+    rw c.in-SealStream.is (c.seal_stream.ensures (loads_stream_keys c.in-SealStream.keyset.now c.in-SealStream.form) w (record w { store = g.D.Store.state c.load_stream_keys-keys.new.store }) (c.load_stream_keys-keys.ensures.passes w))
+
+pub returns-in-OpenStream : goal.returns-in-OpenStream
+returns-in-OpenStream g c =
+    let w = world (g.S.Source.state c.args.source.now) (g.K.Sink.state c.args.sink.now) (g.D.Store.state c.args.store.now) (g.E.Entropy.state c.args.entropy.now) in
+    rw c.in-OpenStream.is (c.open_stream.ensures (loads_stream_keys c.in-OpenStream.keyset.now c.in-OpenStream.form) w (record w { store = g.D.Store.state c.load_stream_keys-keys-in-OpenStream.new.store }) (c.load_stream_keys-keys-in-OpenStream.ensures.passes w))

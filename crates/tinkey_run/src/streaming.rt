@@ -1,0 +1,179 @@
+//! sseal and sopen: the input as a stream, in one pass.
+
+ghost use Rattle.std.specs.Prelude.{◌≡◌, IfOk};
+ghost use Rattle.segment_stream.specs.KeysModel.{AreSound, KeysForStreams};
+ghost use Rattle.segment_stream.specs.PumpModels.{pump_result};
+ghost use Rattle.tinkey_run.specs.Ends.{Ends, World, pump_status};
+ghost use Rattle.tinkey_run.specs.Plan.{Plan};
+ghost use Rattle.tinkey_run.specs.Steps.{Passes};
+ghost use Rattle.tinkey_run.specs.Streaming.{loads_stream_keys, seals_stream, opens_stream, stream_keys_refusal};
+ghost use Rattle.tinkey_run.specs.Words.{seen_datum};
+
+use crate::Status;
+use crate::steps::load_keyset;
+use crate::using::datum;
+use crate::words::{Datum, Format};
+use segment_stream::{
+    OpenPumpFault, Opener, SealPumpFault, Sealer, SealerFault, StreamKeys, StreamKeysFault,
+};
+use std::alloc::Global;
+use tink_base::{Entropy, Sink, Source, Store};
+
+/// The keys for streams of the keyset in the file of this name.
+pub(crate) fn load_stream_keys<D: Store>(
+    alloc: Global,
+    name: &str,
+    form: Format,
+    store: &mut D,
+) -> Result<StreamKeys, Status>
+    ensures passes { (w : World) → Passes (loads_stream_keys name.now form)
+        (record w { store = D.state store.old }) result (record w { store = D.state store.new }) }
+    ensures sound { IfOk result AreSound }
+{
+    let keyset = load_keyset(alloc, name, form, store)?;
+    match StreamKeys::new(alloc, &keyset) {
+        Ok(keys) => Ok(keys),
+        Err(fault) => Err(refusal(fault)),
+    }
+}
+
+/// The status of a keyset that gives no keys for streams.
+fn refusal(fault: StreamKeysFault) -> Status
+    ensures { result ≡ stream_keys_refusal fault }
+{
+    match fault {
+        StreamKeysFault::NotStream(i) => Status::NoManager(i),
+        StreamKeysFault::BadKey(i, rule) => Status::BadKey(i, rule),
+        StreamKeysFault::NoMemory => Status::NoMemory,
+    }
+}
+
+/// sseal: seals the input as a stream under the primary key.
+pub(crate) fn seal_stream<S: Source, K: Sink, E: Entropy>(
+    alloc: Global,
+    keys: Result<StreamKeys, Status>,
+    ad: Datum<'_>,
+    source: &mut S,
+    sink: &mut K,
+    entropy: &mut E,
+) -> Status
+    requires sound { IfOk keys AreSound }
+    ensures { (step : (KeysForStreams → Plan) → Plan) (first w : World) →
+        Passes step first keys
+        (record w {
+          source = S.state source.old;
+          sink = K.state sink.old;
+          entropy = E.state entropy.old;
+        }) →
+        Ends (step (λ keys. seals_stream keys (seen_datum ad.entry))) first result
+        (record w {
+          source = S.state source.new;
+          sink = K.state sink.new;
+          entropy = E.state entropy.new;
+        }) }
+{
+    match keys {
+        Ok(keys) => seal_under(alloc, &keys, ad, source, sink, entropy),
+        Err(status) => status,
+    }
+}
+
+/// Seals the input as a stream under these keys.
+fn seal_under<S: Source, K: Sink, E: Entropy>(
+    alloc: Global,
+    keys: &StreamKeys,
+    ad: Datum<'_>,
+    source: &mut S,
+    sink: &mut K,
+    entropy: &mut E,
+) -> Status
+    requires sound { AreSound keys.now }
+    ensures { (w : World) → Ends (seals_stream keys.now (seen_datum ad.entry))
+        (record w {
+          source = S.state source.old;
+          sink = K.state sink.old;
+          entropy = E.state entropy.old;
+        }) result
+        (record w {
+          source = S.state source.new;
+          sink = K.state sink.new;
+          entropy = E.state entropy.new;
+        }) }
+{
+    let Ok(ad) = datum(alloc, ad) else {
+        return Status::NoMemory;
+    };
+    match Sealer::new(alloc, keys, ad.as_slice(), entropy) {
+        Ok(sealer) => sealed(sealer.pump(source, sink)),
+        Err(SealerFault::EntropyFault) => Status::EntropyFault,
+        Err(SealerFault::NoMemory) => Status::NoMemory,
+    }
+}
+
+/// sopen: opens the input as a stream.
+pub(crate) fn open_stream<S: Source, K: Sink>(
+    alloc: Global,
+    keys: Result<StreamKeys, Status>,
+    ad: Datum<'_>,
+    source: &mut S,
+    sink: &mut K,
+) -> Status
+    requires sound { IfOk keys AreSound }
+    ensures { (step : (KeysForStreams → Plan) → Plan) (first w : World) →
+        Passes step first keys
+        (record w { source = S.state source.old; sink = K.state sink.old }) →
+        Ends (step (λ keys. opens_stream keys (seen_datum ad.entry))) first result
+        (record w { source = S.state source.new; sink = K.state sink.new }) }
+{
+    match keys {
+        Ok(keys) => open_under(alloc, &keys, ad, source, sink),
+        Err(status) => status,
+    }
+}
+
+/// Opens the input as a stream under these keys.
+fn open_under<S: Source, K: Sink>(
+    alloc: Global,
+    keys: &StreamKeys,
+    ad: Datum<'_>,
+    source: &mut S,
+    sink: &mut K,
+) -> Status
+    requires sound { AreSound keys.now }
+    ensures { (w : World) → Ends (opens_stream keys.now (seen_datum ad.entry))
+        (record w { source = S.state source.old; sink = K.state sink.old }) result
+        (record w { source = S.state source.new; sink = K.state sink.new }) }
+{
+    let Ok(ad) = datum(alloc, ad) else {
+        return Status::NoMemory;
+    };
+    match Opener::new(alloc, keys, ad.as_slice()) {
+        Ok(opener) => opened(opener.pump(source, sink)),
+        Err(_) => Status::NoMemory,
+    }
+}
+
+/// The status of a pass that seals.
+fn sealed(pass: Result<(), SealPumpFault>) -> Status
+    ensures { result ≡ pump_status (pump_result pass) }
+{
+    match pass {
+        Ok(()) => Status::Done,
+        Err(SealPumpFault::ReadFault) => Status::ReadFault,
+        Err(SealPumpFault::WriteFault) => Status::WriteFault,
+        Err(SealPumpFault::TooManySegments) => Status::TooManySegments,
+    }
+}
+
+/// The status of a pass that opens.
+fn opened(pass: Result<(), OpenPumpFault>) -> Status
+    ensures { result ≡ pump_status pass }
+{
+    match pass {
+        Ok(()) => Status::Done,
+        Err(OpenPumpFault::ReadFault) => Status::ReadFault,
+        Err(OpenPumpFault::WriteFault) => Status::WriteFault,
+        Err(OpenPumpFault::TooManySegments) => Status::TooManySegments,
+        Err(OpenPumpFault::StreamFailed(number)) => Status::StreamFailed(number),
+    }
+}
