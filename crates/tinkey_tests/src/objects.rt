@@ -82,7 +82,9 @@ pub(crate) fn run_over(
             Some(bytes) => Some(bytes.to_vec(alloc)?),
             None => None,
         },
-        drawn: given - entropy.left(),
+        drawn: given
+            .checked_sub(entropy.left())
+            .ok_or("random bytes that came back")?,
     })
 }
 
