@@ -1,6 +1,6 @@
 #!/bin/sh
-# Refuses each allocation in turn to commands, by `rt try --fail-alloc`: a listing, a tag, a conversion to
-# JSON and one from it, a new key of random bytes, and an edit. Each answer is to be the plain one, or exit
+# Refuses each allocation in turn to commands, by `rt try --fail-alloc`: a listing, a tag, what was sealed
+# opened, a conversion to JSON and one from it, a new key of random bytes, and an edit. Each answer is to be the plain one, or exit
 # code 7 with no output and the line `tinkey: out of memory`, or with no line where memory is refused
 # before the words are there. Of random keys the exit code alone is looked at.
 #
@@ -42,6 +42,12 @@ case_of list list-keyset --in-format binary
 printf 'Hi There' > "$work/cases/tag"
 printf '\260\064\114\141\330\333\070\123\134\250\257\316\257\013\361\053\n' > "$work/tag.plain"
 case_of tag tag --keyset k --keyset-format binary
+
+# `Hi There` under the key of 16 zero bytes and an IV of zeros, by Python's cryptography.
+printf '\001\001\002\003\004\000\000\000\000\000\000\000\000\000\000\000\000' > "$work/cases/open"
+printf '\113\341\372\232\010\323\321\367\241\123\342\035\207\062\034\334\114\002\272\002\203\240\375\147' >> "$work/cases/open"
+printf 'Hi There\n' > "$work/open.plain"
+case_of open open --keyset g --keyset-format binary
 
 # The JSON of the example's keyset, by Python's json with sorted keys, there and back.
 cp "$top/examples/aes128-gcm.binary" "$work/cases/tojson"
@@ -88,7 +94,8 @@ last=${2:-1000}
 plain=0
 while [ "$number" -le "$last" ] && [ "$plain" -lt 5 ]; do
     rt try --fail-alloc "$number" --cases "$work/cases" \
-        --data "k=$top/examples/hmac-sha256.binary" > "$work/out" 2> "$work/err"
+        --data "k=$top/examples/hmac-sha256.binary" \
+        --data "g=$top/examples/aes128-gcm.binary" > "$work/out" 2> "$work/err"
     said=
     all=plain
     for name in $names; do
