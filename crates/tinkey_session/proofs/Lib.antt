@@ -1,5 +1,8 @@
+pub mod AnswerLemmas
 pub mod DrawLemmas
+pub mod EditLemmas
 pub mod FewLemmas
+pub mod KeepLemmas
 pub mod LineExamples
 pub mod Options
 pub mod StandardLemmas
@@ -10,5 +13,12 @@ pub mod ServingExamples
 pub mod SoundLemmas
 pub mod NewIdLemmas
 pub mod OpenLemmas
+pub mod CutLemmas
+pub mod EndLemmas
+pub mod FeedLemmas
+pub mod TalkLemmas
+pub mod TalkTurns
 pub mod TurnLemmas
 pub mod SessionLemmas
+pub mod StoredLemmas
+pub mod WithinLemmas

@@ -79,6 +79,9 @@ made_numbers (CtrStream size segment) random = refl
 template_numbers : (row : Row) → IsTemplate row → are_numbers (contents_of (made row [])) ≡ true
 template_numbers row is = each-contains (λ x. are_numbers (contents_of (made x [])) ≡ true) templates row (all_each (λ x. are_numbers (contents_of (made x []))) templates refl) is
 
+pub made_are_numbers : (row : Row) (random : List ℕ) → IsTemplate row → AreNumbers (contents_of (made row random))
+made_are_numbers row random is = numbers_true _ (made_numbers row.recipe random ∙ template_numbers row is)
+
 -- ---- a made record
 
 -- what is written of it reads as the key
@@ -87,7 +90,7 @@ made-read law row random is size =
     let most = most_random row is in
     let valid : IsValid (made row random) = each-contains (λ x. (bytes : List ℕ) → length bytes ≡ random_of x → IsValid (made x bytes)) templates row law is random size in
     ap (λ type. key_of type (value_of (made row random))) (sym (made_type row.recipe random))
-    ∙ keys-back (made row random) valid (numbers_true _ (made_numbers row.recipe random ∙ template_numbers row is)) (made-short row.recipe random (omega (arith, most, size)))
+    ∙ keys-back (made row random) valid (made_are_numbers row random is) (made-short row.recipe random (omega (arith, most, size)))
 
 pub made_key : MadeKeysAreValid → (row : Row) (id : ℕ) (random : List ℕ) → IsTemplate row → length random ≡ random_of row
     → IsKeyFor (primitive_of_type (type_made row)) (record_of row id random)

@@ -9,7 +9,7 @@ use Rattle.tinkey_session.proofs.Options.{map_some}
 use Rattle.tinkey_session.proofs.SoundLemmas.{edited_keyset, edited_sound}
 use Rattle.tinkey_session.proofs.TurnLemmas.{both_reached, handle_cases}
 use Rattle.tinkey_session.specs.Laws.{EditsKeepSound, IsEdited, KeptDopen, KeptDopenRaw, KeptOpen, KeptOpenRaw, KeptTag, SoundIsUsable}
-use Rattle.tinkey_session.specs.LineLaws.{LinesOpen}
+use Rattle.tinkey_session.specs.LineLaws.{LinesOpen, LinesOpenRaw}
 use Rattle.tinkey_session.specs.SessionLaws.{HasTurns, SessionDopens, SessionDopensRaw, SessionOpens, SessionOpensRaw, SessionVerifies}
 use Rattle.tinkey_session.specs.Lines.{Line, Seal, Dseal, Open, Dopen, Tag, Verify}
 use Rattle.tinkey_session.specs.Serving.{CannotServe, Gives, Refusal, Refuses, Reply, Served, answered, by_handle, computed, opened_reply, sealed_reply, serve, unless_unfit, verified_reply}
@@ -117,23 +117,27 @@ lines_open usable kept_sound law old new r prefix plain ad sealed random drawn x
     ∙ ap (λ bytes. opened_reply (open_answer new standard_table bytes ad)) (sym g.bytes)
     ∙ ap opened_reply (law old new r prefix plain ad random g.made k edited has primary is g.is)
 
+pub lines_open_raw : SoundIsUsable Aead → EditsKeepSound → KeptOpenRaw → LinesOpenRaw
+unfolding serve
+lines_open_raw usable kept_sound law old new r plain ad sealed random drawn x y k edited has primary raw first reply second =
+    let g = seal_gave old plain ad random sealed x x.reply first refl reply in
+    let opened = law old new r plain ad random g.made has primary raw g.is in (
+      opened.0,
+      answer_is Aead new drawn _ y (serves_later Aead usable kept_sound old new k edited g.fit) second
+          ∙ ap (λ bytes. opened_reply (open_answer new standard_table bytes ad)) (sym g.bytes)
+          ∙ ap opened_reply opened.1,
+    )
+
 pub session_opens : LinesOpen → SessionOpens
 session_opens law keys lines random prefix plain ad sealed s t r k h s_line s_reply primary is t_line has =
     let p = is_pair keys lines random s t (Seal plain ad) (Open sealed ad) k h s_line t_line in
     p.reply_two ∙ law s.before t.before r prefix plain ad sealed p.random p.drawn p.one p.two p.before p.edited has primary is p.serves_one (sym p.reply_one ∙ s_reply) p.serves_two
 
-pub session_opens_raw : SoundIsUsable Aead → EditsKeepSound → KeptOpenRaw → SessionOpensRaw
-unfolding serve
-session_opens_raw usable kept_sound law keys lines random plain ad sealed s t r k h s_line s_reply primary raw t_line has =
+pub session_opens_raw : LinesOpenRaw → SessionOpensRaw
+session_opens_raw law keys lines random plain ad sealed s t r k h s_line s_reply primary raw t_line has =
     let p = is_pair keys lines random s t (Seal plain ad) (Open sealed ad) k h s_line t_line in
-    let g = seal_gave s.before plain ad p.random sealed p.one s.reply p.serves_one p.reply_one s_reply in
-    let opened = law s.before t.before r plain ad p.random g.made has primary raw g.is in (
-      opened.0,
-      p.reply_two
-          ∙ answer_is Aead t.before p.drawn _ p.two (serves_later Aead usable kept_sound s.before t.before p.before p.edited g.fit) p.serves_two
-          ∙ ap (λ bytes. opened_reply (open_answer t.before standard_table bytes ad)) (sym g.bytes)
-          ∙ ap opened_reply opened.1,
-    )
+    let opened = law s.before t.before r plain ad sealed p.random p.drawn p.one p.two p.before p.edited has primary raw p.serves_one (sym p.reply_one ∙ s_reply) p.serves_two in
+    (opened.0, p.reply_two ∙ opened.1)
 
 pub session_dopens : SoundIsUsable Daead → EditsKeepSound → KeptDopen → SessionDopens
 unfolding serve

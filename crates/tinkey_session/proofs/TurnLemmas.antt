@@ -62,6 +62,10 @@ edited_line keys random edit x is e =
 
 -- ---- what a line leaves
 
+-- the keyset before it, or that of an edit of it
+abbrev pub Leaves : Keys → List ℕ → Served → Type 0
+Leaves keys random x = (keys ≡ x.keys) ⊎ ((edit : Edit) × HasTemplate edit × (edit_line keys random edit ≡ Some x))
+
 -- a keyset that can serve, or the first record that can't
 pub handle_cases : (u : Option (ℕ × Unfit)) (keys : Keys) (random : List ℕ) (served : Option Served) (x : Served) → unless_unfit u keys random served ≡ Some x
     → ((u ≡ None) × (served ≡ Some x)) ⊎ ((f : ℕ × Unfit) × (answered keys random (Refuses (CannotServe f.0 f.1)) ≡ x))
@@ -69,10 +73,10 @@ handle_cases None keys random served x e = inl (refl, e)
 handle_cases (Some f) keys random served x e = inr (f, same_Some _ _ e)
 
 handled : (p : Primitive) (table : Table) (keys : Keys) (random : List ℕ) (served : Option Served) (x : Served) → by_handle p table keys random served ≡ Some x
-    → (served ≡ Some x → keys ≡ x.keys) → IsEdited keys x.keys
+    → (served ≡ Some x → keys ≡ x.keys) → Leaves keys random x
 handled p table keys random served x e same = elim (handle_cases (unfit keys p table) keys random served x e) [
-  | inl fit ↦ edited_same keys x.keys (same fit.1)
-  | inr other ↦ edited_same keys x.keys (ap (λ y. y.keys) other.1)
+  | inl fit ↦ inl (same fit.1)
+  | inr other ↦ inl (ap (λ y. y.keys) other.1)
 ]
 
 answer_keeps : (keys : Keys) (random : List ℕ) (reply : Reply) (x : Served) → Some (answered keys random reply) ≡ Some x → keys ≡ x.keys
@@ -97,30 +101,36 @@ template_there name row e = by (row_named name) (is_asymmetric name) refl e
     by None false t k = absurd cc
 
 templated : (edit : Row → Edit) → ((row : Row) → IsTemplate row → HasTemplate (edit row)) → (keys : Keys) (random : List ℕ) (found : Result Row Refusal) (x : Served)
-    → ((row : Row) → found ≡ Ok row → IsTemplate row) → with_template edit keys random found ≡ Some x → IsEdited keys x.keys
-templated edit has keys random (Ok row) x there e = edited_line keys random (edit row) x (has row (there row refl)) e
-templated edit has keys random (Err why) x there e = edited_same keys x.keys (answer_keeps keys random (Refuses why) x e)
+    → ((row : Row) → found ≡ Ok row → IsTemplate row) → with_template edit keys random found ≡ Some x → Leaves keys random x
+templated edit has keys random (Ok row) x there e = inr (edit row, has row (there row refl), e)
+templated edit has keys random (Err why) x there e = inl (answer_keeps keys random (Refuses why) x e)
 
 -- ---- every line
 
-pub serve_edits : (table : Table) (keys : Keys) (line : Line) (random : List ℕ) (x : Served) → serve table keys line random ≡ Some x → IsEdited keys x.keys
+pub serve_leaves : (table : Table) (keys : Keys) (line : Line) (random : List ℕ) (x : Served) → serve table keys line random ≡ Some x → Leaves keys random x
 unfolding serve
-serve_edits table keys (Seal plain ad) random x e = handled Aead table keys random _ x e
+serve_leaves table keys (Seal plain ad) random x e = handled Aead table keys random _ x e
     (λ k. ap (λ y. y.keys) (map_some (sealed_reply keys) (seal_answer keys table plain ad random) x k).2)
-serve_edits table keys (Dseal plain ad) random x e = handled Daead table keys random _ x e (computed_keeps keys random _ (dseal_answer keys table plain ad) x)
-serve_edits table keys (Open sealed ad) random x e = handled Aead table keys random _ x e (answer_keeps keys random _ x)
-serve_edits table keys (Dopen sealed ad) random x e = handled Daead table keys random _ x e (answer_keeps keys random _ x)
-serve_edits table keys (Tag body) random x e = handled Mac table keys random _ x e (computed_keeps keys random _ (tag_answer keys table body) x)
-serve_edits table keys (Verify tag body) random x e = handled Mac table keys random _ x e (answer_keeps keys random _ x)
-serve_edits table keys (Derive size input) random x e = handled Prf table keys random _ x e (computed_keeps keys random _ (derive_answer keys table input size) x)
-serve_edits table keys (Add name) random x e = templated edits.Add (λ row is. is) keys random (template_of name) x (template_there name) e
-serve_edits table keys (Rotate name) random x e = templated edits.Rotate (λ row is. is) keys random (template_of name) x (template_there name) e
-serve_edits table keys (Promote id) random x e = edited_line keys random (edits.Promote id) x tt e
-serve_edits table keys (Enable id) random x e = edited_line keys random (edits.Enable id) x tt e
-serve_edits table keys (Disable id) random x e = edited_line keys random (edits.Disable id) x tt e
-serve_edits table keys (Destroy id) random x e = edited_line keys random (edits.Destroy id) x tt e
-serve_edits table keys (Delete id) random x e = edited_line keys random (edits.Delete id) x tt e
-serve_edits table keys Bad random x e = edited_same keys x.keys (answer_keeps keys random _ x e)
+serve_leaves table keys (Dseal plain ad) random x e = handled Daead table keys random _ x e (computed_keeps keys random _ (dseal_answer keys table plain ad) x)
+serve_leaves table keys (Open sealed ad) random x e = handled Aead table keys random _ x e (answer_keeps keys random _ x)
+serve_leaves table keys (Dopen sealed ad) random x e = handled Daead table keys random _ x e (answer_keeps keys random _ x)
+serve_leaves table keys (Tag body) random x e = handled Mac table keys random _ x e (computed_keeps keys random _ (tag_answer keys table body) x)
+serve_leaves table keys (Verify tag body) random x e = handled Mac table keys random _ x e (answer_keeps keys random _ x)
+serve_leaves table keys (Derive size input) random x e = handled Prf table keys random _ x e (computed_keeps keys random _ (derive_answer keys table input size) x)
+serve_leaves table keys (Add name) random x e = templated edits.Add (λ row is. is) keys random (template_of name) x (template_there name) e
+serve_leaves table keys (Rotate name) random x e = templated edits.Rotate (λ row is. is) keys random (template_of name) x (template_there name) e
+serve_leaves table keys (Promote id) random x e = inr (edits.Promote id, tt, e)
+serve_leaves table keys (Enable id) random x e = inr (edits.Enable id, tt, e)
+serve_leaves table keys (Disable id) random x e = inr (edits.Disable id, tt, e)
+serve_leaves table keys (Destroy id) random x e = inr (edits.Destroy id, tt, e)
+serve_leaves table keys (Delete id) random x e = inr (edits.Delete id, tt, e)
+serve_leaves table keys Bad random x e = inl (answer_keeps keys random _ x e)
+
+pub serve_edits : (table : Table) (keys : Keys) (line : Line) (random : List ℕ) (x : Served) → serve table keys line random ≡ Some x → IsEdited keys x.keys
+serve_edits table keys line random x e = elim (serve_leaves table keys line random x e) [
+  | inl same ↦ edited_same keys x.keys same
+  | inr edited ↦ edited_line keys random edited.0 x edited.1 edited.2
+]
 
 pub session_is_edits : SessionIsEdits
 unfolding remains

@@ -1,3 +1,7 @@
+pub mod Answered
+pub mod Feeding
+pub mod HeldLaws
+pub mod Keeping
 pub mod Laws
 pub mod LineLaws
 pub mod Lines
@@ -5,3 +9,7 @@ pub mod Reading
 pub mod Serving
 pub mod Session
 pub mod SessionLaws
+pub mod TalkLaws
+pub mod Talking
+pub mod Talks
+pub mod Texts

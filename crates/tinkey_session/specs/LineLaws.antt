@@ -59,6 +59,15 @@ LinesOpen = (old new : Keys) (r : Record) (prefix plain ad sealed random drawn :
     → serve standard_table new (Open sealed ad) drawn ≡ Some y
     → y.reply ≡ Gives plain
 
+-- For a RAW key the answer is some plaintext.
+abbrev pub LinesOpenRaw : Type 0
+LinesOpenRaw = (old new : Keys) (r : Record) (plain ad sealed random drawn : List ℕ)
+    (x y : Served) → IsKeyset old → IsEdited old new → HasSameKey r new
+    → primary_of old ≡ Some r → prefix_of r ≡ None
+    → serve standard_table old (Seal plain ad) random ≡ Some x → x.reply ≡ Gives sealed
+    → serve standard_table new (Open sealed ad) drawn ≡ Some y
+    → (other : List ℕ) × (y.reply ≡ Gives other)
+
 -- a word that spells bytes in lower case is read as these bytes
 abbrev pub WordsReadBack : Type 0
 WordsReadBack = (bytes : List ℕ) → AllByRecursion (λ b. b < 256) bytes

@@ -1,14 +1,16 @@
 //! Laws of the definitions. Each is the contract of a function that does nothing else.
 
 ghost use Rattle.key_msgs.specs.declared.primitive.Primitive.TheVariants.{Aead, Daead, Mac};
+ghost use Rattle.tinkey_session.specs.HeldLaws.{EditsKeepStored, FirstsAreStored, SessionsKeepStored};
 ghost use Rattle.tinkey_session.specs.Laws.{EditedIsKeyset, EditedIsSound, EditsKeepSound, FirstsAreSound};
 ghost use Rattle.tinkey_session.specs.Laws.{KeptDopen, KeptDopenRaw, KeptOpen, KeptOpenRaw, KeptTag, SoundIsUsable};
-ghost use Rattle.tinkey_session.specs.LineLaws.{FirstsDrawFew, LinesDrawFew, LinesDrawFronts, LinesOpen};
+ghost use Rattle.tinkey_session.specs.LineLaws.{FirstsDrawFew, LinesDrawFew, LinesDrawFronts, LinesOpen, LinesOpenRaw};
 ghost use Rattle.tinkey_session.specs.LineLaws.{RefusalsLeave, TellsNewId, WordsReadBack};
 ghost use Rattle.tinkey_session.specs.Lines.{Add, Rotate};
 ghost use Rattle.tinkey_session.specs.SessionLaws.{LinesGoOn, SessionGoesOn, SessionIsEdits, SessionVerifies};
 ghost use Rattle.tinkey_session.specs.SessionLaws.{SessionDopens, SessionDopensRaw, SessionOpens, SessionOpensRaw};
 ghost use Rattle.tinkey_session.specs.SessionLaws.{TurnIsEdits, TurnsAreLines, TurnsAreSpelled};
+ghost use Rattle.tinkey_session.specs.TalkLaws.{TalkIsTurns, TalksAreSteady};
 
 use key_msgs::laws::made_is_valid;
 use managers::laws::{dopens_sealings, sealings_open};
@@ -91,6 +93,15 @@ pub fn turns_are_lines()
     ensures lines { LinesGoOn }
 {}
 
+/// Accepted edits, first keysets and sessions keep what the types of a record hold it to: an id of
+/// 32 bits, a URL that is text, URL and value short enough to be written, and a value of bytes. The
+/// random bytes are bytes too.
+pub fn stored_kept()
+    ensures edits { EditsKeepStored }
+    ensures firsts { FirstsAreStored }
+    ensures sessions { SessionsKeepStored }
+{}
+
 /// A session over more lines is that over the first of them, and one over what it left.
 pub fn session_goes_on()
     ensures { SessionGoesOn }
@@ -129,6 +140,15 @@ pub fn lines_open()
     kept_open();
 }
 
+/// What a line `seal` gave under a RAW key, a line `open` answers with some plaintext.
+pub fn lines_open_raw()
+    ensures { LinesOpenRaw }
+{
+    sound_usable();
+    sound_kept();
+    kept_open_raw();
+}
+
 /// A word that spells bytes in lower case is read as these bytes.
 pub fn words_read_back()
     ensures { WordsReadBack }
@@ -155,9 +175,7 @@ pub fn session_dopens()
 pub fn session_opens_raw()
     ensures { SessionOpensRaw }
 {
-    sound_usable();
-    sound_kept();
-    kept_open_raw();
+    lines_open_raw();
 }
 
 /// The same of `dseal` and `dopen`.
@@ -178,3 +196,15 @@ pub fn session_verifies()
     sound_kept();
     kept_tag();
 }
+
+/// A session over bytes is settled by the random bytes that it draws, and past a limit nothing that
+/// follows matters.
+pub fn talks_are_steady()
+    ensures { TalksAreSteady }
+{}
+
+/// The replies of a session over bytes are those of the turns of its lines. Each line is one of its
+/// turns, unless the random bytes run out or a limit is passed.
+pub fn talk_is_turns()
+    ensures { TalkIsTurns }
+{}

@@ -1,10 +1,23 @@
-//! Lines of a session: their grammar, what each answers, and what stays readable.
+//! Sessions: lines over a keyset, what each answers, and what stays readable.
 #![tactic(auto)]
 
+mod answering;
 pub mod laws;
 mod line;
+mod reply;
+mod session;
+mod short_text;
+pub mod talk;
 
 pub use line::{Line, read_line};
+pub use reply::{Refusal, Reply, refusal_text, reply_text};
+pub use session::{LineFault, Session};
+pub use short_text::ShortText;
+pub use talk::TalkFault;
 
+#[cfg(test)]
+mod session_tests;
+#[cfg(test)]
+mod talk_tests;
 #[cfg(test)]
 mod tests;

@@ -1,8 +1,8 @@
 //! One line of a session, read by the grammar of `specs/Lines.antt`.
 
-ghost use Rattle.std.specs.Prelude.{◌≡◌, IfOk, option_map};
+ghost use Rattle.std.specs.Prelude.{◌≡◌, length, IfOk, option_map};
 ghost use Rattle.tinkey_session.specs.Lines.{bytes_in, line_of, line_of_words, line_with_bytes, line_with_id, line_with_one, line_with_two, name_in, number_in, words_of};
-ghost use Rattle.tinkey_session.specs.Reading.{seen_line, seen_name};
+ghost use Rattle.tinkey_session.specs.Reading.{IsWithin, seen_line, seen_name};
 
 use hex::FromHexError;
 use std::alloc::Global;
@@ -48,7 +48,8 @@ pub enum Line<'a> {
 /// line spells in hexadecimal, and for nothing else.
 #[tactic(auto, unfolding(crate::specs::Lines::line_of))]
 pub fn read_line(alloc: Global, line: &[u8]) -> Result<Line<'_>, NoMemory>
-    ensures { IfOk result (λ read. seen_line read ≡ line_of line.now) }
+    ensures read { IfOk result (λ read. seen_line read ≡ line_of line.now) }
+    ensures within { IfOk result (λ read. IsWithin (length line.now) (seen_line read)) }
 {
     match from_utf8(line) {
         Ok(text) => read_words(alloc, text),

@@ -1,0 +1,101 @@
+-- What edits answer, and which edit a line asks for.
+use Rattle.std.proofs.Common.{◌≡◌, ◌∙◌, refl, sym, ap, subst, ℕ, ◌+◌, ◌-◌, suc, List, [], ◌∷◌, length, Option, Some, None, Result, Ok, Err, option_map, arith}
+use Rattle.std.specs.Borrow.{Bor}
+use Rattle.std.specs.Prelude.{IfSome, slice_get}
+use Rattle.std.specs.Result.{IsErrAnd}
+use Rattle.std.proofs.lemmas.Option.{same_Some}
+use Rattle.keyset_model.specs.Keyset.{Keys}
+use Rattle.keyset_model.specs.declared.record.Record.{Record}
+use Rattle.tink_spec.specs.Outside.{EntropyState}
+use Rattle.tinkey_cmds.specs.Applying.{Applied}
+use Rattle.tinkey_cmds.specs.Edits.{Edit, step}
+use Rattle.tinkey_cmds.specs.declared.command.Command.{Command}
+use Rattle.tinkey_cmds.specs.declared.command.CmdError.{CmdError}
+use Rattle.tinkey_cmds.specs.declared.command.CmdError.TheVariants as errors
+use Rattle.tinkey_session.proofs.Options.{clash}
+use Rattle.tinkey_session.specs.Answered.{Serves}
+use Rattle.tinkey_session.specs.Keeping.{Asks, needs, unedited}
+use Rattle.tinkey_session.specs.Lines.{Line}
+use Rattle.tinkey_session.specs.Reading.{seen_line, seen_reply}
+use Rattle.tinkey_session.specs.Serving.{NewId, answered, edit_line, edited_reply, last_id, serve, stepped}
+use Rattle.tinkey_session.specs.declared.line.Line.{Line as CodeLine}
+use Rattle.tinkey_session.specs.declared.line.Line.TheVariants as lines
+use Rattle.tinkey_session.specs.declared.reply.Refusal.{Refusal as CodeRefusal}
+use Rattle.tinkey_session.specs.declared.reply.Refusal.TheVariants as refusals
+use Rattle.tinkey_session.specs.declared.reply.Reply.{Reply as CodeReply}
+
+-- ---- accepted and refused edits
+
+pub applied_serves : (keys edited : Keys) (edit : Edit) (reply : CodeReply) (old new : EntropyState) → Applied (Ok edited) (step keys edit) old new → seen_reply reply ≡ edited_reply edit edited → Serves (λ random. edit_line keys random edit) (Ok reply) edited old new
+applied_serves keys edited edit reply old new (stood, (drawn, drew, is)) same = record {
+  drawn = drawn;
+  drew = drew;
+  stood = stood;
+  is = λ more. ap (option_map (stepped edit keys)) (is more) ∙ ap (λ r. Some (answered edited more r)) (sym same);
+}
+
+-- what isn't decided gives nothing
+undecided_left : (keys : Keys) (edit : Edit) (left : Option (List ℕ)) → IfSome left (λ random. step keys edit random ≡ None) → IfSome left (λ random. edit_line keys random edit ≡ None)
+undecided_left keys edit None short = tt
+undecided_left keys edit (Some random) short = ap (option_map (stepped edit keys)) short
+
+pub unapplied_serves : (keys : Keys) (edit : Edit) (error : CmdError) (old new : EntropyState) → Applied {A = Keys} (Err error) (step keys edit) old new → Serves (λ random. edit_line keys random edit) (unedited error) keys old new
+unapplied_serves keys edit (errors.Refused fault) old new (stood, (drawn, drew, is)) = record {
+  drawn = drawn;
+  drew = drew;
+  stood = stood;
+  is = λ more. ap (option_map (stepped edit keys)) (is more);
+}
+unapplied_serves keys edit errors.EntropyFault old new out = record {
+  rose = out.rose;
+  drawn = out.drawn;
+  drew = out.drew;
+  undecided = ap (option_map (stepped edit keys)) out.undecided;
+  short = λ steady. undecided_left keys edit old.left (out.short steady);
+}
+unapplied_serves keys edit errors.NoMemory old new (stood, (answer, (drawn, drew, is))) = record { drawn = drawn; drew = drew; stood = stood }
+
+-- ---- the id of the last record
+
+last_at : (rs : List Record) (r : Record) (i : ℕ) → i + 1 ≡ length rs → slice_get rs i ≡ Some r → last_id rs ≡ NewId r.id
+last_at [] r i last there = clash there
+last_at (x ∷ []) r i last there =
+    let first : i ≡ 0 = omega arith in
+    ap (λ (y : Record). NewId y.id) (same_Some _ _ (subst (λ j. slice_get (x ∷ []) j ≡ Some r) first there))
+last_at (x ∷ y ∷ later) r i last there =
+    let behind : i ≡ suc (length later) = omega arith in
+    last_at (y ∷ later) r (length later) (omega arith) (subst (λ j. slice_get (x ∷ y ∷ later) j ≡ Some r) behind there)
+
+pub last_there : (rs : List Record) (r : Record) (n : ℕ) → n ≡ length rs → slice_get rs (n - 1) ≡ Some r → last_id rs ≡ NewId r.id
+last_there [] r n count there = clash there
+last_there (x ∷ rs) r n count there = last_at (x ∷ rs) r (n - 1) (omega arith) there
+
+-- ---- the edits that lines ask for
+
+-- what a `?` hands on
+pub asks_error : (line : Line) (why : CodeRefusal) (result : Result Command CodeRefusal) → IsErrAnd result (λ e. e ≡ why) → Asks line (Err why) → Asks line result
+asks_error line why (Ok command) is asks = absurd is
+asks_error line why (Err e) is asks = subst (λ w. Asks line (Err w)) (sym is) asks
+
+-- a line that needs no keys and isn't one of the edits is bad
+pub asks_nothing : (line : CodeLine) → needs (seen_line line) ≡ None
+    → ((name : Bor (List ℕ)) → line ≡ lines.Add name → ⊥) → ((name : Bor (List ℕ)) → line ≡ lines.Rotate name → ⊥)
+    → ((id : ℕ) → line ≡ lines.Promote id → ⊥) → ((id : ℕ) → line ≡ lines.Enable id → ⊥) → ((id : ℕ) → line ≡ lines.Disable id → ⊥)
+    → ((id : ℕ) → line ≡ lines.Destroy id → ⊥) → ((id : ℕ) → line ≡ lines.Delete id → ⊥)
+    → Asks (seen_line line) (Err refusals.BadLine)
+unfolding serve
+asks_nothing (lines.Seal plain ad) keyless a r p e d y l = clash (sym keyless)
+asks_nothing (lines.Dseal plain ad) keyless a r p e d y l = clash (sym keyless)
+asks_nothing (lines.Open sealed ad) keyless a r p e d y l = clash (sym keyless)
+asks_nothing (lines.Dopen sealed ad) keyless a r p e d y l = clash (sym keyless)
+asks_nothing (lines.Tag body) keyless a r p e d y l = clash (sym keyless)
+asks_nothing (lines.Verify tag body) keyless a r p e d y l = clash (sym keyless)
+asks_nothing (lines.Derive size input) keyless a r p e d y l = clash (sym keyless)
+asks_nothing (lines.Add name) keyless a r p e d y l = absurd (a name refl)
+asks_nothing (lines.Rotate name) keyless a r p e d y l = absurd (r name refl)
+asks_nothing (lines.Promote id) keyless a r p e d y l = absurd (p id refl)
+asks_nothing (lines.Enable id) keyless a r p e d y l = absurd (e id refl)
+asks_nothing (lines.Disable id) keyless a r p e d y l = absurd (d id refl)
+asks_nothing (lines.Destroy id) keyless a r p e d y l = absurd (y id refl)
+asks_nothing (lines.Delete id) keyless a r p e d y l = absurd (l id refl)
+asks_nothing lines.Bad keyless a r p e d y l = λ table keys random. refl

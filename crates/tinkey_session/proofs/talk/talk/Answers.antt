@@ -1,0 +1,34 @@
+use Rattle.std.proofs.Common.{◌∙◌, refl, take, arith}
+use Rattle.tinkey_session.proofs.EndLemmas.{ends_finished, ends_stopped, ends_unread, if_none, talking_more, talking_none}
+use Rattle.tinkey_session.proofs.talk.talk.Goals as goal
+
+pub loop-n-init : goal.loop-n-init
+loop-n-init g c = record {
+  kept = if_none _ _ c.new.ensures.kept;
+  short = rw c.new.ensures.keyset c.requires.short;
+  few = omega arith;
+  fits = rw c.new-2.ensures.items (omega arith);
+  table = c.new.ensures.table;
+  is = talking_none _ _ _ _ c.new.ensures.keyset c.new-2.ensures.items refl;
+}
+
+pub returns-in-Err-clause-talks : goal.returns-in-Err-clause-talks
+returns-in-Err-clause-talks g c = ends_unread _ _ _ _ _ _ c.loop-n.invariant.is c.in-Err.ensures.kept c.in-Err.ensures.failed refl refl
+
+pub returns-then-n-eq0-clause-talks : goal.returns-then-n-eq0-clause-talks
+returns-then-n-eq0-clause-talks g c =
+    ends_finished _ _ _ _ _ _ _ _ c.loop-n.invariant.table c.loop-n.invariant.is (rw c.if-n-eq0.true at c.in-Ok.ensures.gives) c.in-Ok.ensures.no_fault (c.in-Ok.ensures.end c.if-n-eq0.true (omega arith)) c.finish.ensures.finished c.finish.ensures.stopped
+
+pub loop-n-preserved : goal.loop-n-preserved
+loop-n-preserved g c = record {
+  kept = c.in-Ok-take_piece.ensures.kept;
+  short = c.in-Ok-take_piece.ensures.short;
+  few = c.in-Ok-take_piece.ensures.few;
+  fits = c.in-Ok-take_piece.ensures.fits;
+  table = c.in-Ok-take_piece.ensures.table ∙ c.loop-n.invariant.table;
+  is = talking_more _ _ _ _ _ (take c.in-Ok.n c.read.new.out) _ _ _ c.loop-n.invariant.table c.loop-n.invariant.is c.in-Ok.ensures.gives c.in-Ok.ensures.no_fault c.in-Ok-take_piece.ensures.fed;
+}
+
+pub returns-in-Err-take_piece-clause-talks : goal.returns-in-Err-take_piece-clause-talks
+returns-in-Err-take_piece-clause-talks g c =
+    ends_stopped _ _ _ _ (take c.in-Ok.n c.read.new.out) _ _ _ _ c.loop-n.invariant.table c.loop-n.invariant.is c.in-Ok.ensures.gives c.in-Ok.ensures.no_fault c.in-Err-take_piece.ensures.stopped

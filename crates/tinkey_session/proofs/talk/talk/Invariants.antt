@@ -1,0 +1,24 @@
+use Rattle.std.proofs.Common.{◌≡◌, ◌≤◌, ◌-◌, length, IfSome}
+use Rattle.std.specs.List.{AllByRecursion}
+use Rattle.keyset_model.specs.Keyset.{IsShort}
+use Rattle.managers.specs.contracts.table.ManagersKeyTable.TheImpl.{ghosts}
+use Rattle.tinkey_session.proofs.EndLemmas.{Talking}
+use Rattle.tinkey_session.specs.Feeding.{place, progress}
+use Rattle.tinkey_session.specs.Keeping.{IsKept}
+use Rattle.tinkey_session.specs.Talking.{count_limit, line_limit}
+use Rattle.tinkey_session.specs.Talks.{sides}
+use Rattle.tinkey_session.proofs.talk.talk.Given as goal
+
+abbrev pub invariant-loop-n : goal.invariant-loop-n
+invariant-loop-n g l = record {
+  kept : IfSome l.talk.session.kept (λ h. IsKept ((ghosts g.dyn-1 g.dyn-2 g.dyn-3 g.dyn-4).table l.talk.session.managers.now) ((ghosts g.dyn-1 g.dyn-2 g.dyn-3 g.dyn-4).table h.managers.now) h.primitive l.talk.session.keyset h.held);
+  short : AllByRecursion IsShort l.talk.session.keyset.records;
+  few : l.talk.count ≤ count_limit;
+  fits : length l.talk.line.items ≤ line_limit;
+  table : (ghosts g.dyn-1 g.dyn-2 g.dyn-3 g.dyn-4).table l.talk.session.managers.now ≡ (ghosts g.dyn-1 g.dyn-2 g.dyn-3 g.dyn-4).table l.fn.managers;
+  is : Talking ((ghosts g.dyn-1 g.dyn-2 g.dyn-3 g.dyn-4).table l.fn.managers) l.fn.keyset (place l.talk.session.keyset l.talk.line.items l.talk.count)
+      (sides (g.S.Source.state l.fn.source) (g.K.Sink.state l.fn.sink) (g.E.Entropy.state l.fn.entropy)) (sides (g.S.Source.state l.source) (g.K.Sink.state l.sink) (g.E.Entropy.state l.entropy));
+}
+
+abbrev pub decreases-loop-n : goal.decreases-loop-n
+decreases-loop-n g l = 6553765536 - progress l.talk.count l.talk.line.items

@@ -1,0 +1,58 @@
+-- The texts of replies, and of what lines are refused for. The program's diagnostic lines have the
+-- same texts of refusals.
+use Rattle.std.specs.Prelude.{ℕ, List, ◌++◌, codes}
+use Rattle.std.specs.Fmt.{decimal}
+use Rattle.key_msgs.specs.declared.rule.Rule.{Rule}
+use Rattle.key_msgs.specs.declared.rule.Rule.TheVariants as broken
+use Rattle.tinkey_cmds.specs.declared.command.CmdFault.{CmdFault}
+use Rattle.tinkey_cmds.specs.declared.command.CmdFault.TheVariants as refused
+use Rattle.tinkey_session.specs.Lines.{word_of}
+use Rattle.tinkey_session.specs.Serving.{Refusal, BadLine, UnknownTemplate, AsymmetricTemplate, CannotServe, OutputTooLong, EditRefused, OpenFailed, VerifyFailed, Reply, Done, Gives, NewId, Refuses}
+use Rattle.wrapped_prims.specs.Fitness.{Unfit, NoManager, BadKey, NotRaw}
+
+-- the name of a rule of key messages
+unfoldable pub rule_text : Rule → List ℕ
+rule_text broken.Form = codes "form"
+rule_text broken.Version = codes "version"
+rule_text broken.Hash = codes "hash"
+rule_text broken.KeySize = codes "key size"
+rule_text broken.IvSize = codes "IV size"
+rule_text broken.TagSize = codes "tag size"
+rule_text broken.DerivedSize = codes "derived size"
+rule_text broken.Segment = codes "segment size"
+
+-- the text of a refused edit
+unfoldable pub edit_text : CmdFault → List ℕ
+edit_text refused.KeyNotFound = codes "key not found"
+edit_text refused.KeyIsPrimary = codes "key is primary"
+edit_text refused.KeyNotEnabled = codes "key is not enabled"
+edit_text refused.KeyDestroyed = codes "key is destroyed"
+edit_text (refused.KeyRefused rule) = codes "key refused: " ++ rule_text rule
+edit_text refused.MixedPrimitive = codes "key of another primitive"
+edit_text refused.IdsExhausted = codes "no free key id"
+edit_text refused.TooManyKeys = codes "too many keys"
+
+-- the text of a record that can't serve, by its place
+unfoldable pub unfit_text : (place : ℕ) → Unfit → List ℕ
+unfit_text i NoManager = codes "key " ++ decimal i ++ codes " has no manager for this command"
+unfit_text i (BadKey rule) = codes "key " ++ decimal i ++ codes " is not valid: " ++ rule_text rule
+unfit_text i NotRaw = codes "key " ++ decimal i ++ codes " is not RAW"
+
+-- the text of a refusal
+unfoldable pub refusal_text : Refusal → List ℕ
+refusal_text BadLine = codes "bad line"
+refusal_text UnknownTemplate = codes "unknown key template"
+refusal_text AsymmetricTemplate = codes "asymmetric key template"
+refusal_text (CannotServe place why) = unfit_text place why
+refusal_text (OutputTooLong asked greatest) =
+    codes "output too long: " ++ decimal asked ++ codes " over " ++ decimal greatest
+refusal_text (EditRefused fault) = edit_text fault
+refusal_text OpenFailed = codes "open failed"
+refusal_text VerifyFailed = codes "verify failed"
+
+-- a reply, one line of text
+unfoldable pub reply_text : Reply → List ℕ
+reply_text Done = codes "ok\n"
+reply_text (Gives bytes) = codes "ok " ++ word_of bytes ++ codes "\n"
+reply_text (NewId id) = codes "ok " ++ decimal id ++ codes "\n"
+reply_text (Refuses why) = codes "no " ++ refusal_text why ++ codes "\n"

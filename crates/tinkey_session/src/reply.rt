@@ -1,0 +1,211 @@
+//! What a line is answered, and its text.
+
+ghost use Rattle.std.specs.Prelude.{◌≡◌, ◌+◌, ◌≤◌, ◌++◌, length, codes, decimal, IfOk};
+ghost use Rattle.tinkey_session.specs.Lines.{word_of};
+ghost use Rattle.tinkey_session.specs.Reading.{seen_refusal, seen_reply};
+ghost use Rattle.wrapped_prims.specs.Fitness.{BadKey};
+ghost use Rattle.tinkey_session.specs.Texts.{edit_text, refusal_text, reply_text, rule_text, unfit_text};
+
+use crate::short_text::ShortText;
+use itoa::Buffer;
+use key_msgs::Rule;
+use std::alloc::Global;
+use tink_base::{Bytes, NoMemory};
+use tinkey_cmds::CmdFault;
+
+/// Why a line is refused. Places of records count from 0.
+#[derive(Clone, Copy, Debug, PartialEq, Eq)]
+pub enum Refusal {
+    /// It isn't of the grammar of lines.
+    BadLine,
+    /// No template has the name.
+    UnknownTemplate,
+    /// A template of Tink's for asymmetric keys has the name.
+    AsymmetricTemplate,
+    /// No manager of the primitive has the type URL of this record, the first one at fault.
+    NoManager(usize),
+    /// Its manager refuses the value of this record, for this rule, the first one that it breaks.
+    BadKey(usize, Rule),
+    /// Bytes are to be derived, and this record isn't RAW.
+    NotRaw(usize),
+    /// So many bytes were asked for, and there are no more than so many.
+    OutputTooLong(usize, usize),
+    /// The edit is refused.
+    EditRefused(CmdFault),
+    /// No key opens the bytes.
+    OpenFailed,
+    /// The tag is none of the keyset's.
+    VerifyFailed,
+}
+
+/// The answer of a line.
+#[derive(Drop)]
+pub enum Reply {
+    /// It was done.
+    Done,
+    /// It gives these bytes.
+    Gives(Bytes),
+    /// It made a key, and this is its id.
+    NewId(u32),
+    /// It is refused, and the keyset is as it was.
+    Refuses(Refusal),
+}
+
+/// The text of a refusal, as replies and diagnostic lines tell it.
+#[tactic(auto, unfolding(crate::specs::Texts::refusal_text, crate::specs::Texts::unfit_text))]
+pub fn refusal_text(refusal: Refusal) -> ShortText
+    ensures text { result ≡ refusal_text (seen_refusal refusal) }
+    ensures short { length result ≤ 110 }
+{
+    match refusal {
+        Refusal::BadLine => plain_text("bad line"),
+        Refusal::UnknownTemplate => plain_text("unknown key template"),
+        Refusal::AsymmetricTemplate => plain_text("asymmetric key template"),
+        Refusal::NoManager(i) => key_text(i, " has no manager for this command"),
+        Refusal::BadKey(i, rule) => invalid_text(i, rule),
+        Refusal::NotRaw(i) => key_text(i, " is not RAW"),
+        Refusal::OutputTooLong(asked, greatest) => length_text(asked, greatest),
+        Refusal::EditRefused(fault) => edit_text(fault),
+        Refusal::OpenFailed => plain_text("open failed"),
+        Refusal::VerifyFailed => plain_text("verify failed"),
+    }
+}
+
+/// The text of a reply, with its newline.
+#[tactic(auto, unfolding(crate::specs::Texts::reply_text))]
+pub fn reply_text(alloc: Global, reply: &Reply) -> Result<Vec<u8>, NoMemory>
+    ensures { IfOk result (λ text. text.items ≡ reply_text (seen_reply reply.now)) }
+{
+    match reply {
+        Reply::Done => line_of(alloc, b"ok", b""),
+        Reply::Gives(bytes) => bytes_text(alloc, bytes.as_slice()),
+        Reply::NewId(id) => id_text(alloc, *id),
+        Reply::Refuses(why) => line_of(alloc, b"no ", refusal_text(*why).as_slice()),
+    }
+}
+
+/// A line of these bytes, with its newline.
+fn line_of(alloc: Global, front: &[u8], rest: &[u8]) -> Result<Vec<u8>, NoMemory>
+    ensures { IfOk result (λ text. text.items ≡ front.now ++ (rest.now ++ codes "\n")) }
+{
+    let mut text = Vec::new(alloc);
+    text.extend_from_slice(front)?;
+    text.extend_from_slice(rest)?;
+    text.push(b'\n')?;
+    Ok(text)
+}
+
+/// The line of a reply that gives these bytes.
+fn bytes_text(alloc: Global, bytes: &[u8]) -> Result<Vec<u8>, NoMemory>
+    ensures { IfOk result (λ text. text.items ≡ codes "ok " ++ (word_of bytes.now ++ codes "\n")) }
+{
+    if bytes.is_empty() {
+        return line_of(alloc, b"ok ", b"-");
+    }
+    match hex::encode(alloc, bytes) {
+        Ok(digits) => line_of(alloc, b"ok ", digits.as_bytes()),
+        Err(_) => Err(NoMemory),
+    }
+}
+
+/// The line of a reply that tells a key id.
+fn id_text(alloc: Global, id: u32) -> Result<Vec<u8>, NoMemory>
+    ensures { IfOk result (λ text. text.items ≡ codes "ok " ++ (decimal id ++ codes "\n")) }
+{
+    let mut digits = Buffer::new();
+    line_of(alloc, b"ok ", digits.format(id).as_bytes())
+}
+
+/// A text as it stands.
+fn plain_text(says: &str) -> ShortText
+    requires says_bound { length says.now ≤ 40 }
+    ensures text { result ≡ says.now }
+    ensures short { length result ≤ 40 }
+{
+    let mut text = ShortText::new();
+    text.push(says);
+    text
+}
+
+/// What is said of the key of this place.
+fn key_text(i: usize, says: &str) -> ShortText
+    requires says_bound { length says.now ≤ 40 }
+    ensures text { result ≡ codes "key " ++ (decimal i ++ says.now) }
+    ensures short { length result ≤ 84 }
+{
+    let mut text = plain_text("key ");
+    text.push_number(i);
+    text.push(says);
+    text
+}
+
+/// That the key of this place breaks this rule.
+#[tactic(auto, unfolding(crate::specs::Texts::unfit_text))]
+fn invalid_text(i: usize, rule: Rule) -> ShortText
+    ensures text { result ≡ unfit_text i (BadKey rule) }
+    ensures short { length result ≤ 110 }
+{
+    let mut text = key_text(i, " is not valid: ");
+    text.push(rule_text(rule));
+    text
+}
+
+/// How many bytes were asked for, and how many there are.
+fn length_text(asked: usize, greatest: usize) -> ShortText
+    ensures text { result ≡
+        codes "output too long: " ++ (decimal asked ++ (codes " over " ++ decimal greatest)) }
+    ensures short { length result ≤ 110 }
+{
+    let mut text = ShortText::new();
+    text.push("output too long: ");
+    text.push_number(asked);
+    text.push(" over ");
+    text.push_number(greatest);
+    text
+}
+
+/// The text of a refused edit.
+#[tactic(auto, unfolding(crate::specs::Texts::edit_text))]
+fn edit_text(fault: CmdFault) -> ShortText
+    ensures text { result ≡ edit_text fault }
+    ensures short { length result ≤ 110 }
+{
+    match fault {
+        CmdFault::KeyNotFound => plain_text("key not found"),
+        CmdFault::KeyIsPrimary => plain_text("key is primary"),
+        CmdFault::KeyNotEnabled => plain_text("key is not enabled"),
+        CmdFault::KeyDestroyed => plain_text("key is destroyed"),
+        CmdFault::KeyRefused(rule) => refused_text(rule),
+        CmdFault::MixedPrimitive => plain_text("key of another primitive"),
+        CmdFault::IdsExhausted => plain_text("no free key id"),
+        CmdFault::TooManyKeys => plain_text("too many keys"),
+    }
+}
+
+/// That a key breaks this rule.
+fn refused_text(rule: Rule) -> ShortText
+    ensures text { result ≡ codes "key refused: " ++ rule_text rule }
+    ensures short { length result ≤ 110 }
+{
+    let mut text = plain_text("key refused: ");
+    text.push(rule_text(rule));
+    text
+}
+
+/// The text of a rule.
+#[tactic(auto, unfolding(crate::specs::Texts::rule_text))]
+fn rule_text(rule: Rule) -> &'static str
+    ensures text { result.now ≡ rule_text rule }
+    ensures short { length result.now ≤ 16 }
+{
+    match rule {
+        Rule::Form => "form",
+        Rule::Version => "version",
+        Rule::Hash => "hash",
+        Rule::KeySize => "key size",
+        Rule::IvSize => "IV size",
+        Rule::TagSize => "tag size",
+        Rule::DerivedSize => "derived size",
+        Rule::Segment => "segment size",
+    }
+}

@@ -1,0 +1,278 @@
+//! A keyset on which lines work, one after another.
+
+ghost use Rattle.std.specs.Prelude.{◌≡◌, ◌≢◌, ◌↔◌, ◌≤◌, ◌^◌, length, Some, None, IfSome, IfErr, IsSomeAnd, IsTrue, OnOk, OnErr, MatchResult, Ok, Err};
+ghost use Rattle.std.specs.List.{AllByRecursion};
+ghost use Rattle.key_msgs.specs.Templates.{seen};
+ghost use Rattle.key_msgs.specs.declared.primitive.Primitive.{Primitive};
+ghost use Rattle.key_msgs.specs.declared.primitive.Primitive.TheVariants.{Stream};
+ghost use Rattle.keyset_model.specs.Keyset.{IsShort};
+ghost use Rattle.tinkey_cmds.specs.Edits.{seen_edit};
+ghost use Rattle.tinkey_session.specs.Answered.{Serves};
+ghost use Rattle.tinkey_session.specs.Keeping.{Asks, IsKept, needs, unedited, unserved};
+ghost use Rattle.tinkey_session.specs.Reading.{IsWithin, seen_line, seen_refusal, seen_reply};
+ghost use Rattle.tinkey_session.specs.Serving.{edit_line, edited_reply, serve as served, template_of};
+ghost use Rattle.wrapped_prims.specs.Fitness.{unfit};
+ghost use Rattle.wrapped_prims.specs.Making.{IsFaultOf};
+
+use crate::answering::{answer, needs};
+use crate::line::Line;
+use crate::reply::{Refusal, Reply};
+use key_msgs::{Primitive, Template, TemplateFault, template_named};
+use keyset_model::Keyset;
+use managers::{KeyTable, Managers};
+use std::alloc::Global;
+use tink_base::Entropy;
+use tinkey_cmds::{CmdError, Command, apply};
+use wrapped_prims::{Handle, HandleFault};
+
+/// Why a line has no answer.
+#[derive(Clone, Copy, Debug, PartialEq, Eq)]
+pub enum LineFault {
+    /// The entropy failed.
+    EntropyFault,
+    /// Memory was refused.
+    NoMemory,
+}
+
+/// A keyset, and the handle of its keys that a line needed last. An edit lets the handle go, and any
+/// other line leaves it.
+#[derive(Drop)]
+pub struct Session<'m> {
+    pub managers: &'m Managers,
+    pub keyset: Keyset,
+    pub kept: Option<Handle<'m>>,
+}
+
+impl<'m> Session<'m> {
+    /// A session over a keyset, whose keys these managers serve. No memory is taken.
+    pub fn new(keyset: Keyset, managers: &'m Managers) -> Session<'m>
+        ensures keyset { result.keyset ≡ keyset }
+        ensures table { ⟦<Managers as KeyTable>⟧.table result.managers.now
+            ≡ ⟦<Managers as KeyTable>⟧.table managers.now }
+        ensures kept { result.kept ≡ None }
+    {
+        Session {
+            managers,
+            keyset,
+            kept: None,
+        }
+    }
+
+    /// Does what the line asks, and answers it.
+    ///
+    /// A line that needs keys makes a handle of them where none for its primitive is kept; while the
+    /// keyset stays, each later line of that primitive uses it. An accepted edit puts the new keyset
+    /// in place, and lets the handle go; any other line leaves the keyset, a refused one too.
+    /// `EntropyFault` comes only where the entropy failed, and the line asks for more than was drawn.
+    pub fn serve<E: Entropy>(
+        &mut self,
+        alloc: Global,
+        line: &Line<'_>,
+        entropy: &mut E,
+    ) -> Result<Reply, LineFault>
+        requires kept { IfSome self.old.kept (λ h. IsKept
+            (⟦<Managers as KeyTable>⟧.table self.old.managers.now)
+            (⟦<Managers as KeyTable>⟧.table h.managers.now) h.primitive self.old.keyset h.held) }
+        requires short { AllByRecursion IsShort self.old.keyset.records }
+        requires within { IsWithin (2 ^ 20) (seen_line line.now) }
+        ensures serves { Serves
+            (λ random. served (⟦<Managers as KeyTable>⟧.table self.old.managers.now)
+            self.old.keyset (seen_line line.now) random)
+            result self.new.keyset (E.state entropy.old) (E.state entropy.new) }
+        ensures fits { (primitive : Primitive) → needs (seen_line line.now) ≡ Some primitive
+            → unfit self.old.keyset primitive
+            (⟦<Managers as KeyTable>⟧.table self.old.managers.now) ≡ None
+            → OnOk result (IsSomeAnd self.new.kept (λ h. h.primitive ≡ primitive)) }
+        ensures reused { (primitive : Primitive) → needs (seen_line line.now) ≡ Some primitive
+            → IsSomeAnd self.old.kept (λ h. h.primitive ≡ primitive)
+            → self.new.kept ≡ self.old.kept }
+        ensures kept { IfSome self.new.kept (λ h. IsKept
+            (⟦<Managers as KeyTable>⟧.table self.new.managers.now)
+            (⟦<Managers as KeyTable>⟧.table h.managers.now) h.primitive self.new.keyset h.held) }
+        ensures unchanged { OnErr result (self.new.keyset ≡ self.old.keyset) }
+        ensures short { AllByRecursion IsShort self.new.keyset.records }
+        ensures table { ⟦<Managers as KeyTable>⟧.table self.new.managers.now
+            ≡ ⟦<Managers as KeyTable>⟧.table self.old.managers.now }
+    {
+        match needs(line) {
+            Some(primitive) => self.by_keys(alloc, primitive, line, entropy),
+            None => match command_of(line) {
+                Ok(command) => self.edit(alloc, &command, entropy),
+                Err(why) => Ok(Reply::Refuses(why)),
+            },
+        }
+    }
+
+    /// The answer by the keys for this primitive, which the line needs.
+    fn by_keys<E: Entropy>(
+        &mut self,
+        alloc: Global,
+        primitive: Primitive,
+        line: &Line<'_>,
+        entropy: &mut E,
+    ) -> Result<Reply, LineFault>
+        requires needs { needs (seen_line line.now) ≡ Some primitive }
+        requires kept { IfSome self.old.kept (λ h. IsKept
+            (⟦<Managers as KeyTable>⟧.table self.old.managers.now)
+            (⟦<Managers as KeyTable>⟧.table h.managers.now) h.primitive self.old.keyset h.held) }
+        requires within { IsWithin (2 ^ 20) (seen_line line.now) }
+        ensures serves { Serves
+            (λ random. served (⟦<Managers as KeyTable>⟧.table self.old.managers.now)
+            self.old.keyset (seen_line line.now) random)
+            result self.new.keyset (E.state entropy.old) (E.state entropy.new) }
+        ensures fits { unfit self.old.keyset primitive
+            (⟦<Managers as KeyTable>⟧.table self.old.managers.now) ≡ None
+            → OnOk result (IsSomeAnd self.new.kept (λ h. h.primitive ≡ primitive)) }
+        ensures reused { IsSomeAnd self.old.kept (λ h. h.primitive ≡ primitive)
+            → self.new.kept ≡ self.old.kept }
+        ensures kept { IfSome self.new.kept (λ h. IsKept
+            (⟦<Managers as KeyTable>⟧.table self.new.managers.now)
+            (⟦<Managers as KeyTable>⟧.table h.managers.now) h.primitive self.new.keyset h.held) }
+        ensures keyset { self.new.keyset ≡ self.old.keyset }
+        ensures table { ⟦<Managers as KeyTable>⟧.table self.new.managers.now
+            ≡ ⟦<Managers as KeyTable>⟧.table self.old.managers.now }
+    {
+        if let Err(fault) = self.fit(alloc, primitive) {
+            return unserved(fault);
+        }
+        match &self.kept {
+            Some(handle) => answer(alloc, handle, line, entropy),
+            None => unreachable!(),
+        }
+    }
+
+    /// Keeps a handle for this primitive, which isn't Stream: the kept one where it is for it, and
+    /// else a new one.
+    fn fit(&mut self, alloc: Global, primitive: Primitive) -> Result<(), HandleFault>
+        requires no_stream { primitive ≢ Stream }
+        requires kept { IfSome self.old.kept (λ h. IsKept
+            (⟦<Managers as KeyTable>⟧.table self.old.managers.now)
+            (⟦<Managers as KeyTable>⟧.table h.managers.now) h.primitive self.old.keyset h.held) }
+        ensures fault { IfErr result (IsFaultOf (unfit self.old.keyset primitive
+            (⟦<Managers as KeyTable>⟧.table self.old.managers.now))) }
+        ensures fits { OnOk result (IsSomeAnd self.new.kept (λ h. h.primitive ≡ primitive)) }
+        ensures reused { IsSomeAnd self.old.kept (λ h. h.primitive ≡ primitive)
+            → self.new.kept ≡ self.old.kept }
+        ensures kept { IfSome self.new.kept (λ h. IsKept
+            (⟦<Managers as KeyTable>⟧.table self.new.managers.now)
+            (⟦<Managers as KeyTable>⟧.table h.managers.now) h.primitive self.new.keyset h.held) }
+        ensures keyset { self.new.keyset ≡ self.old.keyset }
+        ensures table { ⟦<Managers as KeyTable>⟧.table self.new.managers.now
+            ≡ ⟦<Managers as KeyTable>⟧.table self.old.managers.now }
+    {
+        if self.is_kept(primitive) {
+            return Ok(());
+        }
+        let handle = Handle::new(alloc, &self.keyset, self.managers, primitive)?;
+        self.kept = Some(handle);
+        Ok(())
+    }
+
+    /// Whether the kept handle is one for this primitive.
+    fn is_kept(&self, primitive: Primitive) -> bool
+        ensures { IsTrue result ↔ IsSomeAnd self.now.kept (λ h. h.primitive ≡ primitive) }
+    {
+        match &self.kept {
+            Some(handle) => handle.primitive() == primitive,
+            None => false,
+        }
+    }
+
+    /// The keyset after an edit, with no handle kept; or why the edit is refused.
+    fn edit<E: Entropy>(
+        &mut self,
+        alloc: Global,
+        command: &Command,
+        entropy: &mut E,
+    ) -> Result<Reply, LineFault>
+        requires kept { IfSome self.old.kept (λ h. IsKept
+            (⟦<Managers as KeyTable>⟧.table self.old.managers.now)
+            (⟦<Managers as KeyTable>⟧.table h.managers.now) h.primitive self.old.keyset h.held) }
+        requires short { AllByRecursion IsShort self.old.keyset.records }
+        ensures serves { Serves
+            (λ random. edit_line self.old.keyset random (seen_edit command.now))
+            result self.new.keyset (E.state entropy.old) (E.state entropy.new) }
+        ensures kept { IfSome self.new.kept (λ h. IsKept
+            (⟦<Managers as KeyTable>⟧.table self.new.managers.now)
+            (⟦<Managers as KeyTable>⟧.table h.managers.now) h.primitive self.new.keyset h.held) }
+        ensures unchanged { OnErr result (self.new.keyset ≡ self.old.keyset) }
+        ensures short { AllByRecursion IsShort self.new.keyset.records }
+        ensures table { ⟦<Managers as KeyTable>⟧.table self.new.managers.now
+            ≡ ⟦<Managers as KeyTable>⟧.table self.old.managers.now }
+    {
+        match apply(alloc, &self.keyset, command, entropy) {
+            Ok(edited) => {
+                let reply = edited_reply(command, &edited);
+                self.keyset = edited;
+                self.kept = None;
+                Ok(reply)
+            }
+            Err(error) => unedited(error),
+        }
+    }
+}
+
+/// The template of this name, or why there is none.
+fn template_of(name: &str) -> Result<Template, Refusal>
+    ensures { MatchResult result (λ template. template_of name.now ≡ Ok (seen template))
+        (λ why. template_of name.now ≡ Err (seen_refusal why)) }
+{
+    match template_named(name) {
+        Ok(template) => Ok(template),
+        Err(TemplateFault::Asymmetric) => Err(Refusal::AsymmetricTemplate),
+        Err(TemplateFault::Unknown) => Err(Refusal::UnknownTemplate),
+    }
+}
+
+/// The edit that the line asks for, or why it asks for none.
+#[tactic(auto, unfolding(crate::specs::Serving::serve))]
+fn command_of(line: &Line<'_>) -> Result<Command, Refusal>
+    requires no_keys { needs (seen_line line.now) ≡ None }
+    ensures { Asks (seen_line line.now) result }
+{
+    match line {
+        Line::Add(name) => Ok(Command::Add(template_of(name)?)),
+        Line::Rotate(name) => Ok(Command::Rotate(template_of(name)?)),
+        Line::Promote(id) => Ok(Command::Promote(*id)),
+        Line::Enable(id) => Ok(Command::Enable(*id)),
+        Line::Disable(id) => Ok(Command::Disable(*id)),
+        Line::Destroy(id) => Ok(Command::Destroy(*id)),
+        Line::Delete(id) => Ok(Command::Delete(*id)),
+        _ => Err(Refusal::BadLine),
+    }
+}
+
+/// The reply to an accepted edit that gave this keyset: the id of the key that it made, if any.
+fn edited_reply(command: &Command, keyset: &Keyset) -> Reply
+    ensures { seen_reply result ≡ edited_reply (seen_edit command.now) keyset.now }
+{
+    match command {
+        Command::Add(_) | Command::Rotate(_) => {
+            Reply::NewId(keyset.record_at(keyset.len() - 1).id)
+        }
+        _ => Reply::Done,
+    }
+}
+
+/// What came of an edit that gave no keyset.
+fn unedited(error: CmdError) -> Result<Reply, LineFault>
+    ensures { result ≡ unedited error }
+{
+    match error {
+        CmdError::Refused(fault) => Ok(Reply::Refuses(Refusal::EditRefused(fault))),
+        CmdError::EntropyFault => Err(LineFault::EntropyFault),
+        CmdError::NoMemory => Err(LineFault::NoMemory),
+    }
+}
+
+/// What came of a line whose keyset can't serve.
+fn unserved(fault: HandleFault) -> Result<Reply, LineFault>
+    ensures { result ≡ unserved fault }
+{
+    match fault {
+        HandleFault::NoManager(i) => Ok(Reply::Refuses(Refusal::NoManager(i))),
+        HandleFault::BadKey(i, rule) => Ok(Reply::Refuses(Refusal::BadKey(i, rule))),
+        HandleFault::NotRaw(i) => Ok(Reply::Refuses(Refusal::NotRaw(i))),
+        HandleFault::NoMemory => Err(LineFault::NoMemory),
+    }
+}
