@@ -1,0 +1,5 @@
+pub mod Laws
+pub mod Numbers
+pub mod Ready
+pub mod Telling
+pub mod Trial

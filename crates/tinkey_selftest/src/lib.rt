@@ -1,0 +1,14 @@
+//! The self-test: many session lines, made from one number, and what became of them.
+#![tactic(auto)]
+
+mod counts;
+pub mod laws;
+mod numbers;
+mod selftest;
+mod trial;
+
+pub use counts::{Counts, counts_text};
+pub use selftest::{SelfTestFault, self_test};
+
+#[cfg(test)]
+mod tests;
