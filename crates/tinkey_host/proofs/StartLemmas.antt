@@ -9,6 +9,7 @@ use Rattle.tinkey_run.specs.Promises.{Promised}
 use Rattle.tinkey_run.specs.declared.status.Status.{Status}
 use Rattle.tinkey_run.specs.declared.status.Status.TheVariants as status
 use Rattle.tinkey_run.proofs.PromiseLemmas.{promised}
+use Rattle.tinkey_run.specs.Readable.{IsReadable, SessionsAreReadable}
 use Rattle.tinkey_host.specs.Program.{start_plan}
 
 -- managers with the entries of the program's table have that table
@@ -24,3 +25,7 @@ started words old new s run = promised (allocates (plan_of standard_table words)
 
 pub starved : (words : List (List ℕ)) (old new : World) (s : Status) → s ≡ status.NoMemory → old ≡ new → Promised (start_plan words) old s new
 starved words old new s is same = promised (allocates (plan_of standard_table words)) old s new (inr (is, same))
+
+-- the answer over the plan that may want memory first is that of the words
+pub readable_start : SessionsAreReadable → (words : List (List ℕ)) (old new : World) (s : Status) → Promised (start_plan words) old s new → IsReadable standard_table words old s new
+readable_start law words old new s run = law standard_table words old s new (record { over = run.answer.over })

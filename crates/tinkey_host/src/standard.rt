@@ -4,6 +4,7 @@ ghost use Rattle.std.specs.Prelude.{◌≡◌, map, string_bytes};
 ghost use Rattle.managers.specs.Standard.{standard_table};
 ghost use Rattle.tinkey_run.specs.Ends.{world};
 ghost use Rattle.tinkey_run.specs.Promises.{Promised};
+ghost use Rattle.tinkey_run.specs.Readable.{IsReadable};
 ghost use Rattle.tinkey_run.specs.Status.{Reports};
 ghost use Rattle.tinkey_host.specs.Program.{start_plan, IsStarted};
 
@@ -15,13 +16,15 @@ use managers::{
 };
 use std::alloc::Global;
 use tink_base::{Entropy, NoMemory, Sink, Source, Store};
+use tinkey_run::laws::sessions_are_readable;
 use tinkey_run::{Status, run, starve};
 
 /// Runs the words over these objects, as `tinkey_run::run` does over a manager for each kind of key
 /// that isn't for streams, under the type URL of that kind.
 ///
 /// The promises are those of `run` over the table of these managers, but that `NoMemory` may come
-/// before any other step too.
+/// before any other step too. `readable`: what a session sealed or tagged it opens or verifies in a
+/// later line, while the keyset has the key, ENABLED, and what it wrote are the replies that say so.
 pub fn start<S: Source, K: Sink, G: Sink, E: Entropy, D: Store>(
     alloc: Global,
     words: &[String],
@@ -35,7 +38,11 @@ pub fn start<S: Source, K: Sink, G: Sink, E: Entropy, D: Store>(
         (world (S.state source.old) (K.state sink.old) (D.state store.old) (E.state entropy.old)) result
         (world (S.state source.new) (K.state sink.new) (D.state store.new) (E.state entropy.new)) }
     ensures line { Reports result (G.state diag.old) (G.state diag.new) }
+    ensures readable { IsReadable standard_table (map string_bytes words.now)
+        (world (S.state source.old) (K.state sink.old) (D.state store.old) (E.state entropy.old)) result
+        (world (S.state source.new) (K.state sink.new) (D.state store.new) (E.state entropy.new)) }
 {
+    sessions_are_readable();
     match with_prfs(alloc, words, source, sink, diag, entropy, store) {
         Ok(status) => status,
         Err(_) => starve(diag),

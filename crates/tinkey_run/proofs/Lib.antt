@@ -1,3 +1,4 @@
+pub mod FaultLemmas
 pub mod FitLemmas
 pub mod GrammarLemmas
 pub mod PromiseLemmas
@@ -10,3 +11,8 @@ pub mod UseLemmas
 pub mod TemplateLemmas
 pub mod WordLemmas
 pub mod WholeLemmas
+pub mod ReachLemmas
+pub mod ReadIdLemmas
+pub mod ReadableLemmas
+pub mod RunLemmas
+pub mod SelfTestLemmas

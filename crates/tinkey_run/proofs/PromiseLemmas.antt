@@ -1,221 +1,31 @@
 -- Each promise, proved once for every end of every plan.
-use Rattle.std.proofs.Common.{◌≡◌, ◌≢◌, ◌⊎◌, inl, inr, ℕ, ◌+◌, ◌<◌, ◌≤◌, List, [], ◌++◌, length, drop, refl, sym, ◌∙◌, ap, subst, arith, append-nil, length-append}
-use Rattle.std.specs.Prelude.{Option, Some, None, option_map, IfSome, Result, Ok, Err, nat_le, true, false}
+use Rattle.std.proofs.Common.{◌≡◌, ◌⊎◌, inl, inr, ℕ, ◌+◌, ◌<◌, ◌≤◌, List, [], ◌++◌, length, drop, refl, sym, ◌∙◌, ap, subst, arith, append-nil, length-append}
+use Rattle.std.specs.Prelude.{Option, Some, None, option_map, IfSome, Result, Ok, Err, nat_le, Bool, true, false}
 use Rattle.std.proofs.lemmas.List.{drop_at}
 use Rattle.std.proofs.lemmas.Bool.Decides.{nat_tests}
-use Rattle.tink_spec.specs.Outside.{SourceState, SinkState, EntropyState, Rose, Stood, Gave, GaveCount, Took, TookPrefix, Drew, IsAtEnd}
+use Rattle.tink_spec.specs.Outside.{SourceState, SinkState, EntropyState, Gave, GaveCount, Took, TookPrefix, Drew, IsAtEnd}
 use Rattle.tink_spec.specs.Files.{Files, StoreState, KeptFiles, Holds, HoldsSome, HoldsLonger, Added, AddedFront, MayAdd}
 use Rattle.std.specs.FinMap as map
-use Rattle.tink_spec.proofs.Moves.{gave_same, gave_more, took_same, drew_nothing, drew_more}
-use Rattle.segment_stream.specs.Opening.{StreamRefusal, too_many, failed}
+use Rattle.tink_spec.proofs.Moves.{gave_same, gave_more, took_same, took_more, drew_nothing, drew_more}
+use Rattle.segment_stream.specs.Opening.{StreamRefusal}
 use Rattle.segment_stream.specs.Pumping.{Part, Pumps, fault_of}
 use Rattle.segment_stream.specs.Pumping as pass
 use Rattle.segment_stream.specs.declared.fault.OpenPumpFault.{OpenPumpFault}
 use Rattle.segment_stream.specs.declared.fault.OpenPumpFault.TheVariants as faults
 use Rattle.tinkey_cmds.specs.Draws.{Draw, Drawn}
 use Rattle.tinkey_cmds.specs.declared.command.CmdFault.{CmdFault}
+use Rattle.keyset_model.specs.Keyset.{Keys}
+use Rattle.tinkey_session.specs.Talking.{Exchange, Talk, Stop, goes, wants, passes, Limit}
+use Rattle.tinkey_session.specs.Talks.{Sides, Talks, HasTalked, NoneRose, IsSteady, limit_fault}
+use Rattle.tinkey_session.specs.Talks as talks
+use Rattle.tinkey_session.specs.declared.talk.TalkFault.{TalkFault}
+use Rattle.tinkey_session.specs.declared.talk.TalkFault.TheVariants as talk_faults
 use Rattle.tinkey_run.specs.declared.status.Status.{Status}
 use Rattle.tinkey_run.specs.declared.status.Status.TheVariants as status
-use Rattle.tinkey_run.specs.Plan.{Plan, ends, writes, creates, allocates, loads, reads_all, draws, pumps, Told, Answer, answer, refused, stream_status, load_answer, create_answer, draw_answer, IsStated}
-use Rattle.tinkey_run.specs.Ends.{World, Ends, Settles, IsLasting, OnlyStreams, pump_status, OnlySource, OnlySink, OnlyStore, OnlyEntropy, loaded, load_absent, load_long, load_failed, load_starved, wrote, write_failed, made, name_taken, create_failed, create_starved, read, too_long, read_failed, read_starved, settled, draw_failed}
-use Rattle.tinkey_run.specs.Promises.{Tells, IsAnswer, Answers, HasCause, ShowsFaults, IsFront, nothing, IsPassLeft, pass_done, pass_refused, pass_unread, pass_unwritten, IsWhole, IsLeft, Leaves, IsTorn, Stands, NoneFailed, Completes, Promised}
-
--- a stated status is no fault, and no want of memory
-abbrev not_read_fault : (s : Status) → IsStated s → s ≡ status.ReadFault → ⊥
-not_read_fault s stated is = let h : IsStated status.ReadFault = rw is at stated in h
-
-abbrev not_write_fault : (s : Status) → IsStated s → s ≡ status.WriteFault → ⊥
-not_write_fault s stated is = let h : IsStated status.WriteFault = rw is at stated in h
-
-abbrev not_store_fault : (s : Status) → IsStated s → s ≡ status.StoreFault → ⊥
-not_store_fault s stated is = let h : IsStated status.StoreFault = rw is at stated in h
-
-abbrev not_entropy_fault : (s : Status) → IsStated s → s ≡ status.EntropyFault → ⊥
-not_entropy_fault s stated is = let h : IsStated status.EntropyFault = rw is at stated in h
-
-abbrev not_no_memory : (s : Status) → IsStated s → s ≡ status.NoMemory → ⊥
-not_no_memory s stated is = let h : IsStated status.NoMemory = rw is at stated in h
-
-rose_after : (a b c : ℕ) → a ≤ b → Rose b c → Rose a c
-rose_after a b c le (inl lt) = inl (omega arith)
-rose_after a b c le (inr last) = inr last
-
--- the status of a refused pass
-refusal_status : (refusal : StreamRefusal) → pump_status (Err (fault_of refusal)) ≡ stream_status refusal
-refusal_status too_many = refl
-refusal_status (failed number) = refl
-
-refusal_stated : (refusal : StreamRefusal) → IsStated (stream_status refusal)
-refusal_stated too_many = tt
-refusal_stated (failed number) = tt
-
--- the status of a pass with this result
-of_result : (s : Status) (result other : Result (Unit {0}) OpenPumpFault) → s ≡ pump_status result → result ≡ other → s ≡ pump_status other
-of_result s result other is same = is ∙ ap pump_status same
-
-of_refusal : (s : Status) (result : Result (Unit {0}) OpenPumpFault) (refusal : StreamRefusal) → s ≡ pump_status result → result ≡ Err (fault_of refusal) → s ≡ stream_status refusal
-of_refusal s result refusal is same = of_result s result (Err (fault_of refusal)) is same ∙ refusal_status refusal
-
--- The causes of faults.
-
-no_fault : (old new : World) (s : Status) → IsStated s → HasCause old s new
-no_fault old new s stated = record {
-  read = λ h. absurd (not_read_fault s stated h);
-  write = λ h. absurd (not_write_fault s stated h);
-  store = λ h. absurd (not_store_fault s stated h);
-  entropy = λ h. absurd (not_entropy_fault s stated h);
-}
-
--- want of memory is no fault
-starved_cause : (old new : World) (s : Status) → s ≡ status.NoMemory → HasCause old s new
-starved_cause old new s is = record { read = λ h. absurd (cc); write = λ h. absurd (cc); store = λ h. absurd (cc); entropy = λ h. absurd (cc) }
-
-store_cause : (old new : World) (s : Status) → s ≡ status.StoreFault → Rose old.store.faults new.store.faults → HasCause old s new
-store_cause old new s is rose = record { read = λ h. absurd (cc); write = λ h. absurd (cc); store = λ h. rose; entropy = λ h. absurd (cc) }
-
-pump_cause : (part : Part) (result : Result (Unit {0}) OpenPumpFault) (old : World) (s : Status) (new : World) → s ≡ pump_status result → Pumps part [] [] false result old.source new.source old.sink new.sink → HasCause old s new
-pump_cause part result old s new is (pass.pumped more out r gave follows end took o d) = no_fault old new s (rw (of_result s result (Ok tt) is r) tt)
-pump_cause part result old s new is (pass.refused more out ended refusal r gave follows end took o d) = no_fault old new s (rw (of_refusal s result refusal is r) (refusal_stated refusal))
-pump_cause part result old s new is (pass.unread more out r rose gave follows took o d) = let fault : s ≡ status.ReadFault = of_result s result (Err faults.ReadFault) is r in record { read = λ h. rose; write = λ h. absurd (cc); store = λ h. absurd (cc); entropy = λ h. absurd (cc) }
-pump_cause part result old s new is (pass.unwritten more out rest ended r rose gave follows end took some o) = let fault : s ≡ status.WriteFault = of_result s result (Err faults.WriteFault) is r in record { read = λ h. absurd (cc); write = λ h. rose; store = λ h. absurd (cc); entropy = λ h. absurd (cc) }
-
-pub has_cause : (p : Plan) (old : World) (s : Status) (new : World) → Ends p old s new → HasCause old s new
-has_cause (ends answered stated) old s new (is, same) = no_fault old new s (rw is stated)
-has_cause (writes output) old s new (wrote is only stood took) = no_fault old new s (rw is tt)
-has_cause (writes output) old s new (write_failed is only rose front) = record { read = λ h. absurd (cc); write = λ h. rose; store = λ h. absurd (cc); entropy = λ h. absurd (cc) }
-has_cause (creates name output taken stated) old s new (made is only stood added) = no_fault old new s (rw is tt)
-has_cause (creates name output taken stated) old s new (name_taken is only kept stood there) = no_fault old new s (rw is stated)
-has_cause (creates name output taken stated) old s new (create_failed is only rose may) = store_cause old new s is rose
-has_cause (creates name output taken stated) old s new (create_starved is only kept stood) = starved_cause old new s is
-has_cause (allocates next) old s new (inl run) = has_cause next old s new run
-has_cause (allocates next) old s new (inr (is, same)) = starved_cause old new s is
-has_cause (loads name limit absent long a l next) old s new (loaded bytes store kept stood within holds run) =
-    let later = has_cause (next bytes) (record old { store = store }) s new run in
-    record { read = later.read; write = later.write; store = λ h. rose_after _ _ _ kept.faults (later.store h); entropy = later.entropy }
-has_cause (loads name limit absent long a l next) old s new (load_absent is only kept stood holds) = no_fault old new s (rw is a)
-has_cause (loads name limit absent long a l next) old s new (load_long is only kept stood holds) = no_fault old new s (rw is l)
-has_cause (loads name limit absent long a l next) old s new (load_failed is only kept rose) = store_cause old new s is rose
-has_cause (loads name limit absent long a l next) old s new (load_starved is only kept stood) = starved_cause old new s is
-has_cause (reads_all limit long stated next) old s new (read all source gave stood within end run) =
-    let later = has_cause (next all) (record old { source = source }) s new run in
-    record { read = λ h. rose_after _ _ _ gave.faults (later.read h); write = later.write; store = later.store; entropy = later.entropy }
-has_cause (reads_all limit long stated next) old s new (too_long is only stood count) = no_fault old new s (rw is stated)
-has_cause (reads_all limit long stated next) old s new (read_failed is only rose upto) = record { read = λ h. rose; write = λ h. absurd (cc); store = λ h. absurd (cc); entropy = λ h. absurd (cc) }
-has_cause (reads_all limit long stated next) old s new (read_starved is only stood upto) = starved_cause old new s is
-has_cause (draws kind give next) old s new (settled drawn entropy given drew stood settles run) =
-    let later = has_cause (next given) (record old { entropy = entropy }) s new run in
-    record { read = later.read; write = later.write; store = later.store; entropy = λ h. rose_after _ _ _ drew.faults (later.entropy h) }
-has_cause (draws kind give next) old s new (draw_failed is only out) = record { read = λ h. absurd (cc); write = λ h. absurd (cc); store = λ h. absurd (cc); entropy = λ h. out.rose }
-has_cause (pumps part) old s new e = pump_cause part e.result old s new e.status e.pass
-
--- No fault is hidden.
-
-source_stood : (old new : World) → old.source ≡ new.source → Stood old.source.faults new.source.faults
-source_stood old new same = sym (ap (λ (x : SourceState). x.faults) same)
-
-sink_stood : (old new : World) → old.sink ≡ new.sink → Stood old.sink.faults new.sink.faults
-sink_stood old new same = sym (ap (λ (x : SinkState). x.faults) same)
-
-store_stood : (old new : World) → old.store ≡ new.store → Stood old.store.faults new.store.faults
-store_stood old new same = sym (ap (λ (x : StoreState). x.faults) same)
-
-entropy_stood : (old new : World) → old.entropy ≡ new.entropy → Stood old.entropy.faults new.entropy.faults
-entropy_stood old new same = sym (ap (λ (x : EntropyState). x.faults) same)
-
--- no object has failed
-all_stood : (old new : World) (s : Status) → old ≡ new → ShowsFaults old s new
-all_stood old new s same = record {
-  read = λ other. source_stood old new (ap (λ (w : World). w.source) same);
-  write = λ other. sink_stood old new (ap (λ (w : World). w.sink) same);
-  store = λ other. store_stood old new (ap (λ (w : World). w.store) same);
-  entropy = λ other. entropy_stood old new (ap (λ (w : World). w.entropy) same);
-}
-
--- the one object that was used hasn't failed, or the status says so
-sink_shown : (old new : World) (s : Status) → OnlySink old new → (s ≢ status.WriteFault → Stood old.sink.faults new.sink.faults) → ShowsFaults old s new
-sink_shown old new s only stood = record { read = λ other. source_stood old new only.source; write = stood; store = λ other. store_stood old new only.store; entropy = λ other. entropy_stood old new only.entropy }
-
-store_shown : (old new : World) (s : Status) → OnlyStore old new → (s ≢ status.StoreFault → Stood old.store.faults new.store.faults) → ShowsFaults old s new
-store_shown old new s only stood = record { read = λ other. source_stood old new only.source; write = λ other. sink_stood old new only.sink; store = stood; entropy = λ other. entropy_stood old new only.entropy }
-
-source_shown : (old new : World) (s : Status) → OnlySource old new → (s ≢ status.ReadFault → Stood old.source.faults new.source.faults) → ShowsFaults old s new
-source_shown old new s only stood = record { read = stood; write = λ other. sink_stood old new only.sink; store = λ other. store_stood old new only.store; entropy = λ other. entropy_stood old new only.entropy }
-
-entropy_shown : (old new : World) (s : Status) → OnlyEntropy old new → (s ≢ status.EntropyFault → Stood old.entropy.faults new.entropy.faults) → ShowsFaults old s new
-entropy_shown old new s only stood = record { read = λ other. source_stood old new only.source; write = λ other. sink_stood old new only.sink; store = λ other. store_stood old new only.store; entropy = stood }
-
-pump_shown : (result : Result (Unit {0}) OpenPumpFault) (old : World) (s : Status) (new : World) → s ≡ pump_status result → OnlyStreams old new → pass.ShowsFaults result old.source new.source old.sink new.sink → ShowsFaults old s new
-pump_shown (Ok done) old s new is only shown = record { read = λ other. shown.0; write = λ other. shown.1; store = λ other. store_stood old new only.store; entropy = λ other. entropy_stood old new only.entropy }
-pump_shown (Err faults.ReadFault) old s new is only shown = record { read = λ other. absurd (other is); write = λ other. shown; store = λ other. store_stood old new only.store; entropy = λ other. entropy_stood old new only.entropy }
-pump_shown (Err faults.WriteFault) old s new is only shown = record { read = λ other. shown; write = λ other. absurd (other is); store = λ other. store_stood old new only.store; entropy = λ other. entropy_stood old new only.entropy }
-pump_shown (Err faults.TooManySegments) old s new is only shown = record { read = λ other. shown.0; write = λ other. shown.1; store = λ other. store_stood old new only.store; entropy = λ other. entropy_stood old new only.entropy }
-pump_shown (Err (faults.StreamFailed number)) old s new is only shown = record { read = λ other. shown.0; write = λ other. shown.1; store = λ other. store_stood old new only.store; entropy = λ other. entropy_stood old new only.entropy }
-
-pub shows_faults : (p : Plan) (old : World) (s : Status) (new : World) → Ends p old s new → ShowsFaults old s new
-shows_faults (ends answered stated) old s new (is, same) = all_stood old new s same
-shows_faults (writes output) old s new (wrote is only stood took) = sink_shown old new s only (λ other. stood)
-shows_faults (writes output) old s new (write_failed is only rose front) = sink_shown old new s only (λ other. absurd (other is))
-shows_faults (creates name output taken stated) old s new (made is only stood added) = store_shown old new s only (λ other. stood)
-shows_faults (creates name output taken stated) old s new (name_taken is only kept stood there) = store_shown old new s only (λ other. stood)
-shows_faults (creates name output taken stated) old s new (create_failed is only rose may) = store_shown old new s only (λ other. absurd (other is))
-shows_faults (creates name output taken stated) old s new (create_starved is only kept stood) = store_shown old new s only (λ other. stood)
-shows_faults (allocates next) old s new (inl run) = shows_faults next old s new run
-shows_faults (allocates next) old s new (inr (is, same)) = all_stood old new s same
-shows_faults (loads name limit absent long a l next) old s new (loaded bytes store kept stood within holds run) =
-    let later = shows_faults (next bytes) (record old { store = store }) s new run in
-    record { read = later.read; write = later.write; store = λ other. later.store other ∙ stood; entropy = later.entropy }
-shows_faults (loads name limit absent long a l next) old s new (load_absent is only kept stood holds) = store_shown old new s only (λ other. stood)
-shows_faults (loads name limit absent long a l next) old s new (load_long is only kept stood holds) = store_shown old new s only (λ other. stood)
-shows_faults (loads name limit absent long a l next) old s new (load_failed is only kept rose) = store_shown old new s only (λ other. absurd (other is))
-shows_faults (loads name limit absent long a l next) old s new (load_starved is only kept stood) = store_shown old new s only (λ other. stood)
-shows_faults (reads_all limit long stated next) old s new (read all source gave stood within end run) =
-    let later = shows_faults (next all) (record old { source = source }) s new run in
-    record { read = λ other. later.read other ∙ stood; write = later.write; store = later.store; entropy = later.entropy }
-shows_faults (reads_all limit long stated next) old s new (too_long is only stood count) = source_shown old new s only (λ other. stood)
-shows_faults (reads_all limit long stated next) old s new (read_failed is only rose upto) = source_shown old new s only (λ other. absurd (other is))
-shows_faults (reads_all limit long stated next) old s new (read_starved is only stood upto) = source_shown old new s only (λ other. stood)
-shows_faults (draws kind give next) old s new (settled drawn entropy given drew stood settles run) =
-    let later = shows_faults (next given) (record old { entropy = entropy }) s new run in
-    record { read = later.read; write = later.write; store = later.store; entropy = λ other. later.entropy other ∙ stood }
-shows_faults (draws kind give next) old s new (draw_failed is only out) = entropy_shown old new s only (λ other. absurd (other is))
-shows_faults (pumps part) old s new e = pump_shown e.result old s new e.status e.only e.shown
-
--- Completeness.
-
-pump_stated : (part : Part) (result : Result (Unit {0}) OpenPumpFault) (old : World) (s : Status) (new : World) → s ≡ pump_status result → Pumps part [] [] false result old.source new.source old.sink new.sink → NoneFailed old new → IsStated s
-pump_stated part result old s new is (pass.pumped more out r gave follows end took o d) none = rw (of_result s result (Ok tt) is r) tt
-pump_stated part result old s new is (pass.refused more out ended refusal r gave follows end took o d) none = rw (of_refusal s result refusal is r) (refusal_stated refusal)
-pump_stated part result old s new is (pass.unread more out r rose gave follows took o d) none = absurd (none.read rose)
-pump_stated part result old s new is (pass.unwritten more out rest ended r rose gave follows end took some o) none = absurd (none.write rose)
-
-completes_from : (p : Plan) (old : World) (s : Status) (new : World) → Ends p old s new → NoneFailed old new → s ≢ status.NoMemory → IsStated s
-completes_from (ends answered stated) old s new (is, same) none memory = rw is stated
-completes_from (writes output) old s new (wrote is only stood took) none memory = rw is tt
-completes_from (writes output) old s new (write_failed is only rose front) none memory = absurd (none.write rose)
-completes_from (creates name output taken stated) old s new (made is only stood added) none memory = rw is tt
-completes_from (creates name output taken stated) old s new (name_taken is only kept stood there) none memory = rw is stated
-completes_from (creates name output taken stated) old s new (create_failed is only rose may) none memory = absurd (none.store rose)
-completes_from (creates name output taken stated) old s new (create_starved is only kept stood) none memory = absurd (memory is)
-completes_from (allocates next) old s new (inl run) none memory = completes_from next old s new run none memory
-completes_from (allocates next) old s new (inr (is, same)) none memory = absurd (memory is)
-completes_from (loads name limit absent long a l next) old s new (loaded bytes store kept stood within holds run) none memory =
-    completes_from (next bytes) (record old { store = store }) s new run (record { read = none.read; write = none.write; store = λ rose. none.store (rose_after _ _ _ kept.faults rose); entropy = none.entropy }) memory
-completes_from (loads name limit absent long a l next) old s new (load_absent is only kept stood holds) none memory = rw is a
-completes_from (loads name limit absent long a l next) old s new (load_long is only kept stood holds) none memory = rw is l
-completes_from (loads name limit absent long a l next) old s new (load_failed is only kept rose) none memory = absurd (none.store rose)
-completes_from (loads name limit absent long a l next) old s new (load_starved is only kept stood) none memory = absurd (memory is)
-completes_from (reads_all limit long stated next) old s new (read all source gave stood within end run) none memory =
-    completes_from (next all) (record old { source = source }) s new run (record { read = λ rose. none.read (rose_after _ _ _ gave.faults rose); write = none.write; store = none.store; entropy = none.entropy }) memory
-completes_from (reads_all limit long stated next) old s new (too_long is only stood count) none memory = rw is stated
-completes_from (reads_all limit long stated next) old s new (read_failed is only rose upto) none memory = absurd (none.read rose)
-completes_from (reads_all limit long stated next) old s new (read_starved is only stood upto) none memory = absurd (memory is)
-completes_from (draws kind give next) old s new (settled drawn entropy given drew stood settles run) none memory =
-    completes_from (next given) (record old { entropy = entropy }) s new run (record { read = none.read; write = none.write; store = none.store; entropy = λ rose. none.entropy (rose_after _ _ _ drew.faults rose) }) memory
-completes_from (draws kind give next) old s new (draw_failed is only out) none memory = absurd (none.entropy out.rose)
-completes_from (pumps part) old s new e none memory = pump_stated part e.result old s new e.status e.pass none
-
-pub completes : (p : Plan) (old : World) (s : Status) (new : World) → Ends p old s new → Completes old s new
-completes p old s new run = record { stated = completes_from p old s new run }
+use Rattle.tinkey_run.specs.Plan.{Plan, ends, writes, creates, allocates, loads, reads_all, draws, pumps, exchanges, Told, Answer, answer, refused, stream_status, limit_status, talk_answer, load_answer, create_answer, draw_answer, IsStated}
+use Rattle.tinkey_run.specs.Ends.{World, Ends, Settles, IsLasting, OnlyStreams, pump_status, OnlySource, OnlySink, OnlyStore, loaded, load_absent, load_long, load_failed, load_starved, wrote, write_failed, made, name_taken, create_failed, create_starved, read, too_long, read_failed, read_starved, settled, draw_failed, talk_status, sides_of, exchanged, exchange_ended}
+use Rattle.tinkey_run.specs.Promises.{Tells, IsAnswer, Answers, IsFront, Moved, nothing, IsPassLeft, pass_done, pass_refused, pass_unread, pass_unwritten, HasReplied, IsTalkLeft, talk_passed, talk_unread, talk_undrawn, talk_unwritten, talk_starved, then_moved, IsWhole, IsLeft, Leaves, IsTorn, Stands, Promised}
+use Rattle.tinkey_run.proofs.FaultLemmas.{not_read_fault, not_write_fault, not_store_fault, not_entropy_fault, not_no_memory, of_result, of_refusal, of_fault, of_limit, went, Went, has_cause, shows_faults, completes}
 
 -- The stated answer.
 
@@ -364,6 +174,61 @@ pump_answers part result old s new lasting is only (pass.refused more out false 
 pump_answers part result old s new lasting is only (pass.unread more out r rose gave follows took o d) told tells ok = absurd (not_read_fault s ok (of_result s result (Err faults.ReadFault) is r))
 pump_answers part result old s new lasting is only (pass.unwritten more out rest ended r rose gave follows end took some o) told tells ok = absurd (not_write_fault s ok (of_result s result (Err faults.WriteFault) is r))
 
+-- the answer from a session on
+abbrev talk_on : (next : Keys → Plan) → Told → Talk → Answer
+talk_on next told x = talk_answer x.stop x told (answer (next x.keys) (record told { input = []; random = x.random }))
+
+-- a session that is told random bytes behind those it uses
+with_more : (exchange : Exchange) (taken drawn rest : List ℕ) (ended : Bool) (stop : Stop) → IsSteady exchange → (exchange taken drawn ended).stop ≡ stop → (stop ≡ wants → ⊥) → (exchange taken drawn ended).random ≡ [] → exchange taken (drawn ++ rest) ended ≡ record (exchange taken drawn ended) { random = rest }
+with_more exchange taken drawn rest ended stop steady stands never used =
+    steady.random taken drawn rest ended (λ h. never (sym stands ∙ h)) ∙ ap (λ (r : List ℕ). record (exchange taken drawn ended) { random = r ++ rest }) used
+
+-- the whole input and these random bytes are told
+exchange_told : (exchange : Exchange) (told : Told) (input random : List ℕ) (x : Talk) → told.input ≡ input → told.random ≡ random → exchange input random true ≡ x → exchange told.input told.random true ≡ x
+exchange_told exchange told input random x one two is = ap (λ (l : List ℕ). exchange l told.random true) one ∙ ap (λ (l : List ℕ). exchange input l true) two ∙ is
+
+-- behind a session that came to the end of its input, over what is told
+record IsTold (exchange : Exchange) (next : Keys → Plan) (keys : Keys) (out : List ℕ) (mid : World) (told : Told) : Type 0 where
+  rest : List ℕ
+  tells : Tells mid (record told { input = []; random = rest })
+  is : answer (exchanges exchange next) told ≡ (let later = answer (next keys) (record told { input = []; random = rest }) in record later { output = out ++ later.output })
+
+is_told : (exchange : Exchange) (next : Keys → Plan) (keys : Keys) (old mid : World) (told : Told) (w : Went exchange keys (sides_of old) (sides_of mid)) → old.store ≡ mid.store → IsSteady exchange → Tells old told → IsTold exchange next keys (exchange w.taken w.drawn true).output mid told
+is_told exchange next keys old mid told w store steady tells =
+    let x = exchange w.taken w.drawn true in
+    let whole = whole_input old.source mid.source told.input w.taken tells.input w.has.gave (w.has.end refl) in
+    let split = split_told mid.entropy.left old.entropy.left told.random w.drawn tells.random w.has.drew.left in
+    let same : exchange told.input told.random true ≡ record x { random = split.0 } = exchange_told exchange told w.taken (w.drawn ++ split.0) _ whole.1 split.2 (with_more exchange w.taken w.drawn split.0 true goes steady w.has.stands (λ h. absurd (cc)) w.has.used) in
+    record {
+      rest = split.0;
+      tells = record { input = whole.0; files = files_told old mid told tells store; random = split.1 };
+      is = ap (λ (y : Talk). talk_on next told y) same
+          ∙ ap (λ (stop : Stop). talk_answer stop (record x { random = split.0 }) told (answer (next x.keys) (record told { input = []; random = split.0 }))) w.has.stands
+          ∙ ap (λ (k : Keys). let later = answer (next k) (record told { input = []; random = split.0 }) in record later { output = x.output ++ later.output }) (sym w.last);
+    }
+
+-- a session past a limit, over what is told
+passed_talk : (exchange : Exchange) (next : Keys → Plan) (limit : Limit) (taken drawn : List ℕ) (told : Told) (old : World) (s : Status) (new : World) → s ≡ limit_status limit → HasTalked exchange taken drawn false (passes limit) (sides_of old) (sides_of new) → old.store ≡ new.store → IsSteady exchange → Tells old told → IsAnswer (answer (exchanges exchange next) told) old s new
+passed_talk exchange next limit taken drawn told old s new is has store steady tells =
+    let x = exchange taken drawn false in
+    let input = split_told new.source.left old.source.left told.input taken tells.input has.gave.left in
+    let random = split_told new.entropy.left old.entropy.left told.random drawn tells.random has.drew.left in
+    let more = with_more exchange taken drawn random.0 false (passes limit) steady has.stands (λ h. absurd (cc)) has.used in
+    let lasts = steady.lasts taken input.0 (drawn ++ random.0) limit (ap (λ (y : Talk). y.stop) more ∙ has.stands) in
+    let same : exchange told.input told.random true ≡ record x { random = random.0 } = exchange_told exchange told (taken ++ input.0) (drawn ++ random.0) _ input.2 random.2 (lasts ∙ more) in
+    let e : answer (exchanges exchange next) told ≡ record (refused told (limit_status limit)) { input = None; output = x.output; random = random.0 } =
+    ap (λ (y : Talk). talk_on next told y) same
+    ∙ ap (λ (stop : Stop). talk_answer stop (record x { random = random.0 }) told (answer (next x.keys) (record told { input = []; random = random.0 }))) has.stands in
+    subst (λ (a : Answer). IsAnswer a old s new) (sym e) (record { status = is; input = tt; output = has.took; files = files_told old new told tells store; random = random.1 })
+
+talk_answers : (exchange : Exchange) (next : Keys → Plan) (fault : TalkFault) (told : Told) (old : World) (s : Status) (new : World) → s ≡ talk_status fault → Talks exchange (Err fault) (sides_of old) (sides_of new) → old.store ≡ new.store → IsSteady exchange → Tells old told → IsStated s → IsAnswer (answer (exchanges exchange next) told) old s new
+talk_answers exchange next fault told old s new is (talks.talked taken drawn r has none) store steady tells ok = absurd (cc)
+talk_answers exchange next fault told old s new is (talks.passed taken drawn limit r has none) store steady tells ok = passed_talk exchange next limit taken drawn told old s new (of_limit s fault limit is r) has store steady tells
+talk_answers exchange next fault told old s new is (talks.unread taken drawn r has rose sink entropy) store steady tells ok = absurd (not_read_fault s ok (of_fault s fault talk_faults.ReadFault is r))
+talk_answers exchange next fault told old s new is (talks.undrawn taken drawn ended r has rose source sink) store steady tells ok = absurd (not_entropy_fault s ok (of_fault s fault talk_faults.EntropyFault is r))
+talk_answers exchange next fault told old s new is (talks.unwritten taken drawn ended r gave drew front end rose source entropy) store steady tells ok = absurd (not_write_fault s ok (of_fault s fault talk_faults.WriteFault is r))
+talk_answers exchange next fault told old s new is (talks.starved taken more drawn part r gave drew took stop none) store steady tells ok = absurd (not_no_memory s ok (of_fault s fault talk_faults.NoMemory is r))
+
 answers_over : (p : Plan) (old : World) (s : Status) (new : World) → Ends p old s new → (told : Told) → Tells old told → IsStated s → IsAnswer (answer p told) old s new
 answers_over (ends answered stated) old s new (is, same) told tells ok = used_none told answered s old new is tells same
 answers_over (writes output) old s new (wrote is only stood took) told tells ok = record {
@@ -423,6 +288,13 @@ answers_over (draws kind give next) old s new (settled drawn entropy given drew 
     (record { status = later.status; input = later.input; output = later.output; files = later.files; random = later.random })
 answers_over (draws kind give next) old s new (draw_failed is only out) told tells ok = absurd (not_entropy_fault s ok is)
 answers_over (pumps part) old s new e told tells ok = pump_answers part e.result old s new e.lasting e.status e.only e.pass told tells ok
+answers_over (exchanges exchange next) old s new (exchanged keys mid talk store steady run) told tells ok =
+    let w = went exchange keys (sides_of old) (sides_of mid) talk in
+    let after = is_told exchange next keys old mid told w store steady tells in
+    let later = answers_over (next keys) mid s new run (record told { input = []; random = after.rest }) after.tells ok in
+    subst (λ (a : Answer). IsAnswer a old s new) (sym after.is)
+    (record { status = later.status; input = later.input; output = took_more _ _ _ _ _ w.has.took later.output; files = later.files; random = later.random })
+answers_over (exchanges exchange next) old s new (exchange_ended fault is talk store steady) told tells ok = talk_answers exchange next fault told old s new is talk store steady tells ok
 
 pub answers : (p : Plan) (old : World) (s : Status) (new : World) → Ends p old s new → Answers p old s new
 answers p old s new run = record { over = answers_over p old s new run }
@@ -446,27 +318,36 @@ added_later old mid new name bytes kept front = record {
   };
 }
 
+-- the answer goes on so, with the same status and files
+record GoesOn (p rest : Plan) (mid : World) (told : Told) : Type 0 where
+  later : Told
+  tells : Tells mid later
+  same : later.files ≡ told.files
+  status : (answer p told).status ≡ (answer rest later).status
+  files : (answer p told).files ≡ (answer rest later).files
+
+-- a file that may be there, where the store failed behind a step that kept all files
+torn_behind : (p rest : Plan) (old mid new : World) → KeptFiles old.store mid.store → ((told : Told) → Tells old told → GoesOn p rest mid told) → KeptFiles mid.store new.store ⊎ IsTorn rest mid new → KeptFiles old.store new.store ⊎ IsTorn p old new
+torn_behind p rest old mid new kept ahead (inl files) = inl (kept_twice _ _ _ kept files)
+torn_behind p rest old mid new kept ahead (inr t) = inr (record {
+  name = t.name;
+  bytes = t.bytes;
+  added = added_later _ _ _ t.name t.bytes kept t.added;
+  answered = λ told tells. let a = ahead told tells in a.status ∙ t.answered a.later a.tells;
+  files = λ told tells. let a = ahead told tells in a.files ∙ t.files a.later a.tells ∙ ap (λ (f : Files). map.insert f t.name t.bytes) a.same;
+})
+
 -- what stands behind a step that has used this object alone, where the answer goes on so
 goes_on : (p rest : Plan) (old mid : World) (s : Status) (new : World) → (IsWhole p → IsWhole rest) → KeptFiles old.store mid.store → old.sink ≡ mid.sink → ((told : Told) → Tells old told → (later : Told) × Tells mid later × (later.files ≡ told.files) × (answer p told ≡ answer rest later)) → Stands rest mid s new → Stands p old s new
 goes_on p rest old mid s new still kept sink ahead later = record {
   files = λ done fault. kept_twice _ _ _ kept (later.files done fault);
-  torn = λ h. torn (later.torn h);
+  torn = λ h. torn_behind p rest old mid new kept (λ told tells. let a = ahead told tells in record { later = a.0; tells = a.1; same = a.2; status = ap (λ (r : Answer). r.status) a.3; files = ap (λ (r : Answer). r.files) a.3 }) (later.torn h);
   kept = λ whole done fault. subst (λ (x : SinkState). Took x new.sink []) (sym sink) (later.kept (still whole) done fault);
   front = λ whole h told tells. let a = ahead told tells in
       subst (λ (x : SinkState). TookPrefix x new.sink (answer p told).output) (sym sink)
       (subst (λ (r : Answer). TookPrefix mid.sink new.sink r.output) (sym a.3) (later.front (still whole) h a.0 a.1));
   last = λ whole h told tells. let a = ahead told tells in ap (λ (r : Answer). r.status) a.3 ∙ later.last (still whole) h a.0 a.1;
 }
-  where
-    torn : KeptFiles mid.store new.store ⊎ IsTorn rest mid new → KeptFiles old.store new.store ⊎ IsTorn p old new
-    torn (inl files) = inl (kept_twice _ _ _ kept files)
-    torn (inr t) = inr (record {
-      name = t.name;
-      bytes = t.bytes;
-      added = added_later _ _ _ t.name t.bytes kept t.added;
-      answered = λ told tells. let a = ahead told tells in ap (λ (r : Answer). r.status) a.3 ∙ t.answered a.0 a.1;
-      files = λ told tells. let a = ahead told tells in ap (λ (r : Answer). r.files) a.3 ∙ t.files a.0 a.1 ∙ ap (λ (f : Files). map.insert f t.name t.bytes) a.2;
-    })
 
 -- the file may be there, where the store failed
 torn_file : (name output : List ℕ) (taken : Status) (stated : IsStated taken) (old new : World) → MayAdd old.store new.store name output → KeptFiles old.store new.store ⊎ IsTorn (creates name output taken stated) old new
@@ -475,12 +356,12 @@ torn_file name output taken stated old new (inr front) = inr (record {
   name = name;
   bytes = output;
   added = front;
-  answered = λ told tells. ap (λ (a : Answer). a.status) (goes told tells);
-  files = λ told tells. ap (λ (a : Answer). a.files) (goes told tells);
+  answered = λ told tells. ap (λ (a : Answer). a.status) (is told tells);
+  files = λ told tells. ap (λ (a : Answer). a.files) (is told tells);
 })
   where
-    goes : (told : Told) → Tells old told → answer (creates name output taken stated) told ≡ record (refused told status.Done) { files = map.insert told.files name output }
-    goes told tells = made_answer _ told name output _ (file_told old.store told.files name None tells.files front.added.absent)
+    is : (told : Told) → Tells old told → answer (creates name output taken stated) told ≡ record (refused told status.Done) { files = map.insert told.files name output }
+    is told tells = made_answer _ told name output _ (file_told old.store told.files name None tells.files front.added.absent)
 
 pub stands : (p : Plan) (old : World) (s : Status) (new : World) → Ends p old s new → Stands p old s new
 stands (ends answered stated) old s new (is, same) = untouched (ends answered stated) old s new (λ h. not_write_fault answered stated (sym is ∙ h)) (ap (λ (w : World). w.sink) same) (same_files _ _ (ap (λ (w : World). w.store) same))
@@ -524,6 +405,18 @@ stands (draws kind give next) old s new (settled drawn entropy given drew stood 
     (record told { random = split.0 }, record { input = tells.input; files = tells.files; random = split.1 }, refl, settled_answer give drawn split.0 told.random given _ (λ x. answer (next x.answer) (record told { random = x.left })) settles split.2))
     (stands (next given) (record old { entropy = entropy }) s new run)
 stands (draws kind give next) old s new (draw_failed is only out) = untouched (draws kind give next) old s new (λ h. absurd (cc)) only.sink (same_files _ _ only.store)
+stands (exchanges exchange next) old s new (exchanged keys mid talk store steady run) =
+    let w = went exchange keys (sides_of old) (sides_of mid) talk in
+    let kept = same_files old.store mid.store store in
+    let later = stands (next keys) mid s new run in
+    record {
+      files = λ done fault. kept_twice _ _ _ kept (later.files done fault);
+      torn = λ h. torn_behind (exchanges exchange next) (next keys) old mid new kept (λ told tells. let after = is_told exchange next keys old mid told w store steady tells in record { later = record told { input = []; random = after.rest }; tells = after.tells; same = refl; status = ap (λ (a : Answer). a.status) after.is; files = ap (λ (a : Answer). a.files) after.is }) (later.torn h);
+      kept = λ whole. absurd whole;
+      front = λ whole. absurd whole;
+      last = λ whole. absurd whole;
+    }
+stands (exchanges exchange next) old s new (exchange_ended fault is talk store steady) = record { files = λ done fault. same_files _ _ store; torn = λ h. inl (same_files _ _ store); kept = λ whole. absurd whole; front = λ whole. absurd whole; last = λ whole. absurd whole }
 stands (pumps part) old s new e = record { files = λ done fault. same_files _ _ e.only.store; torn = λ h. inl (same_files _ _ e.only.store); kept = λ whole. absurd whole; front = λ whole. absurd whole; last = λ whole. absurd whole }
 
 -- What was taken, drawn and written.
@@ -569,6 +462,36 @@ pump_leaves part result old s new is only (pass.refused more out ended refusal r
 pump_leaves part result old s new is only (pass.unread more out r rose gave follows took o d) = passed part old s new more out only gave took (pass_unread (of_result s result (Err faults.ReadFault) is r) d o)
 pump_leaves part result old s new is only (pass.unwritten more out rest ended r rose gave follows end took some o) = passed part old s new more out only gave took (pass_unwritten ended (of_result s result (Err faults.WriteFault) is r) (record { rest = rest; some = some; is = o }))
 
+-- what a session took, drew and wrote
+talk_left : (exchange : Exchange) (next : Keys → Plan) (old : World) (s : Status) (new : World) (taken drawn : List ℕ) (ended : Bool) (stop : Stop) → HasTalked exchange taken drawn ended stop (sides_of old) (sides_of new) → (HasReplied exchange (record { taken = taken; drawn = drawn; written = (exchange taken drawn ended).output }) ended stop → IsTalkLeft exchange s (record { taken = taken; drawn = drawn; written = (exchange taken drawn ended).output })) → Leaves (exchanges exchange next) old s new
+talk_left exchange next old s new taken drawn ended stop has is = record {
+  moved = record { taken = taken; drawn = drawn; written = (exchange taken drawn ended).output };
+  gave = has.gave;
+  drew = has.drew;
+  took = has.took;
+  is = inl (is (record { stands = has.stands; used = has.used; written = refl }));
+}
+
+talk_leaves : (exchange : Exchange) (next : Keys → Plan) (fault : TalkFault) (old : World) (s : Status) (new : World) → s ≡ talk_status fault → Talks exchange (Err fault) (sides_of old) (sides_of new) → Leaves (exchanges exchange next) old s new
+talk_leaves exchange next fault old s new is (talks.talked taken drawn r has none) = absurd (cc)
+talk_leaves exchange next fault old s new is (talks.passed taken drawn limit r has none) = talk_left exchange next old s new taken drawn false (passes limit) has (λ h. talk_passed limit (of_limit s fault limit is r) h)
+talk_leaves exchange next fault old s new is (talks.unread taken drawn r has rose sink entropy) = talk_left exchange next old s new taken drawn false goes has (λ h. talk_unread (of_fault s fault talk_faults.ReadFault is r) h)
+talk_leaves exchange next fault old s new is (talks.undrawn taken drawn ended r has rose source sink) = talk_left exchange next old s new taken drawn ended wants has (λ h. talk_undrawn ended (of_fault s fault talk_faults.EntropyFault is r) h)
+talk_leaves exchange next fault old s new is (talks.unwritten taken drawn ended r gave drew front end rose source entropy) = record {
+  moved = record { taken = taken; drawn = drawn; written = front.front };
+  gave = gave;
+  drew = drew;
+  took = front.took;
+  is = inl (talk_unwritten ended (of_fault s fault talk_faults.WriteFault is r) (front_of _ _ _ front));
+}
+talk_leaves exchange next fault old s new is (talks.starved taken more drawn part r gave drew took stop none) = record {
+  moved = record { taken = taken ++ more; drawn = drawn ++ part; written = (exchange taken drawn false).output };
+  gave = gave;
+  drew = drew;
+  took = took;
+  is = inl (talk_starved taken more drawn part (of_fault s fault talk_faults.NoMemory is r) refl refl stop refl);
+}
+
 pub leaves : (p : Plan) (old : World) (s : Status) (new : World) → Ends p old s new → Leaves p old s new
 leaves (ends answered stated) old s new (is, same) = none_moved _ old s new same (is, refl)
 leaves (writes output) old s new (wrote is only stood took) = some_written _ old s new output took only (inl (is, refl))
@@ -597,6 +520,26 @@ leaves (draws kind give next) old s new (settled drawn entropy given drew stood 
     record { moved = record later.moved { drawn = drawn ++ later.moved.drawn }; gave = later.gave; drew = drew_more _ _ _ _ _ drew later.drew; took = later.took; is = inr (drawn, later.moved.drawn, given, refl, settles, later.is) }
 leaves (draws kind give next) old s new (draw_failed is only out) = record { moved = record nothing { drawn = out.drawn }; gave = gave_same _ _ only.source; drew = out.drew; took = took_same _ _ only.sink; is = inl (is, out.undecided, refl) }
 leaves (pumps part) old s new e = pump_leaves part e.result old s new e.status e.only e.pass
+leaves (exchanges exchange next) old s new (exchanged keys mid talk store steady run) =
+    let w = went exchange keys (sides_of old) (sides_of mid) talk in
+    let x = exchange w.taken w.drawn true in
+    let later = leaves (next keys) mid s new run in
+    let first : Moved = record { taken = w.taken; drawn = w.drawn; written = x.output } in
+    record {
+      moved = then_moved first later.moved;
+      gave = gave_more _ _ _ _ _ w.has.gave later.gave;
+      drew = drew_more _ _ _ _ _ w.has.drew later.drew;
+      took = took_more _ _ _ _ _ w.has.took later.took;
+      is = inr (
+        first,
+        later.moved,
+        refl,
+        record { stands = w.has.stands; used = w.has.used; written = refl },
+        subst (λ (k : Keys). IsLeft (next k) old.store.files s later.moved) w.last
+            (subst (λ (x : StoreState). IsLeft (next keys) x.files s later.moved) (sym store) later.is),
+      );
+    }
+leaves (exchanges exchange next) old s new (exchange_ended fault is talk store steady) = talk_leaves exchange next fault old s new is talk
 
 pub promised : (p : Plan) (old : World) (s : Status) (new : World) → Ends p old s new → Promised p old s new
 promised p old s new run = record {

@@ -21,9 +21,9 @@ use Rattle.tinkey_run.specs.declared.words.rows.Form.TheVariants as forms
 use Rattle.tinkey_run.specs.declared.words.rows.OptionName.{OptionName}
 use Rattle.tinkey_run.specs.declared.words.rows.OptionName.TheVariants as options
 use Rattle.hex.specs.Hex.{is_hex_digit}
-use Rattle.tinkey_run.specs.Rows.{row_of, all_commands, command_of, option_row, all_options, option_of, rival, same, datum_limit, digits_after, is_number, number_of, format_of, is_hex, is_value}
+use Rattle.tinkey_run.specs.Rows.{row_of, all_commands, command_of, option_row, all_options, option_of, rival, same, datum_limit, digits_after, is_number, is_line_count, most_lines, number_of, format_of, is_hex, is_value}
 use Rattle.tinkey_run.specs.Words.{is_equals, own_value}
-use Rattle.tinkey_run.specs.Grammar.{IsHex, IsNumber, IsValue}
+use Rattle.tinkey_run.specs.Grammar.{IsHex, IsLineCount, IsNumber, IsValue}
 
 pub same_option : {A : Type 0} (o : Option A) → option_map (λ x. x) o ≡ o
 same_option None = refl
@@ -65,6 +65,8 @@ command_found commands.Sopen = refl
 command_found commands.Tag = refl
 command_found commands.Verify = refl
 command_found commands.Derive = refl
+command_found commands.Session = refl
+command_found commands.Selftest = refl
 
 pub command_named : (text : List ℕ) (command : CommandName) → command_of text ≡ Some command → text ≡ (row_of command).word
 unfolding command_of
@@ -90,6 +92,8 @@ is_found options.Ad = record { word = refl; plain = refl; place = refl }
 is_found options.AdHex = record { word = refl; plain = refl; place = refl }
 is_found options.TagHex = record { word = refl; plain = refl; place = refl }
 is_found options.Length = record { word = refl; plain = refl; place = refl }
+is_found options.Seed = record { word = refl; plain = refl; place = refl }
+is_found options.Lines = record { word = refl; plain = refl; place = refl }
 
 pub option_found : (name : OptionName) → option_of (option_row name).word ≡ Some name
 option_found name = (is_found name).word
@@ -126,6 +130,8 @@ are_rivals options.Ad b is = subst (λ (x : OptionName). AreRivals options.Ad x)
 are_rivals options.AdHex b is = subst (λ (x : OptionName). AreRivals options.AdHex x) (let other : options.Ad ≡ b = cc in other) (refl, λ same. cc)
 are_rivals options.TagHex b is = absurd (cc)
 are_rivals options.Length b is = absurd (cc)
+are_rivals options.Seed b is = absurd (cc)
+are_rivals options.Lines b is = absurd (cc)
 
 -- Words that are cut at their equals sign.
 
@@ -237,6 +243,35 @@ number_taken text formed =
     let d : nat_le (digits_after 0 text) 4294967295 ≡ true = grind (arith, nat_tests, formed.within) in
     rw (a, b, formed.digits, d) refl
 
+count_taken : (text : List ℕ) → IsLineCount text → is_line_count (number_of text) ≡ true
+unfolding number_of
+count_taken text formed =
+    let a : nat_lt 0 (length text) ≡ true = grind (arith, nat_tests, formed.number.some) in
+    let b : nat_le (length text) 10 ≡ true = grind (arith, nat_tests, formed.number.short) in
+    let d : nat_le (digits_after 0 text) 4294967295 ≡ true = grind (arith, nat_tests, formed.number.within) in
+    let e : nat_le 1 (digits_after 0 text) ≡ true = grind (arith, nat_tests, formed.some') in
+    let f : nat_le (digits_after 0 text) most_lines ≡ true = grind (arith, nat_tests, formed.most) in
+    rw (a, b, formed.number.digits, d, e, f) refl
+
+two_pass : (a b : Bool) → (a && b) ≡ true → (a ≡ true) × (b ≡ true)
+two_pass true true is = (refl, refl)
+two_pass true false is = absurd (cc)
+two_pass false b is = absurd (cc)
+
+count_formed : (text : List ℕ) → is_line_count (number_of text) ≡ true → IsLineCount text
+unfolding number_of
+count_formed text is = by (is_number text) refl is
+  where
+    by : (b : Bool) → is_number text ≡ b → is_line_count (if b then Some (digits_after 0 text) else None) ≡ true → IsLineCount text
+    by true test is =
+        let tests = two_pass (nat_le 1 (digits_after 0 text)) (nat_le (digits_after 0 text) most_lines) is in
+        record {
+          number = number_formed text (rw test refl);
+          some' = (let e = tests.0 in grind (arith, nat_tests));
+          most = (let e = tests.1 in grind (arith, nat_tests));
+        }
+    by false test is = absurd (cc)
+
 not_empty : (value : List ℕ) → value ≢ [] → nat_lt 0 (length value) ≡ true
 not_empty [] some = absurd (some refl)
 not_empty (b ∷ bs) some = grind (arith, nat_tests)
@@ -306,6 +341,7 @@ unfolding is_value
 value_taken forms.Text value formed = refl
 value_taken forms.FileName value formed = not_empty value formed
 value_taken forms.Number value formed = number_taken value formed
+value_taken forms.LineCount value formed = count_taken value formed
 value_taken forms.Format value formed = format_taken value formed
 value_taken forms.Datum value formed = datum_taken value formed
 value_taken forms.Hex value formed = hex_taken value formed
@@ -315,6 +351,7 @@ unfolding is_value
 value_formed forms.Text value is = tt
 value_formed forms.FileName value is = some_byte value is
 value_formed forms.Number value is = number_formed value is
+value_formed forms.LineCount value is = count_formed value is
 value_formed forms.Format value is = format_formed value is
 value_formed forms.Datum value is = datum_formed value is
 value_formed forms.Hex value is = hex_formed value is

@@ -16,11 +16,14 @@ use Rattle.tinkey_run.specs.declared.status.Status.TheVariants as status
 use Rattle.tinkey_run.specs.declared.words.rows.Format.{Format}
 use Rattle.tinkey_run.specs.declared.words.rows.Format.TheVariants as formats
 use Rattle.tinkey_run.specs.Laws.{CommandsAreWhole}
-use Rattle.tinkey_run.specs.Plan.{Plan, ends}
+use Rattle.tinkey_run.specs.Plan.{writes, Plan, ends}
 use Rattle.tinkey_run.specs.Promises.{IsWhole}
 use Rattle.tinkey_run.specs.Steps.{with_keyset, with_json, keyset_in, takes_keyset, with_row, finds_edit, with_made, makes_keyset, puts, puts_keyset}
 use Rattle.tinkey_run.specs.Using.{unless_unfit, with_opened, with_verified, with_derived, works}
-use Rattle.tinkey_run.specs.Words.{Place, AskedEdit, add, rotate, promote, enable, disable, destroy, delete, AskedWork, to_seal, to_open, to_dseal, to_dopen, to_tag, to_verify, to_derive, primitive_for, create_keyset, edit_keyset, list_keyset, convert_keyset, list_key_templates, use_keyset, seal_stream, open_stream}
+use Rattle.tinkey_selftest.specs.Trial as trial
+use Rattle.tinkey_selftest.specs.declared.counts.Counts.{Counts}
+use Rattle.tinkey_run.specs.SelfTesting.{tells_counts}
+use Rattle.tinkey_run.specs.Words.{self_test, Place, AskedEdit, add, rotate, promote, enable, disable, destroy, delete, AskedWork, to_seal, to_open, to_dseal, to_dopen, to_tag, to_verify, to_derive, primitive_for, create_keyset, edit_keyset, list_keyset, convert_keyset, list_key_templates, use_keyset, seal_stream, open_stream, session}
 
 -- the rest of a plan is so, whatever it takes
 abbrev AreWhole : {A : Type 0} → (A → Plan) → Type 0
@@ -104,6 +107,10 @@ work_whole table keys to_tag input next whole = whole _
 work_whole table keys (to_verify tag) input next whole = verified_whole (verify_answer keys table tag input) next whole
 work_whole table keys (to_derive size) input next whole = derived_whole size (derive_answer keys table input size) next whole
 
+counts_whole : (r : Result Counts CmdFault) (lines : ℕ) → IsWhole (tells_counts lines r writes)
+counts_whole (Ok n) lines = tt
+counts_whole (Err fault) lines = tt
+
 pub commands_are_whole : CommandsAreWhole
 commands_are_whole table (create_keyset name out) = inl (row_whole (row_named name) name _ (λ row. draw_whole (first row) _ (out_whole out)))
 commands_are_whole table (edit_keyset edit in' out) = inl (edit_whole edit _ (λ edit. taken_whole in'.file in'.form _ (λ keys. draw_whole (step keys edit) _ (out_whole out))))
@@ -111,5 +118,7 @@ commands_are_whole table (list_keyset in') = inl (taken_whole in'.file in'.form 
 commands_are_whole table (convert_keyset in' out) = inl (taken_whole in'.file in'.form _ (out_whole out))
 commands_are_whole table list_key_templates = inl tt
 commands_are_whole table (use_keyset name form work) = inl (λ bytes. keyset_whole form bytes _ (λ keys. fit_whole (unfit keys (primitive_for work) table) _ (λ input. work_whole table keys work input _ (λ output. tt))))
-commands_are_whole table (seal_stream name form ad) = inr tt
-commands_are_whole table (open_stream name form ad) = inr tt
+commands_are_whole table (seal_stream name form ad) = inr (inl tt)
+commands_are_whole table (open_stream name form ad) = inr (inl tt)
+commands_are_whole table (self_test seed lines) = inl (counts_whole (trial.self_test table seed lines) lines)
+commands_are_whole table (session name form out) = inr (inr tt)

@@ -9,10 +9,12 @@ use Rattle.managers.specs.Table.{Table}
 use Rattle.tinkey_cmds.specs.Edits.{first, step}
 use Rattle.tinkey_run.specs.declared.status.Status.TheVariants as status
 use Rattle.tinkey_run.specs.Plan.{Plan, ends, writes}
-use Rattle.tinkey_run.specs.Steps.{takes_keyset, works_out, finds_template, finds_edit, makes_keyset, puts_keyset}
+use Rattle.tinkey_run.specs.Session.{holds_session}
+use Rattle.tinkey_run.specs.SelfTesting.{self_test_output}
+use Rattle.tinkey_run.specs.Steps.{takes_keyset, loads_keyset, works_out, finds_template, finds_edit, makes_keyset, puts_keyset}
 use Rattle.tinkey_run.specs.Streaming.{loads_stream_keys, seals_stream, opens_stream}
 use Rattle.tinkey_run.specs.Using.{use_output}
-use Rattle.tinkey_run.specs.Words.{Place, AskedEdit, Asked, create_keyset, edit_keyset, list_keyset, convert_keyset, list_key_templates, use_keyset, seal_stream, open_stream, words_of}
+use Rattle.tinkey_run.specs.Words.{Place, AskedEdit, Asked, create_keyset, edit_keyset, list_keyset, convert_keyset, list_key_templates, use_keyset, seal_stream, open_stream, self_test, session, words_of}
 
 -- create-keyset: a keyset of one new key
 abbrev pub create_output : List ℕ → (Keys → Plan) → Plan
@@ -45,6 +47,8 @@ command_plan table (seal_stream name form ad) =
     loads_stream_keys name form (λ keys. seals_stream keys ad)
 command_plan table (open_stream name form ad) =
     loads_stream_keys name form (λ keys. opens_stream keys ad)
+command_plan table (self_test seed lines) = self_test_output table seed lines writes
+command_plan table (session name form out) = loads_keyset name form (holds_session table out)
 
 -- the command's plan, or the word at fault is the answer
 abbrev pub asked_plan : Table → Result Asked ℕ → Plan

@@ -9,9 +9,14 @@ use Rattle.segment_stream.specs.declared.fault.OpenPumpFault.TheVariants as faul
 use Rattle.tinkey_cmds.specs.Draws.{Draw, answered}
 use Rattle.tinkey_cmds.specs.Applying.{RanOut}
 use Rattle.tinkey_cmds.specs.declared.command.CmdFault.{CmdFault}
+use Rattle.keyset_model.specs.Keyset.{Keys}
+use Rattle.tinkey_session.specs.Talking.{Exchange}
+use Rattle.tinkey_session.specs.Talks.{Sides, sides, Talks, IsSteady}
+use Rattle.tinkey_session.specs.declared.talk.TalkFault.{TalkFault}
+use Rattle.tinkey_session.specs.declared.talk.TalkFault.TheVariants as talk_faults
 use Rattle.tinkey_run.specs.declared.status.Status.{Status}
 use Rattle.tinkey_run.specs.declared.status.Status.TheVariants as status
-use Rattle.tinkey_run.specs.Plan.{Plan, ends, writes, creates, allocates, loads, reads_all, draws, pumps}
+use Rattle.tinkey_run.specs.Plan.{Plan, ends, writes, creates, allocates, loads, reads_all, draws, pumps, exchanges}
 
 -- the outside objects at one moment
 pub record World : Type 0 where
@@ -159,6 +164,30 @@ pub record EndsPumping (part : Part) (old : World) (s : Status) (new : World) : 
   pub shown : ShowsFaults result old.source new.source old.sink new.sink
   pub lasting : IsLasting part
 
+-- the status of a session that ended before its input did
+abbrev pub talk_status : TalkFault → Status
+talk_status talk_faults.LineTooLong = status.LineTooLong
+talk_status talk_faults.TooManyLines = status.TooManyLines
+talk_status talk_faults.ReadFault = status.ReadFault
+talk_status talk_faults.WriteFault = status.WriteFault
+talk_status talk_faults.EntropyFault = status.EntropyFault
+talk_status talk_faults.NoMemory = status.NoMemory
+
+-- the objects of a session
+abbrev pub sides_of : World → Sides
+sides_of w = sides w.source w.sink w.entropy
+
+-- the session came to the end of its input, and then it went on with the last keyset; or it ended
+-- before that
+pub data EndsExchanging (exchange : Exchange) (Then : Keys → World → Status → World → Type 0)
+    (old : World) (s : Status) (new : World) : Type 0 where
+  exchanged : (keys : Keys) (mid : World) → Talks exchange (Ok keys) (sides_of old) (sides_of mid) →
+      old.store ≡ mid.store → IsSteady exchange → Then keys mid s new →
+      EndsExchanging exchange Then old s new
+  exchange_ended : (fault : TalkFault) → s ≡ talk_status fault →
+      Talks exchange (Err fault) (sides_of old) (sides_of new) → old.store ≡ new.store →
+      IsSteady exchange → EndsExchanging exchange Then old s new
+
 -- how a run of the plan may end, step by step
 abbrev pub Ends : Plan → World → Status → World → Type 0
 Ends (ends stated_status stated) old s new = (s ≡ stated_status) × (old ≡ new)
@@ -171,3 +200,5 @@ Ends (reads_all limit long stated next) old s new =
     EndsReading limit long (λ all. Ends (next all)) old s new
 Ends (draws kind give next) old s new = EndsDrawing give (λ given. Ends (next given)) old s new
 Ends (pumps part) old s new = EndsPumping part old s new
+Ends (exchanges exchange next) old s new =
+    EndsExchanging exchange (λ keys. Ends (next keys)) old s new

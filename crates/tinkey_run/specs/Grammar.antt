@@ -13,7 +13,7 @@ use Rattle.tinkey_run.specs.declared.words.rows.Form.{Form}
 use Rattle.tinkey_run.specs.declared.words.rows.Form.TheVariants as forms
 use Rattle.tinkey_run.specs.declared.words.rows.OptionName.{OptionName}
 use Rattle.hex.specs.Hex.{is_hex_digit}
-use Rattle.tinkey_run.specs.Rows.{Row, row_of, option_row, rival, same, datum_limit, digits_after}
+use Rattle.tinkey_run.specs.Rows.{Row, row_of, option_row, rival, same, datum_limit, digits_after, most_lines}
 use Rattle.tinkey_run.specs.Words.{Asked, Values, asked_with, words_of}
 
 -- where the word of a place is at fault, it is so whatever words stand behind it
@@ -29,6 +29,12 @@ pub record IsNumber (text : List ℕ) : Type 0 where
   pub short : length text ≤ 10
   pub within : digits_after 0 text ≤ 4294967295
 
+-- a number of lines
+pub record IsLineCount (text : List ℕ) : Type 0 where
+  pub number : IsNumber text
+  pub some' : 1 ≤ digits_after 0 text
+  pub most : digits_after 0 text ≤ most_lines
+
 -- a text of hexadecimal digits, two for each of at most 1,048,576 bytes
 pub record IsHex (text : List ℕ) : Type 0 where
   pub digits : list_all is_hex_digit text ≡ true
@@ -40,6 +46,7 @@ abbrev pub IsValue : Form → List ℕ → Type 0
 IsValue forms.Text value = Unit {0}
 IsValue forms.FileName value = value ≢ []
 IsValue forms.Number value = IsNumber value
+IsValue forms.LineCount value = IsLineCount value
 IsValue forms.Format value =
     (str_to_ascii_lowercase value ≡ codes "json")
     ⊎ (str_to_ascii_lowercase value ≡ codes "binary")

@@ -8,7 +8,7 @@ use Rattle.wrapped_prims.specs.Answers.{primary_key, dseal_answer, tag_answer, d
 use Rattle.wrapped_prims.specs.Fitness.{unfit}
 use Rattle.tinkey_run.specs.Commands.{command_plan}
 use Rattle.tinkey_run.specs.Promises.{IsWhole}
-use Rattle.tinkey_run.specs.Words.{Asked, seal_stream, open_stream}
+use Rattle.tinkey_run.specs.Words.{Asked, seal_stream, open_stream, session}
 
 -- a keyset without a fault, each record of which can serve for the primitive
 pub record IsFit (table : Table) (primitive : Primitive) (keys : Keys) : Type 0 where
@@ -32,7 +32,12 @@ IsStream (seal_stream keyset form ad) = Unit {0}
 IsStream (open_stream keyset form ad) = Unit {0}
 IsStream _ = ⊥
 
+-- a session is asked for
+abbrev pub IsSession : Asked → Type 0
+IsSession (session keyset form out) = Unit {0}
+IsSession _ = ⊥
+
 -- every other command writes nothing but at its end
 abbrev pub CommandsAreWhole : Type 0
 CommandsAreWhole = (table : Table) (asked : Asked) →
-    IsWhole (command_plan table asked) ⊎ IsStream asked
+    IsWhole (command_plan table asked) ⊎ IsStream asked ⊎ IsSession asked

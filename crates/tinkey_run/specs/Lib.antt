@@ -5,6 +5,8 @@ pub mod Laws
 pub mod Plan
 pub mod Promises
 pub mod Rows
+pub mod SelfTesting
+pub mod Session
 pub mod Status
 pub mod Steps
 pub mod Streaming
@@ -14,3 +16,5 @@ pub use Rattle.keyset_model.specs.Keyset
 pub use Rattle.keyset_model.specs.Listing
 pub use Rattle.keyset_model.specs.Reading
 pub use Rattle.tink_spec.specs.Outside
+pub mod Readable
+pub mod Runs

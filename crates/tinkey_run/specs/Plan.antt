@@ -1,6 +1,6 @@
 -- What a command does, step by step in the order of refusals, and the answer that it has where
 -- nothing fails.
-use Rattle.std.specs.Prelude.{ℕ, ◌+◌, List, [], length, drop, true, Option, Some, None, Result, nat_le, if◌then◌else◌}
+use Rattle.std.specs.Prelude.{ℕ, ◌+◌, List, [], ◌++◌, length, drop, true, Option, Some, None, Result, nat_le, if◌then◌else◌}
 use Rattle.std.specs.FinMap as map
 use Rattle.tink_spec.specs.Files.{Files}
 use Rattle.keyset_model.specs.Keyset.{Keys}
@@ -8,6 +8,7 @@ use Rattle.segment_stream.specs.Opening.{StreamRefusal, too_many, failed}
 use Rattle.segment_stream.specs.Pumping.{Part}
 use Rattle.tinkey_cmds.specs.Draws.{Draw, Drawn}
 use Rattle.tinkey_cmds.specs.declared.command.CmdFault.{CmdFault}
+use Rattle.tinkey_session.specs.Talking.{Exchange, Talk, Stop, goes, wants, passes, Limit, long_line, many_lines}
 use Rattle.tinkey_run.specs.declared.status.Status.{Status}
 use Rattle.tinkey_run.specs.declared.status.Status.TheVariants as status
 
@@ -50,6 +51,9 @@ pub data Plan : Type 0 where
   -- the source is read and the sink written in turn: what is settled is given out, and what is decided
   -- is the answer
   pumps : (part : Part) → Plan
+  -- a session: each line of the source is answered in turn, of random bytes where it takes some,
+  -- and the last keyset goes on; one that is past a limit is answered so
+  exchanges : (exchange : Exchange) → (next : Keys → Plan) → Plan
 
 -- what the outside objects tell
 pub record Told : Type 0 where
@@ -58,7 +62,8 @@ pub record Told : Type 0 where
   pub random : List ℕ
 
 -- the status, the output, the files after it, and the input and the random bytes that are left. Of the
--- input nothing is said where a stream is refused, as that may come before its end.
+-- input nothing is said where a stream is refused or a session is past a limit, as that may come
+-- before its end.
 pub record Answer : Type 0 where
   pub status : Status
   pub input : Option (List ℕ)
@@ -90,6 +95,26 @@ pump_answer part told None = record (refused told status.Done) {
 pump_answer part told (Some refusal) = record (refused told (stream_status refusal)) {
   input = None;
   output = part.output told.input true;
+}
+
+-- the status of a session that is past a limit
+abbrev pub limit_status : Limit → Status
+limit_status long_line = status.LineTooLong
+limit_status many_lines = status.TooManyLines
+
+-- The answer of a session over the whole input, and of what comes after it. Where the random bytes
+-- don't suffice, the entropy can but fail.
+abbrev pub talk_answer : Stop → Talk → Told → (next : Answer) → Answer
+talk_answer goes x told next = record next { output = x.output ++ next.output }
+talk_answer wants x told next = record (refused told status.EntropyFault) {
+  input = None;
+  output = x.output;
+  random = x.random;
+}
+talk_answer (passes limit) x told next = record (refused told (limit_status limit)) {
+  input = None;
+  output = x.output;
+  random = x.random;
 }
 
 -- the answer after a load
@@ -127,3 +152,6 @@ answer (draws kind give next) told =
     draw_answer (give told.random) (refused told status.EntropyFault)
     (λ drawn. answer (next drawn.answer) (record told { random = drawn.left }))
 answer (pumps part) told = pump_answer part told (part.refusal told.input true)
+answer (exchanges exchange next) told =
+    let x = exchange told.input told.random true in
+    talk_answer x.stop x told (answer (next x.keys) (record told { input = []; random = x.random }))

@@ -6,9 +6,10 @@ use Rattle.tink_spec.specs.Outside.{Rose, Stood, Gave, Took, TookPrefix, Drew}
 use Rattle.segment_stream.specs.Opening.{StreamRefusal}
 use Rattle.segment_stream.specs.Pumping.{Part}
 use Rattle.tinkey_cmds.specs.declared.command.CmdFault.{CmdFault}
+use Rattle.tinkey_session.specs.Talking.{Exchange, Limit, Stop, goes, wants, passes}
 use Rattle.tinkey_run.specs.declared.status.Status.{Status}
 use Rattle.tinkey_run.specs.declared.status.Status.TheVariants as status
-use Rattle.tinkey_run.specs.Plan.{Plan, ends, writes, creates, allocates, loads, reads_all, draws, pumps, Of, Told, Answer, answer, stream_status, IsStated}
+use Rattle.tinkey_run.specs.Plan.{Plan, ends, writes, creates, allocates, loads, reads_all, draws, pumps, exchanges, Of, Told, Answer, answer, stream_status, limit_status, IsStated}
 use Rattle.tinkey_run.specs.Ends.{World, Ends, Settles}
 
 -- the objects tell these bytes
@@ -80,6 +81,41 @@ pub data IsPassLeft (part : Part) (s : Status) (taken written : List ℕ) : Type
   pass_unwritten : (ended : Bool) → s ≡ status.WriteFault → IsFront written (part.output taken ended) →
       IsPassLeft part s taken written
 
+-- Over the bytes taken, with all the random bytes drawn, the session stands so, and the replies to
+-- the lines among them were written.
+pub record HasReplied (exchange : Exchange) (moved : Moved) (ended : Bool) (stop : Stop)
+    : Type 0 where
+  pub stands : (exchange moved.taken moved.drawn ended).stop ≡ stop
+  pub used : (exchange moved.taken moved.drawn ended).random ≡ []
+  pub written : moved.written ≡ (exchange moved.taken moved.drawn ended).output
+
+-- A session is left where the bytes taken are past a limit; where a read failed before that; where
+-- the entropy failed, and a line wants more random bytes than were drawn; or where a write failed,
+-- and a byte of the replies to the lines taken is still to come. Where memory was wanting, the
+-- replies to the lines among the first of the bytes taken were written.
+pub data IsTalkLeft (exchange : Exchange) (s : Status) (moved : Moved) : Type 0 where
+  talk_passed : (limit : Limit) → s ≡ limit_status limit →
+      HasReplied exchange moved false (passes limit) → IsTalkLeft exchange s moved
+  talk_unread : s ≡ status.ReadFault → HasReplied exchange moved false goes →
+      IsTalkLeft exchange s moved
+  talk_undrawn : (ended : Bool) → s ≡ status.EntropyFault →
+      HasReplied exchange moved ended wants → IsTalkLeft exchange s moved
+  talk_unwritten : (ended : Bool) → s ≡ status.WriteFault →
+      IsFront moved.written (exchange moved.taken moved.drawn ended).output →
+      IsTalkLeft exchange s moved
+  talk_starved : (taken more drawn part : List ℕ) → s ≡ status.NoMemory →
+      taken ++ more ≡ moved.taken → drawn ++ part ≡ moved.drawn →
+      (exchange taken drawn false).stop ≡ goes →
+      moved.written ≡ (exchange taken drawn false).output → IsTalkLeft exchange s moved
+
+-- what was moved first, and then
+abbrev pub then_moved : Moved → Moved → Moved
+then_moved first later = record {
+  taken = first.taken ++ later.taken;
+  drawn = first.drawn ++ later.drawn;
+  written = first.written ++ later.written;
+}
+
 -- A run of the plan over these files may be left with this status where exactly these bytes were
 -- taken, drawn and written. Where it is left at a step, the steps before it have gone on, and later
 -- steps have moved nothing.
@@ -115,8 +151,13 @@ IsLeft (draws kind give next) files s moved =
     × IsLeft (next given) files s (record moved { drawn = more }))
 IsLeft (pumps part) files s moved =
     (moved ≡ record moved { drawn = [] }) × IsPassLeft part s moved.taken moved.written
+IsLeft (exchanges exchange next) files s moved =
+    IsTalkLeft exchange s moved
+    ⊎ ((first : Moved) × (later : Moved) × (then_moved first later ≡ moved)
+    × HasReplied exchange first true goes
+    × IsLeft (next (exchange first.taken first.drawn true).keys) files s later)
 
--- the plan writes nothing but at its end: it pumps no stream
+-- the plan writes nothing but at its end: it pumps no stream, and has no session
 abbrev pub IsWhole : Plan → Type 0
 IsWhole (ends stated_status stated) = Unit {0}
 IsWhole (writes output) = Unit {0}
@@ -126,6 +167,7 @@ IsWhole (loads name limit absent long a l next) = (bytes : List ℕ) → IsWhole
 IsWhole (reads_all limit long stated next) = (all : List ℕ) → IsWhole (next all)
 IsWhole (draws kind give next) = (given : Result (Of kind) CmdFault) → IsWhole (next given)
 IsWhole (pumps part) = ⊥
+IsWhole (exchanges exchange next) = ⊥
 
 -- What was taken, drawn and written, whatever the status: a fault comes before each refusal that the
 -- files and the bytes taken and drawn decide, and what was written is what the plan gives out for
@@ -137,8 +179,8 @@ pub record Leaves (p : Plan) (old : World) (s : Status) (new : World) : Type 0 w
   pub took : Took old.sink new.sink moved.written
   pub is : IsLeft p old.store.files s moved
 
--- One file is new, with the first bytes of the one that the answer makes, or all of them; the
--- answer's status is Done, and it writes nothing.
+-- One file is new, with the first bytes of the one that the answer makes, or all of them; and the
+-- answer's status is Done.
 pub record IsTorn (p : Plan) (old new : World) : Type 0 where
   pub name : List ℕ
   pub bytes : List ℕ
@@ -148,9 +190,9 @@ pub record IsTorn (p : Plan) (old new : World) : Type 0 where
       (answer p told).files ≡ map.insert told.files name bytes
 
 -- What stands. No file has changed, unless the run is Done or the store failed: at a store fault the
--- new file may be there with the first of its bytes. But for streams, of which `Leaves` speaks, the sink
--- has gained nothing, unless the run is Done or the write failed; then it has gained the first bytes of
--- the answer's output, and the answer's status is Done.
+-- new file may be there with the first of its bytes. But for streams and sessions, of which
+-- `Leaves` speaks, the sink has gained nothing, unless the run is Done or the write failed; then it
+-- has gained the first bytes of the answer's output, and the answer's status is Done.
 pub record Stands (p : Plan) (old : World) (s : Status) (new : World) : Type 0 where
   pub files : s ≢ status.Done → s ≢ status.StoreFault → KeptFiles old.store new.store
   pub torn : s ≡ status.StoreFault → KeptFiles old.store new.store ⊎ IsTorn p old new

@@ -1,6 +1,6 @@
 -- The tables of the command's words: the commands with the options that each requires and may have,
 -- and the options with the form of the value of each. A further command or option is a row.
-use Rattle.std.specs.Prelude.{ℕ, ◌+◌, ◌-◌, ◌*◌, ◌%◌, List, [], ◌∷◌, ◌++◌, length, Bool, true, Option, Some, None, is_some, ◌==◌, ◌&&◌, nat_lt, nat_le, if◌then◌else◌, codes}
+use Rattle.std.specs.Prelude.{ℕ, ◌+◌, ◌-◌, ◌*◌, ◌%◌, List, [], ◌∷◌, ◌++◌, length, Bool, true, false, Option, Some, None, is_some, ◌==◌, ◌&&◌, nat_lt, nat_le, if◌then◌else◌, codes}
 use Rattle.std.specs.List.{find, list_any, list_all}
 use Rattle.std.specs.Str.{bytes_eq, all_ascii_digits, str_eq_ignore_ascii_case}
 use Rattle.hex.specs.Hex.{is_hex_digit}
@@ -74,6 +74,9 @@ row_of commands.Verify =
     row (codes "verify") (options.Keyset ∷ options.TagHex ∷ []) (options.KeysetFormat ∷ [])
 row_of commands.Derive =
     row (codes "derive") (options.Keyset ∷ options.Length ∷ []) (options.KeysetFormat ∷ [])
+row_of commands.Selftest =
+    row (codes "selftest") (options.Seed ∷ []) (options.Lines ∷ [])
+row_of commands.Session = row (codes "session") by_keyset (options.KeysetFormat ∷ put_out)
 
 -- all commands
 abbrev pub all_commands : List CommandName
@@ -82,7 +85,7 @@ all_commands =
     ∷ commands.EnableKey ∷ commands.DisableKey ∷ commands.DestroyKey ∷ commands.DeleteKey
     ∷ commands.ListKeyset ∷ commands.ConvertKeyset ∷ commands.ListKeyTemplates ∷ commands.Seal
     ∷ commands.Open ∷ commands.Dseal ∷ commands.Dopen ∷ commands.Sseal ∷ commands.Sopen
-    ∷ commands.Tag ∷ commands.Verify ∷ commands.Derive ∷ []
+    ∷ commands.Tag ∷ commands.Verify ∷ commands.Derive ∷ commands.Session ∷ commands.Selftest ∷ []
 
 -- the command of this name
 unfoldable pub command_of : List ℕ → Option CommandName
@@ -113,13 +116,15 @@ option_row options.Ad = option 8 (codes "--ad") forms.Datum
 option_row options.AdHex = option 9 (codes "--ad-hex") forms.Hex
 option_row options.TagHex = option 10 (codes "--tag-hex") forms.Hex
 option_row options.Length = option 11 (codes "--length") forms.Number
+option_row options.Seed = option 12 (codes "--seed") forms.Number
+option_row options.Lines = option 13 (codes "--lines") forms.LineCount
 
 -- all options, in the order of their places
 abbrev pub all_options : List OptionName
 all_options =
     options.KeyTemplate ∷ options.KeyId ∷ options.In ∷ options.InFormat ∷ options.Out
     ∷ options.OutFormat ∷ options.Keyset ∷ options.KeysetFormat ∷ options.Ad ∷ options.AdHex
-    ∷ options.TagHex ∷ options.Length ∷ []
+    ∷ options.TagHex ∷ options.Length ∷ options.Seed ∷ options.Lines ∷ []
 
 -- the option of this name
 unfoldable pub option_of : List ℕ → Option OptionName
@@ -160,6 +165,15 @@ is_number text =
 unfoldable pub number_of : List ℕ → Option ℕ
 number_of text = if is_number text then Some (digits_after 0 text) else None
 
+-- a self-test of more lines isn't made
+abbrev pub most_lines : ℕ
+most_lines = 100000
+
+-- a number is there, and may be a count of lines
+abbrev pub is_line_count : Option ℕ → Bool
+is_line_count None = false
+is_line_count (Some n) = nat_le 1 n && nat_le n most_lines
+
 -- the form of a keyset of this name, in letters of either case
 unfoldable pub format_of : List ℕ → Option Format
 format_of text =
@@ -180,12 +194,13 @@ abbrev pub is_hex : List ℕ → Bool
 is_hex text =
     nat_le (length text) (2 * datum_limit) && (length text % 2 == 0) && list_all is_hex_digit text
 
--- the text is a value of this form: any text, the name of a file, which isn't empty, a number, the
--- name of a keyset's form, or a datum as it stands or in hexadecimal
+-- the text is a value of this form: any text, the name of a file, which isn't empty, a number, a count
+-- of lines, the name of a keyset's form, or a datum as it stands or in hexadecimal
 unfoldable pub is_value : Form → List ℕ → Bool
 is_value forms.Text text = true
 is_value forms.FileName text = nat_lt 0 (length text)
 is_value forms.Number text = is_some (number_of text)
+is_value forms.LineCount text = is_line_count (number_of text)
 is_value forms.Format text = is_some (format_of text)
 is_value forms.Datum text = is_datum text
 is_value forms.Hex text = is_hex text

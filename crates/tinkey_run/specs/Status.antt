@@ -5,10 +5,9 @@ use Rattle.keyset_json.specs.Members.{name_of}
 use Rattle.keyset_model.specs.declared.keyset.KeysetFault.{KeysetFault}
 use Rattle.keyset_model.specs.declared.keyset.KeysetFault.TheVariants as faults
 use Rattle.tink_spec.specs.Outside.{SinkState, Rose, Took, TookPrefix}
-use Rattle.key_msgs.specs.declared.rule.Rule.{Rule}
-use Rattle.key_msgs.specs.declared.rule.Rule.TheVariants as broken
-use Rattle.tinkey_cmds.specs.declared.command.CmdFault.{CmdFault}
-use Rattle.tinkey_cmds.specs.declared.command.CmdFault.TheVariants as refused
+use Rattle.tinkey_session.specs.Serving as refused
+use Rattle.tinkey_session.specs.Texts.{refusal_text}
+use Rattle.wrapped_prims.specs.Fitness as unfit
 use Rattle.tinkey_run.specs.declared.status.Status.{Status}
 use Rattle.tinkey_run.specs.declared.status.Status.TheVariants as status
 
@@ -39,6 +38,8 @@ code_of status.StoreFault = 5
 code_of status.KeysetTooLong = 6
 code_of status.InputTooLong = 6
 code_of status.TooManySegments = 6
+code_of status.LineTooLong = 6
+code_of status.TooManyLines = 6
 code_of status.NoMemory = 7
 
 -- the text of a keyset's fault
@@ -56,38 +57,17 @@ fault_text (faults.DuplicateId i j) =
 fault_text faults.NoPrimary = codes "no key has the primary id"
 fault_text faults.PrimaryNotEnabled = codes "the primary key is not enabled"
 
--- the name of a rule of key messages
-unfoldable pub rule_text : Rule → List ℕ
-rule_text broken.Form = codes "form"
-rule_text broken.Version = codes "version"
-rule_text broken.Hash = codes "hash"
-rule_text broken.KeySize = codes "key size"
-rule_text broken.IvSize = codes "IV size"
-rule_text broken.TagSize = codes "tag size"
-rule_text broken.DerivedSize = codes "derived size"
-rule_text broken.Segment = codes "segment size"
-
--- the text of a refused edit
-unfoldable pub edit_text : CmdFault → List ℕ
-edit_text refused.KeyNotFound = codes "key not found"
-edit_text refused.KeyIsPrimary = codes "key is primary"
-edit_text refused.KeyNotEnabled = codes "key is not enabled"
-edit_text refused.KeyDestroyed = codes "key is destroyed"
-edit_text (refused.KeyRefused rule) = codes "key refused: " ++ rule_text rule
-edit_text refused.MixedPrimitive = codes "key of another primitive"
-edit_text refused.IdsExhausted = codes "no free key id"
-edit_text refused.TooManyKeys = codes "too many keys"
-
 -- the place of a key, where there is one
 abbrev pub key_text : Option ℕ → List ℕ
 key_text None = []
 key_text (Some i) = codes " of key " ++ decimal i
 
--- what the line says, behind the program's name
+-- What the line says, behind the program's name. What lines of a session are refused for too is
+-- told by the same texts.
 unfoldable pub text_of : Status → List ℕ
 text_of status.Done = []
-text_of status.OpenFailed = codes "open failed"
-text_of status.VerifyFailed = codes "verify failed"
+text_of status.OpenFailed = refusal_text refused.OpenFailed
+text_of status.VerifyFailed = refusal_text refused.VerifyFailed
 text_of (status.StreamFailed number) = codes "stream failed at segment " ++ decimal number
 text_of (status.Usage word) = codes "usage: word " ++ decimal word
 text_of (status.BadProto at) = codes "bad protobuf at byte " ++ decimal at
@@ -95,18 +75,19 @@ text_of status.NotJson = codes "not JSON"
 text_of (status.Shape path) = codes "bad JSON member " ++ name_of path.member ++ key_text path.key
 text_of (status.Keyset fault) = fault_text fault
 text_of status.KeysetTooLong = codes "keyset too long"
-text_of (status.NoManager i) = codes "key " ++ decimal i ++ codes " has no manager for this command"
-text_of (status.BadKey i rule) =
-    codes "key " ++ decimal i ++ codes " is not valid: " ++ rule_text rule
-text_of (status.NotRaw i) = codes "key " ++ decimal i ++ codes " is not RAW"
+text_of (status.NoManager i) = refusal_text (refused.CannotServe i unfit.NoManager)
+text_of (status.BadKey i rule) = refusal_text (refused.CannotServe i (unfit.BadKey rule))
+text_of (status.NotRaw i) = refusal_text (refused.CannotServe i unfit.NotRaw)
 text_of status.InMissing = codes "input file missing"
 text_of status.InputTooLong = codes "input too long"
 text_of status.TooManySegments = codes "too many segments"
-text_of status.UnknownTemplate = codes "unknown key template"
-text_of status.AsymmetricTemplate = codes "asymmetric key template"
+text_of status.LineTooLong = codes "line too long"
+text_of status.TooManyLines = codes "too many lines"
+text_of status.UnknownTemplate = refusal_text refused.UnknownTemplate
+text_of status.AsymmetricTemplate = refusal_text refused.AsymmetricTemplate
 text_of (status.OutputTooLong asked greatest) =
-    codes "output too long: " ++ decimal asked ++ codes " over " ++ decimal greatest
-text_of (status.Command fault) = edit_text fault
+    refusal_text (refused.OutputTooLong asked greatest)
+text_of (status.Command fault) = refusal_text (refused.EditRefused fault)
 text_of status.OutExists = codes "output file exists"
 text_of status.EntropyFault = codes "entropy fault"
 text_of status.ReadFault = codes "read fault"

@@ -94,6 +94,10 @@ pub data Asked : Type 0 where
   -- the input as a stream, sealed or opened by such a keyset, with this associated data
   seal_stream : (keyset : List ℕ) (form : Format) (ad : List ℕ) → Asked
   open_stream : (keyset : List ℕ) (form : Format) (ad : List ℕ) → Asked
+  -- the lines of the input, answered over such a keyset, and where the last keyset is put
+  session : (keyset : List ℕ) (form : Format) (out : Place) → Asked
+  -- so many lines of a session, made from a number, and what becomes of them
+  self_test : (seed lines : ℕ) → Asked
 
 -- the values that were given, by option
 abbrev pub Values : Type 0
@@ -140,6 +144,14 @@ id values = number (values options.KeyId)
 
 abbrev pub template : Values → List ℕ
 template values = text (values options.KeyTemplate)
+
+-- how many lines a self-test has, where it isn't said
+abbrev pub known_lines : ℕ
+known_lines = 1000
+
+abbrev pub lines_in : Option (List ℕ) → ℕ
+lines_in None = known_lines
+lines_in (Some value) = or_zero (number_of value)
 
 -- the form of a keyset, JSON where none is given
 abbrev pub known_form : Option Format → Format
@@ -190,6 +202,10 @@ asked_with commands.Tag values = worked to_tag values
 asked_with commands.Verify values =
     worked (to_verify (datum_of_hex (text (values options.TagHex)))) values
 asked_with commands.Derive values = worked (to_derive (number (values options.Length))) values
+asked_with commands.Selftest values =
+    self_test (number (values options.Seed)) (lines_in (values options.Lines))
+asked_with commands.Session values =
+    session (text (values options.Keyset)) (form_in (values options.KeysetFormat)) (put_to values)
 
 -- The words, one after another.
 
@@ -339,6 +355,8 @@ seen_command asks.ListKeyTemplates = list_key_templates
 seen_command (asks.UseKeyset keyset form work) = use_keyset keyset.now form (seen_work work)
 seen_command (asks.SealStream keyset form ad) = seal_stream keyset.now form (seen_datum ad)
 seen_command (asks.OpenStream keyset form ad) = open_stream keyset.now form (seen_datum ad)
+seen_command (asks.Session keyset form output) = session keyset.now form (seen_place output)
+seen_command (asks.SelfTest seed lines) = self_test seed lines
 
 -- the values, which the code keeps at the places of their options
 abbrev pub seen_values : List (Option (Bor (List ℕ))) → Values

@@ -10,10 +10,11 @@
 
 mod edits;
 pub mod laws;
-mod line;
 mod list;
 mod output;
 mod report;
+mod self_testing;
+mod session;
 mod status;
 mod steps;
 mod streaming;

@@ -81,7 +81,7 @@ fn put_keyset<K: Sink, D: Store>(
 }
 
 /// A keyset written in this form.
-fn written(alloc: Global, form: Format, keyset: &Keyset) -> Result<Vec<u8>, NoMemory>
+pub(crate) fn written(alloc: Global, form: Format, keyset: &Keyset) -> Result<Vec<u8>, NoMemory>
     requires short { AllByRecursion IsShort keyset.now.records }
     ensures { IfOk result (λ bytes. bytes.items ≡ written_in form keyset.now) }
 {
@@ -110,7 +110,12 @@ fn put<K: Sink, D: Store>(
 }
 
 /// Makes a new file of these bytes.
-fn create_file<D: Store>(alloc: Global, name: &str, store: &mut D, bytes: &[u8]) -> Status
+pub(crate) fn create_file<D: Store>(
+    alloc: Global,
+    name: &str,
+    store: &mut D,
+    bytes: &[u8],
+) -> Status
     ensures { (w : World) → Ends (creates name.now bytes.now status.OutExists tt)
         (record w { store = D.state store.old }) result (record w { store = D.state store.new }) }
 {

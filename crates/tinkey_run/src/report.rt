@@ -2,14 +2,15 @@
 
 ghost use Rattle.std.specs.Prelude.{◌≡◌, ◌+◌, ◌≤◌, ◌++◌, length, codes, decimal};
 ghost use Rattle.keyset_json.specs.Members.{name_of};
-ghost use Rattle.tinkey_run.specs.Status.{key_text, line_of, text_of, fault_text, rule_text, edit_text, Reports};
+ghost use Rattle.tinkey_session.specs.Reading.{seen_refusal};
+ghost use Rattle.tinkey_session.specs.Texts.{refusal_text};
+ghost use Rattle.tinkey_run.specs.Status.{key_text, line_of, text_of, fault_text, Reports};
 
-use crate::line::Line;
-use crate::{Rule, Status};
+use crate::Status;
 use keyset_json::{Member, Path};
 use keyset_model::KeysetFault;
 use tink_base::{Sink, write_all};
-use tinkey_cmds::CmdFault;
+use tinkey_session::{Refusal, ShortText, refusal_text};
 
 /// Writes the line of a status. A fault of `diag` changes no status.
 pub(crate) fn report<G: Sink>(diag: &mut G, status: Status)
@@ -32,10 +33,10 @@ pub fn starve<G: Sink>(diag: &mut G) -> Status
 
 /// The line of a status.
 #[tactic(auto, unfolding(crate::specs::Status::line_of))]
-fn line(status: Status) -> Line
+fn line(status: Status) -> ShortText
     ensures { result ≡ line_of status }
 {
-    let mut line = Line::new();
+    let mut line = ShortText::new();
     if status != Status::Done {
         line.push("tinkey: ");
         push_text(&mut line, status);
@@ -46,15 +47,15 @@ fn line(status: Status) -> Line
 
 /// Adds the text of a status, for which there is room.
 #[tactic(auto, unfolding(crate::specs::Status::text_of))]
-fn push_text(line: &mut Line, status: Status)
+fn push_text(line: &mut ShortText, status: Status)
     requires room { length line.old ≤ 16 }
     ensures text { line.new ≡ line.old ++ text_of status }
     ensures short { length line.new ≤ 127 }
 {
     match status {
         Status::Done => {}
-        Status::OpenFailed => line.push("open failed"),
-        Status::VerifyFailed => line.push("verify failed"),
+        Status::OpenFailed => push_refusal(line, Refusal::OpenFailed),
+        Status::VerifyFailed => push_refusal(line, Refusal::VerifyFailed),
         Status::StreamFailed(number) => push_segment(line, number),
         Status::Usage(word) => {
             line.push("usage: word ");
@@ -69,25 +70,19 @@ fn push_text(line: &mut Line, status: Status)
         Status::Keyset(fault) => push_fault(line, fault),
         Status::KeysetTooLong => line.push("keyset too long"),
         Status::InMissing => line.push("input file missing"),
-        Status::NoManager(i) => push_key(line, i, " has no manager for this command"),
-        Status::BadKey(i, rule) => {
-            line.push("key ");
-            line.push_number(i);
-            line.push(" is not valid: ");
-            line.push(rule_name(rule));
-        }
-        Status::NotRaw(i) => push_key(line, i, " is not RAW"),
+        Status::NoManager(i) => push_refusal(line, Refusal::NoManager(i)),
+        Status::BadKey(i, rule) => push_refusal(line, Refusal::BadKey(i, rule)),
+        Status::NotRaw(i) => push_refusal(line, Refusal::NotRaw(i)),
         Status::InputTooLong => line.push("input too long"),
         Status::TooManySegments => line.push("too many segments"),
-        Status::UnknownTemplate => line.push("unknown key template"),
-        Status::AsymmetricTemplate => line.push("asymmetric key template"),
+        Status::LineTooLong => line.push("line too long"),
+        Status::TooManyLines => line.push("too many lines"),
+        Status::UnknownTemplate => push_refusal(line, Refusal::UnknownTemplate),
+        Status::AsymmetricTemplate => push_refusal(line, Refusal::AsymmetricTemplate),
         Status::OutputTooLong(asked, greatest) => {
-            line.push("output too long: ");
-            line.push_number(asked);
-            line.push(" over ");
-            line.push_number(greatest);
+            push_refusal(line, Refusal::OutputTooLong(asked, greatest));
         }
-        Status::Command(fault) => push_refusal(line, fault),
+        Status::Command(fault) => push_refusal(line, Refusal::EditRefused(fault)),
         Status::OutExists => line.push("output file exists"),
         Status::EntropyFault => line.push("entropy fault"),
         Status::StoreFault => line.push("store fault"),
@@ -98,7 +93,7 @@ fn push_text(line: &mut Line, status: Status)
 }
 
 /// Adds that a stream failed at this segment, for which there is room.
-fn push_segment(line: &mut Line, number: u64)
+fn push_segment(line: &mut ShortText, number: u64)
     requires room { length line.old ≤ 16 }
     ensures text { line.new ≡ line.old ++ (codes "stream failed at segment " ++ decimal number) }
     ensures short { length line.new ≤ 127 }
@@ -108,7 +103,7 @@ fn push_segment(line: &mut Line, number: u64)
 }
 
 /// Adds that the member of this path isn't of its form, for which there is room.
-fn push_path(line: &mut Line, path: Path)
+fn push_path(line: &mut ShortText, path: Path)
     requires room { length line.old ≤ 16 }
     ensures text { line.new ≡ line.old ++
         (codes "bad JSON member " ++ name_of path.member ++ key_text path.key) }
@@ -132,7 +127,7 @@ fn member_name(member: Member) -> &'static str
 
 /// Adds the text of a keyset's fault, for which there is room.
 #[tactic(auto, unfolding(crate::specs::Status::fault_text))]
-fn push_fault(line: &mut Line, fault: KeysetFault)
+fn push_fault(line: &mut ShortText, fault: KeysetFault)
     requires room { length line.old ≤ 16 }
     ensures text { line.new ≡ line.old ++ fault_text fault }
     ensures short { length line.new ≤ 127 }
@@ -150,30 +145,17 @@ fn push_fault(line: &mut Line, fault: KeysetFault)
     }
 }
 
-/// Adds the text of a refused edit, for which there is room.
-#[tactic(auto, unfolding(crate::specs::Status::edit_text))]
-fn push_refusal(line: &mut Line, fault: CmdFault)
+/// Adds the text of a refusal, as a line of a session is told it too, for which there is room.
+fn push_refusal(line: &mut ShortText, refusal: Refusal)
     requires room { length line.old ≤ 16 }
-    ensures text { line.new ≡ line.old ++ edit_text fault }
+    ensures text { line.new ≡ line.old ++ refusal_text (seen_refusal refusal) }
     ensures short { length line.new ≤ 127 }
 {
-    match fault {
-        CmdFault::KeyNotFound => line.push("key not found"),
-        CmdFault::KeyIsPrimary => line.push("key is primary"),
-        CmdFault::KeyNotEnabled => line.push("key is not enabled"),
-        CmdFault::KeyDestroyed => line.push("key is destroyed"),
-        CmdFault::KeyRefused(rule) => {
-            line.push("key refused: ");
-            line.push(rule_name(rule));
-        }
-        CmdFault::MixedPrimitive => line.push("key of another primitive"),
-        CmdFault::IdsExhausted => line.push("no free key id"),
-        CmdFault::TooManyKeys => line.push("too many keys"),
-    }
+    line.push_bytes(refusal_text(refusal).as_slice());
 }
 
 /// Adds what is said of the key of this place.
-fn push_key(line: &mut Line, i: usize, says: &str)
+fn push_key(line: &mut ShortText, i: usize, says: &str)
     requires room { length line.old ≤ 16 }
     requires says_bound { length says.now ≤ 40 }
     ensures text { line.new ≡ line.old ++ (codes "key " ++ decimal i ++ says.now) }
@@ -185,7 +167,7 @@ fn push_key(line: &mut Line, i: usize, says: &str)
 }
 
 /// Adds that the keys of these places have the same id.
-fn push_keys(line: &mut Line, i: usize, j: usize)
+fn push_keys(line: &mut ShortText, i: usize, j: usize)
     requires room { length line.old ≤ 16 }
     ensures text { line.new ≡ line.old ++
         (codes "keys " ++ decimal i ++ codes " and " ++ decimal j ++ codes " have the same id") }
@@ -196,22 +178,4 @@ fn push_keys(line: &mut Line, i: usize, j: usize)
     line.push(" and ");
     line.push_number(j);
     line.push(" have the same id");
-}
-
-/// The text of a rule.
-#[tactic(auto, unfolding(crate::specs::Status::rule_text))]
-fn rule_name(rule: Rule) -> &'static str
-    ensures text { result.now ≡ rule_text rule }
-    ensures short { length result.now ≤ 16 }
-{
-    match rule {
-        Rule::Form => "form",
-        Rule::Version => "version",
-        Rule::Hash => "hash",
-        Rule::KeySize => "key size",
-        Rule::IvSize => "IV size",
-        Rule::TagSize => "tag size",
-        Rule::DerivedSize => "derived size",
-        Rule::Segment => "segment size",
-    }
 }

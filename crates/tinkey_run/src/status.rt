@@ -46,6 +46,10 @@ pub enum Status {
     InputTooLong,
     /// A byte follows 2^32 segments of the stream.
     TooManySegments,
+    /// A line of the session has more than 65,536 bytes.
+    LineTooLong,
+    /// The session has more than 100,000 lines.
+    TooManyLines,
     /// No template is known by the name.
     UnknownTemplate,
     /// The template is one of Tink for asymmetric keys.
@@ -91,7 +95,11 @@ impl Status {
             | Status::NotRaw(_) => 3,
             Status::InMissing | Status::Command(_) | Status::OutExists => 4,
             Status::ReadFault | Status::WriteFault | Status::EntropyFault | Status::StoreFault => 5,
-            Status::KeysetTooLong | Status::InputTooLong | Status::TooManySegments => 6,
+            Status::KeysetTooLong
+            | Status::InputTooLong
+            | Status::TooManySegments
+            | Status::LineTooLong
+            | Status::TooManyLines => 6,
             Status::NoMemory => 7,
         }
     }

@@ -4,15 +4,19 @@ ghost use Rattle.std.specs.Prelude.{◌≡◌, map, string_bytes};
 ghost use Rattle.tinkey_run.specs.Ends.{Ends, world};
 ghost use Rattle.tinkey_run.specs.Commands.{plan_of, command_plan};
 ghost use Rattle.tinkey_run.specs.Promises.{Promised};
+ghost use Rattle.tinkey_run.specs.Readable.{IsReadable};
 ghost use Rattle.tinkey_run.specs.Status.{Reports};
 ghost use Rattle.tinkey_run.specs.Words.{seen_command};
 
 use crate::Status;
 use crate::edits::{create_keyset, edit_keyset};
+use crate::laws::sessions_are_readable;
 use crate::list::list_keyset;
 use crate::output::{finish, finish_keyset};
 use crate::report::report;
-use crate::steps::take_keyset;
+use crate::self_testing::tell_self_test;
+use crate::session::answer_lines;
+use crate::steps::{load_keyset, take_keyset};
 use crate::streaming::{load_stream_keys, open_stream, seal_stream};
 use crate::templates::list_templates;
 use crate::using::use_keyset;
@@ -28,7 +32,9 @@ use tink_base::{Entropy, Sink, Source, Store};
 /// objects that tell; `cause`, `shown` and `leaves` say when a fault comes, that none is hidden, and
 /// what was taken and written; `stands` says what the sink holds after any status; `complete` says
 /// that the status is a stated one where nothing fails and memory suffices; `ends`, from which they
-/// follow, has each way in which a run may end. `line` is the diagnostic line.
+/// follow, has each way in which a run may end. `line` is the diagnostic line. `readable` is over the
+/// table of the program: what a session sealed or tagged it opens or verifies in a later line, while
+/// the keyset has the key, ENABLED, and what it wrote are the replies that say so.
 pub fn run<S: Source, K: Sink, G: Sink, E: Entropy, D: Store>(
     alloc: Global,
     words: &[String],
@@ -44,7 +50,12 @@ pub fn run<S: Source, K: Sink, G: Sink, E: Entropy, D: Store>(
         (world (S.state source.old) (K.state sink.old) (D.state store.old) (E.state entropy.old)) result
         (world (S.state source.new) (K.state sink.new) (D.state store.new) (E.state entropy.new)) }
     ensures line { Reports result (G.state diag.old) (G.state diag.new) }
+    ensures readable { IsReadable
+        (⟦<Managers as KeyTable>⟧.table managers.now) (map string_bytes words.now)
+        (world (S.state source.old) (K.state sink.old) (D.state store.old) (E.state entropy.old)) result
+        (world (S.state source.new) (K.state sink.new) (D.state store.new) (E.state entropy.new)) }
 {
+    sessions_are_readable();
     let status = obey(alloc, words, managers, source, sink, entropy, store);
     report(diag, status);
     status
@@ -119,6 +130,19 @@ fn dispatch<S: Source, K: Sink, E: Entropy, D: Store>(
         Command::OpenStream { keyset, form, ad } => {
             let keys = load_stream_keys(alloc, keyset, form, store);
             open_stream(alloc, keys, ad, source, sink)
+        }
+        Command::SelfTest { seed, lines } => {
+            finish(sink, tell_self_test(alloc, managers, seed, lines))
+        }
+        Command::Session {
+            keyset,
+            form,
+            output,
+        } => {
+            let keyset = load_keyset(alloc, keyset, form, store);
+            answer_lines(
+                alloc, managers, keyset, output, source, sink, entropy, store,
+            )
         }
     }
 }

@@ -2,7 +2,8 @@
 
 ghost use Rattle.std.specs.Prelude.{◌≡◌, ◌<◌, Some, length, map, option_map, slice_set, string_bytes};
 ghost use Rattle.tinkey_run.specs.Rows.{option_of};
-ghost use Rattle.tinkey_run.specs.Words.{words_of, given_in, next_word, option_word, own_value, is_barred, new_option, with_value, no_options, has_required, complete, asked_with, text, number, id, template, ad, edited, worked, seen_command, seen_datum, seen_edit, seen_name, seen_options, seen_work, Reads, form_in, taken_from, put_to, seen_place};
+ghost use Rattle.tinkey_run.specs.declared.words.rows.OptionName.TheVariants.{Lines};
+ghost use Rattle.tinkey_run.specs.Words.{words_of, given_in, lines_in, next_word, option_word, own_value, is_barred, new_option, with_value, no_options, has_required, complete, asked_with, text, number, id, template, ad, edited, worked, seen_command, seen_datum, seen_edit, seen_name, seen_options, seen_work, Reads, form_in, taken_from, put_to, seen_place};
 
 mod rows;
 
@@ -11,6 +12,9 @@ use rows::{
     CommandName, OPTION_COUNT, OptionName, command_named, format_named, is_value, number_named,
     option_named, takes,
 };
+
+/// How many lines a self-test has, where the words don't say it.
+const KNOWN_LINES: u32 = 1000;
 
 /// What the words ask for.
 #[derive(Clone, Copy)]
@@ -71,6 +75,22 @@ pub enum Command<'a> {
         form: Format,
         /// The associated data.
         ad: Datum<'a>,
+    },
+    /// Answer the lines of the input over a keyset.
+    Session {
+        /// The file of the keyset.
+        keyset: &'a str,
+        /// The form of the keyset.
+        form: Format,
+        /// Where the last keyset is put; where no file is named, nowhere.
+        output: Place<'a>,
+    },
+    /// Answer lines that are made from a number, and tell what became of them.
+    SelfTest {
+        /// The number.
+        seed: u32,
+        /// How many lines there are.
+        lines: u32,
     },
 }
 
@@ -222,6 +242,15 @@ fn command_with<'a>(command: CommandName, given: &Options<'a>) -> Command<'a>
             OptionName::TagHex,
         )))),
         CommandName::Derive => given.worked(Work::Derive(given.number(OptionName::Length))),
+        CommandName::Session => Command::Session {
+            keyset: given.text(OptionName::Keyset),
+            form: given.form(OptionName::KeysetFormat),
+            output: given.put_to(),
+        },
+        CommandName::Selftest => Command::SelfTest {
+            seed: given.number(OptionName::Seed),
+            lines: given.lines(),
+        },
     }
 }
 
@@ -257,6 +286,19 @@ impl<'a> Options<'a> {
         match number_named(self.text(name)) {
             Some(number) => number,
             None => 0,
+        }
+    }
+
+    /// How many lines a self-test has.
+    fn lines(&self) -> u32
+        ensures { result ≡ lines_in ((seen_options self.now).values Lines) }
+    {
+        match self.value(OptionName::Lines) {
+            None => KNOWN_LINES,
+            Some(text) => match number_named(text) {
+                Some(lines) => lines,
+                None => 0,
+            },
         }
     }
 

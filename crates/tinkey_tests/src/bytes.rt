@@ -116,7 +116,7 @@ const CAMEL_JSON: &str =
 ///
 /// An item is hexadecimal digits (`0a2b`), digits with their count (`20x0b`), a name from the list
 /// in `named`, whole (`GCM`) or from a place to another (`GCM[5..]`, `GCM[..5]`, `GCM[9..57]`), or
-/// a text between backquotes, which has no space, and each of whose `'` stands for `"`. The items
+/// a text between backquotes, each of whose `'` stands for `"`, and `^` for a space. The items
 /// between `12(` and `)` are a message behind the tag `12` and its size.
 pub(crate) fn bytes_of(alloc: Global, cell: &str) -> Result<Vec<u8>, Fail> {
     let mut around = Vec::new(alloc);
@@ -159,7 +159,8 @@ fn push_size(bytes: &mut Vec<u8>, size: usize) -> Result<(), Fail> {
 fn push_item(alloc: Global, bytes: &mut Vec<u8>, item: &str) -> Result<(), Fail> {
     if let Some(text) = item.strip_prefix('`') {
         let text = text.strip_suffix('`').ok_or("a second backquote")?;
-        bytes.extend_from_slice(text.replace(alloc, '\'', "\"")?.as_bytes())?;
+        let quoted = text.replace(alloc, '\'', "\"")?;
+        bytes.extend_from_slice(quoted.replace(alloc, '^', " ")?.as_bytes())?;
     } else if let Some((count, piece)) = item.split_once('x') {
         let piece = hex::decode(alloc, piece)?;
         push_times(alloc, bytes, count.parse::<usize>()?, &piece)?;

@@ -39,6 +39,10 @@ mod records;
 #[cfg(test)]
 mod rows;
 #[cfg(test)]
+mod selftests;
+#[cfg(test)]
+mod sessions;
+#[cfg(test)]
 mod strange;
 #[cfg(test)]
 mod streams;

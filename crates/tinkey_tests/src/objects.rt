@@ -54,7 +54,7 @@ pub(crate) fn run_over(
     } = objects;
     let piece = piece.max(1);
     let given = random.len();
-    let room = input.len().saturating_add(1 << 16);
+    let room = input.len().saturating_mul(2).saturating_add(1 << 16);
     let mut source = MemSource::new(input, piece, calls(alloc, fails, "read")?);
     let mut sink = MemSink::new(alloc, room, piece, calls(alloc, fails, "write")?)?;
     let mut diag = MemSink::new(alloc, 256, piece, calls(alloc, fails, "line")?)?;

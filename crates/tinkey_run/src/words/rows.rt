@@ -4,7 +4,7 @@
 ghost use Rattle.std.specs.Prelude.{◌≡◌, ◌<◌};
 ghost use Rattle.std.specs.List.{list_all};
 ghost use Rattle.hex.specs.Hex.{is_hex_digit};
-ghost use Rattle.tinkey_run.specs.Rows.{row, row_of, command_of, option_row, option_of, rival, is_one_of, takes, number_of, format_of, is_hex, is_value, seen_row};
+ghost use Rattle.tinkey_run.specs.Rows.{row, row_of, command_of, option_row, option_of, rival, is_one_of, takes, number_of, format_of, is_hex, is_line_count, is_value, seen_row};
 
 /// A command by its name.
 #[derive(Clone, Copy)]
@@ -49,6 +49,10 @@ pub enum CommandName {
     Verify,
     /// `derive`
     Derive,
+    /// `session`
+    Session,
+    /// `selftest`
+    Selftest,
 }
 
 /// An option by its name.
@@ -78,10 +82,17 @@ pub enum OptionName {
     TagHex,
     /// `--length`, how many bytes are derived.
     Length,
+    /// `--seed`, the number that a self-test is made from.
+    Seed,
+    /// `--lines`, how many lines it has.
+    Lines,
 }
 
 /// How many options there are.
-pub const OPTION_COUNT: usize = 12;
+pub const OPTION_COUNT: usize = 14;
+
+/// How many lines a self-test may have.
+const MOST_LINES: u32 = 100_000;
 
 /// How many bytes a datum may have that stands in a word.
 pub const DATUM_LIMIT: usize = 1_048_576;
@@ -104,6 +115,8 @@ pub enum Form {
     FileName,
     /// 1 to 10 decimal digits, of a number up to 4,294,967,295.
     Number,
+    /// The same, of a number from 1 to 100,000.
+    LineCount,
     /// The form of a keyset: `json` or `binary`, in letters of either case.
     Format,
     /// A text of at most 1,048,576 bytes, which are meant.
@@ -155,6 +168,8 @@ impl CommandName {
             CommandName::Derive => {
                 row("derive", &BY_KEYSET_AND_LENGTH, &[OptionName::KeysetFormat])
             }
+            CommandName::Session => row("session", &BY_KEYSET, &WITH_OUT),
+            CommandName::Selftest => row("selftest", &[OptionName::Seed], &[OptionName::Lines]),
         }
     }
 }
@@ -174,6 +189,13 @@ const BY_KEYSET_AND_LENGTH: [OptionName; 2] = [OptionName::Keyset, OptionName::L
 
 /// What such a command may have that takes associated data.
 const WITH_AD: [OptionName; 3] = [OptionName::KeysetFormat, OptionName::Ad, OptionName::AdHex];
+
+/// What such a command may have that puts a keyset.
+const WITH_OUT: [OptionName; 3] = [
+    OptionName::KeysetFormat,
+    OptionName::Out,
+    OptionName::OutFormat,
+];
 
 /// Where a keyset is taken from.
 const IN: [OptionName; 2] = [OptionName::In, OptionName::InFormat];
@@ -222,6 +244,8 @@ impl OptionName {
             OptionName::AdHex => option("--ad-hex", Form::Hex),
             OptionName::TagHex => option("--tag-hex", Form::Hex),
             OptionName::Length => option("--length", Form::Number),
+            OptionName::Seed => option("--seed", Form::Number),
+            OptionName::Lines => option("--lines", Form::LineCount),
         }
     }
 
@@ -253,7 +277,7 @@ fn option(word: &'static str, form: Form) -> OptionRow
 }
 
 /// All commands.
-const COMMANDS: [CommandName; 20] = [
+const COMMANDS: [CommandName; 22] = [
     CommandName::CreateKeyset,
     CommandName::AddKey,
     CommandName::RotateKeyset,
@@ -274,6 +298,8 @@ const COMMANDS: [CommandName; 20] = [
     CommandName::Tag,
     CommandName::Verify,
     CommandName::Derive,
+    CommandName::Session,
+    CommandName::Selftest,
 ];
 
 /// All options, in the order of their places.
@@ -290,6 +316,8 @@ const OPTIONS: [OptionName; OPTION_COUNT] = [
     OptionName::AdHex,
     OptionName::TagHex,
     OptionName::Length,
+    OptionName::Seed,
+    OptionName::Lines,
 ];
 
 /// The command of this name.
@@ -336,9 +364,20 @@ pub fn is_value(form: Form, text: &str) -> bool
         Form::Text => true,
         Form::FileName => !text.is_empty(),
         Form::Number => number_named(text).is_some(),
+        Form::LineCount => is_line_count(number_named(text)),
         Form::Format => format_named(text).is_some(),
         Form::Datum => text.len() <= DATUM_LIMIT,
         Form::Hex => is_hex(text),
+    }
+}
+
+/// Whether a number is there, and may be a count of lines.
+fn is_line_count(number: Option<u32>) -> bool
+    ensures { result ≡ is_line_count number }
+{
+    match number {
+        Some(lines) => 1 <= lines && lines <= MOST_LINES,
+        None => false,
     }
 }
 

@@ -4,17 +4,11 @@ use Rattle.tinkey_run.proofs.report.push_text.Goals as goal
 
 pub returns-in-Usage-clause-text : goal.returns-in-Usage-clause-text
 unfolding text_of
-returns-in-Usage-clause-text c = rw (c.in-Usage.is, c.push_number.ensures.text, c.push-in-Usage.ensures) (simp append_assoc)
+returns-in-Usage-clause-text c = rw (c.in-Usage.is, c.push_number.ensures.text, c.push.ensures) (simp append_assoc)
 
 pub returns-in-BadProto-clause-text : goal.returns-in-BadProto-clause-text
 unfolding text_of
 returns-in-BadProto-clause-text c = rw (c.in-BadProto.is, c.push_number-in-BadProto.ensures.text, c.push-in-BadProto.ensures) (simp append_assoc)
-
-pub returns-in-BadKey-clause-text : goal.returns-in-BadKey-clause-text
-unfolding text_of
-returns-in-BadKey-clause-text c =
-    rw (c.in-BadKey.is, c.push-in-BadKey-3.ensures, c.rule_name.ensures.text, c.push-in-BadKey-2.ensures, c.push_number-in-BadKey.ensures.text, c.push-in-BadKey.ensures)
-    (simp append_assoc)
 
 pub returns-in-InputTooLong-clause-text : goal.returns-in-InputTooLong-clause-text
 unfolding text_of

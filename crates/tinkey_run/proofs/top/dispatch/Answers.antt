@@ -1,6 +1,7 @@
 use Rattle.tinkey_run.specs.Commands.{create_output, edit_output, list_keyset_output}
 use Rattle.tinkey_run.specs.Ends.{world}
-use Rattle.tinkey_run.specs.Steps.{takes_keyset}
+use Rattle.tinkey_run.specs.SelfTesting.{self_test_output}
+use Rattle.tinkey_run.specs.Steps.{loads_keyset, takes_keyset}
 use Rattle.tinkey_run.specs.Streaming.{loads_stream_keys}
 use Rattle.tinkey_run.specs.Using.{use_output}
 use Rattle.tinkey_run.specs.Words.{seen_edit, seen_place, seen_work}
@@ -46,3 +47,13 @@ pub returns-in-OpenStream : goal.returns-in-OpenStream
 returns-in-OpenStream g c =
     let w = world (g.S.Source.state c.args.source.now) (g.K.Sink.state c.args.sink.now) (g.D.Store.state c.args.store.now) (g.E.Entropy.state c.args.entropy.now) in
     rw c.in-OpenStream.is (c.open_stream.ensures (loads_stream_keys c.in-OpenStream.keyset.now c.in-OpenStream.form) w (record w { store = g.D.Store.state c.load_stream_keys-keys-in-OpenStream.new.store }) (c.load_stream_keys-keys-in-OpenStream.ensures.passes w))
+
+pub returns-in-Session : goal.returns-in-Session
+returns-in-Session g c =
+    let w = world (g.S.Source.state c.args.source.now) (g.K.Sink.state c.args.sink.now) (g.D.Store.state c.args.store.now) (g.E.Entropy.state c.args.entropy.now) in
+    rw c.in-Session.is (c.answer_lines.ensures (loads_keyset c.in-Session.keyset.now c.in-Session.form) w (c.load_keyset-keyset.ensures.passes w))
+
+pub returns-in-SelfTest : goal.returns-in-SelfTest
+returns-in-SelfTest g c =
+    let w = world (g.S.Source.state c.args.source.now) (g.K.Sink.state c.args.sink.now) (g.D.Store.state c.args.store.now) (g.E.Entropy.state c.args.entropy.now) in
+    rw c.in-SelfTest.is (c.finish-in-SelfTest.ensures (self_test_output _ c.in-SelfTest.seed c.in-SelfTest.lines) w w (c.tell_self_test.ensures w))

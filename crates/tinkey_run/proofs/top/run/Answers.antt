@@ -3,3 +3,6 @@ use Rattle.tinkey_run.proofs.top.run.Goals as goal
 
 pub returns-clause-promised : goal.returns-clause-promised
 returns-clause-promised g c = promised _ _ _ _ c.obey-status.ensures
+
+pub returns-clause-readable : goal.returns-clause-readable
+returns-clause-readable g c = c.sessions_are_readable.ensures _ _ _ _ _ (promised _ _ _ _ c.obey-status.ensures).answer

@@ -1,0 +1,51 @@
+//! selftest: what becomes of session lines that are made from a number.
+
+ghost use Rattle.std.specs.Prelude.{◌≡◌, IfOk, IfErr};
+ghost use Rattle.tinkey_selftest.specs.Telling.{counts_text};
+ghost use Rattle.tinkey_run.specs.Ends.{World};
+ghost use Rattle.tinkey_run.specs.SelfTesting.{self_test_output, self_test_refusal};
+ghost use Rattle.tinkey_run.specs.Steps.{Passes};
+ghost use Rattle.tinkey_run.specs.declared.status.Status.TheVariants as status;
+
+use crate::Status;
+use managers::{KeyTable, Managers};
+use std::alloc::Global;
+use tink_base::Bytes;
+use tinkey_selftest::{Counts, SelfTestFault, counts_text, self_test};
+
+/// selftest: the line of its counts.
+pub(crate) fn tell_self_test(
+    alloc: Global,
+    managers: &Managers,
+    seed: u32,
+    lines: u32,
+) -> Result<Bytes, Status>
+    ensures { (w : World) → Passes
+        (self_test_output (⟦<Managers as KeyTable>⟧.table managers.now) seed lines) w result w }
+{
+    match self_test(alloc, managers, seed, lines) {
+        Ok(counts) => tell_counts(alloc, lines, counts),
+        Err(fault) => Err(refusal(fault)),
+    }
+}
+
+/// The status of a self-test that counts nothing.
+fn refusal(fault: SelfTestFault) -> Status
+    ensures { result ≡ self_test_refusal fault }
+{
+    match fault {
+        SelfTestFault::Refused(fault) => Status::Command(fault),
+        SelfTestFault::NoMemory => Status::NoMemory,
+    }
+}
+
+/// The line of the counts.
+fn tell_counts(alloc: Global, lines: u32, counts: Counts) -> Result<Bytes, Status>
+    ensures line { IfOk result (λ line. line ≡ counts_text lines counts) }
+    ensures no_memory { IfErr result (λ s. s ≡ status.NoMemory) }
+{
+    match counts_text(alloc, lines, counts) {
+        Ok(line) => Ok(Bytes::own(line)),
+        Err(_) => Err(Status::NoMemory),
+    }
+}
