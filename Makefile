@@ -1,17 +1,19 @@
 # The commands of this repository. The first run of each proves every crate below it.
-.PHONY: run test try bench
+.PHONY: run test wrong try bench
 
-# Proves the program, lists the example's keyset with it, and leaves it as ./tinkey. With
-# CPU=x86-64-v3 it has instructions of newer processors.
+# Proves the program and the crates below it side by side, leaves it as ./tinkey, and lists the
+# example's keyset with it. With CPU=x86-64-v3 it has instructions of newer processors.
 run:
-	@cd crates/tinkey && { rt run $(if $(CPU),--cpu $(CPU)) -- list-keyset --in-format binary \
-	    < ../../examples/aes128-gcm.binary 2>out.log || { cat out.log >&2; exit 1; }; }
-	@rm -f crates/tinkey/out.log
-	@cp crates/tinkey/out/tinkey tinkey
+	@tools/build $(CPU)
+	@./tinkey list-keyset --in-format binary < examples/aes128-gcm.binary
 
 # The merge gate: every proof, must-fail edit, test and program.
 test:
 	rt ci
+
+# Tries the wrong bodies that stand outside the gate, of all crates or of CRATE: each must be refused.
+wrong:
+	@tools/wrong $(CRATE)
 
 # The same listing in seconds, with nothing proved.
 try:
