@@ -4,7 +4,8 @@
 # Proves the program and the crates below it side by side, leaves it as ./tinkey, and lists the
 # example's keyset with it. With CPU=x86-64-v3 it has instructions of newer processors.
 run:
-	@tools/build $(CPU)
+	@tools/build tinkey $(CPU)
+	@cp crates/tinkey/out/tinkey tinkey
 	@./tinkey list-keyset --in-format binary < examples/aes128-gcm.binary
 
 # The merge gate: every proof, must-fail edit, test and program.
