@@ -1,0 +1,8 @@
+//! Tests of fields, key messages, keysets in both forms, managers, handles and edits, through the
+//! public calls of their crates. There is no code here but tests.
+#![tactic(auto)]
+
+#[cfg(test)]
+mod fields;
+#[cfg(test)]
+mod writing_fields;
