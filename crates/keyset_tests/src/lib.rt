@@ -5,4 +5,12 @@
 #[cfg(test)]
 mod fields;
 #[cfg(test)]
+mod key_rules;
+#[cfg(test)]
+mod keysets;
+#[cfg(test)]
+mod new_keys;
+#[cfg(test)]
 mod writing_fields;
+#[cfg(test)]
+mod writing_keysets;
