@@ -3,11 +3,19 @@
 #![tactic(auto)]
 
 #[cfg(test)]
+mod edits;
+#[cfg(test)]
 mod fields;
+#[cfg(test)]
+mod handles;
+#[cfg(test)]
+mod json;
 #[cfg(test)]
 mod key_rules;
 #[cfg(test)]
 mod keysets;
+#[cfg(test)]
+mod manager_answers;
 #[cfg(test)]
 mod new_keys;
 #[cfg(test)]
