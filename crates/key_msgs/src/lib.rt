@@ -23,8 +23,3 @@ pub use reading::read_key;
 pub use rule::Rule;
 pub use template::{Recipe, Template, TemplateFault, make_key, template_at, template_named};
 pub use writing::write_key;
-
-#[cfg(test)]
-mod tests;
-#[cfg(test)]
-mod writing_tests;

@@ -10,8 +10,6 @@ mod member;
 mod names;
 mod numbers;
 mod reading;
-#[cfg(test)]
-mod tests;
 mod writing;
 
 pub use base64_text::read_bytes;

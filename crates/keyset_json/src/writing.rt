@@ -2,7 +2,6 @@
 
 ghost use Rattle.std.specs.Prelude.{◌≡◌, IfOk, map};
 ghost use Rattle.serde_json.specs.View.{view, members_view};
-ghost use Rattle.keyset_model.specs.Keyset.{is_bare};
 ghost use Rattle.keyset_json.specs.Writing.{data_value, data_member, key_value, keyset_value, json_of};
 
 use crate::names::Names;
@@ -70,17 +69,10 @@ fn data_member(alloc: Global, key: &Record) -> Result<Map<String, Value>, AllocE
     ensures { IfOk result (λ members. members_view members.entries ≡ data_member key.now) }
 {
     let mut members = Map::new(alloc);
-    if !is_bare(key) {
+    if !key.is_bare() {
         put(&mut members, alloc, "keyData", data_value(alloc, key)?)?;
     }
     Ok(members)
-}
-
-/// Whether a record has neither URL nor value nor key material type.
-fn is_bare(key: &Record) -> bool
-    ensures { result ≡ is_bare key.now }
-{
-    key.url.as_str().is_empty() && key.value.as_slice().is_empty() && key.material == 0
 }
 
 /// The object of a record's key data.

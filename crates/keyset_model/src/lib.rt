@@ -10,11 +10,7 @@ pub mod laws;
 mod listing;
 mod reading;
 mod record;
-#[cfg(test)]
-mod tests;
 mod writing;
-#[cfg(test)]
-mod writing_tests;
 
 pub use keyset::{Keyset, KeysetFault};
 pub use listing::{info_text, prefix_name, status_name};

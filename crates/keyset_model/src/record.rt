@@ -23,6 +23,15 @@ pub struct Record {
 }
 
 impl Record {
+    ghost use Rattle.keyset_model.specs.Keyset.{is_bare};
+
+    /// Whether the record has no key data: neither URL nor value nor key material type.
+    pub fn is_bare(&self) -> bool
+        ensures { result ≡ is_bare self.now }
+    {
+        self.url.as_str().is_empty() && self.value.as_slice().is_empty() && self.material == 0
+    }
+
     /// The same record once more.
     pub fn copy(&self, alloc: Global) -> Result<Record, NoMemory>
         ensures { IfOk result (λ r. r ≡ self.now) }

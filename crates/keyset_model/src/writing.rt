@@ -2,7 +2,7 @@
 
 ghost use Rattle.std.specs.Prelude.{◌≡◌, IfOk};
 ghost use Rattle.std.specs.List.{AllByRecursion};
-ghost use Rattle.keyset_model.specs.Keyset.{is_bare, IsShort};
+ghost use Rattle.keyset_model.specs.Keyset.{IsShort};
 ghost use Rattle.keyset_model.specs.Writing.{data_written, record_written, binary_of};
 
 use crate::key::{
@@ -38,7 +38,7 @@ fn write_record(alloc: Global, key: &Record) -> Result<Vec<u8>, NoMemory>
     ensures { IfOk result (λ bytes. bytes.items ≡ record_written key.now) }
 {
     let mut writer = Writer::new(alloc);
-    if !is_bare(key) {
+    if !key.is_bare() {
         let key_data = write_data(alloc, key)?;
         writer.message(KEY_DATA, &key_data)?;
     }
@@ -58,11 +58,4 @@ fn write_data(alloc: Global, key: &Record) -> Result<Vec<u8>, NoMemory>
     writer.bytes(VALUE, key.value.as_slice())?;
     writer.uint32(KEY_MATERIAL_TYPE, key.material)?;
     Ok(writer.finish())
-}
-
-/// Whether the record has no key data.
-fn is_bare(key: &Record) -> bool
-    ensures { result ≡ is_bare key.now }
-{
-    key.url.as_str().is_empty() && key.value.as_slice().is_empty() && key.material == 0
 }

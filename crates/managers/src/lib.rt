@@ -20,6 +20,3 @@ pub use interfaces::{AeadManager, CheckFault, DaeadManager, KeyManager, MacManag
 pub use mac::{CmacManager, HmacManager};
 pub use prf::{CmacPrfManager, HkdfPrfManager, HmacPrfManager};
 pub use table::{KeyList, KeyTable, Managers, SameUrl};
-
-#[cfg(test)]
-mod tests;

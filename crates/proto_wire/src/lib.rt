@@ -16,8 +16,3 @@ pub use cutting::fields;
 pub use field::{Field, FieldsError, Kind, Wire};
 pub use list::Fields;
 pub use writer::Writer;
-
-#[cfg(test)]
-mod tests;
-#[cfg(test)]
-mod writer_tests;

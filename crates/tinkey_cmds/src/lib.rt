@@ -6,8 +6,6 @@ mod command;
 mod drawing;
 mod editing;
 pub mod laws;
-#[cfg(test)]
-mod tests;
 
 pub use applying::{apply, create};
 pub use command::{CmdError, CmdFault, Command};

@@ -13,6 +13,3 @@ mod trying;
 pub use handle::{Handle, HandleFault};
 pub use making::DeriveFault;
 pub use sealing::SealFault;
-
-#[cfg(test)]
-mod tests;

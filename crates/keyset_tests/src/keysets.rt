@@ -1,4 +1,4 @@
-use crate::{KeysetFault, ReadError, info_text, prefix_name, read_binary, status_name};
+use keyset_model::{KeysetFault, ReadError, info_text, prefix_name, read_binary, status_name};
 use proto_wire::Wire;
 use std::test::Fail;
 

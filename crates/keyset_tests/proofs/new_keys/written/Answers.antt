@@ -1,5 +1,5 @@
 use Rattle.key_msgs.proofs.Made.{made-short}
-use Rattle.key_msgs.proofs.writing_tests.written.Goals as goal
+use Rattle.keyset_tests.proofs.new_keys.written.Goals as goal
 use Rattle.key_msgs.specs.Templates.{seen}
 
 pub write_key-requires : goal.write_key-requires

@@ -1,4 +1,4 @@
-use crate::{JsonError, Member, Path, read_bytes, read_json, write_json};
+use keyset_json::{JsonError, Member, Path, read_bytes, read_json, write_json};
 use keyset_model::{KeysetFault, read_binary, write_binary};
 use std::alloc::Global;
 use std::test::Fail;

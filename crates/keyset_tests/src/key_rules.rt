@@ -3,7 +3,7 @@
 
 ghost use Rattle.std.specs.Prelude.{◌<◌};
 
-use crate::{
+use key_msgs::{
     KeyFault, KeyKind, Primitive, Rule, TemplateFault, primitive_of, read_key, template_at,
     template_named,
 };

@@ -1,12 +1,12 @@
 //! Each manager in its box, found by its URL, against published and independent answers; and which
 //! tables are refused.
 
-use crate::{
+use key_msgs::Primitive;
+use managers::{
     AeadManager, CmacManager, CmacPrfManager, CtrHmacManager, DaeadManager, EaxManager, GcmManager,
     HkdfPrfManager, HmacManager, HmacPrfManager, KeyManager, MacManager, Managers, PrfManager,
     SivManager,
 };
-use key_msgs::Primitive;
 use std::alloc::Global;
 use std::process::Abort;
 use std::str::from_utf8;

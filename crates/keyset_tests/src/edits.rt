@@ -1,11 +1,11 @@
 //! Edits of small keysets, over random bytes in memory.
 
-use crate::{CmdError, CmdFault, Command, apply, create};
 use key_msgs::template_named;
 use keyset_model::{Keyset, read_binary};
 use std::alloc::Global;
 use std::test::Fail;
 use tink_base::MemEntropy;
+use tinkey_cmds::{CmdError, CmdFault, Command, apply, create};
 
 // `Keyset` messages, as protoc 3.21.12 encodes them: the primary id and key 7 of AES-GCM.
 const FIRST: &[u8] = b"\x08\x07\

@@ -1,6 +1,5 @@
 //! Keysets under managers that each test makes, against published and independent answers.
 
-use crate::Handle;
 use key_msgs::Primitive;
 use keyset_model::{Keyset, read_binary};
 use managers::{
@@ -12,6 +11,7 @@ use std::process::Abort;
 use std::str::from_utf8;
 use std::test::Fail;
 use tink_base::{MemEntropy, Trials};
+use wrapped_prims::Handle;
 
 // A row has what it shows, a keyset, the work, what is given, and what is answered. A keyset is its
 // primary id, and for each record its status, prefix type, id, URL and key message, ids as varints in

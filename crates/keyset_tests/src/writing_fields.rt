@@ -1,7 +1,7 @@
 //! Messages as other writers write them: the examples of the encoding guide of Protocol Buffers, and
 //! bytes of `protoc --encode` for numbers at the edges of their varints.
 
-use crate::Writer;
+use proto_wire::Writer;
 use std::test::Fail;
 
 // The guide's examples ("A Simple Message", "Length-Delimited Records", "Submessages").

@@ -4,8 +4,8 @@
 ghost use Rattle.std.specs.Prelude.{◌≡◌, ◌<◌, ◌^◌, length};
 ghost use Rattle.key_msgs.specs.Templates.{seen, random_of};
 
-use crate::tests::{bytes_of, outcome};
-use crate::{Template, make_key, read_key, template_at, template_named, url_of, write_key};
+use crate::key_rules::{bytes_of, outcome};
+use key_msgs::{Template, make_key, read_key, template_at, template_named, url_of, write_key};
 use std::alloc::Global;
 use std::test::Fail;
 use tink_base::NoMemory;

@@ -4,7 +4,7 @@ ghost use Rattle.std.specs.Prelude.{IfOk};
 ghost use Rattle.std.specs.List.{AllByRecursion};
 ghost use Rattle.proto_wire.specs.Fields.{IsOf};
 
-use crate::{Field, Fields, FieldsError, Kind, Wire, fields};
+use proto_wire::{Field, Fields, FieldsError, Kind, Wire, fields};
 use std::alloc::Global;
 use std::test::Fail;
 

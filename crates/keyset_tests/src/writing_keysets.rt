@@ -4,8 +4,8 @@ ghost use Rattle.std.specs.Prelude.{◌≤◌, length, IfOk};
 ghost use Rattle.std.specs.List.{AllByRecursion};
 ghost use Rattle.keyset_model.specs.Keyset.{IsWithin};
 
-use crate::tests::KEYSET;
-use crate::{Keyset, ReadError, Record, read_binary, write_binary};
+use crate::keysets::KEYSET;
+use keyset_model::{Keyset, ReadError, Record, read_binary, write_binary};
 use std::alloc::Global;
 use std::test::Fail;
 use tink_base::{Bytes, DESTROYED, ENABLED, LEGACY, NoMemory, RAW, TINK, Text};
