@@ -5,7 +5,8 @@
 //! Such a sum takes the moves and the fold of one product alone.
 ghost use Rattle.ghash.specs.Ghash.{ghash, padded_block, padded_blocks};
 ghost use Rattle.ghash.specs.Field.{prod};
-ghost use Rattle.std.specs.Prelude.{◌≡◌, ℕ, ◌+◌, ◌≤◌, List, [], ◌∷◌, ◌++◌, length};
+ghost use Rattle.std.specs.Prelude.{◌≡◌, ℕ, ◌+◌, ◌≤◌, List, [], ◌∷◌, ◌++◌, bit_xor, length};
+ghost use Rattle.std.specs.Int.{w128, from_be_bytes, to_be_bytes};
 ghost use Rattle.std.specs.Simd.Lanes.{chunk};
 
 use crate::products::{Factor, ONE, factor_of, lanes_of, multiply, no_factor, sum_of_products};
@@ -184,11 +185,10 @@ impl Ghash {
         ensures { (h : ℕ) (blocks : List ℕ) → Holds self.now h blocks
             → result ≡ ghash h (blocks ++ padded_blocks piece.now) }
     {
-        let first = u128::from_be_bytes(loaded(piece, 0).to_array());
         sum_of_products(
             &self.factors,
             &[
-                lanes_of(self.y ^ first).to_array(),
+                with_first(self.y, piece).to_array(),
                 loaded(piece, 16).to_array(),
                 loaded(piece, 32).to_array(),
                 loaded(piece, 48).to_array(),
@@ -208,11 +208,10 @@ impl Ghash {
         ensures { (h : ℕ) (blocks : List ℕ) → Holds self.now h blocks
             → result ≡ ghash h (blocks ++ padded_blocks piece.now) }
     {
-        let first = u128::from_be_bytes(loaded(piece, 0).to_array());
         sum_of_products(
             &self.factors[4..],
             &[
-                lanes_of(self.y ^ first).to_array(),
+                with_first(self.y, piece).to_array(),
                 loaded(piece, 16).to_array(),
                 loaded(piece, 32).to_array(),
                 loaded(piece, 48).to_array(),
@@ -262,6 +261,16 @@ fn loaded(piece: &[u8], at: usize) -> u8x16
     ensures { result ≡ chunk at 16 piece.now }
 {
     u8x16::from_slice(&piece[at..])
+}
+
+// GHASH so far, with the first block added. In lanes, since a block that is read as a number first
+// is put together byte by byte by the compiler, which takes a tenth of a group's time.
+#[inline(always)]
+fn with_first(y: u128, piece: &[u8]) -> u8x16
+    requires { 16 ≤ length piece.now }
+    ensures { result ≡ to_be_bytes w128 (bit_xor y (from_be_bytes w128 (chunk 0 16 piece.now))) }
+{
+    lanes_of(y) ^ loaded(piece, 0)
 }
 
 // The block of at most 16 bytes, with zeros after them.

@@ -1,10 +1,12 @@
 //! Products of blocks with factors that are known before. No branch and no place in memory depends
 //! on a block or a factor.
 //!
-//! A byte in the leftmost place of a block is two numbers below 16. A factor keeps its products with
-//! the 16 numbers in each of the two leftmost places of four bits, cut into rows: row j has byte j of
-//! all 16 products. So a row is one vector, and one shuffle in registers looks up byte j of the
-//! products of all 16 bytes of a block at once, lane b that of the byte in place b.
+//! A byte in the leftmost place of a block is two numbers below 16. A factor keeps its products
+//! with the 16 numbers in each of the two leftmost places of four bits, cut into rows: row j has
+//! byte j of all 16 products of one place, and behind them those of the other. So a row is a vector
+//! of two halves, and a shuffle within each half looks up byte j of the products of all 16 bytes of
+//! a block, lanes b and 16 + b those of the two numbers of the byte in place b. A processor with
+//! registers of 32 bytes does that at once; for another each vector is two.
 //!
 //! What lane b holds is worth x^(8 b) times as much. Byte j of each product goes j places on, so the
 //! sums of bytes are added from the last place to the first, and all moves by one place between,
@@ -21,6 +23,7 @@ ghost use Rattle.ghash.specs.Places.{byte_rows, IsBlock, xor_sum, sum_of_product
 ghost use Rattle.ghash.specs.FactorState.{IsFactor};
 ghost use Rattle.std.specs.Int.{w128, byte_at, from_be_bytes, to_be_bytes};
 ghost use Rattle.std.specs.Prelude.{◌≡◌, ◌≤◌, ◌<◌, ◌+◌, ◌-◌, ◌*◌, ◌^◌, ◌/◌, ◌%◌, ℕ, List, [], ◌++◌, bit_and, bit_xor, length, map, get_or};
+ghost use Rattle.std.specs.List.{range_with_len};
 ghost use Rattle.std.specs.Simd.Lanes.{Each1, Each2};
 
 use crate::field::multiply_by_x;
@@ -45,11 +48,10 @@ const ONES: [u8; 16] = [
 ];
 
 /// The products of a factor with the numbers below 16, in the two leftmost places of four bits. Row
-/// j of a place has byte j of each of its products.
+/// j has byte j of each product in the first place, and then in the second.
 #[derive(Clone, Copy, Drop)]
 pub struct Factor {
-    left: [[u8; 16]; 16],
-    right: [[u8; 16]; 16],
+    rows: [[u8; 32]; 16],
 }
 
 /// The block 1 0^127, whose product with a factor is that factor.
@@ -58,8 +60,7 @@ pub const ONE: u128 = 1 << 127;
 /// What stands where no factor is made yet.
 pub fn no_factor() -> Factor {
     Factor {
-        left: [[0; 16]; 16],
-        right: [[0; 16]; 16],
+        rows: [[0; 32]; 16],
     }
 }
 
@@ -71,9 +72,37 @@ pub fn factor_of(h: u128) -> Factor
     let xx = multiply_by_x(x);
     let xxx = multiply_by_x(xx);
     Factor {
-        left: rows_of(h),
-        right: rows_of(multiply_by_x(xxx)),
+        rows: side_by_side(&rows_of(h), &rows_of(multiply_by_x(xxx))),
     }
+}
+
+// Each row of the first place with that of the second behind it.
+#[inline(always)]
+fn side_by_side(left: &[[u8; 16]; 16], right: &[[u8; 16]; 16]) -> [[u8; 32]; 16]
+    requires left { Each1 IsBlock left.now }
+    requires right { Each1 IsBlock right.now }
+    ensures { result
+        ≡ map (λ j. get_or left.now j [] ++ get_or right.now j []) (range_with_len 0 16) }
+{
+    let mut rows = [[0; 32]; 16];
+    for j in 0..16 {
+        rows[j] = joined(u8x16::from_array(left[j]), u8x16::from_array(right[j])).to_array();
+    }
+    rows
+}
+
+// Two vectors as one.
+#[inline(always)]
+fn joined(first: u8x16, second: u8x16) -> u8x32
+    ensures { result ≡ first ++ second }
+{
+    first.shuffle(
+        second,
+        [
+            0, 1, 2, 3, 4, 5, 6, 7, 8, 9, 10, 11, 12, 13, 14, 15, 16, 17, 18, 19, 20, 21, 22, 23,
+            24, 25, 26, 27, 28, 29, 30, 31,
+        ],
+    )
 }
 
 // The rows of the leftmost place. The product of a number is the sum of those of its bits.
@@ -106,14 +135,29 @@ fn masked(bytes: u8x16, j: u8, mask: [u8; 16]) -> u8x16
     bytes.swizzle_dyn_within::<16>(u8x16::splat(j)) & u8x16::from_array(mask)
 }
 
-// For each byte, its left and its right half looked up and added.
+// For each byte, what its left half looks up in the first half of a row, and behind them what its
+// right half looks up in the second.
 #[inline(always)]
-fn looked_up(left: [u8; 16], right: [u8; 16], bytes: u8x16) -> u8x16
-    ensures { result ≡ map (λ n. bit_xor (get_or left (n / 16) 0) (get_or right (n % 16) 0)) bytes }
+fn looked_up(row: [u8; 32], bytes: u8x16) -> u8x32
+    ensures { result ≡ map (λ n. get_or row (n / 16) 0) bytes
+        ++ map (λ n. get_or row (16 + n % 16) 0) bytes }
 {
-    let high = u8x16::from_array(left).swizzle_dyn_within::<16>(bytes >> u8x16::splat(4));
-    let low = u8x16::from_array(right).swizzle_dyn_within::<16>(bytes & u8x16::splat(15));
-    high ^ low
+    let halves = joined(bytes >> u8x16::splat(4), bytes & u8x16::splat(15));
+    u8x32::from_array(row).swizzle_dyn_within::<16>(halves)
+}
+
+// The sum of both halves.
+#[inline(always)]
+fn added(sums: u8x32) -> u8x16
+    ensures long { length result ≡ 16 }
+    ensures each { (b : ℕ) → b < 16 → get_or result b 0
+        ≡ bit_xor (get_or sums b 0) (get_or sums (16 + b) 0) }
+{
+    let first: u8x16 = sums.swizzle([0, 1, 2, 3, 4, 5, 6, 7, 8, 9, 10, 11, 12, 13, 14, 15]);
+    let second: u8x16 = sums.swizzle([
+        16, 17, 18, 19, 20, 21, 22, 23, 24, 25, 26, 27, 28, 29, 30, 31,
+    ]);
+    first ^ second
 }
 
 // The bytes in place j of sums: lane b sums the products of the bytes in place b of the blocks.
@@ -128,14 +172,12 @@ fn byte_sums(factors: &[Factor], blocks: &[[u8; 16]], j: usize) -> u8x16
         (λ i. prod (get_or (get_or blocks.now i []) b 0 * 2 ^ 120) (get_or hs i 0))
         (length blocks.now)) }
 {
-    let mut sums = u8x16::splat(0);
+    let mut sums = u8x32::splat(0);
     for i in 0..blocks.len() {
-        let factor = &factors[i];
-        let bytes = u8x16::from_array(blocks[i]);
-        let next = sums ^ looked_up(factor.left[j], factor.right[j], bytes);
+        let next = sums ^ looked_up(factors[i].rows[j], u8x16::from_array(blocks[i]));
         sums = next;
     }
-    sums
+    added(sums)
 }
 
 /// The sum of the products of blocks, each with its own factor.
