@@ -8,7 +8,7 @@
 ghost use Rattle.std.specs.Prelude.{◌≡◌, ◌+◌, ◌^◌, ◌≤◌, ℕ, List, length, IfOk};
 ghost use Rattle.std.specs.Option.{option_map};
 ghost use Rattle.std.specs.Str.{bytes_eq};
-ghost use Rattle.tink_base.specs.Memory.{next};
+ghost use Rattle.tink_spec.specs.Outside.{next};
 ghost use Rattle.managers.specs.Schemes.{Scheme, key_under, IsAdmitted, IsReading};
 ghost use Rattle.managers.specs.Uses.{dopen_key, dseal_of, greatest, iv_size, open_key, prf_of, seal_of, tag_of, tagged};
 

@@ -20,3 +20,4 @@ pub mod SealPass
 pub mod KeyLemmas
 pub mod KeysLemmas
 pub mod SegmentLemmas
+pub mod ReadsOn

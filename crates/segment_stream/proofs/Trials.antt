@@ -5,7 +5,7 @@ use Rattle.std.specs.Option.{is_some}
 use Rattle.std.proofs.lemmas.Bool.{cases_lt}
 use Rattle.std.proofs.lemmas.Bool.Decides.{nat_tests}
 use Rattle.std.proofs.lemmas.List.{length-append, drop_all}
-use Rattle.tink_spec.specs.Outside.{SourceState, SinkState, Rose, Stood, Gave, Took, TookPrefix, IsAtEnd}
+use Rattle.tink_spec.specs.Outside.{SourceState, SinkState, Rose, Stood, Gave, Took, TookPrefix, IsAtEnd, next}
 use Rattle.tink_spec.proofs.Moves.{gave_more, took_nothing, took_more}
 use Rattle.segment_stream.specs.Pieces.{followed}
 use Rattle.segment_stream.specs.Cipher.{SegmentCipher, IsCipher, most_segments, behind_header}
@@ -166,7 +166,7 @@ pumps_unwritten ciphers key was now old new taken p ended c is gave end decided 
 -- no fault is hidden by a pass behind calls that met none
 pub shows_after : (result : Result (Unit {0}) OpenPumpFault) (was mid now : SourceState) (old halfway new : SinkState) → Stood was.faults mid.faults → Stood old.faults halfway.faults → ShowsFaults result mid now halfway new → ShowsFaults result was now old new
 shows_after (Ok done) was mid now old halfway new r w s = (s.0 ∙ r, s.1 ∙ w)
-shows_after (Err fault.ReadFault) was mid now old halfway new r w s = s ∙ w
-shows_after (Err fault.WriteFault) was mid now old halfway new r w s = s ∙ r
+shows_after (Err fault.ReadFault) was mid now old halfway new r w s = (s.0 ∙ ap next r, s.1 ∙ w)
+shows_after (Err fault.WriteFault) was mid now old halfway new r w s = (s.0 ∙ r, s.1 ∙ ap next w)
 shows_after (Err fault.TooManySegments) was mid now old halfway new r w s = (s.0 ∙ r, s.1 ∙ w)
 shows_after (Err (fault.StreamFailed number)) was mid now old halfway new r w s = (s.0 ∙ r, s.1 ∙ w)

@@ -1,6 +1,6 @@
 -- How a segment of a stream that is opened ended.
 use Rattle.std.specs.Prelude.{◌≡◌, List, ℕ, take, Option, Some, None}
-use Rattle.tink_spec.specs.Outside.{SinkState, Rose, Stood, Took, TookPrefix}
+use Rattle.tink_spec.specs.Outside.{SinkState, Rose, RoseOnce, Stood, Took, TookPrefix}
 use Rattle.segment_stream.specs.Cipher.{SegmentCipher}
 use Rattle.segment_stream.specs.Opening.{opens_at}
 use Rattle.segment_stream.specs.Streams.{IsUnder}
@@ -14,7 +14,8 @@ abbrev pub EndsSegment : Option (List ℕ) → SegmentEnd → SinkState → Sink
 EndsSegment opened Written old new =
     (plain : List ℕ) × (opened ≡ Some plain) × Took old new plain × Stood old.faults new.faults
 EndsSegment opened Unwritten old new =
-    (plain : List ℕ) × (opened ≡ Some plain) × Rose old.faults new.faults × TookPrefix old new plain
+    (plain : List ℕ) × (opened ≡ Some plain) × Rose old.faults new.faults
+    × TookPrefix old new plain × RoseOnce old.faults new.faults
 EndsSegment opened Refused old new = (opened ≡ None) × (old ≡ new)
 
 -- the first segment of the bytes taken: its plaintext was written, and the keys of the stream with
@@ -25,5 +26,5 @@ EndsFirst key taken (trials.Written stream) old new =
     × Stood old.faults new.faults × IsUnder stream key (take key.header taken)
 EndsFirst key taken trials.Unwritten old new =
     (plain : List ℕ) × (opens_at key taken 0 ≡ Some plain) × Rose old.faults new.faults
-    × TookPrefix old new plain
+    × TookPrefix old new plain × RoseOnce old.faults new.faults
 EndsFirst key taken trials.Refused old new = (opens_at key taken 0 ≡ None) × (old ≡ new)

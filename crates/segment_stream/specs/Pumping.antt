@@ -1,6 +1,6 @@
 -- A pass over a stream, from a source into a sink, with its faults.
 use Rattle.std.specs.Prelude.{◌≡◌, ℕ, List, [], ◌++◌, length, Bool, true, false, Option, Some, None, Result, Ok, Err, ◌<◌}
-use Rattle.tink_spec.specs.Outside.{SourceState, SinkState, Rose, Stood, Gave, Took, IsAtEnd}
+use Rattle.tink_spec.specs.Outside.{SourceState, SinkState, Rose, RoseOnce, Stood, Gave, Took, IsAtEnd}
 use Rattle.segment_stream.specs.declared.fault.OpenPumpFault.{OpenPumpFault}
 use Rattle.segment_stream.specs.declared.fault.OpenPumpFault.TheVariants as fault
 use Rattle.segment_stream.specs.Cipher.{SegmentCipher}
@@ -70,9 +70,12 @@ abbrev pub result_of : Option StreamRefusal → Result (Unit {0}) OpenPumpFault
 result_of None = Ok tt
 result_of (Some refusal) = Err (fault_of refusal)
 
--- no fault is hidden: each count of faults stood, but for that of the object that the result names
+-- no fault is hidden, and what failed wasn't tried again: each count of faults stood, but for that of
+-- the object that the result names, which rose by one
 abbrev pub ShowsFaults : Result (Unit {0}) OpenPumpFault → (was now : SourceState)
     → (old new : SinkState) → Type 0
-ShowsFaults (Err fault.ReadFault) was now old new = Stood old.faults new.faults
-ShowsFaults (Err fault.WriteFault) was now old new = Stood was.faults now.faults
+ShowsFaults (Err fault.ReadFault) was now old new =
+    RoseOnce was.faults now.faults × Stood old.faults new.faults
+ShowsFaults (Err fault.WriteFault) was now old new =
+    Stood was.faults now.faults × RoseOnce old.faults new.faults
 ShowsFaults _ was now old new = Stood was.faults now.faults × Stood old.faults new.faults

@@ -1,6 +1,6 @@
 -- What a pass reads into its buffer.
 use Rattle.std.specs.Prelude.{◌≡◌, ℕ, ◌+◌, ◌<◌, ◌≤◌, List, ◌++◌, length, Bool, true, false, ◌||◌, nat_lt}
-use Rattle.tink_spec.specs.Outside.{SourceState, Rose, Gave, IsAtEnd}
+use Rattle.tink_spec.specs.Outside.{SourceState, Rose, RoseOnce, Gave, GoesOn, IsAtEnd, StopsAtEnd}
 use Rattle.segment_stream.specs.Pumping.{Follows}
 
 -- so many bytes were read, and lie behind those that were there
@@ -22,6 +22,11 @@ pub record GaveBelow (old new : SourceState) (held end : ℕ) : Type 0 where
   pub below : held + length piece < end
   pub gave : Gave old new piece
 
+-- whether the end was seen or not, nothing was read after it
+pub record ReadsOn (seen : Bool) (old new : SourceState) : Type 0 where
+  pub goes_on : seen ≡ false → GoesOn old new
+  pub stops : StopsAtEnd old new
+
 -- bytes were read, unless the end was seen before, until a byte follows a segment of this size, or
 -- the end was seen
 pub record Decided (old new : SourceState) (before after : List ℕ) (whole ended : Bool) (size : ℕ) :
@@ -41,3 +46,4 @@ pub record Undecided (old new : SourceState) (before : List ℕ) (whole : Bool) 
     pub rose : Rose old.faults new.faults
     pub open_end : whole ≡ false
     pub below : length before + length piece ≤ size
+    pub once : RoseOnce old.faults new.faults

@@ -1,7 +1,7 @@
 //! A buffer that is filled from behind and emptied from the front.
 
 ghost use Rattle.std.specs.Prelude.{◌≡◌, ◌+◌, ◌-◌, ◌≤◌, ◌<◌, [], length, take, drop, OnErr, OnOk, IfOk};
-ghost use Rattle.tink_spec.specs.Outside.{Gave, IsAtEnd, Rose, Stood};
+ghost use Rattle.tink_spec.specs.Outside.{Gave, GoesOn, IsAtEnd, Rose, RoseOnce, Stood, StopsAtEnd};
 ghost use Rattle.segment_stream.specs.Reading.{GaveBelow, ReadBehind, ReadOn};
 
 use tink_base::{Failed, Source};
@@ -20,6 +20,11 @@ pub(crate) fn fill<S: Source>(
     ensures reads { IfOk result (λ n. ReadBehind (S.state source.old) (S.state source.new)
         (take len buffer.old) (take (len + n) buffer.new) n) }
     ensures end { IfOk result (λ n. n ≡ 0 → IsAtEnd (S.state source.new)) }
+    ensures goes_on { IfOk result (λ n. 0 < n →
+        GoesOn (S.state source.old) (S.state source.new)) }
+    ensures stops { StopsAtEnd (S.state source.old) (S.state source.new) }
+    ensures once { OnErr result
+        (RoseOnce (S.state source.old).faults (S.state source.new).faults) }
     ensures no_fault { OnOk result (Stood (S.state source.old).faults (S.state source.new).faults) }
     ensures failed { OnErr result (Rose (S.state source.old).faults (S.state source.new).faults) }
     ensures kept { OnErr result (Gave (S.state source.old) (S.state source.new) []) }
@@ -44,6 +49,11 @@ pub(crate) fn fill_until<S: Source>(
     ensures reads { IfOk result (λ len. ReadOn (S.state source.old) (S.state source.new)
         (take held buffer.old) (take len buffer.new)) }
     ensures end { IfOk result (λ len. len < end → IsAtEnd (S.state source.new)) }
+    ensures goes_on { IfOk result (λ len. end ≤ len →
+        GoesOn (S.state source.old) (S.state source.new)) }
+    ensures stops { StopsAtEnd (S.state source.old) (S.state source.new) }
+    ensures once { OnErr result
+        (RoseOnce (S.state source.old).faults (S.state source.new).faults) }
     ensures no_fault { OnOk result (Stood (S.state source.old).faults (S.state source.new).faults) }
     ensures failed { OnErr result (Rose (S.state source.old).faults (S.state source.new).faults) }
     ensures gave { OnErr result (GaveBelow (S.state source.old) (S.state source.new) held end) }

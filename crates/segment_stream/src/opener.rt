@@ -1,6 +1,7 @@
 //! Streams opened in one pass.
 
 ghost use Rattle.std.specs.Prelude.{◌≡◌, ◌+◌, [], false, IfOk};
+ghost use Rattle.tink_spec.specs.Outside.{StopsAtEnd};
 ghost use Rattle.segment_stream.specs.Pumping.{Pumps, ShowsFaults, opening_any};
 ghost use Rattle.segment_stream.specs.Segments.{ciphers_of};
 ghost use Rattle.segment_stream.specs.StreamKeys.{largest_of};
@@ -62,6 +63,7 @@ impl<'k> Opener<'k> {
         ensures pumps { Pumps (opening_any (ciphers_of self.entry.ad self.entry.keys.keys)) [] []
             false result (S.state source.old) (S.state source.new) (K.state sink.old)
             (K.state sink.new) }
+        ensures stops { StopsAtEnd (S.state source.old) (S.state source.new) }
         ensures shown { ShowsFaults result (S.state source.old) (S.state source.new)
             (K.state sink.old) (K.state sink.new) }
     {

@@ -1,7 +1,7 @@
 //! Opening the segments of a stream behind the first, in one pass over one buffer.
 
-ghost use Rattle.std.specs.Prelude.{◌≡◌, ℕ, ◌+◌, ◌≤◌, ◌<◌, ◌^◌, List, length, take, true};
-ghost use Rattle.tink_spec.specs.Outside.{IsAtEnd};
+ghost use Rattle.std.specs.Prelude.{◌≡◌, ℕ, ◌+◌, ◌≤◌, ◌<◌, ◌^◌, List, length, take, false, true};
+ghost use Rattle.tink_spec.specs.Outside.{IsAtEnd, StopsAtEnd};
 ghost use Rattle.segment_stream.specs.Cipher.{SegmentCipher};
 ghost use Rattle.segment_stream.specs.Ending.{EndsSegment};
 ghost use Rattle.segment_stream.specs.Pumping.{Pumps, ShowsFaults, opening_under};
@@ -80,6 +80,8 @@ pub(crate) fn open_rest<S: Source, K: Sink>(
         → Standing cipher header taken 1 (take held buffer.old) written
         → Pumps (opening_under cipher) taken written whole result (S.state source.old)
         (S.state source.new) (K.state sink.old) (K.state sink.new) }
+    ensures still { whole ≡ true → S.state source.new ≡ S.state source.old }
+    ensures stops { whole ≡ false → StopsAtEnd (S.state source.old) (S.state source.new) }
     ensures shown { ShowsFaults result (S.state source.old) (S.state source.new)
         (K.state sink.old) (K.state sink.new) }
 {

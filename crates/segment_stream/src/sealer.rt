@@ -1,7 +1,7 @@
 //! Streams sealed in one pass.
 
 ghost use Rattle.std.specs.Prelude.{◌≡◌, ℕ, ◌+◌, ◌-◌, ◌≤◌, ◌<◌, ◌^◌, List, [], length, take, false, IfErr, IfOk, OnErr, OnOk};
-ghost use Rattle.tink_spec.specs.Outside.{Drew, RanShort, Rose, SinkState, Stood, Took, TookPrefix};
+ghost use Rattle.tink_spec.specs.Outside.{Drew, RanShort, Rose, RoseOnce, SinkState, Stood, StopsAtEnd, Took, TookPrefix};
 ghost use Rattle.segment_stream.specs.Cipher.{SegmentCipher};
 ghost use Rattle.segment_stream.specs.PumpModels.{HasRoom, IsHeader, IsMade, IsSealerFault, SealsUnder, pump_result};
 ghost use Rattle.segment_stream.specs.Pumping.{Pumps, ShowsFaults, sealing};
@@ -100,6 +100,7 @@ impl Sealer {
         ensures pumps { (cipher : SegmentCipher) → SealsUnder self cipher
             → Pumps (sealing cipher self.header) [] [] false (pump_result result)
             (S.state source.old) (S.state source.new) (K.state sink.old) (K.state sink.new) }
+        ensures stops { StopsAtEnd (S.state source.old) (S.state source.new) }
         ensures shown { ShowsFaults (pump_result result) (S.state source.old) (S.state source.new)
             (K.state sink.old) (K.state sink.new) }
     {
@@ -145,6 +146,7 @@ fn write_sealed<K: Sink>(
         (seals_under stream.now.keys stream.now.prefix number last segment.old)) }
     ensures no_fault { OnOk result (Stood (K.state sink.old).faults (K.state sink.new).faults) }
     ensures failed { OnErr result (Rose (K.state sink.old).faults (K.state sink.new).faults) }
+    ensures once { OnErr result (RoseOnce (K.state sink.old).faults (K.state sink.new).faults) }
     ensures prefix { OnErr result (TookPrefix (K.state sink.old) (K.state sink.new)
         (seals_under stream.now.keys stream.now.prefix number last segment.old)) }
 {
@@ -184,6 +186,7 @@ fn seal_behind<S: Source, K: Sink>(
         → Took old (K.state sink.old) (take header buffer.old)
         → Pumps (sealing cipher (take header buffer.old)) [] [] false (pump_result result)
         (S.state source.old) (S.state source.new) old (K.state sink.new) }
+    ensures stops { StopsAtEnd (S.state source.old) (S.state source.new) }
     ensures shown { ShowsFaults (pump_result result) (S.state source.old) (S.state source.new)
         (K.state sink.old) (K.state sink.new) }
 {

@@ -2,11 +2,11 @@
 
 ghost use Rattle.std.specs.Prelude.{◌≡◌, ◌+◌, ◌≤◌, [], length, take, drop, false, true, OnErr, OnOk, IfOk, All};
 ghost use Rattle.std.specs.List.{AllByRecursion};
-ghost use Rattle.tink_spec.specs.Outside.{IsAtEnd, Stood};
+ghost use Rattle.tink_spec.specs.Outside.{IsAtEnd, Stood, StopsAtEnd};
 ghost use Rattle.segment_stream.specs.Ending.{EndsFirst};
 ghost use Rattle.segment_stream.specs.Opening.{has_header};
 ghost use Rattle.segment_stream.specs.Pumping.{Pumps, ShowsFaults, opening_any};
-ghost use Rattle.segment_stream.specs.Reading.{Decided, Undecided};
+ghost use Rattle.segment_stream.specs.Reading.{Decided, ReadsOn, Undecided};
 ghost use Rattle.segment_stream.specs.Segments.{IsSound, cipher_of, ciphers_of};
 
 use crate::OpenPumpFault;
@@ -43,6 +43,10 @@ fn decide<S: Source>(
     ensures decides { IfOk result (λ r. Decided (S.state source.old) (S.state source.new)
         (take held buffer.old) (take r.0 buffer.new) whole r.1 size) }
     ensures short { IfOk result (λ r. r.0 ≤ size → r.1 ≡ true) }
+    ensures still { whole ≡ true → S.state source.new ≡ S.state source.old }
+    ensures reads_on { IfOk result (λ r. whole ≡ false →
+        ReadsOn r.1 (S.state source.old) (S.state source.new)) }
+    ensures stops { OnErr result (StopsAtEnd (S.state source.old) (S.state source.new)) }
     ensures no_fault { OnOk result (Stood (S.state source.old).faults (S.state source.new).faults) }
     ensures failed { OnErr result (Undecided (S.state source.old) (S.state source.new)
         (take held buffer.old) whole size) }
@@ -110,6 +114,7 @@ pub(crate) fn open_any<S: Source, K: Sink>(
     requires fits { AllByRecursion (λ key. key.segment + 1 ≤ length buffer.old) keys.now }
     ensures pumps { Pumps (opening_any (ciphers_of ad.now keys.now)) [] [] false result
         (S.state source.old) (S.state source.new) (K.state sink.old) (K.state sink.new) }
+    ensures stops { StopsAtEnd (S.state source.old) (S.state source.new) }
     ensures shown { ShowsFaults result (S.state source.old) (S.state source.new)
         (K.state sink.old) (K.state sink.new) }
 {

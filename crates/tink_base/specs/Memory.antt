@@ -1,18 +1,21 @@
 -- What a source, a sink, a store and an entropy in memory are, and what they tell.
-use Rattle.std.specs.Prelude.{ℕ, ◌+◌, ◌-◌, ◌^◌, ◌≤◌, ◌==◌, List, length, min, Some, refl}
+use Rattle.std.specs.Prelude.{ℕ, ◌≤◌, ◌==◌, Bool, List, length, Some, refl}
 use Rattle.std.specs.Coded.{Coded, code_by, coded×, coded_ℕ, coded_list}
 use Rattle.std.specs.FinMap as map
 use Rattle.tink_spec.specs.Outside.{SourceState, SinkState, EntropyState}
 use Rattle.tink_spec.specs.Files.{Files, StoreState}
 
 -- the bytes that are left, how many a read gives at the most, the numbers of the calls that fail,
--- from 1, and how many calls and faults there were
+-- from 1, how many calls and faults there were, whether an end was answered, and how many calls came
+-- after that
 pub record SourceInMemory : Type 0 where
   pub left : List ℕ
   pub piece : ℕ
   pub fails : List ℕ
   pub calls : ℕ
   pub faults : ℕ
+  pub ended : Bool
+  pub late : ℕ
 
 -- the bytes written, how many there may be, how many a write takes at the most, the numbers of the
 -- calls that fail, from 1, and how many calls and faults there were
@@ -48,13 +51,9 @@ store_code =
     (λ p. record { files = p.0; fails = p.1.0; calls = p.1.1.0; faults = p.1.1.1 })
     (λ _. refl)
 
--- a count of 64 bits, one later; it stands still at its end
-abbrev pub next : ℕ → ℕ
-next count = min (count + 1) (2 ^ 64 - 1)
-
 -- what a source in memory tells
 abbrev pub told_source : SourceInMemory → SourceState
-told_source s = record { left = Some s.left; faults = s.faults }
+told_source s = record { left = Some s.left; faults = s.faults; ended = s.ended; late = s.late }
 
 -- what a sink in memory tells
 abbrev pub told_sink : SinkInMemory → SinkState

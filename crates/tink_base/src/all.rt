@@ -1,7 +1,7 @@
 //! Whole inputs and whole outputs, over any source and any sink.
 
 ghost use Rattle.std.specs.Prelude.{◌≡◌, ◌+◌, ◌≤◌, ◌^◌, length, IfOk, OnOk, OnErr, IsErrOf};
-ghost use Rattle.tink_spec.specs.Outside.{Rose, Stood, Gave, GaveUpTo, GaveCount, Took, TookPrefix, IsAtEnd};
+ghost use Rattle.tink_spec.specs.Outside.{Rose, RoseOnce, Stood, Gave, GaveUpTo, GaveCount, Took, TookPrefix, IsAtEnd, StopsAtEnd};
 
 use crate::{Failed, Sink, Source};
 use std::alloc::Global;
@@ -24,7 +24,8 @@ const PIECE: usize = 1 << 16;
 ///
 /// `Failed` comes only where the source failed, and `TooLong` exactly where `limit` + 1 bytes were
 /// taken. With any other answer at most `limit` bytes are gone, and with `Ok` all of them, up to
-/// the end. A failed read isn't tried again: but for `Failed` the count of faults is as it was.
+/// the end. Nothing is read after the end was answered, and a failed read isn't tried again: but for
+/// `Failed` the count of faults is as it was.
 pub fn read_all<S: Source>(
     alloc: Global,
     source: &mut S,
@@ -34,10 +35,13 @@ pub fn read_all<S: Source>(
     ensures all { IfOk result (λ all. Gave (S.state source.old) (S.state source.new) all.items) }
     ensures within { IfOk result (λ all. length all.items ≤ limit) }
     ensures end { OnOk result (IsAtEnd (S.state source.new)) }
+    ensures stops { StopsAtEnd (S.state source.old) (S.state source.new) }
     ensures no_fault { (IsErrOf result ReadAllFault.Failed → ⊥) →
         Stood (S.state source.old).faults (S.state source.new).faults }
     ensures failed { IsErrOf result ReadAllFault.Failed →
         Rose (S.state source.old).faults (S.state source.new).faults }
+    ensures once { IsErrOf result ReadAllFault.Failed →
+        RoseOnce (S.state source.old).faults (S.state source.new).faults }
     ensures failed_within { IsErrOf result ReadAllFault.Failed →
         GaveUpTo (S.state source.old) (S.state source.new) limit }
     ensures too_long { IsErrOf result ReadAllFault.TooLong →
@@ -79,6 +83,7 @@ pub fn write_all<K: Sink>(sink: &mut K, bytes: &[u8]) -> Result<(), Failed>
     ensures all { OnOk result (Took (K.state sink.old) (K.state sink.new) bytes.now) }
     ensures no_fault { OnOk result (Stood (K.state sink.old).faults (K.state sink.new).faults) }
     ensures failed { OnErr result (Rose (K.state sink.old).faults (K.state sink.new).faults) }
+    ensures once { OnErr result (RoseOnce (K.state sink.old).faults (K.state sink.new).faults) }
     ensures prefix { OnErr result (TookPrefix (K.state sink.old) (K.state sink.new) bytes.now) }
 {
     let mut at = 0;

@@ -1,7 +1,7 @@
 //! Where random bytes come from.
 
 ghost use Rattle.std.specs.Prelude.{◌≡◌, [], length, OnOk, OnErr};
-ghost use Rattle.tink_spec.specs.Outside.{EntropyState, Drew, RanShort, Stood};
+ghost use Rattle.tink_spec.specs.Outside.{EntropyState, Drew, RanShort, RoseOnce, Stood};
 
 use crate::Failed;
 
@@ -17,5 +17,6 @@ pub trait Entropy {
         ensures no_fault { OnOk result (Stood (state self.old).faults (state self.new).faults) }
         ensures failed { OnErr result
             (RanShort (state self.old) (state self.new) (length out.old)) }
+        ensures once { OnErr result (RoseOnce (state self.old).faults (state self.new).faults) }
         ensures kept { OnErr result (Drew (state self.old) (state self.new) []) };
 }

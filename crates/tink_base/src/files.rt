@@ -2,9 +2,9 @@
 
 ghost use Rattle.std.specs.Prelude.{◌≡◌, ◌↔◌, IfOk, OnOk, OnErr, IsErrOf, Contains, option_map};
 ghost use Rattle.std.specs.FinMap as map;
-ghost use Rattle.tink_spec.specs.Outside.{Rose, Stood};
+ghost use Rattle.tink_spec.specs.Outside.{Rose, RoseOnce, Stood, next};
 ghost use Rattle.tink_spec.specs.Files.{KeptFiles, MayAdd};
-ghost use Rattle.tink_base.specs.Memory.{next, told_store};
+ghost use Rattle.tink_base.specs.Memory.{told_store};
 ghost use Rattle.tink_base.specs.Store.{Loads, Creates};
 
 use crate::{Bytes, Created, Loaded, NoMemory, Store, StoreError, Text};
@@ -85,6 +85,8 @@ impl Store for MemStore {
         ensures no_fault { (IsErrOf result StoreError.Failed → ⊥) →
             Stood self.old.faults self.new.faults }
         ensures failed { IsErrOf result StoreError.Failed → Rose self.old.faults self.new.faults }
+        ensures once { IsErrOf result StoreError.Failed →
+            RoseOnce self.old.faults self.new.faults }
 
         // Exactly when it fails.
         ensures listed { IsErrOf result StoreError.Failed ↔
@@ -119,6 +121,8 @@ impl Store for MemStore {
         ensures no_fault { (IsErrOf result StoreError.Failed → ⊥) →
             Stood self.old.faults self.new.faults }
         ensures failed { IsErrOf result StoreError.Failed → Rose self.old.faults self.new.faults }
+        ensures once { IsErrOf result StoreError.Failed →
+            RoseOnce self.old.faults self.new.faults }
         ensures may_add { IsErrOf result StoreError.Failed →
             MayAdd (told_store self.old) (told_store self.new) name.now bytes.now }
         ensures no_memory { IsErrOf result StoreError.NoMemory →

@@ -1,8 +1,8 @@
 //! A source and a sink in memory, which fail exactly at the calls that they are told.
 
-ghost use Rattle.std.specs.Prelude.{◌≡◌, ◌<◌, ◌≤◌, ◌-◌, ◌↔◌, ◌⊎◌, [], length, take, drop, min, IfOk, IsErr, OnOk, OnErr, Contains};
-ghost use Rattle.tink_spec.specs.Outside.{Rose, Stood, Gave, IsAtEnd, Took};
-ghost use Rattle.tink_base.specs.Memory.{next, told_source, told_sink, IsFull};
+ghost use Rattle.std.specs.Prelude.{◌≡◌, ◌<◌, ◌≤◌, ◌-◌, ◌↔◌, ◌⊎◌, [], length, take, drop, min, true, false, if◌then◌else◌, IfOk, IsErr, OnOk, OnErr, Contains};
+ghost use Rattle.tink_spec.specs.Outside.{Rose, RoseOnce, Stood, Gave, IsAtEnd, Took, late_after, next};
+ghost use Rattle.tink_base.specs.Memory.{told_source, told_sink, IsFull};
 
 use crate::{Failed, NoMemory, Sink, Source};
 use std::alloc::Global;
@@ -17,6 +17,8 @@ pub struct MemSource {
     fails: Vec<u64>,
     calls: u64,
     faults: u64,
+    ended: bool,
+    late: u64,
 }
 
 impl Model for MemSource {
@@ -25,7 +27,7 @@ impl Model for MemSource {
 
     ghost Value = { SourceInMemory };
 
-    ghost view = { λ s. record { left = drop s.at s.bytes.items; piece = s.piece; fails = s.fails.items; calls = s.calls; faults = s.faults } };
+    ghost view = { λ s. record { left = drop s.at s.bytes.items; piece = s.piece; fails = s.fails.items; calls = s.calls; faults = s.faults; ended = s.ended; late = s.late } };
 
     ghost invariant = { λ s. (s.at ≤ length s.bytes.items) × (0 < s.piece) };
 }
@@ -41,6 +43,8 @@ impl MemSource {
           fails = fails.items;
           calls = 0;
           faults = 0;
+          ended = false;
+          late = 0;
         } }
     {
         MemSource {
@@ -50,6 +54,8 @@ impl MemSource {
             fails,
             calls: 0,
             faults: 0,
+            ended: false,
+            late: 0,
         }
     }
 }
@@ -64,8 +70,13 @@ impl Source for MemSource {
         ensures rest { IfOk result (λ n. drop n out.new ≡ drop n out.old) }
         ensures end { IfOk result (λ n. n ≡ 0 → 0 < length out.old →
             IsAtEnd (told_source self.new)) }
+        ensures ended { IfOk result (λ n. n ≡ 0 → 0 < length out.old → self.new.ended ≡ true) }
+        ensures goes_on { IfOk result (λ n. 0 < n → self.new.ended ≡ self.old.ended) }
+        ensures failed_goes_on { OnErr result (self.new.ended ≡ self.old.ended) }
+        ensures late { self.new.late ≡ late_after (told_source self.old) }
         ensures no_fault { OnOk result (Stood self.old.faults self.new.faults) }
         ensures failed { OnErr result (Rose self.old.faults self.new.faults) }
+        ensures once { OnErr result (RoseOnce self.old.faults self.new.faults) }
         ensures kept { OnErr result (Gave (told_source self.old) (told_source self.new) []) }
 
         // Exactly when it fails, and how many bytes it gives.
@@ -73,12 +84,14 @@ impl Source for MemSource {
         ensures piece { IfOk result (λ n. n ≡
             min (min (length out.old) self.old.piece) (length self.old.left)) }
         ensures faultless { OnOk result
-            (self.new ≡ record self.old { left = self.new.left; calls = next self.old.calls }) }
+            (self.new ≡ record self.old
+            { left = self.new.left; calls = next self.old.calls; ended = self.new.ended; late = self.new.late }) }
         ensures faulty { OnErr result
             (self.new ≡ record self.old
-            { calls = next self.old.calls; faults = next self.old.faults }) }
+            { calls = next self.old.calls; faults = next self.old.faults; late = self.new.late }) }
     {
         self.calls = self.calls.saturating_add(1);
+        self.late = counted_late(self.ended, self.late);
         if self.fails.contains(&self.calls) {
             self.faults = self.faults.saturating_add(1);
             return Err(Failed);
@@ -86,8 +99,24 @@ impl Source for MemSource {
         let n = out.len().min(self.piece).min(self.bytes.len() - self.at);
         out[..n].copy_from_slice(&self.bytes[self.at..self.at + n]);
         self.at += n;
+        self.ended = is_ended(self.ended, out.len(), n);
         Ok(n)
     }
+}
+
+/// The count of late calls, after one call more.
+fn counted_late(ended: bool, late: u64) -> u64
+    ensures { result ≡ (if ended then next late else late) }
+{
+    if ended { late.saturating_add(1) } else { late }
+}
+
+/// Whether an end has been answered, where so many bytes were asked for and given.
+fn is_ended(ended: bool, asked: usize, given: usize) -> bool
+    ensures goes_on { 0 < given → result ≡ ended }
+    ensures end { given ≡ 0 → 0 < asked → result ≡ true }
+{
+    ended || given == 0 && asked > 0
 }
 
 /// A sink in memory, which contracts see as a `SinkInMemory`.
@@ -164,6 +193,7 @@ impl Sink for MemSink {
             Took (told_sink self.old) (told_sink self.new) (take n piece.now)) }
         ensures no_fault { OnOk result (Stood self.old.faults self.new.faults) }
         ensures failed { OnErr result (Rose self.old.faults self.new.faults) }
+        ensures once { OnErr result (RoseOnce self.old.faults self.new.faults) }
         ensures kept { OnErr result (Took (told_sink self.old) (told_sink self.new) []) }
 
         // Exactly when it fails, and how many bytes it takes.

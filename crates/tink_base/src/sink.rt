@@ -1,7 +1,7 @@
 //! Where bytes go.
 
 ghost use Rattle.std.specs.Prelude.{◌≡◌, ◌<◌, ◌≤◌, [], length, take, IfOk, OnOk, OnErr};
-ghost use Rattle.tink_spec.specs.Outside.{SinkState, Rose, Stood, Took};
+ghost use Rattle.tink_spec.specs.Outside.{SinkState, Rose, RoseOnce, Stood, Took};
 
 use crate::Failed;
 
@@ -20,5 +20,6 @@ pub trait Sink {
             Took (state self.old) (state self.new) (take n piece.now)) }
         ensures no_fault { OnOk result (Stood (state self.old).faults (state self.new).faults) }
         ensures failed { OnErr result (Rose (state self.old).faults (state self.new).faults) }
+        ensures once { OnErr result (RoseOnce (state self.old).faults (state self.new).faults) }
         ensures kept { OnErr result (Took (state self.old) (state self.new) []) };
 }

@@ -1,13 +1,14 @@
 //! Where bytes come from.
 
-ghost use Rattle.std.specs.Prelude.{◌≡◌, ◌<◌, ◌≤◌, [], length, take, drop, IfOk, OnOk, OnErr};
-ghost use Rattle.tink_spec.specs.Outside.{SourceState, Rose, Stood, Gave, IsAtEnd};
+ghost use Rattle.std.specs.Prelude.{◌≡◌, ◌<◌, ◌≤◌, [], length, take, drop, true, IfOk, OnOk, OnErr};
+ghost use Rattle.tink_spec.specs.Outside.{SourceState, Rose, RoseOnce, Stood, Gave, IsAtEnd, late_after};
 
 use crate::Failed;
 
 /// A source of bytes with an end.
 pub trait Source {
-    /// The bytes that are left, where the source tells, and how often it has failed.
+    /// The bytes that are left, where the source tells, how often it has failed, and how often it was
+    /// asked after it had answered an end.
     ghost state: { Self → SourceState };
 
     /// Moves the next bytes into the front of `out`, and answers how many. The rest of `out` stays
@@ -18,7 +19,15 @@ pub trait Source {
         ensures gives { IfOk result (λ n. Gave (state self.old) (state self.new) (take n out.new)) }
         ensures rest { IfOk result (λ n. drop n out.new ≡ drop n out.old) }
         ensures end { IfOk result (λ n. n ≡ 0 → 0 < length out.old → IsAtEnd (state self.new)) }
+        ensures ended { IfOk result (λ n. n ≡ 0 → 0 < length out.old →
+            (state self.new).ended ≡ true) }
+        ensures goes_on { IfOk result (λ n. 0 < n →
+            (state self.new).ended ≡ (state self.old).ended) }
+        ensures failed_goes_on { OnErr result
+            ((state self.new).ended ≡ (state self.old).ended) }
+        ensures late { (state self.new).late ≡ late_after (state self.old) }
         ensures no_fault { OnOk result (Stood (state self.old).faults (state self.new).faults) }
         ensures failed { OnErr result (Rose (state self.old).faults (state self.new).faults) }
+        ensures once { OnErr result (RoseOnce (state self.old).faults (state self.new).faults) }
         ensures kept { OnErr result (Gave (state self.old) (state self.new) []) };
 }

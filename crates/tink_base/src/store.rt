@@ -1,7 +1,7 @@
 //! Named files.
 
 ghost use Rattle.std.specs.Prelude.{◌≡◌, IfOk, IsErrOf};
-ghost use Rattle.tink_spec.specs.Outside.{Rose, Stood};
+ghost use Rattle.tink_spec.specs.Outside.{Rose, RoseOnce, Stood};
 ghost use Rattle.tink_spec.specs.Files.{StoreState, KeptFiles, MayAdd};
 ghost use Rattle.tink_base.specs.Store.{Loads, Creates};
 
@@ -50,7 +50,9 @@ pub trait Store {
         ensures no_fault { (IsErrOf result StoreError.Failed → ⊥) →
             Stood (state self.old).faults (state self.new).faults }
         ensures failed { IsErrOf result StoreError.Failed →
-            Rose (state self.old).faults (state self.new).faults };
+            Rose (state self.old).faults (state self.new).faults }
+        ensures once { IsErrOf result StoreError.Failed →
+            RoseOnce (state self.old).faults (state self.new).faults };
 
     /// Makes a new file of this name with these bytes; a file that is there is never replaced.
     /// After `Failed` the file may be there with the first of the bytes, if the name was free. After
@@ -63,6 +65,8 @@ pub trait Store {
             Stood (state self.old).faults (state self.new).faults }
         ensures failed { IsErrOf result StoreError.Failed →
             Rose (state self.old).faults (state self.new).faults }
+        ensures once { IsErrOf result StoreError.Failed →
+            RoseOnce (state self.old).faults (state self.new).faults }
         ensures may_add { IsErrOf result StoreError.Failed →
             MayAdd (state self.old) (state self.new) name.now bytes.now }
         ensures no_memory { IsErrOf result StoreError.NoMemory →

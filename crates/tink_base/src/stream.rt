@@ -2,8 +2,8 @@
 //! left.
 
 ghost use Rattle.std.specs.Prelude.{◌≡◌, ◌<◌, ◌↔◌, ◌⊎◌, [], length, take, drop, IsErr, OnOk, OnErr, Contains};
-ghost use Rattle.tink_spec.specs.Outside.{Drew, RanShort, Stood};
-ghost use Rattle.tink_base.specs.Memory.{next, told_entropy};
+ghost use Rattle.tink_spec.specs.Outside.{Drew, RanShort, RoseOnce, Stood, next};
+ghost use Rattle.tink_base.specs.Memory.{told_entropy};
 
 use crate::{Entropy, Failed};
 use std::marker::Model;
@@ -61,6 +61,7 @@ impl Entropy for MemEntropy {
         ensures no_fault { OnOk result (Stood self.old.faults self.new.faults) }
         ensures failed { OnErr result
             (RanShort (told_entropy self.old) (told_entropy self.new) (length out.old)) }
+        ensures once { OnErr result (RoseOnce self.old.faults self.new.faults) }
         ensures kept { OnErr result (Drew (told_entropy self.old) (told_entropy self.new) []) }
 
         // Exactly when it fails, and which bytes it gives.

@@ -1,7 +1,7 @@
 //! A count of trials: how many keys were tried to open or verify some bytes.
 
 ghost use Rattle.std.specs.Prelude.{◌≡◌};
-ghost use Rattle.tink_base.specs.Memory.{next};
+ghost use Rattle.tink_spec.specs.Outside.{next};
 
 use std::marker::Model;
 

@@ -1,7 +1,7 @@
 -- One call of a source, a sink or an entropy after another.
 use Rattle.std.proofs.Common.{◌≡◌, List, [], ◌++◌, ℕ, refl, sym, ◌∙◌, ap, subst, arith, append_assoc, append-nil, length, length-append, ◌+◌, ◌<◌, inl, inr}
 use Rattle.std.specs.Prelude.{Option, Some, None, IfSome, IsTrue, option_map}
-use Rattle.tink_spec.specs.Outside.{SourceState, SinkState, EntropyState, Gave, Took, Drew, RanShort, Rose}
+use Rattle.tink_spec.specs.Outside.{SourceState, SinkState, EntropyState, Gave, Took, Drew, RanShort, Rose, GoesOn, StopsAtEnd, late_after}
 
 prepend_twice : (p q : List ℕ) (o : Option (List ℕ)) → option_map (λ rest. p ++ rest) (option_map (λ rest. q ++ rest) o) ≡ option_map (λ rest. (p ++ q) ++ rest) o
 prepend_twice p q None = refl
@@ -31,6 +31,23 @@ gave_more old mid new p q first second = record {
 
 pub gave_same : (old new : SourceState) → old ≡ new → Gave old new []
 gave_same old new same = subst (λ (s : SourceState). Gave old s []) same (gave_nothing old)
+
+-- a call before any end was answered isn't late
+pub read_stops : (old new : SourceState) → new.late ≡ late_after old → StopsAtEnd old new
+read_stops old new late = λ before. rw late (rw before refl)
+
+-- nor is it one behind which the source goes on
+pub read_goes_on : (old new : SourceState) → new.late ≡ late_after old → new.ended ≡ old.ended → GoesOn old new
+read_goes_on old new late same = λ before. (same ∙ before, read_stops old new late before)
+
+pub nothing_goes_on : (s : SourceState) → GoesOn s s
+nothing_goes_on s = λ before. (before, refl)
+
+pub goes_on_more : (old mid new : SourceState) → GoesOn old mid → GoesOn mid new → GoesOn old new
+goes_on_more old mid new first second = λ before. let one = first before in let two = second one.0 in (two.0, two.1 ∙ one.1)
+
+pub goes_on_stops : (old mid new : SourceState) → GoesOn old mid → StopsAtEnd mid new → StopsAtEnd old new
+goes_on_stops old mid new first second = λ before. let one = first before in second one.0 ∙ one.1
 
 -- a sink that isn't called takes nothing
 pub took_nothing : (s : SinkState) → Took s s []

@@ -4,23 +4,46 @@
 --   faults    how often a call of the object has failed. The count never falls, and stands still
 --             at 2 ^ 64 - 1.
 --   Rose, Stood   what a count of faults does in a call that failed, and in every other call
+--   RoseOnce  what it does where what failed wasn't tried again
+--   ended     a source has answered an end
+--   late      how often a source was asked after it had answered an end
+--   StopsAtEnd   nothing was read after the end was answered
 --   Gave, Took, Drew   what went out of a source, into a sink, or out of an entropy, between two
 --             moments
 --   RanShort  why an entropy fails
-use Rattle.std.specs.Prelude.{◌≡◌, ◌⊎◌, ℕ, ◌<◌, ◌≤◌, ◌^◌, ◌-◌, List, [], ◌++◌, length, Option, IfSome, option_map, Bool, IsTrue}
+use Rattle.std.specs.Prelude.{◌≡◌, ◌⊎◌, ℕ, ◌<◌, ◌≤◌, ◌^◌, ◌+◌, ◌-◌, min, List, [], ◌++◌, length, Option, IfSome, option_map, Bool, false, IsTrue, if◌then◌else◌}
+
+-- a count of 64 bits, one later; it stands still at its end
+abbrev pub next : ℕ → ℕ
+next count = min (count + 1) (2 ^ 64 - 1)
 
 -- a count of faults has risen, or stands at its last value
 abbrev pub Rose : ℕ → ℕ → Type 0
 Rose before after = (before < after) ⊎ (after ≡ 2 ^ 64 - 1)
 
+-- a count of faults has risen by one, or stands at its last value: what failed wasn't tried again
+abbrev pub RoseOnce : ℕ → ℕ → Type 0
+RoseOnce before after = after ≡ next before
+
 -- a count of faults is as it was: nothing failed
 abbrev pub Stood : ℕ → ℕ → Type 0
 Stood before after = after ≡ before
 
--- a source: the bytes that are left, where it tells, and its faults
+-- a source: the bytes that are left, where it tells, its faults, and whether it has answered an end
+-- and was asked after that
 pub record SourceState : Type 0 where
   pub left : Option (List ℕ)
   pub faults : ℕ
+  pub ended : Bool
+  pub late : ℕ
+
+-- the count of late calls, after one call more
+abbrev pub late_after : SourceState → ℕ
+late_after source = if source.ended then next source.late else source.late
+
+-- nothing was read after an end was answered, where none had been answered before
+abbrev pub StopsAtEnd : SourceState → SourceState → Type 0
+StopsAtEnd old new = old.ended ≡ false → new.late ≡ old.late
 
 -- a sink: the bytes written so far, where it tells, and its faults
 pub record SinkState : Type 0 where
@@ -33,6 +56,10 @@ pub record EntropyState : Type 0 where
   pub faults : ℕ
   -- it fails only where fewer bytes are left than it is asked for
   pub steady : Bool
+
+-- no end was answered, where none had been answered before
+abbrev pub GoesOn : SourceState → SourceState → Type 0
+GoesOn old new = old.ended ≡ false → (new.ended ≡ false) × (new.late ≡ old.late)
 
 -- the source gave exactly these bytes
 pub record Gave (old new : SourceState) (piece : List ℕ) : Type 0 where

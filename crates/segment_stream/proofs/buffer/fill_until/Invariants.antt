@@ -1,5 +1,5 @@
 use Rattle.std.proofs.Common.{◌≡◌, ◌≤◌, ◌-◌, length, take}
-use Rattle.tink_spec.specs.Outside.{Stood}
+use Rattle.tink_spec.specs.Outside.{GoesOn, Stood}
 use Rattle.segment_stream.proofs.Buffers.{Filling}
 use Rattle.segment_stream.proofs.buffer.fill_until.Given as goal
 
@@ -7,6 +7,7 @@ abbrev pub invariant-loop-len : goal.invariant-loop-len
 invariant-loop-len g l = record {
   same : length l.buffer ≡ length l.fn.buffer;
   bound : l.len ≤ l.end;
+  goes_on : GoesOn (g.S.Source.state l.fn.source) (g.S.Source.state l.source);
   stood : Stood (g.S.Source.state l.fn.source).faults (g.S.Source.state l.source).faults;
   reads : Filling (g.S.Source.state l.fn.source) (g.S.Source.state l.source)
       (take l.held l.fn.buffer) (take l.len l.buffer) l.held l.len;

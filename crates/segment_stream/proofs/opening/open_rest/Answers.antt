@@ -5,11 +5,13 @@ use Rattle.segment_stream.specs.Pumping.{Pumps, opening_under}
 use Rattle.segment_stream.specs.declared.fault.OpenPumpFault.TheVariants as fault
 use Rattle.segment_stream.proofs.Pass.{Going, going_begins, going_read, going_next, going_many, going_fails, going_unread, going_ends, going_ends_badly, going_unwritten, going_ends_unwritten, opens_held, last_held, full_held, short_held, held_next}
 use Rattle.segment_stream.proofs.Slices.{length-put}
+use Rattle.tink_spec.proofs.Moves.{goes_on_stops}
+use Rattle.segment_stream.proofs.ReadsOn.{after_read, reads_nothing}
 use Rattle.segment_stream.proofs.opening.open_rest.Goals as goal
 use Rattle.segment_stream.proofs.opening.open_rest.Goals.{then-n-eq0, else-n-eq0}
 
 pub loop-len-init : goal.loop-len-init
-loop-len-init g c = record { same = refl; len = c.requires.within; start = omega arith; least = omega arith; most = omega arith; read = refl; written = refl; goes = λ cipher header taken written u s. going_begins cipher header taken written c.args.whole _ _ _ 1 s c.requires.end }
+loop-len-init g c = record { same = refl; len = c.requires.within; start = omega arith; least = omega arith; most = omega arith; still = λ e. (e, refl); reads_on = λ e. reads_nothing c.args.whole _; read = refl; written = refl; goes = λ cipher header taken written u s. going_begins cipher header taken written c.args.whole _ _ _ 1 s c.requires.end }
 
 pub returns-in-Unwritten-clause-pumps : goal.returns-in-Unwritten-clause-pumps
 returns-in-Unwritten-clause-pumps g c = λ cipher header taken written u s. let h = c.in-Unwritten.ensures.ends in
@@ -35,6 +37,8 @@ loop-len-preserved-then-len-start g c =
       start = omega arith;
       least = omega arith;
       most = omega arith;
+      still = c.loop-len.invariant.still;
+      reads_on = c.loop-len.invariant.reads_on;
       read = c.loop-len.invariant.read;
       written = c.in-Written.ensures.ends.3 ∙ c.loop-len.invariant.written;
       goes = λ cipher header taken written u s.
@@ -68,6 +72,10 @@ loop-len-preserved g c = record {
   start = omega arith;
   least = c.loop-len.invariant.least;
   most = c.loop-len.invariant.most;
+  still = λ e. let no : true ≡ false = sym (c.loop-len.invariant.still e).0 ∙ c.if-ended.false in absurd cc;
+  reads_on = λ e. after_read _ _ _ _ _ _ (c.loop-len.invariant.reads_on e) c.if-ended.false
+      (elim c.if-n-eq0.branch [ then-n-eq0 w ↦ λ f. let no : true ≡ false = sym w.ended-is ∙ f in absurd cc | else-n-eq0 w ↦ λ f. omega arith ])
+      c.in-Ok.ensures.goes_on c.in-Ok.ensures.stops;
   read = c.in-Ok.ensures.no_fault ∙ c.loop-len.invariant.read;
   written = c.loop-len.invariant.written;
   goes = λ cipher header taken written u s. going_read cipher header taken written _ _ _ _ _ _ _ _ _ _ c.loop-len.number _ u.is
@@ -75,3 +83,10 @@ loop-len-preserved g c = record {
       c.if-ended.false c.in-Ok.ensures.reads
       (elim c.if-n-eq0.branch [ then-n-eq0 w ↦ λ e. c.in-Ok.ensures.end w.if-n-eq0.true | else-n-eq0 w ↦ λ e. let no : false ≡ true = sym (w.ended-is ∙ c.if-ended.false) ∙ e in absurd cc ]);
 }
+
+pub returns-in-Err-clause-still : goal.returns-in-Err-clause-still
+returns-in-Err-clause-still g c = λ e. let no : true ≡ false = sym (c.loop-len.invariant.still e).0 ∙ c.if-ended.false in absurd cc
+
+pub returns-in-Err-clause-stops : goal.returns-in-Err-clause-stops
+returns-in-Err-clause-stops g c = λ e.
+    goes_on_stops (g.S.Source.state c.args.source.now) (g.S.Source.state c.loop-len.source) (g.S.Source.state c.fill.new.source) ((c.loop-len.invariant.reads_on e).goes_on c.if-ended.false) c.in-Err.ensures.stops

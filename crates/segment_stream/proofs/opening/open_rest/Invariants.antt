@@ -1,11 +1,12 @@
 -- Since the pass began all that was settled has been opened and written; what isn't lies in the
 -- buffer, behind its first `start` bytes.
 use Rattle.std.proofs.Common.{◌≡◌, ◌≤◌, ◌+◌, ◌*◌, ◌-◌, List, ℕ, length, take, drop}
-use Rattle.std.specs.Prelude.{if◌then◌else◌}
+use Rattle.std.specs.Prelude.{true, false, if◌then◌else◌}
 use Rattle.tink_spec.specs.Outside.{Stood}
 use Rattle.segment_stream.specs.Cipher.{SegmentCipher}
 use Rattle.segment_stream.specs.Streams.{IsUnder}
 use Rattle.segment_stream.specs.Under.{Standing}
+use Rattle.segment_stream.specs.Reading.{ReadsOn}
 use Rattle.segment_stream.proofs.Pass.{Going}
 use Rattle.segment_stream.proofs.opening.open_rest.Given as goal
 
@@ -16,6 +17,8 @@ invariant-loop-len g l = record {
   start : l.start ≤ l.len;
   least : 1 ≤ l.number;
   most : l.number ≤ 4294967295;
+  still : l.fn.whole ≡ true → (l.ended ≡ true) × (g.S.Source.state l.source ≡ g.S.Source.state l.fn.source);
+  reads_on : l.fn.whole ≡ false → ReadsOn l.ended (g.S.Source.state l.fn.source) (g.S.Source.state l.source);
   read : Stood (g.S.Source.state l.fn.source).faults (g.S.Source.state l.source).faults;
   written : Stood (g.K.Sink.state l.fn.sink).faults (g.K.Sink.state l.sink).faults;
   goes : (cipher : SegmentCipher) (header taken written : List ℕ)

@@ -6,6 +6,8 @@ use Rattle.tink_spec.specs.Outside.{Took, TookPrefix}
 use Rattle.segment_stream.specs.Cipher.{SegmentCipher}
 use Rattle.segment_stream.proofs.Slices.{rest_is}
 use Rattle.segment_stream.proofs.SealPass.{SealGoing, plain_under, seals_full, seals_last, sgo_begins, sgo_read, sgo_next, sgo_many, sgo_unread, sgo_ends, sgo_unwritten, sgo_ends_unwritten}
+use Rattle.tink_spec.proofs.Moves.{goes_on_stops}
+use Rattle.segment_stream.proofs.ReadsOn.{after_read, reads_nothing}
 use Rattle.segment_stream.proofs.sealer.seal_behind.Goals as goal
 use Rattle.segment_stream.proofs.sealer.seal_behind.Goals.{then-n-eq0, else-n-eq0}
 
@@ -19,6 +21,7 @@ loop-len-init g c = record {
   len = omega (arith, c.requires.room.segment, c.requires.room.buffer);
   head = λ e. omega arith;
   most = omega arith;
+  reads_on = reads_nothing false _;
   read = refl;
   written = refl;
   goes = λ cipher old u took. sgo_begins cipher (take c.args.header c.args.buffer.now) _ old _ _ refl took;
@@ -60,6 +63,7 @@ loop-len-preserved-then-len-size g c =
       len = omega arith;
       head = λ e. absurd (omega arith);
       most = omega arith;
+      reads_on = c.loop-len.invariant.reads_on;
       read = c.loop-len.invariant.read;
       written = c.in-Ok.ensures.no_fault ∙ c.loop-len.invariant.written;
       goes = λ cipher old u took.
@@ -103,8 +107,15 @@ loop-len-preserved g c = record {
   len = omega (arith, c.in-Ok-fill.ensures.bound, c.requires.room.buffer, c.requires.room.segment, c.loop-len.invariant.size, c.loop-len.invariant.same, c.fill.auto.buffer);
   head = λ e. omega (arith, c.loop-len.invariant.head e);
   most = c.loop-len.invariant.most;
+  reads_on = after_read _ _ _ _ _ _ c.loop-len.invariant.reads_on c.if-ended.false
+      (elim c.if-n-eq0.branch [ then-n-eq0 w ↦ λ e. let no : true ≡ false = sym w.ended-is ∙ e in absurd cc | else-n-eq0 w ↦ λ e. omega arith ])
+      c.in-Ok-fill.ensures.goes_on c.in-Ok-fill.ensures.stops;
   read = c.in-Ok-fill.ensures.no_fault ∙ c.loop-len.invariant.read;
   written = c.loop-len.invariant.written;
   goes = λ cipher old u took. sgo_read cipher (take c.args.header c.args.buffer.now) c.loop-len.ended _ _ _ _ old _ _ _ c.loop-len.number _ u.is (c.loop-len.invariant.goes cipher old u took) c.in-Ok-fill.ensures.reads
       (elim c.if-n-eq0.branch [ then-n-eq0 w ↦ λ e. c.in-Ok-fill.ensures.end w.if-n-eq0.true | else-n-eq0 w ↦ λ e. let no : false ≡ true = sym (w.ended-is ∙ c.if-ended.false) ∙ e in absurd cc ]);
 }
+
+pub returns-in-Err-fill-clause-stops : goal.returns-in-Err-fill-clause-stops
+returns-in-Err-fill-clause-stops g c =
+    goes_on_stops (g.S.Source.state c.args.source.now) (g.S.Source.state c.loop-len.source) (g.S.Source.state c.fill.new.source) (c.loop-len.invariant.reads_on.goes_on c.if-ended.false) c.in-Err-fill.ensures.stops

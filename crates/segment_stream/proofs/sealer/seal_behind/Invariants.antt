@@ -6,6 +6,7 @@ use Rattle.tink_spec.specs.Outside.{SinkState, Stood, Took}
 use Rattle.segment_stream.specs.Cipher.{SegmentCipher}
 use Rattle.segment_stream.specs.Segments.{tag_size_under}
 use Rattle.segment_stream.specs.Streams.{IsUnder}
+use Rattle.segment_stream.specs.Reading.{ReadsOn}
 use Rattle.segment_stream.proofs.SealPass.{SealGoing}
 use Rattle.segment_stream.proofs.sealer.seal_behind.Given as goal
 
@@ -16,6 +17,7 @@ invariant-loop-len g l = record {
   len : l.len ≤ length l.buffer;
   head : l.number ≡ 0 → l.fn.header ≤ l.len;
   most : l.number ≤ 4294967295;
+  reads_on : ReadsOn l.ended (g.S.Source.state l.fn.source) (g.S.Source.state l.source);
   read : Stood (g.S.Source.state l.fn.source).faults (g.S.Source.state l.source).faults;
   written : Stood (g.K.Sink.state l.fn.sink).faults (g.K.Sink.state l.sink).faults;
   goes : (cipher : SegmentCipher) (old : SinkState)

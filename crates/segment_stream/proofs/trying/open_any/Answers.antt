@@ -10,6 +10,8 @@ use Rattle.segment_stream.specs.Segments.{IsSound, cipher_of, ciphers_of}
 use Rattle.segment_stream.proofs.CipherLemmas.{cipher_of-is_cipher}
 use Rattle.segment_stream.proofs.First.{all_at, decided_is, drop_cipher}
 use Rattle.segment_stream.proofs.Trials.{Trying, shows_after, trying_reads, trying_passes, trying_chooses, pumps_chosen, pumps_none, pumps_unread, pumps_first, pumps_unwritten, chosen_now, first_stands}
+use Rattle.tink_spec.proofs.Moves.{goes_on_stops}
+use Rattle.segment_stream.proofs.ReadsOn.{after_deciding, rest_stops}
 use Rattle.segment_stream.proofs.trying.open_any.Goals as goal
 
 pub returns-in-Err-clause-pumps : goal.returns-in-Err-clause-pumps
@@ -82,6 +84,7 @@ loop-key-preserved g c =
       same = omega (arith, c.open_first.auto.buffer, c.decide.auto.buffer, c.loop-key.invariant.same);
       len = omega (arith, c.open_first.auto.buffer, c.decide.auto.buffer, c.in-Ok.ensures.bound);
       still = c.loop-key.invariant.still ∙ h.1;
+      reads_on = after_deciding _ _ _ _ _ c.loop-key.invariant.reads_on (λ e. (c.in-Ok.ensures.decides.follows e).1) c.in-Ok.ensures.still c.in-Ok.ensures.reads_on;
       read = c.in-Ok.ensures.no_fault ∙ c.loop-key.invariant.read;
       trying = subst (λ (l : List ℕ). Trying cs (c.loop-key.key-index + 1) (g.S.Source.state c.args.source.now) (g.S.Source.state c.decide.new.source) (take c.in-Ok.decided.0 l) c.in-Ok.decided.1) (sym kept)
           (trying_passes cs c.loop-key.key-index key _ _ taken c.in-Ok.decided.1 t here (cipher_of-is_cipher c.args.ad.now c.key-item.result sound) d h.0);
@@ -112,3 +115,21 @@ returns-in-Written-clause-shown g c =
     shows_after c.open_rest.result _ _ _ _ _ _ (c.in-Ok.ensures.no_fault ∙ c.loop-key.invariant.read)
     (c.in-Written.ensures.ends.3 ∙ ap (λ (s : SinkState). s.faults) (sym c.loop-key.invariant.still))
     c.open_rest.ensures.shown
+
+pub returns-in-Err-clause-stops : goal.returns-in-Err-clause-stops
+returns-in-Err-clause-stops g c =
+    goes_on_stops (g.S.Source.state c.args.source.now) (g.S.Source.state c.loop-key.source) (g.S.Source.state c.decide.new.source) (c.loop-key.invariant.reads_on.goes_on c.in-Err.ensures.failed.open_end) c.in-Err.ensures.stops
+
+pub returns-in-Unwritten-clause-stops : goal.returns-in-Unwritten-clause-stops
+returns-in-Unwritten-clause-stops g c =
+    (after_deciding _ _ _ _ _ c.loop-key.invariant.reads_on (λ e. (c.in-Ok.ensures.decides.follows e).1) c.in-Ok.ensures.still c.in-Ok.ensures.reads_on).stops
+
+pub returns-then-len-size-clause-stops : goal.returns-then-len-size-clause-stops
+returns-then-len-size-clause-stops g c =
+    (after_deciding _ _ _ _ _ c.loop-key.invariant.reads_on (λ e. (c.in-Ok.ensures.decides.follows e).1) c.in-Ok.ensures.still c.in-Ok.ensures.reads_on).stops
+
+pub returns-in-Written-clause-stops : goal.returns-in-Written-clause-stops
+returns-in-Written-clause-stops g c =
+    rest_stops c.in-Ok.decided.1 _ _ _
+    (after_deciding _ _ _ _ _ c.loop-key.invariant.reads_on (λ e. (c.in-Ok.ensures.decides.follows e).1) c.in-Ok.ensures.still c.in-Ok.ensures.reads_on)
+    c.open_rest.ensures.still c.open_rest.ensures.stops

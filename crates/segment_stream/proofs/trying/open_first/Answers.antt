@@ -50,7 +50,7 @@ returns-in-Unwritten-clause-ends g c =
       has = sym c.begins.ensures ∙ c.if-not-begins.false;
       ends = c.min-end.ensures;
     } in
-    (h.0, first_opens _ key c.args.buffer.now _ _ _ _ a ∙ h.1, h.2, h.3)
+    (h.0, first_opens _ key c.args.buffer.now _ _ _ _ a ∙ h.1, h.2, h.3, h.4)
 
 pub returns-in-Unwritten-clause-rest : goal.returns-in-Unwritten-clause-rest
 returns-in-Unwritten-clause-rest g c =

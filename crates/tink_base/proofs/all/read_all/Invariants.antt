@@ -1,5 +1,5 @@
 use Rattle.std.proofs.Common.{◌<◌, ◌≤◌, length, ◌-◌}
-use Rattle.tink_spec.specs.Outside.{Gave, Stood}
+use Rattle.tink_spec.specs.Outside.{Gave, GoesOn, Stood}
 use Rattle.tink_base.proofs.all.read_all.Given as goal
 
 abbrev pub invariant-loop-n : goal.invariant-loop-n
@@ -7,6 +7,7 @@ invariant-loop-n g l = record {
   within : length l.all.items ≤ l.limit;
   room : 0 < length l.piece;
   gave : Gave (g.S.Source.state l.fn.source) (g.S.Source.state l.source) l.all.items;
+  goes_on : GoesOn (g.S.Source.state l.fn.source) (g.S.Source.state l.source);
   no_fault : Stood (g.S.Source.state l.fn.source).faults (g.S.Source.state l.source).faults;
 }
 
