@@ -1,15 +1,10 @@
 -- Printed cases of RFC 5869, proved of the definition alone by computing it.
 use Rattle.std.proofs.Common.{◌≡◌, ℕ, List, [], ◌++◌, refl}
-use Rattle.std.specs.Prelude.{⊤, replicate}
+use Rattle.std.specs.Prelude.{replicate}
 use Rattle.std.specs.Int.{to_be_bytes, w16, w64, w128}
 use Rattle.tink_base.specs.declared.hash.Hash.TheVariants.{Sha1, Sha256}
-use Rattle.mac_prf.specs.Hkdf.{block, blocks, expand, hkdf}
-use Rattle.mac_prf.proofs.HmacExamples.{hmac_on_literals}
-
--- what has to unfold for bytes out of literals to compute
-unfoldable pub hkdf_on_literals : ⊤
-unfolding hmac_on_literals block blocks expand
-hkdf_on_literals = tt
+use Rattle.mac_prf.specs.Hkdf.{hkdf}
+use Rattle.standard_examples.proofs.OnLiterals.{hkdf_on_literals}
 
 -- the inputs of A.2, 80 bytes each
 abbrev long_ikm : List ℕ

@@ -1,15 +1,8 @@
 -- The examples of RFC 4493, section 4, proved of the definition alone by computing it.
 use Rattle.std.proofs.Common.{◌≡◌, ◌++◌, ℕ, List, [], take, refl}
-use Rattle.std.specs.Prelude.{⊤}
 use Rattle.std.specs.Int.{to_be_bytes, w128}
-use Rattle.aes_core.specs.Aes.{aes_on_literals}
-use Rattle.aes_core.specs.Bytes.{xor_bytes}
-use Rattle.mac_prf.specs.Cmac.{chain, cmac, subkey1, subkey2}
-
--- what has to unfold for a tag of literals to compute
-unfoldable pub cmac_on_literals : ⊤
-unfolding aes_on_literals xor_bytes chain cmac
-cmac_on_literals = tt
+use Rattle.mac_prf.specs.Cmac.{cmac, subkey1, subkey2}
+use Rattle.standard_examples.proofs.OnLiterals.{cmac_on_literals}
 
 abbrev key : List ℕ
 key = to_be_bytes w128 0x2B7E151628AED2A6ABF7158809CF4F3C

@@ -5,7 +5,7 @@ use Rattle.std.proofs.Common.{◌≡◌, ℕ, Some, None, List, [], ◌++◌, ta
 use Rattle.std.specs.Int.{w128, to_be_bytes}
 use Rattle.std.specs.List.{range_with_len}
 use Rattle.siv_daead.specs.Siv.{datum_block, mac_key, siv_open, siv_seal}
-use Rattle.siv_daead.proofs.OnLiterals.{siv_on_literals}
+use Rattle.standard_examples.proofs.OnLiterals.{siv_on_literals}
 
 abbrev key : List ℕ
 key =

@@ -1,10 +1,48 @@
--- The test cases of The Galois/Counter Mode of Operation (McGrew and Viega), appendix B, that have
--- an IV of 12 bytes: without and with a block, and with associated data and a partial block, under
--- keys of 16 and 32 bytes. Each is computed from the definitions alone.
-use Rattle.std.proofs.Common.{◌≡◌, ℕ, Some, None, List, [], ◌++◌, take, replicate, refl}
-use Rattle.std.specs.Int.{w128, to_be_bytes}
+-- Galois/Counter Mode (SP 800-38D): test cases of The Galois/Counter Mode of Operation (McGrew and
+-- Viega), appendix B, computed from the definitions alone.
+use Rattle.std.proofs.Common.{◌≡◌, ℕ, Some, None, List, [], ◌++◌, take, replicate, refl, ◌∷◌}
+use Rattle.std.specs.Int.{w128, to_be_bytes, w64}
 use Rattle.aead_kinds.specs.Gcm.{gcm_open, gcm_seal}
-use Rattle.aead_kinds.proofs.OnLiterals.{gcm_on_literals}
+use Rattle.standard_examples.proofs.OnLiterals.{gcm_on_literals, ghash_on_literals}
+use Rattle.ghash.specs.Field.{prod}
+use Rattle.ghash.specs.Ghash.{ghash, padded_blocks}
+
+-- ---- GHASH
+
+-- test case 2: X 1, the product of the block of ciphertext and H
+pub prod-case_2 : prod 0x0388DACE60B6A392F328C2B971B2FE78 0x66E94BD4EF8A2C3B884CFA59CA342B2E
+    ≡ 0x5E2EC746917062882C85B0685353DEB7
+unfolding ghash_on_literals
+prod-case_2 = refl
+
+-- GHASH of the block of ciphertext and that of the lengths
+pub ghash-case_2 : ghash 0x66E94BD4EF8A2C3B884CFA59CA342B2E
+    (0x0388DACE60B6A392F328C2B971B2FE78 ∷ 0x80 ∷ []) ≡ 0xF38CBB1AD69223DCC3457AE5B6B0F885
+unfolding ghash_on_literals
+ghash-case_2 = refl
+
+-- test case 4, whose associated data and ciphertext end within a block
+abbrev pub associated_data : List ℕ
+associated_data = take 20
+    (to_be_bytes w128 0xFEEDFACEDEADBEEFFEEDFACEDEADBEEF
+    ++ to_be_bytes w128 0xABADDAD2000000000000000000000000)
+
+abbrev pub ciphertext : List ℕ
+ciphertext = take 60
+    (to_be_bytes w128 0x42831EC2217774244B7221B784D0D49C
+    ++ to_be_bytes w128 0xE3AA212F2C02A4E035C17E2329ACA12E
+    ++ to_be_bytes w128 0x21D514B25466931C7D8F6A5AAC84AA05
+    ++ to_be_bytes w128 0x1BA30B396A0AAC973D58E09100000000)
+
+pub ghash-case_4 : ghash 0xB83B533708BF535D0AA6E52980D53B78
+    (padded_blocks associated_data ++ padded_blocks ciphertext
+    ++ padded_blocks (to_be_bytes w64 160 ++ to_be_bytes w64 480))
+    ≡ 0x698E57F70E6ECC7FD9463B7260A9AE5F
+unfolding ghash_on_literals
+ghash-case_4 = refl
+
+-- ---- sealings: the cases that have an IV of 12 bytes, without and with a block, and with associated
+-- data and a partial block, under keys of 16 and 32 bytes
 
 -- the IV of cases 1, 2, 13 and 14
 abbrev zero_iv : List ℕ

@@ -1,4 +1,5 @@
--- The definitions of the wire, computed.
+-- The wire format of Protocol Buffers, as Tink writes its keysets in it, computed from the
+-- definitions.
 use Rattle.std.proofs.Common.{◌≡◌, ◌++◌, ◌∷◌, [], List, ℕ, ◌+◌, ◌^◌, ◌-◌, length, take, refl}
 use Rattle.std.specs.Prelude.{Some, Ok, Err, codes, replicate}
 use Rattle.tink_spec.specs.Varint.{varint_front, number_front}

@@ -1,9 +1,10 @@
--- A keyset of 90 bytes, its neighbours, its listing and what is written of it, by the definitions.
+-- A keyset of 90 bytes in the wire format of Tink, its neighbours, its listing and what is written of it,
+-- by the definitions.
 use Rattle.std.proofs.Common.{◌≡◌, ◌++◌, ◌∷◌, [], List, ℕ, length, take, drop, refl}
 use Rattle.std.specs.Prelude.{Ok, Err, codes, replicate}
 use Rattle.std.specs.Fmt.{digits}
 use Rattle.std.specs.Str.{is_utf8, chars}
-use Rattle.tink_spec.proofs.Examples.{wire_on_literals, url, keyset}
+use Rattle.standard_examples.proofs.TinkWire.{wire_on_literals, url, keyset}
 use Rattle.proto_wire.specs.Written.{groups_of}
 use Rattle.keyset_model.specs.declared.keyset.KeysetFault.TheVariants as faults
 use Rattle.keyset_model.specs.Keyset.{Keys, first_without, repeat_behind, first_some, when, fault_of}

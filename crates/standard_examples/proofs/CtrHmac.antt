@@ -6,7 +6,7 @@ use Rattle.std.specs.Int.{w128, to_be_bytes}
 use Rattle.std.specs.List.{range_with_len}
 use Rattle.tink_base.specs.declared.hash.Hash.TheVariants.{Sha224, Sha256}
 use Rattle.aead_kinds.specs.CtrHmac.{ctr_hmac_open, ctr_hmac_seal}
-use Rattle.aead_kinds.proofs.OnLiterals.{ctr_hmac_on_literals}
+use Rattle.standard_examples.proofs.OnLiterals.{ctr_hmac_on_literals}
 
 -- ---- that of tink-go
 

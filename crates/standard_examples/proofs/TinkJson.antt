@@ -1,4 +1,4 @@
--- Examples of the definitions, by hand.
+-- Keysets in Tink's JSON form, by the definitions. The examples are by hand, but for base64's.
 use Rattle.std.proofs.Common.{◌≡◌, [], ◌∷◌, Some, None, Ok, Err, codes, refl}
 use Rattle.base64.proofs.OnLiterals.{base64_on_literals}
 use Rattle.serde_json.proofs.OnLiterals.{serde_json_on_literals}

@@ -4,7 +4,7 @@
 use Rattle.std.proofs.Common.{◌≡◌, ℕ, Some, None, List, [], ◌++◌, take, refl}
 use Rattle.std.specs.Int.{w64, w128, to_be_bytes}
 use Rattle.aead_kinds.specs.Eax.{eax_open, eax_seal}
-use Rattle.aead_kinds.proofs.OnLiterals.{eax_on_literals}
+use Rattle.standard_examples.proofs.OnLiterals.{eax_on_literals}
 
 -- ---- the first one
 

@@ -1,38 +1,18 @@
--- Printed cases of RFC 2202 and RFC 4231, proved of the definition alone by computing it.
+-- HMAC with SHA-2: printed cases of RFC 4231, proved of the definition alone by computing it.
 use Rattle.std.proofs.Common.{◌≡◌, ℕ, List, ◌++◌, codes, refl}
-use Rattle.std.specs.Prelude.{⊤, replicate}
+use Rattle.std.specs.Prelude.{replicate}
 use Rattle.std.specs.Int.{to_be_bytes, w32, w64, w128}
-use Rattle.tink_base.specs.declared.hash.Hash.TheVariants.{Sha1, Sha224, Sha256, Sha384, Sha512}
-use Rattle.sha1.specs.Sha1 as sha1
-use Rattle.sha2.specs.Sha256 as sha256
-use Rattle.sha2.specs.Sha512 as sha512
+use Rattle.tink_base.specs.declared.hash.Hash.TheVariants.{Sha224, Sha256, Sha384, Sha512}
 use Rattle.mac_prf.specs.Hmac.{hmac}
+use Rattle.standard_examples.proofs.OnLiterals.{hmac_on_literals}
 
--- what has to unfold for a code of literals to compute
-unfoldable pub hmac_on_literals : ⊤
-unfolding hmac
-    sha1.first_words sha1.schedule sha1.rounds sha1.compress sha1.hash_after sha1.digest_bytes
-    sha256.first_words sha256.schedule sha256.rounds sha256.compress sha256.hash_after
-    sha256.digest_bytes
-    sha512.first_words sha512.schedule sha512.rounds sha512.compress sha512.hash_after
-    sha512.digest_bytes
-    sha1.sha1 sha256.sha224 sha256.sha256 sha512.sha384 sha512.sha512
-hmac_on_literals = tt
-
--- test case 2 of both: a key shorter than a digest
+-- test case 2 (4.3): a key shorter than a digest
 abbrev key : List ℕ
 key = codes "Jefe"
 
 abbrev text : List ℕ
 text = codes "what do ya want for nothing?"
 
--- RFC 2202, section 3
-pub hmac-sha1 : hmac Sha1 key text ≡
-    to_be_bytes w128 0xEFFCDF6AE5EB2FA2D27416D5F184DF9C ++ to_be_bytes w32 0x259A7C79
-unfolding hmac_on_literals
-hmac-sha1 = refl
-
--- RFC 4231, section 4.3, here and for the next three
 pub hmac-sha224 : hmac Sha224 key text ≡
     to_be_bytes w128 0xA30E01098BC6DBBF45690F3A7E9E6D0F
     ++ to_be_bytes w64 0x8BBEA2A39E614800 ++ to_be_bytes w32 0x8FD05E44
@@ -60,17 +40,10 @@ pub hmac-sha512 : hmac Sha512 key text ≡
 unfolding hmac_on_literals
 hmac-sha512 = refl
 
--- test case 6 of both: a key longer than a block, which is hashed first
+-- test case 6 (4.7): a key longer than a block, which is hashed first
 abbrev long_text : List ℕ
 long_text = codes "Test Using Larger Than Block-Size Key - Hash Key First"
 
--- RFC 2202, section 3
-pub hmac-sha1-long_key : hmac Sha1 (replicate 80 0xAA) long_text ≡
-    to_be_bytes w128 0xAA4AE5E15272D00E95705637CE8A3B55 ++ to_be_bytes w32 0xED402112
-unfolding hmac_on_literals
-hmac-sha1-long_key = refl
-
--- RFC 4231, section 4.7, here and for the next
 pub hmac-sha256-long_key : hmac Sha256 (replicate 131 0xAA) long_text ≡
     to_be_bytes w128 0x60E431591EE0B67F0D8A26AACBF5B77F
     ++ to_be_bytes w128 0x8E0BC6213728C5140546040F0EE37F54
