@@ -1,7 +1,3 @@
-pub mod OnLiterals
-mod GcmExamples
-mod EaxExamples
-mod CtrHmacExamples
 pub mod GcmLemmas
 pub mod EncryptThenTagLemmas
 pub mod CtrHmacLemmas

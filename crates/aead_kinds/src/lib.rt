@@ -14,7 +14,3 @@ pub use aead::{AeadKey, open, seal};
 pub use gcm::{Gcm, gcm_open_in_place, gcm_seal_in_place};
 pub use segment::{ctr_hmac_open_in_place, ctr_hmac_seal_in_place};
 
-#[cfg(test)]
-mod scheme_tests;
-#[cfg(test)]
-mod tests;

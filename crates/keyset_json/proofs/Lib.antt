@@ -6,4 +6,3 @@ pub mod SizeLemmas
 pub mod WritingLemmas
 pub mod PrintedLemmas
 pub mod BackLemmas
-pub mod JsonExamples

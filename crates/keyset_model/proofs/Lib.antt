@@ -2,7 +2,6 @@ pub mod BinaryBack
 pub mod Exits
 pub mod FaultlessLemmas
 pub mod KeyLemmas
-pub mod KeysetExamples
 pub mod PrimaryLemmas
 pub mod ReadBounds
 pub mod ReadingLemmas

@@ -12,5 +12,3 @@ pub use cmac::Cmac;
 pub use derive::{TooLong, hkdf};
 pub use hmac::Hmac;
 
-#[cfg(test)]
-mod tests;

@@ -1,4 +1,2 @@
-pub mod OnLiterals
-mod SivExamples
 pub mod SivLemmas
 pub mod BlockLemmas

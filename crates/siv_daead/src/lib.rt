@@ -5,7 +5,5 @@
 mod blocks;
 pub mod laws;
 mod siv;
-#[cfg(test)]
-mod tests;
 
 pub use siv::{siv_open, siv_seal};

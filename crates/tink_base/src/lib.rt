@@ -35,5 +35,3 @@ pub use stream::MemEntropy;
 pub use text::Text;
 pub use trials::Trials;
 
-#[cfg(test)]
-mod tests;

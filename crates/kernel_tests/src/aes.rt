@@ -1,0 +1,213 @@
+//! AES: the vectors of FIPS 197 and SP 800-38A, both counters where they wrap, and the fast bodies
+//! beside the plain ones at every length.
+
+ghost use Rattle.std.specs.Prelude.{◌≤◌};
+
+use crate::plain::aes as plain;
+use crate::rows::{block_in, bytes_in, same};
+use aes_core::{Aes, CtrKind, KeySize};
+use std::alloc::Global;
+use std::process::Abort;
+use std::test::Fail;
+use test_words::cell;
+
+// The key of FIPS 197 (2001), C.1 and C.3: the bytes from 0 on.
+const COUNTING_KEY: [u8; 32] = [
+    0, 1, 2, 3, 4, 5, 6, 7, 8, 9, 10, 11, 12, 13, 14, 15, 16, 17, 18, 19, 20, 21, 22, 23, 24, 25,
+    26, 27, 28, 29, 30, 31,
+];
+
+// FIPS 197 (2001), appendix C: what it shows, key, block and its cipher.
+const FIPS_197: &str = "\
+C.1, 16 bytes|000102030405060708090a0b0c0d0e0f|00112233445566778899aabbccddeeff|69c4e0d86a7b0430d8cdb78070b4c55a
+C.3, 32 bytes|000102030405060708090a0b0c0d0e0f101112131415161718191a1b1c1d1e1f|00112233445566778899aabbccddeeff|8ea2b7ca516745bfeafc49904b496089";
+
+// SP 800-38A, F.5.1 (CTR-AES128) and F.5.5 (CTR-AES256): one start and one plaintext. Behind them
+// the output blocks at starts beside the counters' ends, under the key of C.3: those of All128 are
+// what `openssl enc -aes-256-ctr` makes of zeros, and those of Low32 are the single blocks of
+// python's `cryptography` in ECB mode, since the CTR mode of both has the other counter alone.
+//
+// A row has what it shows, what counts, the key, the start, a text and its ciphertext.
+const COUNTED: &str = "\
+F.5.1|All128|2b7e151628aed2a6abf7158809cf4f3c|f0f1f2f3f4f5f6f7f8f9fafbfcfdfeff|6bc1bee22e409f96e93d7e117393172aae2d8a571e03ac9c9eb76fac45af8e5130c81c46a35ce411e5fbc1191a0a52eff69f2445df4f9b17ad2b417be66c3710|874d6191b620e3261bef6864990db6ce9806f66b7970fdff8617187bb9fffdff5ae4df3edbd5d35e5b4f09020db03eab1e031dda2fbe03d1792170a0f3009cee
+F.5.5|All128|603deb1015ca71be2b73aef0857d77811f352c073b6108d72d9810a30914dff4|f0f1f2f3f4f5f6f7f8f9fafbfcfdfeff|6bc1bee22e409f96e93d7e117393172aae2d8a571e03ac9c9eb76fac45af8e5130c81c46a35ce411e5fbc1191a0a52eff69f2445df4f9b17ad2b417be66c3710|601ec313775789a5b7a7f504bbf3d228f443e3ca4d62b59aca84e990cacaf5c52b0930daa23de94ce87017ba2d84988ddfc9c58db67aada613c2dd08457941a6
+sixteen bytes wrap|All128|000102030405060708090a0b0c0d0e0f101112131415161718191a1b1c1d1e1f|ffffffffffffffffffffffffffffffff|00*64|e999e41d4ca770da5387117b5d8f57eef29000b62a499fd0a9f39a6add2e7780f05d76ae4ab99fe5a6f69b3148c2363d0ebcb5deb52c83bd08a8a935182c9199
+four of sixteen bytes carry|All128|000102030405060708090a0b0c0d0e0f101112131415161718191a1b1c1d1e1f|000102030405060708090a0bfffffffe|00*64|8b64b32ff7b39052bba97a548cd54f649d52ea871d37e206b64e902d1d857e44daa648ffc7cfc3a6d9f65499ff0b17818d72da2ac9d194201498fdb04c4cc401
+four bytes wrap, and all sixteen were ones|Low32|000102030405060708090a0b0c0d0e0f101112131415161718191a1b1c1d1e1f|ffffffffffffffffffffffffffffffff|00*64|e999e41d4ca770da5387117b5d8f57ee80f81812bab8c119db4c70da9d98c889d879e1252052a18ea14f5e3de6ade7353a81efc960bbdec68b5eaed12c2ea34c
+four bytes wrap, and twelve stay|Low32|000102030405060708090a0b0c0d0e0f101112131415161718191a1b1c1d1e1f|000102030405060708090a0bfffffffe|00*64|8b64b32ff7b39052bba97a548cd54f649d52ea871d37e206b64e902d1d857e44bddc4ccab15066ccc1fe6b0cba133eb6f4c2db1dc38805a37b92171c5d0a81cc";
+
+// SP 800-38A, F.2.1 (CBC-AES128): each ciphertext block is the chain from the IV up to it. A row
+// has what it shows, the key, the start, the blocks and the last result.
+const CHAINED: &str = "\
+no block|2b7e151628aed2a6abf7158809cf4f3c|000102030405060708090a0b0c0d0e0f||000102030405060708090a0b0c0d0e0f
+1 block|2b7e151628aed2a6abf7158809cf4f3c|000102030405060708090a0b0c0d0e0f|6bc1bee22e409f96e93d7e117393172a|7649abac8119b246cee98e9b12e9197d
+2 blocks|2b7e151628aed2a6abf7158809cf4f3c|000102030405060708090a0b0c0d0e0f|6bc1bee22e409f96e93d7e117393172aae2d8a571e03ac9c9eb76fac45af8e51|5086cb9b507219ee95db113a917678b2
+3 blocks|2b7e151628aed2a6abf7158809cf4f3c|000102030405060708090a0b0c0d0e0f|6bc1bee22e409f96e93d7e117393172aae2d8a571e03ac9c9eb76fac45af8e5130c81c46a35ce411e5fbc1191a0a52ef|73bed6b8e3c1743b7116e69e22229516
+4 blocks|2b7e151628aed2a6abf7158809cf4f3c|000102030405060708090a0b0c0d0e0f|6bc1bee22e409f96e93d7e117393172aae2d8a571e03ac9c9eb76fac45af8e5130c81c46a35ce411e5fbc1191a0a52eff69f2445df4f9b17ad2b417be66c3710|3ff1caa1681fac09120eca307586e1a7";
+
+// The kind of this name.
+fn kind_named(name: &str) -> Result<CtrKind, Fail> {
+    for (word, kind) in [("Low32", CtrKind::Low32), ("All128", CtrKind::All128)] {
+        if word == name {
+            return Ok(kind);
+        }
+    }
+    Err("a kind of counter".into())
+}
+
+fn assert_enciphered(alloc: Global, row: &str) -> Result<(), Fail> {
+    let aes = Aes::new(&bytes_in(alloc, row, 1)?)?;
+    let found = aes.encrypt_block(&block_in(row, 2)?);
+    same(alloc, row, "the cipher", &block_in(row, 3)?, &found)
+}
+
+fn assert_counted(alloc: Global, row: &str) -> Result<(), Fail> {
+    let kind = kind_named(cell(row, 1)?)?;
+    let aes = Aes::new(&bytes_in(alloc, row, 2)?)?;
+    let mut body = bytes_in(alloc, row, 4)?;
+    aes.ctr_xor(&block_in(row, 3)?, kind, &mut body);
+    same(
+        alloc,
+        row,
+        "the ciphertext",
+        &bytes_in(alloc, row, 5)?,
+        &body,
+    )
+}
+
+fn assert_chained(alloc: Global, row: &str) -> Result<(), Fail> {
+    let aes = Aes::new(&bytes_in(alloc, row, 1)?)?;
+    let body = bytes_in(alloc, row, 3)?;
+    if body.len() % 16 != 0 {
+        return Err("whole blocks".into());
+    }
+    let found = aes.chain(&block_in(row, 2)?, &body);
+    same(alloc, row, "the last result", &block_in(row, 4)?, &found)
+}
+
+#[test]
+fn enciphers_the_blocks_of_fips_197(rt: HostRuntime) -> Result<(), Fail> {
+    for row in FIPS_197.lines() {
+        assert_enciphered(rt.alloc(), row)?;
+    }
+    Ok(())
+}
+
+// Lengths on both sides of the two that are taken, and that of AES-192.
+#[test]
+fn refuses_keys_of_other_sizes(rt: HostRuntime) {
+    for size in [0, 15, 17, 24, 31, 33] {
+        let answer = Aes::new(&[0; 33][..size]).err();
+        assert_eq!(rt; answer, Some(KeySize), "{size} bytes");
+    }
+}
+
+#[test]
+fn counts_as_the_kind_says(rt: HostRuntime) -> Result<(), Fail> {
+    for row in COUNTED.lines() {
+        assert_counted(rt.alloc(), row)?;
+    }
+    Ok(())
+}
+
+#[test]
+fn chains_the_blocks_of_sp_800_38a(rt: HostRuntime) -> Result<(), Fail> {
+    for row in CHAINED.lines() {
+        assert_chained(rt.alloc(), row)?;
+    }
+    Ok(())
+}
+
+// ---- the fast bodies beside the plain ones
+
+// One length from one start. What lies behind the body stays.
+fn counts_as_plainly(rt: &impl Abort, key: &[u8; 32], kind: CtrKind, start: u128, size: usize)
+    requires { size ≤ 4200 }
+{
+    let start = start.to_be_bytes();
+    let mut body = [0x5A; 4200];
+    let mut want = [0x5A; 4200];
+    if let Ok(aes) = Aes::new(key) {
+        aes.ctr_xor(&start, kind, &mut body[..size]);
+    }
+    plain::ctr_xor(key, &start, kind, &mut want[..size]);
+    assert_eq!(rt; body, want, "{size} bytes");
+}
+
+// Starts from which both counters wrap in the midst of four blocks, and at their edge.
+fn counts_as_plainly_from_each_start(rt: &impl Abort, size: usize)
+    requires { size ≤ 4200 }
+{
+    let key = &COUNTING_KEY;
+    for start in [u128::MAX - 5, 0x000102030405060708090A0BFFFFFFFC] {
+        counts_as_plainly(rt, key, CtrKind::All128, start, size);
+        counts_as_plainly(rt, key, CtrKind::Low32, start, size);
+    }
+}
+
+#[test]
+fn counts_as_plainly_at_every_length(rt: HostRuntime) {
+    for size in 0..301 {
+        counts_as_plainly_from_each_start(&rt, size);
+    }
+    for size in [4079, 4080, 4095, 4096, 4097, 4112, 4159, 4160, 4161] {
+        counts_as_plainly_from_each_start(&rt, size);
+    }
+}
+
+// A thousand blocks under each size of keys, each the cipher of the one before: by the plain body,
+// by the fast one, and by a chain, in which a block of zeros changes nothing.
+#[test]
+fn enciphers_as_plainly(rt: HostRuntime) -> Result<(), Fail> {
+    for size in [16, 32] {
+        let key = &COUNTING_KEY[..size];
+        let aes = Aes::new(key)?;
+        let mut block = [0; 16];
+        for i in 0..1000_u32 {
+            let want = plain::encrypt_block(key, &block);
+            assert_eq!(rt; aes.encrypt_block(&block), want, "block {i}, {size} bytes");
+            assert_eq!(rt;
+                aes.chain(&block, &[0; 16]),
+                want,
+                "block {i}, {size} bytes"
+            );
+            block = want;
+        }
+    }
+    Ok(())
+}
+
+#[test]
+fn chains_as_plainly(rt: HostRuntime) -> Result<(), Fail> {
+    let aes = Aes::new(&COUNTING_KEY)?;
+    let mut body = [0; 4800];
+    plain::ctr_xor(&COUNTING_KEY, &[1; 16], CtrKind::All128, &mut body);
+    let mut want = [2; 16];
+    for i in 0..300 {
+        let last = aes.chain(&[2; 16], &body[..16 * i]);
+        assert_eq!(rt; last, want, "{i} blocks");
+        for (j, byte) in want.iter_mut().enumerate() {
+            *byte ^= body[16 * i + j];
+        }
+        want = plain::encrypt_block(&COUNTING_KEY, &want);
+    }
+    Ok(())
+}
+
+// Keys of both sizes that end in every byte, and in every other byte beside it: so each byte is
+// substituted in each place of a word when the key is expanded.
+#[test]
+fn expands_keys_as_plainly(rt: HostRuntime) -> Result<(), Fail> {
+    let block = [0; 16];
+    for byte in 0..=255_u8 {
+        for size in [16, 32] {
+            let mut key = [0; 32];
+            key[size - 4..size].copy_from_slice(&[byte, !byte, byte ^ 0x0F, byte ^ 0xF0]);
+            let key = &key[..size];
+            let want = plain::encrypt_block(key, &block);
+            let found = Aes::new(key)?.encrypt_block(&block);
+            assert_eq!(rt; found, want, "{size} bytes that end in byte {byte}");
+        }
+    }
+    Ok(())
+}

@@ -1,0 +1,21 @@
+//! Tests of the kernels and the schemes: outside values, and the fast bodies beside plain ones.
+#![tactic(auto)]
+
+#[cfg(test)]
+mod aes;
+#[cfg(test)]
+mod base;
+#[cfg(test)]
+mod galois;
+#[cfg(test)]
+mod gcm;
+#[cfg(test)]
+mod plain;
+#[cfg(test)]
+mod prf;
+#[cfg(test)]
+mod rows;
+#[cfg(test)]
+mod schemes;
+#[cfg(test)]
+mod siv;

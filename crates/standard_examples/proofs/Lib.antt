@@ -1,0 +1,15 @@
+mod OnLiterals
+mod Fips197
+mod Sp80038a
+mod Sp80038b
+mod Sp80038d
+mod Rfc2202
+mod Rfc4231
+mod Rfc4493
+mod Rfc5869
+mod Rfc5297
+mod Eax
+mod CtrHmac
+mod TinkWire
+mod TinkKeysets
+mod TinkJson
