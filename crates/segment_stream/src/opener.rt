@@ -9,6 +9,7 @@ ghost use Rattle.segment_stream.specs.StreamKeys.{largest_of};
 use crate::trying::open_any;
 use crate::{OpenPumpFault, StreamKeys};
 use std::alloc::Global;
+use std::boxed::BoxedSlice;
 use std::marker::Model;
 use tink_base::{NoMemory, Sink, Source};
 
@@ -17,19 +18,20 @@ use tink_base::{NoMemory, Sink, Source};
 pub struct Opener<'k> {
     keys: &'k StreamKeys,
     ad: &'k [u8],
-    buffer: Vec<u8>,
+    buffer: BoxedSlice<u8>,
 }
 
 impl<'k> Model for Opener<'k> {
-    ghost use Rattle.std.specs.Prelude.{◌≡◌, ◌+◌, vec_len};
+    ghost use Rattle.std.specs.Prelude.{◌≡◌, ◌+◌};
+    ghost use Rattle.std.specs.Box.{boxed_slice_len};
     ghost use Rattle.segment_stream.specs.PumpModels.{OpenerState};
     ghost use Rattle.segment_stream.specs.StreamKeys.{largest_of};
 
     ghost Value = { OpenerState };
 
-    ghost view = { λ o. record { keys = o.keys.now; ad = o.ad.now; room = vec_len o.buffer } };
+    ghost view = { λ o. record { keys = o.keys.now; ad = o.ad.now; room = boxed_slice_len o.buffer } };
 
-    ghost invariant = { λ o. vec_len o.buffer ≡ largest_of o.keys.now.keys + 1 };
+    ghost invariant = { λ o. boxed_slice_len o.buffer ≡ largest_of o.keys.now.keys + 1 };
 }
 
 impl<'k> Opener<'k> {
@@ -41,7 +43,11 @@ impl<'k> Opener<'k> {
             record { keys = keys.now; ad = ad.now; room = largest_of keys.now.keys + 1 }) }
     {
         match vec![in alloc; 0; keys.largest() + 1] {
-            Ok(buffer) => Ok(Opener { keys, ad, buffer }),
+            Ok(buffer) => Ok(Opener {
+                keys,
+                ad,
+                buffer: buffer.into_boxed_slice(),
+            }),
             Err(_) => Err(NoMemory),
         }
     }

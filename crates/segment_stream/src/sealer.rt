@@ -13,6 +13,7 @@ use crate::buffer::{fill, turn};
 use crate::segments::{LAST_NUMBER, Stream};
 use crate::{SealPumpFault, StreamKeys};
 use std::alloc::Global;
+use std::boxed::BoxedSlice;
 use std::marker::Model;
 use tink_base::{Entropy, Failed, Sink, Source, write_all};
 
@@ -31,22 +32,23 @@ pub struct Sealer {
     stream: Stream,
     /// The bytes of the header, which stands in front of the buffer.
     header: usize,
-    buffer: Vec<u8>,
+    buffer: BoxedSlice<u8>,
 }
 
 impl Model for Sealer {
-    ghost use Rattle.std.specs.Prelude.{take, vec_len};
+    ghost use Rattle.std.specs.Prelude.{take};
+    ghost use Rattle.std.specs.Box.{boxed_slice_items, boxed_slice_len};
     ghost use Rattle.segment_stream.specs.PumpModels.{HasRoom, SealerState};
 
     ghost Value = { SealerState };
 
     ghost view = { λ s. record {
       stream = s.stream;
-      header = take s.header s.buffer.items;
-      room = vec_len s.buffer;
+      header = take s.header (boxed_slice_items s.buffer);
+      room = boxed_slice_len s.buffer;
     } };
 
-    ghost invariant = { λ s. HasRoom s.stream s.header (vec_len s.buffer) };
+    ghost invariant = { λ s. HasRoom s.stream s.header (boxed_slice_len s.buffer) };
 }
 
 impl Sealer {
@@ -83,7 +85,7 @@ impl Sealer {
         Ok(Sealer {
             stream,
             header,
-            buffer,
+            buffer: buffer.into_boxed_slice(),
         })
     }
 

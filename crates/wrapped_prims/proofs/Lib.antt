@@ -3,3 +3,4 @@ pub mod OpenLemmas
 pub mod PrefixLemmas
 pub mod HandleLemmas
 pub mod SameKeyLemmas
+pub mod TrialLemmas

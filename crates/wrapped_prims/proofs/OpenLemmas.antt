@@ -61,7 +61,7 @@ pub data UnderAs (table : Table) (p : Primitive) (prefix : Option (List ℕ)) (r
   taken : (kept : Kept) → is_enabled_with prefix r ≡ true → under prefix (kept_of table p r) ≡ Some kept
       → key_of_record table p r ≡ Some kept.key → kept.is_legacy ≡ is_legacy r → UnderAs table p prefix r
 
-under_as : (table : Table) (p : Primitive) (prefix : Option (List ℕ)) (r : Record) → fault_of_record table p r ≡ None → UnderAs table p prefix r
+pub under_as : (table : Table) (p : Primitive) (prefix : Option (List ℕ)) (r : Record) → fault_of_record table p r ≡ None → UnderAs table p prefix r
 under_as table p prefix r fit = by (kept_as table p r fit)
   where
     by : KeptAs table p r → UnderAs table p prefix r
@@ -73,7 +73,7 @@ under_as table p prefix r fit = by (kept_as table p r fit)
         same true s = taken (kept_with r at key) (ap (λ b. b && same_prefix (prefix_of r) prefix) e ∙ s) (ap (under prefix) some ∙ ap (λ b. cond b (Some (kept_with r at key)) None) s) read refl
 
 -- the keys that are kept under a prefix open what the records with that prefix open
-under_opens : (n : ℕ) (table : Table) (p : Primitive) (rs : List Record) (prefix : Option (List ℕ)) (part ad : List ℕ) → unfit_from n table p rs ≡ None
+pub under_opens : (n : ℕ) (table : Table) (p : Primitive) (rs : List Record) (prefix : Option (List ℕ)) (part ad : List ℕ) → unfit_from n table p rs ≡ None
     → open_with p part ad (all_under prefix (map (kept_of table p) rs)) ≡ first_some (map (opened table p ad) (each_with part (enabled_with prefix rs)))
 unfolding first_some
 under_opens n table p [] prefix part ad fit = refl
@@ -110,7 +110,7 @@ open_kept-IsOver table p keys held bytes ad over =
 
 -- ---- tags
 
-under_verifies : (n : ℕ) (table : Table) (rs : List Record) (prefix : Option (List ℕ)) (part body : List ℕ) → unfit_from n table Mac rs ≡ None
+pub under_verifies : (n : ℕ) (table : Table) (rs : List Record) (prefix : Option (List ℕ)) (part body : List ℕ) → unfit_from n table Mac rs ≡ None
     → verify_with part body (all_under prefix (map (kept_of table Mac) rs)) ≡ list_any (is_tag_of table body) (each_with part (enabled_with prefix rs))
 under_verifies n table [] prefix part body fit = refl
 under_verifies n table (r ∷ rs) prefix part body fit =

@@ -8,10 +8,13 @@
 --   tag_answer      the tag of a body
 --   verify_answer   some candidate's part is its tag of the body
 --   derive_answer   bytes of the primary's pseudo-random function
-use Rattle.std.specs.Prelude.{ℕ, Bool, false, List, ◌++◌, map, length, take, drop, nat_lt, Option, Some, None, Result, Ok, Err, if◌then◌else◌}
+--   tried           a count of trials, after some candidates were tried
+--   open_trials, verify_trials   after bytes were opened, or a tag was verified
+use Rattle.std.specs.Prelude.{ℕ, Bool, false, List, [], ◌∷◌, ◌++◌, map, length, take, drop, nat_lt, Option, Some, None, is_some, Result, Ok, Err, if◌then◌else◌}
 use Rattle.std.specs.List.{list_any}
 use Rattle.std.specs.Option.{option_and_then, option_map}
 use Rattle.std.specs.Str.{bytes_eq}
+use Rattle.tink_spec.specs.Outside.{next}
 use Rattle.key_msgs.specs.declared.key.KeyKind.{KeyKind}
 use Rattle.key_msgs.specs.declared.primitive.Primitive.{Primitive}
 use Rattle.key_msgs.specs.declared.primitive.Primitive.TheVariants.{Aead, Daead, Mac, Prf}
@@ -120,3 +123,21 @@ is_tag_of table body candidate =
 -- some candidate's is
 abbrev pub verify_answer : Keys → Table → (tag body : List ℕ) → Bool
 verify_answer keys table tag body = list_any (is_tag_of table body) (candidates keys tag)
+
+-- ---- trials
+
+-- the count of trials after these were tried in their order, up to the first that passes
+abbrev pub tried : {X : Type 0} → (X → Bool) → List X → ℕ → ℕ
+tried test [] count = count
+tried test (x ∷ later) count =
+    if test x then next count else tried test later (next count)
+
+-- after bytes were opened, or found not to open
+abbrev pub open_trials : Primitive → Keys → Table → (bytes ad : List ℕ) → ℕ → ℕ
+open_trials primitive keys table bytes ad count =
+    tried (λ candidate. is_some (opened table primitive ad candidate)) (candidates keys bytes) count
+
+-- after a tag was verified, or found not to be one
+abbrev pub verify_trials : Keys → Table → (tag body : List ℕ) → ℕ → ℕ
+verify_trials keys table tag body count =
+    tried (is_tag_of table body) (candidates keys tag) count

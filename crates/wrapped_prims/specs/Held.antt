@@ -1,16 +1,17 @@
 -- What a handle keeps of each record, and what that opens and verifies.
-use Rattle.std.specs.Prelude.{◌≡◌, ℕ, List, [], ◌∷◌, Option, Some, None, if◌then◌else◌, Bool, drop, take, false, ◌||◌, slice_get}
+use Rattle.std.specs.Prelude.{◌≡◌, ℕ, List, [], ◌∷◌, Option, Some, None, if◌then◌else◌, Bool, is_some, drop, take, false, ◌||◌, slice_get}
 use Rattle.std.specs.List.{filter_map}
 use Rattle.std.specs.Option.{option_and_then, option_map, option_or}
 use Rattle.std.specs.Str.{bytes_eq}
 use Rattle.key_msgs.specs.declared.key.KeyKind.{KeyKind}
 use Rattle.key_msgs.specs.declared.primitive.Primitive.{Primitive}
+use Rattle.key_msgs.specs.declared.primitive.Primitive.TheVariants.{Aead, Daead}
 use Rattle.keyset_model.specs.Keyset.{Keys, is_enabled, primary_of}
 use Rattle.keyset_model.specs.declared.record.Record.{Record}
 use Rattle.managers.specs.Schemes.{IsAdmitted}
 use Rattle.managers.specs.Table.{Entry, Table, entries_of, place_of}
 use Rattle.managers.specs.Uses.{tag_of, tagged}
-use Rattle.wrapped_prims.specs.Answers.{opened_under}
+use Rattle.wrapped_prims.specs.Answers.{opened_under, tried}
 use Rattle.wrapped_prims.specs.Candidates.{is_legacy, prefix_of, same_prefix}
 use Rattle.wrapped_prims.specs.Fitness.{key_of_record}
 use Rattle.wrapped_prims.specs.declared.held.Kept.{Kept}
@@ -65,6 +66,25 @@ open_kept primitive slots bytes ad =
     option_or (open_with primitive (drop 5 bytes) ad (all_under (Some (take 5 bytes)) slots))
     (open_with primitive bytes ad (all_under None slots))
 
+-- the count of trials after these keys were tried on the part
+abbrev pub tries_with : Primitive → List ℕ → List ℕ → List Kept → ℕ → ℕ
+tries_with primitive part ad kept count =
+    tried (λ k. is_some (opened_under primitive part ad k.key)) kept count
+
+-- and after those of the prefix, and where none of them opens, those of none
+abbrev pub tries_kept : Primitive → List (Option Kept) → (bytes ad : List ℕ) → ℕ → ℕ
+tries_kept primitive slots bytes ad count =
+    let first = all_under (Some (take 5 bytes)) slots in
+    let later = tries_with primitive (drop 5 bytes) ad first count in
+    if is_some (open_with primitive (drop 5 bytes) ad first) then later
+    else tries_with primitive bytes ad (all_under None slots) later
+
+-- keys of these primitives open
+abbrev pub Opens : Primitive → Type 0
+Opens Aead = Unit {0}
+Opens Daead = Unit {0}
+Opens _ = ⊥
+
 -- the tag of the body under what is kept
 abbrev pub tag_with : Kept → List ℕ → List ℕ
 tag_with kept body = tag_of kept.key (tagged kept.is_legacy body)
@@ -74,6 +94,18 @@ abbrev pub verify_with : (tag body : List ℕ) → List Kept → Bool
 verify_with tag body [] = false
 verify_with tag body (kept ∷ later) =
     bytes_eq tag (tag_with kept body) || verify_with tag body later
+
+-- the count of trials after these keys were tried on the tag
+abbrev pub tag_tries_with : (tag body : List ℕ) → List Kept → ℕ → ℕ
+tag_tries_with tag body kept count = tried (λ k. bytes_eq tag (tag_with k body)) kept count
+
+-- and after those of the prefix, and where the tag is that of none of them, those of none
+abbrev pub tag_tries_kept : List (Option Kept) → (tag body : List ℕ) → ℕ → ℕ
+tag_tries_kept slots tag body count =
+    let first = all_under (Some (take 5 tag)) slots in
+    let later = tag_tries_with (drop 5 tag) body first count in
+    if verify_with (drop 5 tag) body first then later
+    else tag_tries_with tag body (all_under None slots) later
 
 -- by the keys of this prefix, and then by those of none
 abbrev pub verify_kept : List (Option Kept) → (tag body : List ℕ) → Bool

@@ -43,7 +43,7 @@ impl<T: Drop> From<AllocFailed<T>> for HandleFault {
 /// The keys of a keyset, each of which its manager has checked, for one primitive.
 #[derive(Drop)]
 pub struct Handle<'m> {
-    pub managers: &'m Managers,
+    pub(crate) managers: &'m Managers,
     pub(crate) primitive: Primitive,
     pub(crate) held: Held,
 }

@@ -3,7 +3,7 @@
 ghost use Rattle.std.specs.Prelude.{◌≡◌, ◌+◌, ◌^◌, ◌≤◌, length, IfOk, option_map};
 ghost use Rattle.key_msgs.specs.declared.primitive.Primitive.TheVariants.{Aead, Daead, Mac};
 ghost use Rattle.keyset_model.specs.Keyset.{Keys};
-ghost use Rattle.wrapped_prims.specs.Answers.{dopen_answer, open_answer, verify_answer};
+ghost use Rattle.wrapped_prims.specs.Answers.{dopen_answer, open_answer, open_trials, verify_answer, verify_trials};
 ghost use Rattle.wrapped_prims.specs.Candidates.{raw_count};
 ghost use Rattle.wrapped_prims.specs.Making.{IsOver};
 
@@ -18,7 +18,8 @@ impl Handle<'_> {
     /// Opens sealed bytes, of at most 2^30 + 96 bytes, with associated data of at most 2^30.
     ///
     /// The plaintext is that of the first candidate that opens, and `None` comes exactly where none
-    /// does. Each trial of a key is counted: at most one, and one for each ENABLED RAW record.
+    /// does. Each trial of a key is counted, in the order of the candidates up to the one that opens: at
+    /// most one, and one for each ENABLED RAW record.
     pub fn open(
         &self,
         alloc: Global,
@@ -34,6 +35,10 @@ impl Handle<'_> {
             → IsOver (⟦<Managers as KeyTable>⟧.table self.now.managers.now) Aead keys self.now.held
             → IfOk result (λ plain. option_map (λ text. text.items) plain ≡ open_answer keys
             (⟦<Managers as KeyTable>⟧.table self.now.managers.now) bytes.now ad.now) }
+        ensures trials { (keys : Keys)
+            → IsOver (⟦<Managers as KeyTable>⟧.table self.now.managers.now) Aead keys self.now.held
+            → IfOk result (λ _. trials.new ≡ open_trials Aead keys
+            (⟦<Managers as KeyTable>⟧.table self.now.managers.now) bytes.now ad.now trials.old) }
         ensures few_trials { (keys : Keys)
             → IsOver (⟦<Managers as KeyTable>⟧.table self.now.managers.now) Aead keys self.now.held
             → trials.new ≤ trials.old + (1 + raw_count keys) }
@@ -53,7 +58,8 @@ impl Handle<'_> {
     /// of at most 2^30.
     ///
     /// The plaintext is that of the first candidate that opens, and `None` comes exactly where none
-    /// does. Each trial of a key is counted: at most one, and one for each ENABLED RAW record.
+    /// does. Each trial of a key is counted, in the order of the candidates up to the one that opens: at
+    /// most one, and one for each ENABLED RAW record.
     pub fn dopen(
         &self,
         alloc: Global,
@@ -70,6 +76,10 @@ impl Handle<'_> {
             → IsOver (⟦<Managers as KeyTable>⟧.table self.now.managers.now) Daead keys self.now.held
             → IfOk result (λ plain. option_map (λ text. text.items) plain ≡ dopen_answer keys
             (⟦<Managers as KeyTable>⟧.table self.now.managers.now) bytes.now ad.now) }
+        ensures trials { (keys : Keys)
+            → IsOver (⟦<Managers as KeyTable>⟧.table self.now.managers.now) Daead keys self.now.held
+            → IfOk result (λ _. trials.new ≡ open_trials Daead keys
+            (⟦<Managers as KeyTable>⟧.table self.now.managers.now) bytes.now ad.now trials.old) }
         ensures few_trials { (keys : Keys)
             → IsOver (⟦<Managers as KeyTable>⟧.table self.now.managers.now) Daead keys self.now.held
             → trials.new ≤ trials.old + (1 + raw_count keys) }
@@ -87,8 +97,8 @@ impl Handle<'_> {
 
     /// Whether some candidate's part is its whole tag of the body, which has at most 2^30 bytes.
     ///
-    /// Each trial of a key is counted: at most one, and one for each ENABLED RAW record. No memory is
-    /// taken.
+    /// Each trial of a key is counted, in the order of the candidates up to the one whose tag it is: at
+    /// most one, and one for each ENABLED RAW record. No memory is taken.
     pub fn verify(&self, tag: &[u8], body: &[u8], trials: &mut Trials) -> bool
         requires over { (keys : Keys)
             × IsOver (⟦<Managers as KeyTable>⟧.table self.now.managers.now) Mac keys self.now.held }
@@ -97,6 +107,10 @@ impl Handle<'_> {
             → IsOver (⟦<Managers as KeyTable>⟧.table self.now.managers.now) Mac keys self.now.held
             → result ≡ verify_answer keys (⟦<Managers as KeyTable>⟧.table self.now.managers.now)
             tag.now body.now }
+        ensures trials { (keys : Keys)
+            → IsOver (⟦<Managers as KeyTable>⟧.table self.now.managers.now) Mac keys self.now.held
+            → trials.new ≡ verify_trials keys (⟦<Managers as KeyTable>⟧.table
+            self.now.managers.now) tag.now body.now trials.old }
         ensures few_trials { (keys : Keys)
             → IsOver (⟦<Managers as KeyTable>⟧.table self.now.managers.now) Mac keys self.now.held
             → trials.new ≤ trials.old + (1 + raw_count keys) }

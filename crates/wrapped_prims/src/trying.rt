@@ -7,7 +7,8 @@ ghost use Rattle.managers.specs.Table.{entries_of};
 ghost use Rattle.managers.specs.Uses.{tag_of, tagged};
 ghost use Rattle.wrapped_prims.specs.Answers.{opened_under};
 ghost use Rattle.wrapped_prims.specs.Candidates.{same_prefix};
-ghost use Rattle.wrapped_prims.specs.Held.{AreServed, IsServed, IsServedBy, all_under, open_kept, open_with, tag_with, under, verify_kept, verify_with};
+ghost use Rattle.tink_spec.specs.Outside.{next};
+ghost use Rattle.wrapped_prims.specs.Held.{AreServed, IsServed, IsServedBy, Opens, all_under, open_kept, open_with, tag_tries_kept, tag_tries_with, tag_with, tries_kept, tries_with, under, verify_kept, verify_with};
 
 use crate::held::{Kept, cut_prefix};
 use key_msgs::Primitive;
@@ -36,6 +37,7 @@ fn try_key(
     ad: &[u8],
     trials: &mut Trials,
 ) -> Result<Option<Vec<u8>>, NoMemory>
+    requires opens { Opens primitive }
     requires served { IsServedBy
         (slice_get (entries_of (⟦<Managers as KeyTable>⟧.table managers.now) primitive)
         kept.now.place) kept.now.key }
@@ -43,7 +45,7 @@ fn try_key(
     requires ad_bound { length ad.now ≤ 2 ^ 30 }
     ensures opened { IfOk result (λ plain. option_map (λ text. text.items) plain
         ≡ opened_under primitive part.now ad.now kept.now.key) }
-    ensures few { trials.new ≤ trials.old + 1 }
+    ensures one { trials.new ≡ next trials.old }
 {
     let at = kept.place;
     match primitive {
@@ -53,7 +55,7 @@ fn try_key(
         Primitive::Daead => managers
             .daead_at(at)
             .open(alloc, &kept.key, part, ad, trials),
-        Primitive::Mac | Primitive::Prf | Primitive::Stream => Ok(None),
+        Primitive::Mac | Primitive::Prf | Primitive::Stream => unreachable!(),
     }
 }
 
@@ -68,12 +70,15 @@ fn try_slot(
     ad: &[u8],
     trials: &mut Trials,
 ) -> Result<Option<Vec<u8>>, NoMemory>
+    requires opens { Opens primitive }
     requires served { IsServed (⟦<Managers as KeyTable>⟧.table managers.now) primitive slot.now }
     requires part_bound { length part.now ≤ 2 ^ 30 + 96 }
     requires ad_bound { length ad.now ≤ 2 ^ 30 }
     ensures opened { IfOk result (λ plain. option_map (λ text. text.items) plain
         ≡ open_with primitive part.now ad.now
         (option_to_list (under (option_copied prefix.entry) slot.now))) }
+    ensures tries { IfOk result (λ _. trials.new ≡ tries_with primitive part.now ad.now
+        (option_to_list (under (option_copied prefix.entry) slot.now)) trials.old) }
     ensures few { trials.new
         ≤ trials.old + length (option_to_list (under (option_copied prefix.entry) slot.now)) }
 {
@@ -100,12 +105,15 @@ fn try_under(
     ad: &[u8],
     trials: &mut Trials,
 ) -> Result<Option<Vec<u8>>, NoMemory>
+    requires opens { Opens primitive }
     requires served { AreServed (⟦<Managers as KeyTable>⟧.table managers.now) primitive slots.now }
     requires part_bound { length part.now ≤ 2 ^ 30 + 96 }
     requires ad_bound { length ad.now ≤ 2 ^ 30 }
     ensures opened { IfOk result (λ plain. option_map (λ text. text.items) plain
         ≡ open_with primitive part.now ad.now
         (all_under (option_copied prefix.entry) slots.now)) }
+    ensures tries { IfOk result (λ _. trials.new ≡ tries_with primitive part.now ad.now
+        (all_under (option_copied prefix.entry) slots.now) trials.old) }
     ensures few { trials.new
         ≤ trials.old + length (all_under (option_copied prefix.entry) slots.now) }
 {
@@ -127,11 +135,14 @@ pub(crate) fn try_all(
     ad: &[u8],
     trials: &mut Trials,
 ) -> Result<Option<Vec<u8>>, NoMemory>
+    requires opens { Opens primitive }
     requires served { AreServed (⟦<Managers as KeyTable>⟧.table managers.now) primitive slots.now }
     requires bytes_bound { length bytes.now ≤ 2 ^ 30 + 96 }
     requires ad_bound { length ad.now ≤ 2 ^ 30 }
     ensures opened { IfOk result (λ plain. option_map (λ text. text.items) plain
         ≡ open_kept primitive slots.now bytes.now ad.now) }
+    ensures tries { IfOk result (λ _. trials.new
+        ≡ tries_kept primitive slots.now bytes.now ad.now trials.old) }
     ensures few { trials.new ≤ trials.old + length (all_under (Some (take 5 bytes.now)) slots.now)
         + length (all_under None slots.now) }
 {
@@ -166,6 +177,8 @@ fn verify_slot(
     requires body_bound { length body.now ≤ 2 ^ 30 }
     ensures verified { result ≡ verify_with tag.now body.now
         (option_to_list (under (option_copied prefix.entry) slot.now)) }
+    ensures tries { trials.new ≡ tag_tries_with tag.now body.now
+        (option_to_list (under (option_copied prefix.entry) slot.now)) trials.old }
     ensures few { trials.new
         ≤ trials.old + length (option_to_list (under (option_copied prefix.entry) slot.now)) }
 {
@@ -187,7 +200,7 @@ fn verify_key(
         (slice_get (⟦<Managers as KeyTable>⟧.table managers.now).mac kept.now.place) kept.now.key }
     requires body_bound { length body.now ≤ 2 ^ 30 }
     ensures verified { result ≡ bytes_eq tag.now (tag_with kept.now body.now) }
-    ensures few { trials.new ≤ trials.old + 1 }
+    ensures one { trials.new ≡ next trials.old }
 {
     managers
         .mac_at(kept.place)
@@ -207,6 +220,8 @@ fn verify_under(
     requires body_bound { length body.now ≤ 2 ^ 30 }
     ensures verified { result ≡ verify_with tag.now body.now
         (all_under (option_copied prefix.entry) slots.now) }
+    ensures tries { trials.new ≡ tag_tries_with tag.now body.now
+        (all_under (option_copied prefix.entry) slots.now) trials.old }
     ensures few { trials.new
         ≤ trials.old + length (all_under (option_copied prefix.entry) slots.now) }
 {
@@ -229,6 +244,7 @@ pub(crate) fn verify_all(
     requires served { AreServed (⟦<Managers as KeyTable>⟧.table managers.now) Mac slots.now }
     requires body_bound { length body.now ≤ 2 ^ 30 }
     ensures verified { result ≡ verify_kept slots.now tag.now body.now }
+    ensures tries { trials.new ≡ tag_tries_kept slots.now tag.now body.now trials.old }
     ensures few { trials.new ≤ trials.old + length (all_under (Some (take 5 tag.now)) slots.now)
         + length (all_under None slots.now) }
 {

@@ -9,6 +9,7 @@ pub returns-clause-made : goal.returns-clause-made
 returns-clause-made g c =
     let drawn = c.in-Ok-draw_header.ensures.drawn in
     let size = c.header_size-header.result in
+    let kept = c.into_boxed_slice.ensures.items ∙ sym c.deref.ensures.value in
     let front : take c.header_size-header.result c.deref.result.now ≡ c.header_size-header.result ∷ drawn.random
     = ap (take c.header_size-header.result) (c.deref.ensures.value
     ∙ take_at c.draw_header.new.buffer _ c.in-Ok.buffer.len (c.draw_header.auto.buffer ∙ c.deref_mut.ensures.len))
@@ -22,10 +23,10 @@ returns-clause-made g c =
         c.header_size-header.ensures,
         ap (λ (k : StreamKey). k.derived) c.primary-key.ensures.key,
       );
-      header = ap (take c.header_size-header.result) (sym c.deref.ensures.value) ∙ front
+      header = ap (take c.header_size-header.result) kept ∙ front
           ∙ ap (λ n. n ∷ drawn.random)
           (c.header_size-header.ensures ∙ ap (λ (k : StreamKey). header_size k) c.primary-key.ensures.key);
-      under = subst (λ (l : List ℕ). IsUnder c.new-stream.result (cipher_of c.args.ad.now c.args.keys.now.primary) (take c.header_size-header.result l)) c.deref.ensures.value
+      under = subst (λ (l : List ℕ). IsUnder c.new-stream.result (cipher_of c.args.ad.now c.args.keys.now.primary) (take c.header_size-header.result l)) (sym kept)
           (subst (λ (k : StreamKey). IsUnder c.new-stream.result (cipher_of c.args.ad.now k) (take c.header_size-header.result c.deref.result.now)) c.primary-key.ensures.key
           c.new-stream.ensures);
     }

@@ -1,4 +1,5 @@
 use Rattle.wrapped_prims.proofs.HandleLemmas.{few_trials, opens, served}
+use Rattle.wrapped_prims.proofs.TrialLemmas.{tries_kept-IsOver}
 use Rattle.wrapped_prims.proofs.handle.Handle.open.Goals as goal
 
 pub try_all-requires-clause-served : goal.try_all-requires-clause-served
@@ -11,3 +12,7 @@ returns-clause-opened g c = λ keys over.
 pub returns-clause-few_trials : goal.returns-clause-few_trials
 returns-clause-few_trials g c = λ keys over.
     few_trials _ _ keys _ c.args.bytes.now _ _ _ over c.deref.ensures.value c.try_all.ensures.few
+
+pub returns-clause-trials : goal.returns-clause-trials
+returns-clause-trials g c = λ keys over.
+    rw (← tries_kept-IsOver _ _ keys _ c.args.bytes.now c.args.ad.now _ c.args.trials.now over c.deref.ensures.value) c.try_all.ensures.tries
