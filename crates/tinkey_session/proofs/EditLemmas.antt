@@ -4,6 +4,7 @@ use Rattle.std.specs.Borrow.{Bor}
 use Rattle.std.specs.Prelude.{IfSome, slice_get}
 use Rattle.std.specs.Result.{IsErrAnd}
 use Rattle.std.proofs.lemmas.Option.{same_Some}
+use Rattle.key_msgs.specs.declared.template.Template.{Template}
 use Rattle.keyset_model.specs.Keyset.{Keys}
 use Rattle.keyset_model.specs.declared.record.Record.{Record}
 use Rattle.tink_spec.specs.Outside.{EntropyState}
@@ -73,7 +74,7 @@ last_there (x ∷ rs) r n count there = last_at (x ∷ rs) r (n - 1) (omega arit
 -- ---- the edits that lines ask for
 
 -- what a `?` hands on
-pub asks_error : (line : Line) (why : CodeRefusal) (result : Result Command CodeRefusal) → IsErrAnd result (λ e. e ≡ why) → Asks line (Err why) → Asks line result
+pub asks_error : (line : Line) (why : CodeRefusal) (result : Result (Command Template) CodeRefusal) → IsErrAnd result (λ e. e ≡ why) → Asks line (Err why) → Asks line result
 asks_error line why (Ok command) is asks = absurd is
 asks_error line why (Err e) is asks = subst (λ w. Asks line (Err w)) (sym is) asks
 

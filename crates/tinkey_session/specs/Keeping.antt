@@ -1,6 +1,7 @@
 -- The keys that lines need, what a session keeps of them, and the edits that lines ask for.
 use Rattle.std.specs.Prelude.{◌≡◌, ℕ, List, Option, Some, None, Result, Ok, Err}
 use Rattle.key_msgs.specs.declared.primitive.Primitive.{Primitive}
+use Rattle.key_msgs.specs.declared.template.Template.{Template}
 use Rattle.key_msgs.specs.declared.primitive.Primitive.TheVariants.{Aead, Daead, Mac, Prf}
 use Rattle.keyset_model.specs.Keyset.{Keys}
 use Rattle.managers.specs.Table.{Table}
@@ -59,7 +60,7 @@ pub record IsKept (table own : Table) (primitive : Primitive) (keys : Keys) (hel
   pub over : IsOver own primitive keys held
 
 -- the edit that a line asks for, or why it is refused, over any keyset
-abbrev pub Asks : Line → Result Command CodeRefusal → Type 0
+abbrev pub Asks : Line → Result (Command Template) CodeRefusal → Type 0
 Asks line (Ok command) = (table : Table) (keys : Keys) (random : List ℕ)
     → serve table keys line random ≡ edit_line keys random (seen_edit command)
 Asks line (Err why) = (table : Table) (keys : Keys) (random : List ℕ)

@@ -182,7 +182,7 @@ impl<'m> Session<'m> {
     fn edit<E: Entropy>(
         &mut self,
         alloc: Global,
-        command: &Command,
+        command: &Command<Template>,
         entropy: &mut E,
     ) -> Result<Reply, LineFault>
         requires kept { IfSome self.old.kept (λ h. IsKept
@@ -226,7 +226,7 @@ fn template_of(name: &str) -> Result<Template, Refusal>
 
 /// The edit that the line asks for, or why it asks for none.
 #[tactic(auto, unfolding(crate::specs::Serving::serve))]
-fn command_of(line: &Line<'_>) -> Result<Command, Refusal>
+fn command_of(line: &Line<'_>) -> Result<Command<Template>, Refusal>
     requires no_keys { needs (seen_line line.now) ≡ None }
     ensures { Asks (seen_line line.now) result }
 {
@@ -243,7 +243,7 @@ fn command_of(line: &Line<'_>) -> Result<Command, Refusal>
 }
 
 /// The reply to an accepted edit that gave this keyset: the id of the key that it made, if any.
-fn edited_reply(command: &Command, keyset: &Keyset) -> Reply
+fn edited_reply(command: &Command<Template>, keyset: &Keyset) -> Reply
     ensures { seen_reply result ≡ edited_reply (seen_edit command.now) keyset.now }
 {
     match command {
