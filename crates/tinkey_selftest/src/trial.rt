@@ -13,6 +13,7 @@ use keyset_model::{Keyset, Record};
 use managers::{KeyTable, Managers};
 use std::alloc::Global;
 use tink_base::{Bytes, ENABLED, MemEntropy, NoMemory};
+use tinkey_cmds::Command;
 use tinkey_session::{Line, LineFault, Reply, Session};
 
 /// With so many records no key is made.
@@ -106,12 +107,13 @@ fn grow_line(words: Words, keyset: &Keyset) -> Line<'static>
     ensures within { IsWithin (2 ^ 20) (seen_line result) }
 {
     if keyset.len() >= MANY_RECORDS {
-        return Line::Delete(keyset.record_at(words.b as usize % MANY_RECORDS).id);
+        let id = keyset.record_at(words.b as usize % MANY_RECORDS).id;
+        return Line::Edit(Command::Delete(id));
     }
     if words.b % 2 == 0 {
-        Line::Add(template_name(words))
+        Line::Edit(Command::Add(template_name(words)))
     } else {
-        Line::Rotate(template_name(words))
+        Line::Edit(Command::Rotate(template_name(words)))
     }
 }
 
@@ -122,15 +124,15 @@ fn change_line(words: Words, keyset: &Keyset) -> Line<'static>
 {
     let key = keyset.record_at(words.b as usize % keyset.len());
     match words.c % 3 {
-        0 => Line::Promote(key.id),
+        0 => Line::Edit(Command::Promote(key.id)),
         1 => {
             if key.status == ENABLED {
-                Line::Disable(key.id)
+                Line::Edit(Command::Disable(key.id))
             } else {
-                Line::Enable(key.id)
+                Line::Edit(Command::Enable(key.id))
             }
         }
-        _ => Line::Delete(key.id),
+        _ => Line::Edit(Command::Delete(key.id)),
     }
 }
 

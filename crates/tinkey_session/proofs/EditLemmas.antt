@@ -78,25 +78,16 @@ pub asks_error : (line : Line) (why : CodeRefusal) (result : Result (Command Tem
 asks_error line why (Ok command) is asks = absurd is
 asks_error line why (Err e) is asks = subst (λ w. Asks line (Err w)) (sym is) asks
 
--- a line that needs no keys and isn't one of the edits is bad
-pub asks_nothing : (line : CodeLine) → needs (seen_line line) ≡ None
-    → ((name : Bor (List ℕ)) → line ≡ lines.Add name → ⊥) → ((name : Bor (List ℕ)) → line ≡ lines.Rotate name → ⊥)
-    → ((id : ℕ) → line ≡ lines.Promote id → ⊥) → ((id : ℕ) → line ≡ lines.Enable id → ⊥) → ((id : ℕ) → line ≡ lines.Disable id → ⊥)
-    → ((id : ℕ) → line ≡ lines.Destroy id → ⊥) → ((id : ℕ) → line ≡ lines.Delete id → ⊥)
+-- a line that needs no keys and isn't an edit is bad
+pub asks_nothing : (line : CodeLine) → needs (seen_line line) ≡ None → ((edit : Command (Bor (List ℕ))) → line ≡ lines.Edit edit → ⊥)
     → Asks (seen_line line) (Err refusals.BadLine)
 unfolding serve
-asks_nothing (lines.Seal plain ad) keyless a r p e d y l = clash (sym keyless)
-asks_nothing (lines.Dseal plain ad) keyless a r p e d y l = clash (sym keyless)
-asks_nothing (lines.Open sealed ad) keyless a r p e d y l = clash (sym keyless)
-asks_nothing (lines.Dopen sealed ad) keyless a r p e d y l = clash (sym keyless)
-asks_nothing (lines.Tag body) keyless a r p e d y l = clash (sym keyless)
-asks_nothing (lines.Verify tag body) keyless a r p e d y l = clash (sym keyless)
-asks_nothing (lines.Derive size input) keyless a r p e d y l = clash (sym keyless)
-asks_nothing (lines.Add name) keyless a r p e d y l = absurd (a name refl)
-asks_nothing (lines.Rotate name) keyless a r p e d y l = absurd (r name refl)
-asks_nothing (lines.Promote id) keyless a r p e d y l = absurd (p id refl)
-asks_nothing (lines.Enable id) keyless a r p e d y l = absurd (e id refl)
-asks_nothing (lines.Disable id) keyless a r p e d y l = absurd (d id refl)
-asks_nothing (lines.Destroy id) keyless a r p e d y l = absurd (y id refl)
-asks_nothing (lines.Delete id) keyless a r p e d y l = absurd (l id refl)
-asks_nothing lines.Bad keyless a r p e d y l = λ table keys random. refl
+asks_nothing (lines.Seal plain ad) keyless none = clash (sym keyless)
+asks_nothing (lines.Dseal plain ad) keyless none = clash (sym keyless)
+asks_nothing (lines.Open sealed ad) keyless none = clash (sym keyless)
+asks_nothing (lines.Dopen sealed ad) keyless none = clash (sym keyless)
+asks_nothing (lines.Tag body) keyless none = clash (sym keyless)
+asks_nothing (lines.Verify tag body) keyless none = clash (sym keyless)
+asks_nothing (lines.Derive size input) keyless none = clash (sym keyless)
+asks_nothing (lines.Edit edit) keyless none = absurd (none edit refl)
+asks_nothing lines.Bad keyless none = λ table keys random. refl

@@ -1,7 +1,8 @@
 -- What the code's lines, refusals and replies stand for.
 use Rattle.std.specs.Borrow.{Bor}
 use Rattle.std.specs.Prelude.{ℕ, ◌≤◌, List, length, Option, option_map}
-use Rattle.tinkey_session.specs.Lines.{Line, Seal, Dseal, Open, Dopen, Tag, Verify, Derive, Add, Rotate, Promote, Enable, Disable, Destroy, Delete, Bad}
+use Rattle.tinkey_cmds.specs.Edits.{seen_by}
+use Rattle.tinkey_session.specs.Lines.{Line, Seal, Dseal, Open, Dopen, Tag, Verify, Derive, Edit, Bad}
 use Rattle.tinkey_session.specs.declared.line.Line.{Line as CodeLine}
 use Rattle.tinkey_session.specs.declared.line.Line.TheVariants as lines
 use Rattle.tinkey_session.specs.declared.reply.Refusal.{Refusal as CodeRefusal}
@@ -19,13 +20,7 @@ seen_line (lines.Dopen sealed ad) = Dopen sealed ad
 seen_line (lines.Tag body) = Tag body
 seen_line (lines.Verify tag body) = Verify tag body
 seen_line (lines.Derive size input) = Derive size input
-seen_line (lines.Add name) = Add name.now
-seen_line (lines.Rotate name) = Rotate name.now
-seen_line (lines.Promote id) = Promote id
-seen_line (lines.Enable id) = Enable id
-seen_line (lines.Disable id) = Disable id
-seen_line (lines.Destroy id) = Destroy id
-seen_line (lines.Delete id) = Delete id
+seen_line (lines.Edit edit) = Edit (seen_by (λ name. name.now) edit)
 seen_line lines.Bad = Bad
 
 abbrev pub seen_name : Option (Bor (List ℕ)) → Option (List ℕ)

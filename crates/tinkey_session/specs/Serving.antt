@@ -14,10 +14,10 @@ use Rattle.key_msgs.specs.declared.primitive.Primitive.TheVariants.{Aead, Daead,
 use Rattle.keyset_model.specs.Keyset.{Keys}
 use Rattle.keyset_model.specs.declared.record.Record.{Record}
 use Rattle.managers.specs.Table.{Table}
-use Rattle.tinkey_cmds.specs.Edits.{Edit, Stepped, step}
+use Rattle.tinkey_cmds.specs.Edits.{Edit, EditOf, Stepped, edit_then, step}
 use Rattle.tinkey_cmds.specs.Edits as edits
 use Rattle.tinkey_cmds.specs.declared.command.CmdFault.{CmdFault}
-use Rattle.tinkey_session.specs.Lines.{Line, Seal, Dseal, Open, Dopen, Tag, Verify, Derive, Add, Rotate, Promote, Enable, Disable, Destroy, Delete, Bad}
+use Rattle.tinkey_session.specs.Lines.{Line, Seal, Dseal, Open, Dopen, Tag, Verify, Derive, Edit as AsksEdit, Bad}
 use Rattle.wrapped_prims.specs.Answers.{Sealed, derive_answer, dopen_answer, dseal_answer, open_answer, seal_answer, tag_answer, verify_answer}
 use Rattle.wrapped_prims.specs.Fitness.{Unfit, unfit}
 
@@ -118,10 +118,16 @@ template_or None false = Err UnknownTemplate
 abbrev pub template_of : List ℕ → Result Row Refusal
 template_of name = template_or (row_named name) (is_asymmetric name)
 
--- an edit by a template, which is looked for first
-abbrev pub with_template : (Row → Edit) → Keys → List ℕ → Result Row Refusal → Option Served
-with_template edit keys random (Ok row) = edit_line keys random (edit row)
-with_template edit keys random (Err why) = Some (answered keys random (Refuses why))
+-- the template of a name, and then what comes of it
+abbrev pub with_template : Keys → List ℕ → Result Row Refusal → (Row → Option Served)
+    → Option Served
+with_template keys random (Ok row) next = next row
+with_template keys random (Err why) next = Some (answered keys random (Refuses why))
+
+-- an edit by the name of a template or the id of a record
+abbrev pub asked_line : Keys → List ℕ → EditOf (List ℕ) → Option Served
+asked_line keys random edit = edit_then
+    (λ name. with_template keys random (template_of name)) edit (edit_line keys random)
 
 -- ---- every line
 
@@ -142,11 +148,5 @@ serve table keys (Verify tag body) random = by_handle Mac table keys random
     (Some (answered keys random (verified_reply (verify_answer keys table tag body))))
 serve table keys (Derive size input) random = by_handle Prf table keys random
     (computed keys random (derived_reply size) (derive_answer keys table input size))
-serve table keys (Add name) random = with_template edits.Add keys random (template_of name)
-serve table keys (Rotate name) random = with_template edits.Rotate keys random (template_of name)
-serve table keys (Promote id) random = edit_line keys random (edits.Promote id)
-serve table keys (Enable id) random = edit_line keys random (edits.Enable id)
-serve table keys (Disable id) random = edit_line keys random (edits.Disable id)
-serve table keys (Destroy id) random = edit_line keys random (edits.Destroy id)
-serve table keys (Delete id) random = edit_line keys random (edits.Delete id)
+serve table keys (AsksEdit edit) random = asked_line keys random edit
 serve table keys Bad random = Some (answered keys random (Refuses BadLine))

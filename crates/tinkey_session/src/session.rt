@@ -11,6 +11,7 @@ ghost use Rattle.tinkey_session.specs.Answered.{Serves};
 ghost use Rattle.tinkey_session.specs.Keeping.{Asks, IsKept, needs, unedited, unserved};
 ghost use Rattle.tinkey_session.specs.Reading.{IsWithin, seen_line, seen_refusal, seen_reply};
 ghost use Rattle.tinkey_session.specs.Serving.{edit_line, edited_reply, serve as served, template_of};
+ghost use Rattle.tinkey_session.specs.declared.line.Line.TheVariants as lines;
 ghost use Rattle.wrapped_prims.specs.Fitness.{unfit};
 ghost use Rattle.wrapped_prims.specs.Making.{IsFaultOf};
 
@@ -231,14 +232,24 @@ fn command_of(line: &Line<'_>) -> Result<Command<Template>, Refusal>
     ensures { Asks (seen_line line.now) result }
 {
     match line {
-        Line::Add(name) => Ok(Command::Add(template_of(name)?)),
-        Line::Rotate(name) => Ok(Command::Rotate(template_of(name)?)),
-        Line::Promote(id) => Ok(Command::Promote(*id)),
-        Line::Enable(id) => Ok(Command::Enable(*id)),
-        Line::Disable(id) => Ok(Command::Disable(*id)),
-        Line::Destroy(id) => Ok(Command::Destroy(*id)),
-        Line::Delete(id) => Ok(Command::Delete(*id)),
+        Line::Edit(edit) => found_edit(*edit),
         _ => Err(Refusal::BadLine),
+    }
+}
+
+/// The edit with its template found, or why there is none.
+#[tactic(auto, unfolding(crate::specs::Serving::serve))]
+fn found_edit(edit: Command<&str>) -> Result<Command<Template>, Refusal>
+    ensures { Asks (seen_line (lines.Edit edit.entry)) result }
+{
+    match edit {
+        Command::Add(name) => Ok(Command::Add(template_of(name)?)),
+        Command::Rotate(name) => Ok(Command::Rotate(template_of(name)?)),
+        Command::Promote(id) => Ok(Command::Promote(id)),
+        Command::Enable(id) => Ok(Command::Enable(id)),
+        Command::Disable(id) => Ok(Command::Disable(id)),
+        Command::Destroy(id) => Ok(Command::Destroy(id)),
+        Command::Delete(id) => Ok(Command::Delete(id)),
     }
 }
 
