@@ -26,7 +26,9 @@ use Rattle.tinkey_selftest.specs.declared.counts.Counts.{Counts}
 use Rattle.tinkey_selftest.specs.declared.numbers.Words.{Words}
 use Rattle.tinkey_selftest.specs.declared.trial.Sealing.{Sealing}
 use Rattle.tinkey_session.specs.Lines.{Line, Seal, Open, Edit, Bad}
-use Rattle.tinkey_session.specs.Serving.{Reply, Gives, Refuses, Served, serve}
+use Rattle.tinkey_session.specs.Serving.{Served, serve}
+use Rattle.tinkey_session.specs.declared.reply.Reply.{Reply}
+use Rattle.tinkey_session.specs.declared.reply.Reply.TheVariants.{Gives, Refuses}
 
 -- the keyset, the seals accepted so far, in order, the random bytes left, and the counts
 pub record Trial : Type 0 where

@@ -4,7 +4,7 @@ ghost use Rattle.std.specs.Prelude.{◌≡◌, ◌+◌, ◌%◌, ◌≤◌, ◌^
 ghost use Rattle.tinkey_selftest.specs.Ready.{HasRoom, IsReady, kept_of, trial_of};
 ghost use Rattle.tinkey_selftest.specs.Trial.{Edits, change_line, grow_line, has_key, is_same_key, name_of, open_task, seal_task, task_done, tried};
 ghost use Rattle.tinkey_session.specs.Keeping.{IsKept};
-ghost use Rattle.tinkey_session.specs.Reading.{IsWithin, seen_line, seen_reply};
+ghost use Rattle.tinkey_session.specs.Reading.{IsWithin, seen_line};
 ghost use Rattle.tinkey_session.specs.Serving.{serve};
 
 use crate::Counts;
@@ -68,7 +68,7 @@ fn keep(
     sealer: Record,
 ) -> Result<(), NoMemory>
     ensures { OnOk result (sealings.new.items
-        ≡ sealings.old.items ++ kept_of (seen_reply reply) ad sealer) }
+        ≡ sealings.old.items ++ kept_of reply ad sealer) }
 {
     if let Reply::Gives(bytes) = reply {
         sealings.push(Sealing { bytes, ad, sealer })?;
@@ -149,7 +149,7 @@ impl<'m> Trial<'m> {
             serve (⟦<Managers as KeyTable>⟧.table self.old.session.managers.now)
             self.old.session.keyset (seen_line line.now) self.old.entropy.left
             ≡ Some (record {
-              reply = seen_reply reply;
+              reply = reply;
               keys = self.new.session.keyset;
               left = self.new.entropy.left;
             })) }

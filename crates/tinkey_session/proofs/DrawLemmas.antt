@@ -21,7 +21,10 @@ use Rattle.tinkey_session.proofs.TurnLemmas.{asked_cases}
 use Rattle.tinkey_session.specs.LineLaws.{LinesDrawFronts, RefusalsLeave}
 use Rattle.tinkey_session.specs.SessionLaws.{SessionGoesOn}
 use Rattle.tinkey_session.specs.Lines.{Line, Seal, Dseal, Open, Dopen, Tag, Verify, Derive, Edit as AsksEdit, Bad}
-use Rattle.tinkey_session.specs.Serving.{CannotServe, Gives, Refusal, Refuses, Reply, Served, answered, asked_line, computed, derived_reply, edit_line, edit_served, last_id, edited_reply, sealed_reply, serve, stepped, unless_unfit}
+use Rattle.tinkey_session.specs.Serving.{cannot_serve, Served, answered, asked_line, computed, derived_reply, edit_line, edit_served, last_id, edited_reply, sealed_reply, serve, stepped, unless_unfit}
+use Rattle.tinkey_session.specs.declared.reply.Refusal.{Refusal}
+use Rattle.tinkey_session.specs.declared.reply.Reply.{Reply}
+use Rattle.tinkey_session.specs.declared.reply.Reply.TheVariants.{Gives, Refuses}
 use Rattle.tinkey_session.specs.Session.{remains, turn_then, turns}
 use Rattle.wrapped_prims.specs.Answers.{Sealed, derive_answer, dseal_answer, seal_answer, seal_behind, seal_under, tag_answer}
 use Rattle.wrapped_prims.specs.Candidates.{prefix_bytes, prefix_of}
@@ -51,7 +54,7 @@ fronts-computed keys reply None random x e = clash e
 fronts-unless : (u : Option (ℕ × Unfit)) (keys : Keys) (give : List ℕ → Option Served) → Fronts give → Fronts (λ random. unless_unfit u keys random (give random))
 unfolding Fronts
 fronts-unless None keys give fronts random x e = fronts random x e
-fronts-unless (Some found) keys give fronts random x e = fronts-answered keys (Refuses (CannotServe found.0 found.1)) random x e
+fronts-unless (Some found) keys give fronts random x e = fronts-answered keys (Refuses (cannot_serve found.0 found.1)) random x e
 
 -- an IV, and what is made with it
 abbrev with_iv : (size : ℕ) → (List ℕ → List ℕ) → List ℕ → Option Sealed
@@ -150,7 +153,7 @@ keeps-computed keys random reply None x e = clash e
 
 keeps-unless : (u : Option (ℕ × Unfit)) (keys : Keys) (random : List ℕ) (served : Option Served) (x : Served) → (served ≡ Some x → KeepsRefused keys x) → unless_unfit u keys random served ≡ Some x → KeepsRefused keys x
 keeps-unless None keys random served x keeps e = keeps e
-keeps-unless (Some found) keys random served x keeps e = keeps-answered keys random (Refuses (CannotServe found.0 found.1)) x e
+keeps-unless (Some found) keys random served x keeps e = keeps-answered keys random (Refuses (cannot_serve found.0 found.1)) x e
 
 keeps-sealed : (keys : Keys) (sealed : Option Sealed) (x : Served) → option_map (sealed_reply keys) sealed ≡ Some x → KeepsRefused keys x
 keeps-sealed keys (Some sealed) x e = keeps-answered keys sealed.left (Gives sealed.bytes) x e

@@ -17,17 +17,18 @@ use Rattle.tinkey_session.proofs.Options.{clash}
 use Rattle.tinkey_session.specs.Answered.{Serves}
 use Rattle.tinkey_session.specs.Keeping.{Asks, needs, unedited}
 use Rattle.tinkey_session.specs.Lines.{Line}
-use Rattle.tinkey_session.specs.Reading.{seen_line, seen_reply}
-use Rattle.tinkey_session.specs.Serving.{NewId, answered, edit_line, edited_reply, last_id, serve, stepped}
+use Rattle.tinkey_session.specs.Reading.{seen_line}
+use Rattle.tinkey_session.specs.Serving.{answered, edit_line, edited_reply, last_id, serve, stepped}
+use Rattle.tinkey_session.specs.declared.reply.Reply.TheVariants.{NewId}
 use Rattle.tinkey_session.specs.declared.line.Line.{Line as CodeLine}
 use Rattle.tinkey_session.specs.declared.line.Line.TheVariants as lines
-use Rattle.tinkey_session.specs.declared.reply.Refusal.{Refusal as CodeRefusal}
+use Rattle.tinkey_session.specs.declared.reply.Refusal.{Refusal}
 use Rattle.tinkey_session.specs.declared.reply.Refusal.TheVariants as refusals
-use Rattle.tinkey_session.specs.declared.reply.Reply.{Reply as CodeReply}
+use Rattle.tinkey_session.specs.declared.reply.Reply.{Reply}
 
 -- ---- accepted and refused edits
 
-pub applied_serves : (keys edited : Keys) (edit : Edit) (reply : CodeReply) (old new : EntropyState) → Applied (Ok edited) (step keys edit) old new → seen_reply reply ≡ edited_reply edit edited → Serves (λ random. edit_line keys random edit) (Ok reply) edited old new
+pub applied_serves : (keys edited : Keys) (edit : Edit) (reply : Reply) (old new : EntropyState) → Applied (Ok edited) (step keys edit) old new → reply ≡ edited_reply edit edited → Serves (λ random. edit_line keys random edit) (Ok reply) edited old new
 applied_serves keys edited edit reply old new (stood, (drawn, drew, is)) same = record {
   drawn = drawn;
   drew = drew;
@@ -74,7 +75,7 @@ last_there (x ∷ rs) r n count there = last_at (x ∷ rs) r (n - 1) (omega arit
 -- ---- the edits that lines ask for
 
 -- what a `?` hands on
-pub asks_error : (line : Line) (why : CodeRefusal) (result : Result (Command Template) CodeRefusal) → IsErrAnd result (λ e. e ≡ why) → Asks line (Err why) → Asks line result
+pub asks_error : (line : Line) (why : Refusal) (result : Result (Command Template) Refusal) → IsErrAnd result (λ e. e ≡ why) → Asks line (Err why) → Asks line result
 asks_error line why (Ok command) is asks = absurd is
 asks_error line why (Err e) is asks = subst (λ w. Asks line (Err w)) (sym is) asks
 

@@ -34,7 +34,10 @@ use Rattle.tinkey_session.proofs.TurnLemmas.{asked_cases}
 use Rattle.tinkey_session.proofs.UsableLemmas.{fit_reading}
 use Rattle.tinkey_session.specs.LineLaws.{FirstsDrawFew, LinesDrawFew}
 use Rattle.tinkey_session.specs.Lines.{Line, Seal, Dseal, Open, Dopen, Tag, Verify, Derive, Edit as AsksEdit, Bad}
-use Rattle.tinkey_session.specs.Serving.{CannotServe, Gives, Refusal, Refuses, Reply, Served, answered, asked_line, computed, derived_reply, edit_line, sealed_reply, serve, stepped, unless_unfit}
+use Rattle.tinkey_session.specs.Serving.{cannot_serve, Served, answered, asked_line, computed, derived_reply, edit_line, sealed_reply, serve, stepped, unless_unfit}
+use Rattle.tinkey_session.specs.declared.reply.Refusal.{Refusal}
+use Rattle.tinkey_session.specs.declared.reply.Reply.{Reply}
+use Rattle.tinkey_session.specs.declared.reply.Reply.TheVariants.{Gives, Refuses}
 use Rattle.wrapped_prims.proofs.OpenLemmas.{none_here}
 use Rattle.wrapped_prims.specs.Answers.{Sealed, derive_answer, derive_under, dseal_answer, made, made_by, seal_answer, seal_behind, seal_under, tag_answer}
 use Rattle.wrapped_prims.specs.Candidates.{is_legacy, prefix_bytes, prefix_of}
@@ -195,7 +198,7 @@ few-answered keys random reply = (answered keys random reply, refl, omega arith)
 
 few-unless : (u : Option (ℕ × Unfit)) (keys : Keys) (random : List ℕ) (served : Option Served) → (u ≡ None → Few random served) → Few random (unless_unfit u keys random served)
 few-unless None keys random served few = few refl
-few-unless (Some found) keys random served few = few-answered keys random (Refuses (CannotServe found.0 found.1))
+few-unless (Some found) keys random served few = few-answered keys random (Refuses (cannot_serve found.0 found.1))
 
 few-computed : {A : Type 0} (keys : Keys) (random : List ℕ) (reply : A → Reply) (answer : Option A) (value : A) → answer ≡ Some value → Few random (computed keys random reply answer)
 few-computed keys random reply answer value e = subst (λ o. Few random (computed keys random reply o)) (sym e) (few-answered keys random (reply value))

@@ -10,7 +10,10 @@ use Rattle.tinkey_cmds.specs.Edits as edits
 use Rattle.tinkey_cmds.specs.declared.command.CmdFault.{CmdFault}
 use Rattle.tinkey_session.proofs.Options.{map_some}
 use Rattle.tinkey_session.specs.LineLaws.{TellsNewId}
-use Rattle.tinkey_session.specs.Serving.{EditRefused, NewId, Refusal, Refuses, Served, edit_line, edit_served, edited_reply, last_id, serve, stepped, template_of, with_template}
+use Rattle.tinkey_session.specs.Serving.{Served, edit_line, edit_served, edited_reply, last_id, serve, stepped, template_of, with_template}
+use Rattle.tinkey_session.specs.declared.reply.Refusal.{Refusal}
+use Rattle.tinkey_session.specs.declared.reply.Refusal.TheVariants.{EditRefused}
+use Rattle.tinkey_session.specs.declared.reply.Reply.TheVariants.{NewId, Refuses}
 
 -- one record more, which stands last
 abbrev HasOneMore : Keys → Keys → Type 0

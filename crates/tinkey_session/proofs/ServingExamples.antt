@@ -8,7 +8,11 @@ use Rattle.managers.specs.Standard.{standard_table}
 use Rattle.tinkey_cmds.specs.Edits.{Add, Rotate, Disable, Delete, changed, effect_of, full_or_mixed, new_id, of_named, refusal_of}
 use Rattle.tinkey_cmds.specs.declared.command.CmdFault.TheVariants.{IdsExhausted, KeyIsPrimary, KeyNotFound, MixedPrimitive}
 use Rattle.tinkey_session.specs.Lines.{Line, Edit, Bad}
-use Rattle.tinkey_session.specs.Serving.{AsymmetricTemplate, BadLine, Done, EditRefused, NewId, Refusal, Refuses, Reply, Served, UnknownTemplate, answered, serve}
+use Rattle.tinkey_session.specs.Serving.{Served, answered, serve}
+use Rattle.tinkey_session.specs.declared.reply.Refusal.{Refusal}
+use Rattle.tinkey_session.specs.declared.reply.Refusal.TheVariants.{AsymmetricTemplate, BadLine, EditRefused, UnknownTemplate}
+use Rattle.tinkey_session.specs.declared.reply.Reply.{Reply}
+use Rattle.tinkey_session.specs.declared.reply.Reply.TheVariants.{Done, NewId, Refuses}
 
 abbrev url : List ℕ
 url = codes "type.googleapis.com/google.crypto.tink.AesGcmKey"

@@ -19,7 +19,10 @@ use Rattle.tinkey_session.proofs.Options.{clash, map_some}
 use Rattle.tinkey_session.specs.Laws.{Asked, IsAsked, IsEdited, after, kept}
 use Rattle.tinkey_session.specs.SessionLaws.{SessionIsEdits}
 use Rattle.tinkey_session.specs.Lines.{Line, Seal, Dseal, Open, Dopen, Tag, Verify, Derive, Edit as AsksEdit, Bad}
-use Rattle.tinkey_session.specs.Serving.{CannotServe, Refusal, Refuses, Reply, Served, answered, asked_line, by_handle, computed, edit_line, edit_served, sealed_reply, serve, stepped, template_of, template_or, unless_unfit, with_template}
+use Rattle.tinkey_session.specs.Serving.{cannot_serve, Served, answered, asked_line, by_handle, computed, edit_line, edit_served, sealed_reply, serve, stepped, template_of, template_or, unless_unfit, with_template}
+use Rattle.tinkey_session.specs.declared.reply.Refusal.{Refusal}
+use Rattle.tinkey_session.specs.declared.reply.Reply.{Reply}
+use Rattle.tinkey_session.specs.declared.reply.Reply.TheVariants.{Refuses}
 use Rattle.tinkey_session.specs.Session.{Turn, remains, turn_then, turns}
 use Rattle.wrapped_prims.specs.Answers.{derive_answer, dseal_answer, seal_answer, tag_answer}
 use Rattle.wrapped_prims.specs.Fitness.{Unfit, unfit}
@@ -68,7 +71,7 @@ Leaves keys random x = (keys ≡ x.keys) ⊎ ((edit : Edit) × HasTemplate edit 
 
 -- a keyset that can serve, or the first record that can't
 pub handle_cases : (u : Option (ℕ × Unfit)) (keys : Keys) (random : List ℕ) (served : Option Served) (x : Served) → unless_unfit u keys random served ≡ Some x
-    → ((u ≡ None) × (served ≡ Some x)) ⊎ ((f : ℕ × Unfit) × (answered keys random (Refuses (CannotServe f.0 f.1)) ≡ x))
+    → ((u ≡ None) × (served ≡ Some x)) ⊎ ((f : ℕ × Unfit) × (answered keys random (Refuses (cannot_serve f.0 f.1)) ≡ x))
 handle_cases None keys random served x e = inl (refl, e)
 handle_cases (Some f) keys random served x e = inr (f, same_Some _ _ e)
 

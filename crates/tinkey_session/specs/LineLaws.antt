@@ -10,7 +10,9 @@ use Rattle.tinkey_cmds.specs.Edits.{EditOf, Stepped, first}
 use Rattle.tinkey_cmds.specs.Laws.{IsTemplate}
 use Rattle.tinkey_session.specs.Laws.{IsEdited}
 use Rattle.tinkey_session.specs.Lines.{Line, Seal, Open, Edit, bytes_in, word_of}
-use Rattle.tinkey_session.specs.Serving.{Gives, NewId, Refusal, Refuses, Served, serve}
+use Rattle.tinkey_session.specs.Serving.{Served, serve}
+use Rattle.tinkey_session.specs.declared.reply.Refusal.{Refusal}
+use Rattle.tinkey_session.specs.declared.reply.Reply.TheVariants.{Gives, NewId, Refuses}
 use Rattle.wrapped_prims.specs.Candidates.{prefix_of}
 use Rattle.wrapped_prims.specs.Laws.{HasSameKey, IsKeyset}
 

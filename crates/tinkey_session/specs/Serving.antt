@@ -1,7 +1,6 @@
 -- What a line of a session answers, and the keyset that it leaves. This is the only place where a
 -- line's meaning stands.
 --
---   Refusal, Reply   the answer of a line, as a value
 --   Served           a reply, the keyset after the line, and the random bytes that are left
 --   serve            a line over a keyset, under a table of managers
 --
@@ -18,29 +17,13 @@ use Rattle.tinkey_cmds.specs.Edits.{Edit, EditOf, Stepped, edit_then, step}
 use Rattle.tinkey_cmds.specs.Edits as edits
 use Rattle.tinkey_cmds.specs.declared.command.CmdFault.{CmdFault}
 use Rattle.tinkey_session.specs.Lines.{Line, Seal, Dseal, Open, Dopen, Tag, Verify, Derive, Edit as AsksEdit, Bad}
+use Rattle.tinkey_session.specs.declared.reply.Refusal.{Refusal}
+use Rattle.tinkey_session.specs.declared.reply.Refusal.TheVariants.{AsymmetricTemplate, BadLine, EditRefused, OpenFailed, OutputTooLong, UnknownTemplate, VerifyFailed}
+use Rattle.tinkey_session.specs.declared.reply.Refusal.TheVariants as refusals
+use Rattle.tinkey_session.specs.declared.reply.Reply.{Reply}
+use Rattle.tinkey_session.specs.declared.reply.Reply.TheVariants.{Done, Gives, NewId, Refuses}
 use Rattle.wrapped_prims.specs.Answers.{Sealed, derive_answer, dopen_answer, dseal_answer, open_answer, seal_answer, tag_answer, verify_answer}
-use Rattle.wrapped_prims.specs.Fitness.{Unfit, unfit}
-
--- why a line is refused
-pub data Refusal : Type 0 where
-  -- it isn't of the grammar
-  BadLine : Refusal
-  -- no template has the name; one of Tink's for asymmetric keys has it
-  UnknownTemplate AsymmetricTemplate : Refusal
-  -- the record of this place can't serve
-  CannotServe : (place : ℕ) (why : Unfit) → Refusal
-  -- there are no more bytes to derive than so many
-  OutputTooLong : (asked greatest : ℕ) → Refusal
-  EditRefused : (fault : CmdFault) → Refusal
-  OpenFailed VerifyFailed : Refusal
-
--- the answer of a line
-pub data Reply : Type 0 where
-  Done : Reply
-  Gives : (bytes : List ℕ) → Reply
-  -- the id of the key that was made
-  NewId : (id : ℕ) → Reply
-  Refuses : (why : Refusal) → Reply
+use Rattle.wrapped_prims.specs.Fitness.{Unfit, NoManager, BadKey, NotRaw, unfit}
 
 -- what a line gives: its reply, the keyset after it, and the random bytes that are left
 pub record Served : Type 0 where
@@ -53,11 +36,17 @@ pub record Served : Type 0 where
 abbrev pub answered : Keys → (random : List ℕ) → Reply → Served
 answered keys random reply = record { reply = reply; keys = keys; left = random }
 
+-- the refusal for the record of this place, which can't serve
+abbrev pub cannot_serve : (place : ℕ) → Unfit → Refusal
+cannot_serve place NoManager = refusals.NoManager place
+cannot_serve place (BadKey rule) = refusals.BadKey place rule
+cannot_serve place NotRaw = refusals.NotRaw place
+
 -- the first record that can't serve is named, before anything else
 abbrev pub unless_unfit : Option (ℕ × Unfit) → Keys → List ℕ → Option Served → Option Served
 unless_unfit None keys random served = served
 unless_unfit (Some found) keys random served =
-    Some (answered keys random (Refuses (CannotServe found.0 found.1)))
+    Some (answered keys random (Refuses (cannot_serve found.0 found.1)))
 
 -- under a keyset whose ENABLED records all serve the primitive
 abbrev pub by_handle : Primitive → Table → Keys → List ℕ → Option Served → Option Served

@@ -9,7 +9,7 @@ ghost use Rattle.keyset_model.specs.Keyset.{IsShort};
 ghost use Rattle.tinkey_cmds.specs.Edits.{seen_edit};
 ghost use Rattle.tinkey_session.specs.Answered.{Serves};
 ghost use Rattle.tinkey_session.specs.Keeping.{Asks, IsKept, needs, unedited, unserved};
-ghost use Rattle.tinkey_session.specs.Reading.{IsWithin, seen_line, seen_refusal, seen_reply};
+ghost use Rattle.tinkey_session.specs.Reading.{IsWithin, seen_line};
 ghost use Rattle.tinkey_session.specs.Serving.{edit_line, edited_reply, serve as served, template_of};
 ghost use Rattle.tinkey_session.specs.declared.line.Line.TheVariants as lines;
 ghost use Rattle.wrapped_prims.specs.Fitness.{unfit};
@@ -216,7 +216,7 @@ impl<'m> Session<'m> {
 /// The template of this name, or why there is none.
 fn template_of(name: &str) -> Result<Template, Refusal>
     ensures { MatchResult result (λ template. template_of name.now ≡ Ok (seen template))
-        (λ why. template_of name.now ≡ Err (seen_refusal why)) }
+        (λ why. template_of name.now ≡ Err why) }
 {
     match template_named(name) {
         Ok(template) => Ok(template),
@@ -255,7 +255,7 @@ fn found_edit(edit: Command<&str>) -> Result<Command<Template>, Refusal>
 
 /// The reply to an accepted edit that gave this keyset: the id of the key that it made, if any.
 fn edited_reply(command: &Command<Template>, keyset: &Keyset) -> Reply
-    ensures { seen_reply result ≡ edited_reply (seen_edit command.now) keyset.now }
+    ensures { result ≡ edited_reply (seen_edit command.now) keyset.now }
 {
     match command {
         Command::Add(_) | Command::Rotate(_) => {
