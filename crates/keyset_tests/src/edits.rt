@@ -1,6 +1,6 @@
 //! Edits of small keysets, over random bytes in memory.
 
-use key_msgs::template_named;
+use key_msgs::{Template, template_named};
 use keyset_model::{Keyset, read_binary};
 use std::alloc::Global;
 use std::test::Fail;
@@ -30,7 +30,7 @@ const UNKNOWN: &[u8] = b"\x08\x01\
     \x12\x13\x0a\x0b\x0a\x04even\x12\x01k\x18\x01\x10\x02\x18\x02\x20\x01";
 
 /// An edit of a record.
-fn by_id(word: &str, id: u32) -> Command {
+fn by_id(word: &str, id: u32) -> Command<Template> {
     match word {
         "promote" => Command::Promote(id),
         "enable" => Command::Enable(id),
@@ -53,7 +53,12 @@ fn shown(alloc: Global, keyset: &Keyset) -> Result<String, Fail> {
 
 /// What an edit gives over these random bytes, as a text: the keyset or the error, and how many
 /// bytes are left.
-fn edit(alloc: Global, keyset: &Keyset, command: Command, random: &[u8]) -> Result<String, Fail> {
+fn edit(
+    alloc: Global,
+    keyset: &Keyset,
+    command: Command<Template>,
+    random: &[u8],
+) -> Result<String, Fail> {
     let mut entropy = MemEntropy::new(random.to_vec(alloc)?, Vec::new(alloc));
     let text = match apply(alloc, keyset, &command, &mut entropy) {
         Ok(edited) => shown(alloc, &edited)?,

@@ -13,6 +13,7 @@ use Rattle.key_msgs.specs.declared.primitive.Primitive.TheVariants.{Aead, Daead,
 use Rattle.key_msgs.specs.declared.rule.Rule.{Rule}
 use Rattle.key_msgs.specs.KeyTypes.{type_of_url, url_of_type, primitive_of_type}
 use Rattle.key_msgs.specs.Reading.{key_of}
+use Rattle.key_msgs.specs.declared.template.Template.{Template}
 use Rattle.key_msgs.specs.Templates.{Row, seen, made, type_made, random_of}
 use Rattle.key_msgs.specs.Writing.{value_of}
 use Rattle.keyset_model.specs.declared.record.Record.{Record}
@@ -23,20 +24,37 @@ use Rattle.tinkey_cmds.specs.declared.command.Command.{Command}
 use Rattle.tinkey_cmds.specs.declared.command.Command.TheVariants as commands
 use Rattle.tinkey_cmds.specs.Draws.{Drawn, Draw, answered, fill, and_then}
 
--- an edit, by a row of the table of templates or the id of a record
-pub data Edit : Type 0 where
-  Add Rotate : (row : Row) → Edit
-  Promote Enable Disable Destroy Delete : (id : ℕ) → Edit
+-- an edit, by a template or the id of a record
+pub data EditOf (A : Type 0) : Type 0 where
+  Add Rotate : (template : A) → EditOf A
+  Promote Enable Disable Destroy Delete : (id : ℕ) → EditOf A
+
+-- an edit by a row of the table of templates
+abbrev pub Edit : Type 0
+Edit = EditOf Row
 
 -- the edit of a command
-abbrev pub seen_edit : Command → Edit
-seen_edit (commands.Add template) = Add (seen template)
-seen_edit (commands.Rotate template) = Rotate (seen template)
-seen_edit (commands.Promote id) = Promote id
-seen_edit (commands.Enable id) = Enable id
-seen_edit (commands.Disable id) = Disable id
-seen_edit (commands.Destroy id) = Destroy id
-seen_edit (commands.Delete id) = Delete id
+abbrev pub seen_by : {T A : Type 0} → (T → A) → Command T → EditOf A
+seen_by see (commands.Add template) = Add (see template)
+seen_by see (commands.Rotate template) = Rotate (see template)
+seen_by see (commands.Promote id) = Promote id
+seen_by see (commands.Enable id) = Enable id
+seen_by see (commands.Disable id) = Disable id
+seen_by see (commands.Destroy id) = Destroy id
+seen_by see (commands.Delete id) = Delete id
+
+abbrev pub seen_edit : Command Template → Edit
+seen_edit command = seen_by seen command
+
+-- what comes of an edit, behind what is found by its template
+abbrev pub edit_then : {A B P : Type 0} → (A → (B → P) → P) → EditOf A → (EditOf B → P) → P
+edit_then find (Add template) next = find template (λ found. next (Add found))
+edit_then find (Rotate template) next = find template (λ found. next (Rotate found))
+edit_then find (Promote id) next = next (Promote id)
+edit_then find (Enable id) next = next (Enable id)
+edit_then find (Disable id) next = next (Disable id)
+edit_then find (Destroy id) next = next (Destroy id)
+edit_then find (Delete id) next = next (Delete id)
 
 -- ---- new records
 

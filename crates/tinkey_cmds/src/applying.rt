@@ -57,7 +57,7 @@ pub fn create<E: Entropy>(
 pub fn apply<E: Entropy>(
     alloc: Global,
     keyset: &Keyset,
-    command: &Command,
+    command: &Command<Template>,
     entropy: &mut E,
 ) -> Result<Keyset, CmdError>
     ensures step { Applied result (step keyset.now (seen_edit command.now))

@@ -2,16 +2,16 @@
 
 ghost use Rattle.std.specs.Prelude.{◌≡◌};
 
-use key_msgs::{Rule, Template};
+use key_msgs::Rule;
 use tink_base::NoMemory;
 
-/// An edit of a keyset. A record is named by its id.
+/// An edit of a keyset, whose template is here or has a name. A record is named by its id.
 #[derive(Clone, Copy)]
-pub enum Command {
+pub enum Command<T> {
     /// A new key of this template stands behind the others.
-    Add(Template),
+    Add(T),
     /// The same, and the new key is primary.
-    Rotate(Template),
+    Rotate(T),
     /// This key is primary.
     Promote(u32),
     /// This key is ENABLED.

@@ -2,6 +2,7 @@
 use Rattle.std.proofs.Common.{arith, ◌≡◌, ◌∙◌, sym, refl, ap, ℕ, ◌+◌, ◌≤◌, Bool, true, false, cond, List, [], length, nat_le, Option, Some, None, option_map, Result, Ok, Err}
 use Rattle.std.specs.Prelude.{drop, if◌then◌else◌}
 use Rattle.std.specs.FinMap as map
+use Rattle.std.specs.Option.{option_and_then}
 use Rattle.std.specs.Result.{result_ok}
 use Rattle.std.proofs.lemmas.Bool.Decides.{nat_tests}
 use Rattle.std.proofs.lemmas.Cmp.{eq_by_cmp_equiv, nat_list_cmp_total}
@@ -25,7 +26,7 @@ use Rattle.tinkey_run.specs.Plan.{Plan, Told, Answer, answer, refused, load_answ
 use Rattle.tinkey_run.specs.Runs.{read_in, bytes_at, edit_of}
 use Rattle.tinkey_run.specs.Steps.{keyset_limit, input_limit, keyset_in, with_keyset, with_json, loads_keyset, reads_keyset, takes_keyset, keyset_at, reads_input, finds_edit, with_row, makes_keyset, with_made, puts, puts_keyset, written_in}
 use Rattle.tinkey_run.specs.Using.{handles, unless_unfit, use_output, works}
-use Rattle.tinkey_run.specs.Words.{AskedEdit, add, rotate, promote, enable, disable, destroy, delete, AskedWork, Place, primitive_for}
+use Rattle.tinkey_run.specs.Words.{AskedEdit, AskedWork, Place, primitive_for}
 
 -- what was told, with these bytes left of the input and of the random ones
 abbrev pub left_of : Told → (input random : List ℕ) → Told
@@ -113,13 +114,13 @@ found_row None name next told done = by_test (is_asymmetric name) done
     by_test false done = absurd (cc)
 
 pub found_edit : (asked : AskedEdit) (next : Edit → Plan) (told : Told) → IsDoneAnswer (answer (finds_edit asked next) told) → FoundEdit asked next told
-found_edit (add name) next told done = let f = found_row (row_named name) name (λ row. next (edits.Add row)) told done in record { edit = edits.Add f.0; is = ap (option_map edits.Add) f.1; goes_on = f.2 }
-found_edit (rotate name) next told done = let f = found_row (row_named name) name (λ row. next (edits.Rotate row)) told done in record { edit = edits.Rotate f.0; is = ap (option_map edits.Rotate) f.1; goes_on = f.2 }
-found_edit (promote id) next told done = record { edit = edits.Promote id; is = refl; goes_on = refl }
-found_edit (enable id) next told done = record { edit = edits.Enable id; is = refl; goes_on = refl }
-found_edit (disable id) next told done = record { edit = edits.Disable id; is = refl; goes_on = refl }
-found_edit (destroy id) next told done = record { edit = edits.Destroy id; is = refl; goes_on = refl }
-found_edit (delete id) next told done = record { edit = edits.Delete id; is = refl; goes_on = refl }
+found_edit (edits.Add name) next told done = let f = found_row (row_named name) name (λ row. next (edits.Add row)) told done in record { edit = edits.Add f.0; is = ap (option_and_then (λ row. Some (edits.Add row))) f.1; goes_on = f.2 }
+found_edit (edits.Rotate name) next told done = let f = found_row (row_named name) name (λ row. next (edits.Rotate row)) told done in record { edit = edits.Rotate f.0; is = ap (option_and_then (λ row. Some (edits.Rotate row))) f.1; goes_on = f.2 }
+found_edit (edits.Promote id) next told done = record { edit = edits.Promote id; is = refl; goes_on = refl }
+found_edit (edits.Enable id) next told done = record { edit = edits.Enable id; is = refl; goes_on = refl }
+found_edit (edits.Disable id) next told done = record { edit = edits.Disable id; is = refl; goes_on = refl }
+found_edit (edits.Destroy id) next told done = record { edit = edits.Destroy id; is = refl; goes_on = refl }
+found_edit (edits.Delete id) next told done = record { edit = edits.Delete id; is = refl; goes_on = refl }
 
 pub record MadeKeyset (give : Draw Keys) (next : Keys → Plan) (told : Told) : Type 0 where
   pub drawn : Drawn Keys

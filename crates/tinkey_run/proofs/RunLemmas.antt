@@ -24,7 +24,7 @@ use Rattle.tinkey_cmds.specs.Draws.{Drawn}
 use Rattle.tinkey_cmds.specs.Edits.{Edit, Stepped, step}
 use Rattle.tinkey_cmds.specs.Edits as edits
 use Rattle.tinkey_cmds.specs.Laws.{EditsKeepKeysets, HasTemplate, IsTemplate}
-use Rattle.tinkey_session.proofs.Options.{clash, map_some, no_truth}
+use Rattle.tinkey_session.proofs.Options.{clash, no_truth, then_some}
 use Rattle.tinkey_session.proofs.StoredLemmas.{byte_there}
 use Rattle.tinkey_session.proofs.TurnLemmas.{edited_on, template_there}
 use Rattle.tinkey_session.specs.Serving.{template_or}
@@ -48,7 +48,7 @@ use Rattle.tinkey_run.specs.Runs.{Handing, hands_on, session_handing, AreRuns, D
 use Rattle.tinkey_run.specs.Laws.{FitKeysetsAnswer}
 use Rattle.tinkey_run.specs.Steps.{input_limit, takes_keyset, makes_keyset, puts_keyset, with_made, written_in}
 use Rattle.tinkey_run.specs.Using.{as_drawn, made_bytes, with_opened, with_verified, works}
-use Rattle.tinkey_run.specs.Words.{Asked, AskedEdit, AskedWork, Place, create_keyset, edit_keyset, list_keyset, convert_keyset, list_key_templates, use_keyset, seal_stream, open_stream, self_test, session, add, rotate, promote, enable, disable, destroy, delete, to_seal, to_open, to_dseal, to_dopen, to_tag, to_verify, primitive_for}
+use Rattle.tinkey_run.specs.Words.{Asked, AskedEdit, AskedWork, Place, create_keyset, edit_keyset, list_keyset, convert_keyset, list_key_templates, use_keyset, seal_stream, open_stream, self_test, session, to_seal, to_open, to_dseal, to_dopen, to_tag, to_verify, primitive_for}
 use Rattle.tinkey_run.proofs.ReachLemmas.{load_done, IsDoneAnswer, behind, found_edit, made_done, put_done, taken_done, used_done, used_reached}
 
 -- ---- what is read is a keyset
@@ -126,13 +126,13 @@ template_row name row e = template_there name row (ap (λ (o : Option Row). temp
 
 -- the edit of a name has its template
 edit_template : (asked : AskedEdit) (edit : Edit) → edit_of asked ≡ Some edit → HasTemplate edit
-edit_template (add name) edit e = let m = map_some edits.Add (row_named name) edit e in subst HasTemplate m.2 (template_row name m.0 m.1)
-edit_template (rotate name) edit e = let m = map_some edits.Rotate (row_named name) edit e in subst HasTemplate m.2 (template_row name m.0 m.1)
-edit_template (promote id) edit e = subst HasTemplate (same_Some _ _ e) tt
-edit_template (enable id) edit e = subst HasTemplate (same_Some _ _ e) tt
-edit_template (disable id) edit e = subst HasTemplate (same_Some _ _ e) tt
-edit_template (destroy id) edit e = subst HasTemplate (same_Some _ _ e) tt
-edit_template (delete id) edit e = subst HasTemplate (same_Some _ _ e) tt
+edit_template (edits.Add name) edit e = let m = then_some (λ row. Some (edits.Add row)) (row_named name) edit e in subst HasTemplate (same_Some _ _ m.2) (template_row name m.0 m.1)
+edit_template (edits.Rotate name) edit e = let m = then_some (λ row. Some (edits.Rotate row)) (row_named name) edit e in subst HasTemplate (same_Some _ _ m.2) (template_row name m.0 m.1)
+edit_template (edits.Promote id) edit e = subst HasTemplate (same_Some _ _ e) tt
+edit_template (edits.Enable id) edit e = subst HasTemplate (same_Some _ _ e) tt
+edit_template (edits.Disable id) edit e = subst HasTemplate (same_Some _ _ e) tt
+edit_template (edits.Destroy id) edit e = subst HasTemplate (same_Some _ _ e) tt
+edit_template (edits.Delete id) edit e = subst HasTemplate (same_Some _ _ e) tt
 
 -- what a run did, and so what keyset was written
 given : FaultlessKeysets → BinaryBack → JsonBack → (table : Table) (run : Run) (old new : Keys) (out : Place) (after : Written) → out.form ≡ after.form

@@ -23,7 +23,7 @@ use Rattle.tinkey_run.specs.Using.{unless_unfit, with_opened, with_verified, wit
 use Rattle.tinkey_selftest.specs.Trial as trial
 use Rattle.tinkey_selftest.specs.declared.counts.Counts.{Counts}
 use Rattle.tinkey_run.specs.SelfTesting.{tells_counts}
-use Rattle.tinkey_run.specs.Words.{self_test, Place, AskedEdit, add, rotate, promote, enable, disable, destroy, delete, AskedWork, to_seal, to_open, to_dseal, to_dopen, to_tag, to_verify, to_derive, primitive_for, create_keyset, edit_keyset, list_keyset, convert_keyset, list_key_templates, use_keyset, seal_stream, open_stream, session}
+use Rattle.tinkey_run.specs.Words.{self_test, Place, AskedEdit, AskedWork, to_seal, to_open, to_dseal, to_dopen, to_tag, to_verify, to_derive, primitive_for, create_keyset, edit_keyset, list_keyset, convert_keyset, list_key_templates, use_keyset, seal_stream, open_stream, session}
 
 -- the rest of a plan is so, whatever it takes
 abbrev AreWhole : {A : Type 0} → (A → Plan) → Type 0
@@ -57,13 +57,13 @@ row_whole (Some row) name next whole = whole row
 row_whole None name next whole = no_row_whole (is_asymmetric name)
 
 edit_whole : (asked : AskedEdit) (next : Edit → Plan) → AreWhole next → IsWhole (finds_edit asked next)
-edit_whole (add name) next whole = row_whole (row_named name) name (λ row. next (Add row)) (λ row. whole (Add row))
-edit_whole (rotate name) next whole = row_whole (row_named name) name (λ row. next (Rotate row)) (λ row. whole (Rotate row))
-edit_whole (promote id) next whole = whole (Promote id)
-edit_whole (enable id) next whole = whole (Enable id)
-edit_whole (disable id) next whole = whole (Disable id)
-edit_whole (destroy id) next whole = whole (Destroy id)
-edit_whole (delete id) next whole = whole (Delete id)
+edit_whole (Add name) next whole = row_whole (row_named name) name (λ row. next (Add row)) (λ row. whole (Add row))
+edit_whole (Rotate name) next whole = row_whole (row_named name) name (λ row. next (Rotate row)) (λ row. whole (Rotate row))
+edit_whole (Promote id) next whole = whole (Promote id)
+edit_whole (Enable id) next whole = whole (Enable id)
+edit_whole (Disable id) next whole = whole (Disable id)
+edit_whole (Destroy id) next whole = whole (Destroy id)
+edit_whole (Delete id) next whole = whole (Delete id)
 
 made_whole : {A : Type 0} (given : Result A CmdFault) (next : A → Plan) → AreWhole next → IsWhole (with_made given next)
 made_whole (Ok value) next whole = whole value

@@ -10,7 +10,7 @@ use Rattle.managers.specs.Standard.{standard_table}
 use Rattle.managers.specs.Table.{Table}
 use Rattle.tink_spec.specs.Outside.{Took}
 use Rattle.tinkey_session.specs.Lines.{line_of, Seal, Open, Dseal, Dopen, Tag, Verify}
-use Rattle.tinkey_session.specs.Serving.{Done, Gives}
+use Rattle.tinkey_session.specs.declared.reply.Reply.TheVariants.{Done, Gives}
 use Rattle.tinkey_session.specs.Session.{Turn, lines_of, turns}
 use Rattle.tinkey_session.specs.TalkLaws.{replies_text}
 use Rattle.wrapped_prims.specs.Candidates.{prefix_of}

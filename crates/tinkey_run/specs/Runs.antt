@@ -4,9 +4,10 @@
 --   AreRuns      each run reads what the one before put out, and is answered Done
 --   RunStep      what one of them does to the keyset
 --   RunsOpen ..  what was sealed or tagged before them opens or verifies after them
-use Rattle.std.specs.Prelude.{◌≡◌, ℕ, ◌<◌, ◌≤◌, List, [], ◌∷◌, length, Option, Some, None, option_map, Ok}
+use Rattle.std.specs.Prelude.{◌≡◌, ℕ, ◌<◌, ◌≤◌, List, [], ◌∷◌, length, Option, Some, None, Ok}
 use Rattle.std.specs.FinMap as map
 use Rattle.std.specs.List.{AllByRecursion}
+use Rattle.std.specs.Option.{option_and_then}
 use Rattle.std.specs.Result.{result_ok}
 use Rattle.key_msgs.specs.Templates.{row_named}
 use Rattle.keyset_json.specs.Reading.{reads_json}
@@ -16,8 +17,7 @@ use Rattle.keyset_model.specs.declared.record.Record.{Record}
 use Rattle.managers.specs.Standard.{standard_table}
 use Rattle.managers.specs.Table.{Table}
 use Rattle.tink_spec.specs.Files.{Files}
-use Rattle.tinkey_cmds.specs.Edits.{Edit, Stepped, step}
-use Rattle.tinkey_cmds.specs.Edits as edits
+use Rattle.tinkey_cmds.specs.Edits.{Edit, Stepped, edit_then, step}
 use Rattle.tinkey_session.specs.HeldLaws.{AreStored}
 use Rattle.tinkey_session.specs.Session.{Remains, asked_in, remains}
 use Rattle.wrapped_prims.specs.Candidates.{prefix_of}
@@ -28,7 +28,7 @@ use Rattle.tinkey_run.specs.declared.words.rows.Format.TheVariants as formats
 use Rattle.tinkey_run.specs.Commands.{command_plan}
 use Rattle.tinkey_run.specs.Plan.{Answer, Told, answer}
 use Rattle.tinkey_run.specs.Steps.{input_limit, keyset_limit}
-use Rattle.tinkey_run.specs.Words.{Asked, AskedEdit, add, rotate, promote, enable, disable, destroy, delete, AskedWork, Place, convert_keyset, edit_keyset, session, use_keyset, to_seal, to_open, to_dseal, to_dopen, to_tag, to_verify}
+use Rattle.tinkey_run.specs.Words.{Asked, AskedEdit, AskedWork, Place, convert_keyset, edit_keyset, session, use_keyset, to_seal, to_open, to_dseal, to_dopen, to_tag, to_verify}
 
 -- the keyset that these bytes are, in this form
 abbrev pub read_in : Format → List ℕ → Option Keys
@@ -100,13 +100,7 @@ DrawsBytes run = AllByRecursion (λ b. b < 256) run.told.random
 
 -- the edit that is asked for, where there is a template of its name
 abbrev pub edit_of : AskedEdit → Option Edit
-edit_of (add name) = option_map edits.Add (row_named name)
-edit_of (rotate name) = option_map edits.Rotate (row_named name)
-edit_of (promote id) = Some (edits.Promote id)
-edit_of (enable id) = Some (edits.Enable id)
-edit_of (disable id) = Some (edits.Disable id)
-edit_of (destroy id) = Some (edits.Destroy id)
-edit_of (delete id) = Some (edits.Delete id)
+edit_of asked = edit_then (λ name next. option_and_then next (row_named name)) asked Some
 
 -- an edit was accepted
 pub record IsEdit (asked : AskedEdit) (random : List ℕ) (old new : Keys) : Type 0 where

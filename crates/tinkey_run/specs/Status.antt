@@ -5,9 +5,8 @@ use Rattle.keyset_json.specs.Members.{name_of}
 use Rattle.keyset_model.specs.declared.keyset.KeysetFault.{KeysetFault}
 use Rattle.keyset_model.specs.declared.keyset.KeysetFault.TheVariants as faults
 use Rattle.tink_spec.specs.Outside.{SinkState, Rose, Took, TookPrefix}
-use Rattle.tinkey_session.specs.Serving as refused
+use Rattle.tinkey_session.specs.declared.reply.Refusal.TheVariants as refused
 use Rattle.tinkey_session.specs.Texts.{refusal_text}
-use Rattle.wrapped_prims.specs.Fitness as unfit
 use Rattle.tinkey_run.specs.declared.status.Status.{Status}
 use Rattle.tinkey_run.specs.declared.status.Status.TheVariants as status
 
@@ -75,9 +74,9 @@ text_of status.NotJson = codes "not JSON"
 text_of (status.Shape path) = codes "bad JSON member " ++ name_of path.member ++ key_text path.key
 text_of (status.Keyset fault) = fault_text fault
 text_of status.KeysetTooLong = codes "keyset too long"
-text_of (status.NoManager i) = refusal_text (refused.CannotServe i unfit.NoManager)
-text_of (status.BadKey i rule) = refusal_text (refused.CannotServe i (unfit.BadKey rule))
-text_of (status.NotRaw i) = refusal_text (refused.CannotServe i unfit.NotRaw)
+text_of (status.NoManager i) = refusal_text (refused.NoManager i)
+text_of (status.BadKey i rule) = refusal_text (refused.BadKey i rule)
+text_of (status.NotRaw i) = refusal_text (refused.NotRaw i)
 text_of status.InMissing = codes "input file missing"
 text_of status.InputTooLong = codes "input too long"
 text_of status.TooManySegments = codes "too many segments"

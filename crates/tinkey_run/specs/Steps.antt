@@ -13,7 +13,7 @@ use Rattle.keyset_json.specs.declared.reading.JsonError.TheVariants as json_erro
 use Rattle.keyset_model.specs.declared.reading.ReadError.{ReadError}
 use Rattle.keyset_model.specs.declared.reading.ReadError.TheVariants as errors
 use Rattle.tinkey_cmds.specs.Draws.{Draw}
-use Rattle.tinkey_cmds.specs.Edits.{Edit, Add, Rotate, Promote, Enable, Disable, Destroy, Delete}
+use Rattle.tinkey_cmds.specs.Edits.{Edit, edit_then}
 use Rattle.tinkey_cmds.specs.declared.command.CmdError.{CmdError}
 use Rattle.tinkey_cmds.specs.declared.command.CmdError.TheVariants as given
 use Rattle.tinkey_cmds.specs.declared.command.CmdFault.{CmdFault}
@@ -23,7 +23,7 @@ use Rattle.tinkey_run.specs.Ends.{World, Ends}
 use Rattle.tinkey_run.specs.Plan.{Plan, ends, writes, creates, allocates, loads, reads_all, draws, keysets}
 use Rattle.tinkey_run.specs.declared.words.rows.Format.{Format}
 use Rattle.tinkey_run.specs.declared.words.rows.Format.TheVariants as formats
-use Rattle.tinkey_run.specs.Words.{Place, AskedEdit, add, rotate, promote, enable, disable, destroy, delete}
+use Rattle.tinkey_run.specs.Words.{Place, AskedEdit}
 
 -- a keyset of more bytes is too long
 abbrev pub keyset_limit : ℕ
@@ -103,13 +103,7 @@ finds_template name next = with_row (row_named name) name next
 
 -- the edit that is asked for, of the template of its name where it has one
 abbrev pub finds_edit : AskedEdit → (Edit → Plan) → Plan
-finds_edit (add name) next = finds_template name (λ row. next (Add row))
-finds_edit (rotate name) next = finds_template name (λ row. next (Rotate row))
-finds_edit (promote id) next = next (Promote id)
-finds_edit (enable id) next = next (Enable id)
-finds_edit (disable id) next = next (Disable id)
-finds_edit (destroy id) next = next (Destroy id)
-finds_edit (delete id) next = next (Delete id)
+finds_edit asked next = edit_then finds_template asked next
 
 -- the status of an edit that gives no keyset
 abbrev pub edit_refusal : CmdError → Status

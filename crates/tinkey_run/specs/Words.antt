@@ -15,10 +15,11 @@ use Rattle.hex.specs.declared.error.FromHexError.{FromHexError}
 use Rattle.key_msgs.specs.declared.primitive.Primitive.{Primitive}
 use Rattle.key_msgs.specs.declared.primitive.Primitive.TheVariants.{Aead, Daead, Mac, Prf}
 use Rattle.tink_spec.specs.Messages.{◌>>=◌}
+use Rattle.tinkey_cmds.specs.Edits.{EditOf, seen_by}
+use Rattle.tinkey_cmds.specs.Edits as edits
+use Rattle.tinkey_cmds.specs.declared.command.Command.{Command as Command'}
 use Rattle.tinkey_run.specs.declared.words.Command.{Command}
 use Rattle.tinkey_run.specs.declared.words.Command.TheVariants as asks
-use Rattle.tinkey_run.specs.declared.words.EditWords.{EditWords}
-use Rattle.tinkey_run.specs.declared.words.EditWords.TheVariants as edits
 use Rattle.tinkey_run.specs.declared.words.Options.{Options as CodeOptions}
 use Rattle.tinkey_run.specs.declared.words.Place.{Place as CodePlace}
 use Rattle.tinkey_run.specs.declared.words.Datum.{Datum}
@@ -35,17 +36,9 @@ use Rattle.tinkey_run.specs.Rows.{row_of, command_of, option_row, option_of, riv
 
 -- What is asked.
 
--- the change of a keyset that the words ask for
-pub data AskedEdit : Type 0 where
-  -- a new key by the template of this name, which becomes the primary where it is rotated in
-  add : (template : List ℕ) → AskedEdit
-  rotate : (template : List ℕ) → AskedEdit
-  -- a change of the key of this id
-  promote : (id : ℕ) → AskedEdit
-  enable : (id : ℕ) → AskedEdit
-  disable : (id : ℕ) → AskedEdit
-  destroy : (id : ℕ) → AskedEdit
-  delete : (id : ℕ) → AskedEdit
+-- the change of a keyset that the words ask for, by the name of a template
+abbrev pub AskedEdit : Type 0
+AskedEdit = EditOf (List ℕ)
 
 -- what is done with the whole input by the keys of a keyset
 pub data AskedWork : Type 0 where
@@ -180,13 +173,13 @@ worked work values =
 -- what each command asks with these values of its options
 abbrev pub asked_with : CommandName → Values → Asked
 asked_with commands.CreateKeyset values = create_keyset (template values) (put_to values)
-asked_with commands.AddKey values = edited (add (template values)) values
-asked_with commands.RotateKeyset values = edited (rotate (template values)) values
-asked_with commands.PromoteKey values = edited (promote (id values)) values
-asked_with commands.EnableKey values = edited (enable (id values)) values
-asked_with commands.DisableKey values = edited (disable (id values)) values
-asked_with commands.DestroyKey values = edited (destroy (id values)) values
-asked_with commands.DeleteKey values = edited (delete (id values)) values
+asked_with commands.AddKey values = edited (edits.Add (template values)) values
+asked_with commands.RotateKeyset values = edited (edits.Rotate (template values)) values
+asked_with commands.PromoteKey values = edited (edits.Promote (id values)) values
+asked_with commands.EnableKey values = edited (edits.Enable (id values)) values
+asked_with commands.DisableKey values = edited (edits.Disable (id values)) values
+asked_with commands.DestroyKey values = edited (edits.Destroy (id values)) values
+asked_with commands.DeleteKey values = edited (edits.Delete (id values)) values
 asked_with commands.ListKeyset values = list_keyset (taken_from values)
 asked_with commands.ConvertKeyset values = convert_keyset (taken_from values) (put_to values)
 asked_with commands.ListKeyTemplates values = list_key_templates
@@ -313,14 +306,8 @@ words_of (name ∷ words) = asked_of (command_of name) words
 
 -- What the code's commands and options stand for.
 
-abbrev pub seen_edit : EditWords → AskedEdit
-seen_edit (edits.Add template) = add template.now
-seen_edit (edits.Rotate template) = rotate template.now
-seen_edit (edits.Promote id) = promote id
-seen_edit (edits.Enable id) = enable id
-seen_edit (edits.Disable id) = disable id
-seen_edit (edits.Destroy id) = destroy id
-seen_edit (edits.Delete id) = delete id
+abbrev pub seen_edit : Command' (Bor (List ℕ)) → AskedEdit
+seen_edit edit = seen_by (λ name. name.now) edit
 
 -- the name of a file
 abbrev pub seen_name : Option (Bor (List ℕ)) → Option (List ℕ)

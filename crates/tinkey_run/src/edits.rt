@@ -12,7 +12,7 @@ ghost use Rattle.tinkey_run.specs.Words.{seen_edit, seen_place};
 
 use crate::Status;
 use crate::steps::{find_template, take_keyset};
-use crate::words::{EditWords, Place};
+use crate::words::Place;
 use key_msgs::Template;
 use keyset_model::Keyset;
 use std::alloc::Global;
@@ -37,7 +37,7 @@ pub(crate) fn create_keyset<E: Entropy>(
 /// The commands that edit a keyset: the keyset after the edit.
 pub(crate) fn edit_keyset<S: Source, E: Entropy, D: Store>(
     alloc: Global,
-    edit: EditWords<'_>,
+    edit: Command<&str>,
     input: Place<'_>,
     source: &mut S,
     entropy: &mut E,
@@ -63,23 +63,23 @@ pub(crate) fn edit_keyset<S: Source, E: Entropy, D: Store>(
 }
 
 /// The edit that the words ask for, with its template found.
-fn find_edit(edit: EditWords<'_>) -> Result<Command, Status>
+fn find_edit(edit: Command<&str>) -> Result<Command<Template>, Status>
     ensures { (w : World) → PassesAs seen_command (finds_edit (seen_edit edit.entry)) w result w }
 {
     match edit {
-        EditWords::Add(name) => {
+        Command::Add(name) => {
             let template = find_template(name)?;
             Ok(Command::Add(template))
         }
-        EditWords::Rotate(name) => {
+        Command::Rotate(name) => {
             let template = find_template(name)?;
             Ok(Command::Rotate(template))
         }
-        EditWords::Promote(id) => Ok(Command::Promote(id)),
-        EditWords::Enable(id) => Ok(Command::Enable(id)),
-        EditWords::Disable(id) => Ok(Command::Disable(id)),
-        EditWords::Destroy(id) => Ok(Command::Destroy(id)),
-        EditWords::Delete(id) => Ok(Command::Delete(id)),
+        Command::Promote(id) => Ok(Command::Promote(id)),
+        Command::Enable(id) => Ok(Command::Enable(id)),
+        Command::Disable(id) => Ok(Command::Disable(id)),
+        Command::Destroy(id) => Ok(Command::Destroy(id)),
+        Command::Delete(id) => Ok(Command::Delete(id)),
     }
 }
 
@@ -104,7 +104,7 @@ fn create_of<E: Entropy>(
 fn edit_of<E: Entropy>(
     alloc: Global,
     keyset: &Keyset,
-    command: &Command,
+    command: &Command<Template>,
     entropy: &mut E,
 ) -> Result<Keyset, Status>
     requires short { AllByRecursion IsShort keyset.now.records }

@@ -2,7 +2,6 @@
 
 ghost use Rattle.std.specs.Prelude.{◌≡◌, ◌+◌, ◌≤◌, ◌++◌, length, codes, decimal};
 ghost use Rattle.keyset_json.specs.Members.{name_of};
-ghost use Rattle.tinkey_session.specs.Reading.{seen_refusal};
 ghost use Rattle.tinkey_session.specs.Texts.{refusal_text};
 ghost use Rattle.tinkey_run.specs.Status.{key_text, line_of, text_of, fault_text, Reports};
 
@@ -148,7 +147,7 @@ fn push_fault(line: &mut ShortText, fault: KeysetFault)
 /// Adds the text of a refusal, as a line of a session is told it too, for which there is room.
 fn push_refusal(line: &mut ShortText, refusal: Refusal)
     requires room { length line.old ≤ 16 }
-    ensures text { line.new ≡ line.old ++ refusal_text (seen_refusal refusal) }
+    ensures text { line.new ≡ line.old ++ refusal_text refusal }
     ensures short { length line.new ≤ 127 }
 {
     line.push_bytes(refusal_text(refusal).as_slice());

@@ -12,6 +12,7 @@ use rows::{
     CommandName, OPTION_COUNT, OptionName, command_named, format_named, is_value, number_named,
     option_named, takes,
 };
+use tinkey_cmds::Command as Edit;
 
 /// How many lines a self-test has, where the words don't say it.
 const KNOWN_LINES: u32 = 1000;
@@ -29,7 +30,7 @@ pub enum Command<'a> {
     /// Change a keyset.
     EditKeyset {
         /// The change.
-        edit: EditWords<'a>,
+        edit: Edit<&'a str>,
         /// Where the keyset is taken from.
         input: Place<'a>,
         /// Where the changed one is put.
@@ -131,25 +132,6 @@ pub struct Place<'a> {
     pub form: Format,
 }
 
-/// A change of a keyset.
-#[derive(Clone, Copy)]
-pub enum EditWords<'a> {
-    /// Add a new key by the template of this name.
-    Add(&'a str),
-    /// Add a new key by the template of this name, as the primary.
-    Rotate(&'a str),
-    /// Make the key of this id the primary.
-    Promote(u32),
-    /// Enable the key of this id.
-    Enable(u32),
-    /// Disable the key of this id.
-    Disable(u32),
-    /// Destroy the key material of the key of this id.
-    Destroy(u32),
-    /// Delete the key of this id.
-    Delete(u32),
-}
-
 /// The options of the words so far.
 #[derive(Clone, Copy)]
 pub struct Options<'a> {
@@ -208,13 +190,13 @@ fn command_with<'a>(command: CommandName, given: &Options<'a>) -> Command<'a>
             template: given.template(),
             output: given.put_to(),
         },
-        CommandName::AddKey => given.edited(EditWords::Add(given.template())),
-        CommandName::RotateKeyset => given.edited(EditWords::Rotate(given.template())),
-        CommandName::PromoteKey => given.edited(EditWords::Promote(given.id())),
-        CommandName::EnableKey => given.edited(EditWords::Enable(given.id())),
-        CommandName::DisableKey => given.edited(EditWords::Disable(given.id())),
-        CommandName::DestroyKey => given.edited(EditWords::Destroy(given.id())),
-        CommandName::DeleteKey => given.edited(EditWords::Delete(given.id())),
+        CommandName::AddKey => given.edited(Edit::Add(given.template())),
+        CommandName::RotateKeyset => given.edited(Edit::Rotate(given.template())),
+        CommandName::PromoteKey => given.edited(Edit::Promote(given.id())),
+        CommandName::EnableKey => given.edited(Edit::Enable(given.id())),
+        CommandName::DisableKey => given.edited(Edit::Disable(given.id())),
+        CommandName::DestroyKey => given.edited(Edit::Destroy(given.id())),
+        CommandName::DeleteKey => given.edited(Edit::Delete(given.id())),
         CommandName::ListKeyset => Command::ListKeyset {
             input: given.taken_from(),
         },
@@ -375,7 +357,7 @@ impl<'a> Options<'a> {
     }
 
     /// A keyset that is changed so.
-    fn edited(&self, edit: EditWords<'a>) -> Command<'a>
+    fn edited(&self, edit: Edit<&'a str>) -> Command<'a>
         ensures { seen_command result
             ≡ edited (seen_edit edit.entry) (seen_options self.now).values }
     {

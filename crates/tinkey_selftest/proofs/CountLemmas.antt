@@ -9,7 +9,9 @@ use Rattle.tinkey_selftest.specs.Numbers.{random_bytes, words_of}
 use Rattle.tinkey_selftest.specs.Ready.{HasRoom}
 use Rattle.tinkey_selftest.specs.Trial.{Task, Seals, Opens, Edits, Trial, after_line, after_lines, counted, counts_from, counts_over, first_row, has_key, line_of_task, one_refused, random_size, start, task_of, total}
 use Rattle.tinkey_selftest.specs.declared.counts.Counts.{Counts}
-use Rattle.tinkey_session.specs.Serving.{Reply, Done, Gives, NewId, Refuses, Served, serve}
+use Rattle.tinkey_session.specs.Serving.{Served, serve}
+use Rattle.tinkey_session.specs.declared.reply.Reply.{Reply}
+use Rattle.tinkey_session.specs.declared.reply.Reply.TheVariants.{Done, Gives, NewId, Refuses}
 
 counted_once : (keys : Keys) (task : Task) (reply : Reply) (n : Counts) → total (counted keys task reply n) ≡ suc (total n)
 counted_once keys (Seals plain ad) Done n = omega arith

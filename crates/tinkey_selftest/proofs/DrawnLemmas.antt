@@ -31,7 +31,9 @@ use Rattle.tinkey_session.proofs.SoundLemmas.{edited_keyset}
 use Rattle.tinkey_session.proofs.TurnLemmas.{serve_edits}
 use Rattle.tinkey_session.specs.Answered.{IsAnswered, IsUnanswered}
 use Rattle.tinkey_session.specs.Lines.{Line, Open, Seal}
-use Rattle.tinkey_session.specs.Serving.{Reply, Done, Gives, NewId, Refuses, serve}
+use Rattle.tinkey_session.specs.Serving.{serve}
+use Rattle.tinkey_session.specs.declared.reply.Reply.{Reply}
+use Rattle.tinkey_session.specs.declared.reply.Reply.TheVariants.{Done, Gives, NewId, Refuses}
 use Rattle.wrapped_prims.specs.Laws.{IsKeyset}
 use Rattle.wrapped_prims.specs.Making.{HasWordId}
 

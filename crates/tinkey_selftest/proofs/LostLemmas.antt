@@ -22,7 +22,9 @@ use Rattle.tinkey_session.proofs.TurnLemmas.{edited_on, serve_edits}
 use Rattle.tinkey_session.specs.Laws.{EditedIsKeyset, FirstsAreSound, IsEdited}
 use Rattle.tinkey_session.specs.LineLaws.{LinesOpen, LinesOpenRaw}
 use Rattle.tinkey_session.specs.Lines.{Seal, Open}
-use Rattle.tinkey_session.specs.Serving.{Reply, Done, Gives, NewId, Refuses, Served, serve}
+use Rattle.tinkey_session.specs.Serving.{Served, serve}
+use Rattle.tinkey_session.specs.declared.reply.Reply.{Reply}
+use Rattle.tinkey_session.specs.declared.reply.Reply.TheVariants.{Done, Gives, NewId, Refuses}
 use Rattle.wrapped_prims.specs.Candidates.{prefix_of}
 use Rattle.wrapped_prims.specs.Laws.{HasSameKey, IsKeyset}
 

@@ -12,7 +12,8 @@ use Rattle.tinkey_selftest.specs.declared.counts.Counts.{Counts}
 use Rattle.tinkey_selftest.specs.declared.selftest.SelfTestFault.{SelfTestFault}
 use Rattle.tinkey_selftest.specs.declared.selftest.SelfTestFault.TheVariants as faults
 use Rattle.tinkey_selftest.specs.declared.trial.Sealing.{Sealing}
-use Rattle.tinkey_session.specs.Serving.{Reply, Gives}
+use Rattle.tinkey_session.specs.declared.reply.Reply.{Reply}
+use Rattle.tinkey_session.specs.declared.reply.Reply.TheVariants.{Gives}
 use Rattle.wrapped_prims.specs.Laws.{IsKeyset}
 
 -- the trial of these parts

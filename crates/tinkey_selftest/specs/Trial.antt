@@ -18,15 +18,17 @@ use Rattle.key_msgs.specs.declared.template.Recipe.TheVariants.{Gcm}
 use Rattle.keyset_model.specs.Keyset.{Keys, is_enabled, primary_of}
 use Rattle.keyset_model.specs.declared.record.Record.{Record}
 use Rattle.managers.specs.Table.{Table}
-use Rattle.tinkey_cmds.specs.Edits.{Stepped, first}
+use Rattle.tinkey_cmds.specs.Edits.{Stepped, first, Add, Rotate, Promote, Enable, Disable, Delete}
 use Rattle.tinkey_cmds.specs.declared.command.CmdFault.{CmdFault}
 use Rattle.tinkey_cmds.specs.declared.command.CmdFault.TheVariants.{IdsExhausted}
 use Rattle.tinkey_selftest.specs.Numbers.{random_bytes, words_of}
 use Rattle.tinkey_selftest.specs.declared.counts.Counts.{Counts}
 use Rattle.tinkey_selftest.specs.declared.numbers.Words.{Words}
 use Rattle.tinkey_selftest.specs.declared.trial.Sealing.{Sealing}
-use Rattle.tinkey_session.specs.Lines.{Line, Seal, Open, Add, Rotate, Promote, Enable, Disable, Delete, Bad}
-use Rattle.tinkey_session.specs.Serving.{Reply, Gives, Refuses, Served, serve}
+use Rattle.tinkey_session.specs.Lines.{Line, Seal, Open, Edit, Bad}
+use Rattle.tinkey_session.specs.Serving.{Served, serve}
+use Rattle.tinkey_session.specs.declared.reply.Reply.{Reply}
+use Rattle.tinkey_session.specs.declared.reply.Reply.TheVariants.{Gives, Refuses}
 
 -- the keyset, the seals accepted so far, in order, the random bytes left, and the counts
 pub record Trial : Type 0 where
@@ -79,21 +81,21 @@ about asks (Some r) = asks r
 about asks None = Bad
 
 abbrev pub delete_line : Record → Line
-delete_line r = Delete r.id
+delete_line r = Edit (Delete r.id)
 
 -- a new key; with 16 records one of them goes instead
 abbrev pub grow_line : Words → Keys → Line
 grow_line w keys =
     if nat_lt (length keys.records) 16
-    then (if w.b % 2 == 0 then Add (name_of w) else Rotate (name_of w))
+    then (if w.b % 2 == 0 then Edit (Add (name_of w)) else Edit (Rotate (name_of w)))
     else about delete_line (slice_get keys.records (w.b % 16))
 
 -- another edit of a record
 abbrev pub change_record : (c : ℕ) → Record → Line
 change_record c r =
-    if c % 3 == 0 then Promote r.id
-    else (if c % 3 == 1 then (if is_enabled r then Disable r.id else Enable r.id)
-    else Delete r.id)
+    if c % 3 == 0 then Edit (Promote r.id)
+    else (if c % 3 == 1 then (if is_enabled r then Edit (Disable r.id) else Edit (Enable r.id))
+    else Edit (Delete r.id))
 
 abbrev pub change_line : Words → Keys → Line
 change_line w keys =

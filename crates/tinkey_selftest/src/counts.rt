@@ -7,7 +7,6 @@ ghost use Rattle.tinkey_selftest.specs.Telling.{counts_text, part};
 ghost use Rattle.tinkey_selftest.specs.Trial.{Edits, Opens, Seals, counted, has_key, none_yet, one_refused};
 ghost use Rattle.tinkey_selftest.specs.declared.trial.Sealing.{Sealing};
 ghost use Rattle.tinkey_session.specs.Lines.{Line};
-ghost use Rattle.tinkey_session.specs.Reading.{seen_reply};
 
 use itoa::Buffer;
 use std::alloc::Global;
@@ -50,7 +49,7 @@ impl Counts {
     pub(crate) fn with_seal(self, reply: &Reply) -> Counts
         requires room { HasRoom self }
         ensures { (keys : Keys) (plain ad : List ℕ) →
-            result ≡ counted keys (Seals plain ad) (seen_reply reply.now) self }
+            result ≡ counted keys (Seals plain ad) reply.now self }
     {
         match reply {
             Reply::Gives(_) => Counts {
@@ -68,7 +67,7 @@ impl Counts {
     pub(crate) fn with_open(self, reply: &Reply, is_there: bool) -> Counts
         requires room { HasRoom self }
         ensures { (keys : Keys) (sealing : Sealing) → is_there ≡ has_key sealing.sealer keys →
-            result ≡ counted keys (Opens sealing) (seen_reply reply.now) self }
+            result ≡ counted keys (Opens sealing) reply.now self }
     {
         match reply {
             Reply::Gives(_) => Counts {
@@ -96,7 +95,7 @@ impl Counts {
     pub(crate) fn with_edit(self, reply: &Reply) -> Counts
         requires room { HasRoom self }
         ensures { (keys : Keys) (line : Line) →
-            result ≡ counted keys (Edits line) (seen_reply reply.now) self }
+            result ≡ counted keys (Edits line) reply.now self }
     {
         match reply {
             Reply::Refuses(_) => Counts {

@@ -4,7 +4,7 @@ ghost use Rattle.std.specs.Prelude.{◌≡◌, ◌+◌, ◌%◌, ◌≤◌, ◌^
 ghost use Rattle.tinkey_selftest.specs.Ready.{HasRoom, IsReady, kept_of, trial_of};
 ghost use Rattle.tinkey_selftest.specs.Trial.{Edits, change_line, grow_line, has_key, is_same_key, name_of, open_task, seal_task, task_done, tried};
 ghost use Rattle.tinkey_session.specs.Keeping.{IsKept};
-ghost use Rattle.tinkey_session.specs.Reading.{IsWithin, seen_line, seen_reply};
+ghost use Rattle.tinkey_session.specs.Reading.{IsWithin, seen_line};
 ghost use Rattle.tinkey_session.specs.Serving.{serve};
 
 use crate::Counts;
@@ -13,6 +13,7 @@ use keyset_model::{Keyset, Record};
 use managers::{KeyTable, Managers};
 use std::alloc::Global;
 use tink_base::{Bytes, ENABLED, MemEntropy, NoMemory};
+use tinkey_cmds::Command;
 use tinkey_session::{Line, LineFault, Reply, Session};
 
 /// With so many records no key is made.
@@ -67,7 +68,7 @@ fn keep(
     sealer: Record,
 ) -> Result<(), NoMemory>
     ensures { OnOk result (sealings.new.items
-        ≡ sealings.old.items ++ kept_of (seen_reply reply) ad sealer) }
+        ≡ sealings.old.items ++ kept_of reply ad sealer) }
 {
     if let Reply::Gives(bytes) = reply {
         sealings.push(Sealing { bytes, ad, sealer })?;
@@ -106,12 +107,13 @@ fn grow_line(words: Words, keyset: &Keyset) -> Line<'static>
     ensures within { IsWithin (2 ^ 20) (seen_line result) }
 {
     if keyset.len() >= MANY_RECORDS {
-        return Line::Delete(keyset.record_at(words.b as usize % MANY_RECORDS).id);
+        let id = keyset.record_at(words.b as usize % MANY_RECORDS).id;
+        return Line::Edit(Command::Delete(id));
     }
     if words.b % 2 == 0 {
-        Line::Add(template_name(words))
+        Line::Edit(Command::Add(template_name(words)))
     } else {
-        Line::Rotate(template_name(words))
+        Line::Edit(Command::Rotate(template_name(words)))
     }
 }
 
@@ -122,15 +124,15 @@ fn change_line(words: Words, keyset: &Keyset) -> Line<'static>
 {
     let key = keyset.record_at(words.b as usize % keyset.len());
     match words.c % 3 {
-        0 => Line::Promote(key.id),
+        0 => Line::Edit(Command::Promote(key.id)),
         1 => {
             if key.status == ENABLED {
-                Line::Disable(key.id)
+                Line::Edit(Command::Disable(key.id))
             } else {
-                Line::Enable(key.id)
+                Line::Edit(Command::Enable(key.id))
             }
         }
-        _ => Line::Delete(key.id),
+        _ => Line::Edit(Command::Delete(key.id)),
     }
 }
 
@@ -147,7 +149,7 @@ impl<'m> Trial<'m> {
             serve (⟦<Managers as KeyTable>⟧.table self.old.session.managers.now)
             self.old.session.keyset (seen_line line.now) self.old.entropy.left
             ≡ Some (record {
-              reply = seen_reply reply;
+              reply = reply;
               keys = self.new.session.keyset;
               left = self.new.entropy.left;
             })) }

@@ -15,10 +15,9 @@ use Rattle.tink_spec.specs.Outside.{EntropyState, Stood}
 use Rattle.tinkey_session.proofs.Options.{clash, no_truth}
 use Rattle.tinkey_session.specs.Answered.{Gives, Serves}
 use Rattle.tinkey_session.specs.Lines.{Seal, Dseal, Open, Dopen, Tag, Verify, Derive}
-use Rattle.tinkey_session.specs.Reading.{seen_reply}
 use Rattle.tinkey_session.specs.Serving.{Served, answered, by_handle, computed, derived_reply, opened_reply, sealed_reply, serve, unless_unfit, verified_reply}
-use Rattle.tinkey_session.specs.Serving as serving
-use Rattle.tinkey_session.specs.declared.reply.Reply.{Reply as CodeReply}
+use Rattle.tinkey_session.specs.declared.reply.Reply.TheVariants as replies
+use Rattle.tinkey_session.specs.declared.reply.Reply.{Reply}
 use Rattle.tinkey_session.specs.declared.session.LineFault.TheVariants as line_faults
 use Rattle.wrapped_prims.specs.Answers.{Sealed, derive_answer, dopen_answer, dseal_answer, open_answer, primary_key, seal_answer, seal_behind, seal_under, tag_answer, verify_answer}
 use Rattle.wrapped_prims.specs.Candidates.{prefix_bytes, prefix_of}
@@ -28,21 +27,21 @@ use Rattle.wrapped_prims.specs.declared.sealing.SealFault.TheVariants as seal_fa
 
 -- ---- answers without a draw
 
-pub undrawn : (gives : Gives) (reply : CodeReply) (keys : Keys) (e : EntropyState) → ((random : List ℕ) → gives random ≡ Some (answered keys random (seen_reply reply))) → Serves gives (Ok reply) keys e e
+pub undrawn : (gives : Gives) (reply : Reply) (keys : Keys) (e : EntropyState) → ((random : List ℕ) → gives random ≡ Some (answered keys random reply)) → Serves gives (Ok reply) keys e e
 undrawn gives reply keys e is = record { drawn = []; drew = drew_nothing e; stood = refl; is = is }
 
 -- under keys that can serve
 fit_served : (primitive : Primitive) (table : Table) (keys : Keys) (random : List ℕ) (served : Option Served) → unfit keys primitive table ≡ None → by_handle primitive table keys random served ≡ served
 fit_served primitive table keys random served fit = ap (λ u. unless_unfit u keys random served) fit
 
-pub open_served : (table : Table) (keys : Keys) (sealed ad : List ℕ) (opened : Option (List ℕ)) (reply : serving.Reply) (random : List ℕ) → unfit keys Aead table ≡ None → opened ≡ open_answer keys table sealed ad → reply ≡ opened_reply opened → serve table keys (Open sealed ad) random ≡ Some (answered keys random reply)
+pub open_served : (table : Table) (keys : Keys) (sealed ad : List ℕ) (opened : Option (List ℕ)) (reply : Reply) (random : List ℕ) → unfit keys Aead table ≡ None → opened ≡ open_answer keys table sealed ad → reply ≡ opened_reply opened → serve table keys (Open sealed ad) random ≡ Some (answered keys random reply)
 unfolding serve
 open_served table keys sealed ad opened reply random fit is same =
     fit_served Aead table keys random _ fit ∙ ap (λ r. Some (answered keys random r)) (sym (same ∙ ap opened_reply is))
 
 -- ---- sealing
 
-pub sealed_serves : (table : Table) (keys : Keys) (plain ad sealed : List ℕ) (reply : CodeReply) (old new : EntropyState) → unfit keys Aead table ≡ None → IsSealing keys table plain ad old new sealed → Stood old.faults new.faults → seen_reply reply ≡ serving.Gives sealed → Serves (serve table keys (Seal plain ad)) (Ok reply) keys old new
+pub sealed_serves : (table : Table) (keys : Keys) (plain ad sealed : List ℕ) (reply : Reply) (old new : EntropyState) → unfit keys Aead table ≡ None → IsSealing keys table plain ad old new sealed → Stood old.faults new.faults → reply ≡ replies.Gives sealed → Serves (serve table keys (Seal plain ad)) (Ok reply) keys old new
 unfolding serve
 sealed_serves table keys plain ad sealed reply old new fit is stood same = record {
   drawn = is.drawn;
@@ -94,27 +93,27 @@ starved gives keys e = record { drawn = []; drew = drew_nothing e; stood = refl 
 
 -- ---- the other lines
 
-pub dopen_served : (table : Table) (keys : Keys) (sealed ad : List ℕ) (opened : Option (List ℕ)) (reply : serving.Reply) (random : List ℕ) → unfit keys Daead table ≡ None → opened ≡ dopen_answer keys table sealed ad → reply ≡ opened_reply opened → serve table keys (Dopen sealed ad) random ≡ Some (answered keys random reply)
+pub dopen_served : (table : Table) (keys : Keys) (sealed ad : List ℕ) (opened : Option (List ℕ)) (reply : Reply) (random : List ℕ) → unfit keys Daead table ≡ None → opened ≡ dopen_answer keys table sealed ad → reply ≡ opened_reply opened → serve table keys (Dopen sealed ad) random ≡ Some (answered keys random reply)
 unfolding serve
 dopen_served table keys sealed ad opened reply random fit is same =
     fit_served Daead table keys random _ fit ∙ ap (λ r. Some (answered keys random r)) (sym (same ∙ ap opened_reply is))
 
-pub dseal_served : (table : Table) (keys : Keys) (plain ad sealed : List ℕ) (reply : serving.Reply) (random : List ℕ) → unfit keys Daead table ≡ None → dseal_answer keys table plain ad ≡ Some sealed → reply ≡ serving.Gives sealed → serve table keys (Dseal plain ad) random ≡ Some (answered keys random reply)
+pub dseal_served : (table : Table) (keys : Keys) (plain ad sealed : List ℕ) (reply : Reply) (random : List ℕ) → unfit keys Daead table ≡ None → dseal_answer keys table plain ad ≡ Some sealed → reply ≡ replies.Gives sealed → serve table keys (Dseal plain ad) random ≡ Some (answered keys random reply)
 unfolding serve
 dseal_served table keys plain ad sealed reply random fit is same =
-    fit_served Daead table keys random _ fit ∙ ap (computed keys random serving.Gives) is ∙ ap (λ r. Some (answered keys random r)) (sym same)
+    fit_served Daead table keys random _ fit ∙ ap (computed keys random replies.Gives) is ∙ ap (λ r. Some (answered keys random r)) (sym same)
 
-pub tag_served : (table : Table) (keys : Keys) (body tag : List ℕ) (reply : serving.Reply) (random : List ℕ) → unfit keys Mac table ≡ None → tag_answer keys table body ≡ Some tag → reply ≡ serving.Gives tag → serve table keys (Tag body) random ≡ Some (answered keys random reply)
+pub tag_served : (table : Table) (keys : Keys) (body tag : List ℕ) (reply : Reply) (random : List ℕ) → unfit keys Mac table ≡ None → tag_answer keys table body ≡ Some tag → reply ≡ replies.Gives tag → serve table keys (Tag body) random ≡ Some (answered keys random reply)
 unfolding serve
 tag_served table keys body tag reply random fit is same =
-    fit_served Mac table keys random _ fit ∙ ap (computed keys random serving.Gives) is ∙ ap (λ r. Some (answered keys random r)) (sym same)
+    fit_served Mac table keys random _ fit ∙ ap (computed keys random replies.Gives) is ∙ ap (λ r. Some (answered keys random r)) (sym same)
 
 pub verify_served : (table : Table) (keys : Keys) (tag body : List ℕ) (holds : Bool) (random : List ℕ) → unfit keys Mac table ≡ None → holds ≡ verify_answer keys table tag body → serve table keys (Verify tag body) random ≡ Some (answered keys random (verified_reply holds))
 unfolding serve
 verify_served table keys tag body holds random fit is =
     fit_served Mac table keys random _ fit ∙ ap (λ b. Some (answered keys random (verified_reply b))) (sym is)
 
-pub derive_served : (table : Table) (keys : Keys) (size : ℕ) (input : List ℕ) (derived : Result (List ℕ) ℕ) (reply : serving.Reply) (random : List ℕ) → unfit keys Prf table ≡ None → derive_answer keys table input size ≡ Some derived → reply ≡ derived_reply size derived → serve table keys (Derive size input) random ≡ Some (answered keys random reply)
+pub derive_served : (table : Table) (keys : Keys) (size : ℕ) (input : List ℕ) (derived : Result (List ℕ) ℕ) (reply : Reply) (random : List ℕ) → unfit keys Prf table ≡ None → derive_answer keys table input size ≡ Some derived → reply ≡ derived_reply size derived → serve table keys (Derive size input) random ≡ Some (answered keys random reply)
 unfolding serve
 derive_served table keys size input derived reply random fit is same =
     fit_served Prf table keys random _ fit ∙ ap (computed keys random (derived_reply size)) is ∙ ap (λ r. Some (answered keys random r)) (sym same)

@@ -1,5 +1,5 @@
 -- What lines draw, and what a refusal leaves.
-use Rattle.std.proofs.Common.{◌≡◌, ◌∙◌, refl, sym, ap, subst, ℕ, ltb, Bool, true, false, cond, List, [], ◌∷◌, ◌++◌, length, take, drop, Option, Some, None, Result, Ok, Err, option_map, arith}
+use Rattle.std.proofs.Common.{◌≡◌, ◌∙◌, inl, inr, refl, sym, ap, subst, ℕ, ltb, Bool, true, false, cond, List, [], ◌∷◌, ◌++◌, length, take, drop, Option, Some, None, Result, Ok, Err, option_map, arith}
 use Rattle.std.specs.Option.{option_and_then}
 use Rattle.std.proofs.lemmas.Bool.{le-ltb, ltb-false}
 use Rattle.std.proofs.lemmas.List.{drop_at, length-append, length-take-le, take-append-drop, take_at}
@@ -13,14 +13,18 @@ use Rattle.keyset_model.specs.declared.record.Record.{Record}
 use Rattle.managers.specs.Table.{Table}
 use Rattle.managers.specs.Uses.{iv_size, seal_of}
 use Rattle.tinkey_cmds.proofs.Fronts.{fronts-step}
-use Rattle.tinkey_cmds.specs.Edits.{Edit, added, effect_of, grown, id_of, is_taken, new_id, new_record, record_of, refusal_of, rotated, step, unless_refused, with_key}
+use Rattle.tinkey_cmds.specs.Edits.{Edit, EditOf, added, effect_of, grown, id_of, is_taken, new_id, new_record, record_of, refusal_of, rotated, step, unless_refused, with_key}
 use Rattle.tinkey_cmds.specs.Edits as edits
 use Rattle.tinkey_cmds.specs.declared.command.CmdFault.{CmdFault}
 use Rattle.tinkey_session.proofs.Options.{clash, map_some}
+use Rattle.tinkey_session.proofs.TurnLemmas.{asked_cases}
 use Rattle.tinkey_session.specs.LineLaws.{LinesDrawFronts, RefusalsLeave}
 use Rattle.tinkey_session.specs.SessionLaws.{SessionGoesOn}
-use Rattle.tinkey_session.specs.Lines.{Line, Seal, Dseal, Open, Dopen, Tag, Verify, Derive, Add, Rotate, Promote, Enable, Disable, Destroy, Delete, Bad}
-use Rattle.tinkey_session.specs.Serving.{CannotServe, Gives, Refusal, Refuses, Reply, Served, answered, computed, derived_reply, edit_line, edit_served, last_id, edited_reply, sealed_reply, serve, stepped, template_of, unless_unfit, with_template}
+use Rattle.tinkey_session.specs.Lines.{Line, Seal, Dseal, Open, Dopen, Tag, Verify, Derive, Edit as AsksEdit, Bad}
+use Rattle.tinkey_session.specs.Serving.{cannot_serve, Served, answered, asked_line, computed, derived_reply, edit_line, edit_served, last_id, edited_reply, sealed_reply, serve, stepped, unless_unfit}
+use Rattle.tinkey_session.specs.declared.reply.Refusal.{Refusal}
+use Rattle.tinkey_session.specs.declared.reply.Reply.{Reply}
+use Rattle.tinkey_session.specs.declared.reply.Reply.TheVariants.{Gives, Refuses}
 use Rattle.tinkey_session.specs.Session.{remains, turn_then, turns}
 use Rattle.wrapped_prims.specs.Answers.{Sealed, derive_answer, dseal_answer, seal_answer, seal_behind, seal_under, tag_answer}
 use Rattle.wrapped_prims.specs.Candidates.{prefix_bytes, prefix_of}
@@ -50,7 +54,7 @@ fronts-computed keys reply None random x e = clash e
 fronts-unless : (u : Option (ℕ × Unfit)) (keys : Keys) (give : List ℕ → Option Served) → Fronts give → Fronts (λ random. unless_unfit u keys random (give random))
 unfolding Fronts
 fronts-unless None keys give fronts random x e = fronts random x e
-fronts-unless (Some found) keys give fronts random x e = fronts-answered keys (Refuses (CannotServe found.0 found.1)) random x e
+fronts-unless (Some found) keys give fronts random x e = fronts-answered keys (Refuses (cannot_serve found.0 found.1)) random x e
 
 -- an IV, and what is made with it
 abbrev with_iv : (size : ℕ) → (List ℕ → List ℕ) → List ℕ → Option Sealed
@@ -106,10 +110,17 @@ fronts-edit keys edit random x e =
           ∙ ap Some (served-left edit keys s.answer s.left more ∙ ap (with_left more) there.2),
     )
 
-fronts-template : (edit : Row → Edit) (keys : Keys) (found : Result Row Refusal) → Fronts (λ random. with_template edit keys random found)
+fronts-same : (give other : List ℕ → Option Served) → ((random : List ℕ) → give random ≡ other random) → Fronts other → Fronts give
 unfolding Fronts
-fronts-template edit keys (Ok row) random x e = fronts-edit keys (edit row) random x e
-fronts-template edit keys (Err why) random x e = fronts-answered keys (Refuses why) random x e
+fronts-same give other same fronts random x e =
+    let front = fronts random x (sym (same random) ∙ e) in
+    (front.0, front.1, λ more. same (front.0 ++ more) ∙ front.2 more)
+
+fronts-asked : (keys : Keys) (edit : EditOf (List ℕ)) → Fronts (λ random. asked_line keys random edit)
+fronts-asked keys asked = elim (asked_cases keys asked) [
+  | inl found ↦ fronts-same _ _ found.2 (fronts-edit keys found.0)
+  | inr refused ↦ fronts-same _ _ refused.1 (fronts-answered keys (Refuses refused.0))
+]
 
 fronts-line : (table : Table) (keys : Keys) (line : Line) → Fronts (serve table keys line)
 unfolding Fronts serve
@@ -120,13 +131,7 @@ fronts-line table keys (Dopen sealed ad) random x e = fronts-unless (unfit keys 
 fronts-line table keys (Tag body) random x e = fronts-unless (unfit keys Mac table) keys (λ bytes. computed keys bytes Gives (tag_answer keys table body)) (fronts-computed keys Gives (tag_answer keys table body)) random x e
 fronts-line table keys (Verify tag body) random x e = fronts-unless (unfit keys Mac table) keys _ (fronts-answered keys _) random x e
 fronts-line table keys (Derive size input) random x e = fronts-unless (unfit keys Prf table) keys (λ bytes. computed keys bytes (derived_reply size) (derive_answer keys table input size)) (fronts-computed keys (derived_reply size) (derive_answer keys table input size)) random x e
-fronts-line table keys (Add name) random x e = fronts-template edits.Add keys (template_of name) random x e
-fronts-line table keys (Rotate name) random x e = fronts-template edits.Rotate keys (template_of name) random x e
-fronts-line table keys (Promote id) random x e = fronts-edit keys (edits.Promote id) random x e
-fronts-line table keys (Enable id) random x e = fronts-edit keys (edits.Enable id) random x e
-fronts-line table keys (Disable id) random x e = fronts-edit keys (edits.Disable id) random x e
-fronts-line table keys (Destroy id) random x e = fronts-edit keys (edits.Destroy id) random x e
-fronts-line table keys (Delete id) random x e = fronts-edit keys (edits.Delete id) random x e
+fronts-line table keys (AsksEdit edit) random x e = fronts-asked keys edit random x e
 fronts-line table keys Bad random x e = fronts-answered keys _ random x e
 
 pub lines_draw_fronts : LinesDrawFronts
@@ -148,7 +153,7 @@ keeps-computed keys random reply None x e = clash e
 
 keeps-unless : (u : Option (ℕ × Unfit)) (keys : Keys) (random : List ℕ) (served : Option Served) (x : Served) → (served ≡ Some x → KeepsRefused keys x) → unless_unfit u keys random served ≡ Some x → KeepsRefused keys x
 keeps-unless None keys random served x keeps e = keeps e
-keeps-unless (Some found) keys random served x keeps e = keeps-answered keys random (Refuses (CannotServe found.0 found.1)) x e
+keeps-unless (Some found) keys random served x keeps e = keeps-answered keys random (Refuses (cannot_serve found.0 found.1)) x e
 
 keeps-sealed : (keys : Keys) (sealed : Option Sealed) (x : Served) → option_map (sealed_reply keys) sealed ≡ Some x → KeepsRefused keys x
 keeps-sealed keys (Some sealed) x e = keeps-answered keys sealed.left (Gives sealed.bytes) x e
@@ -179,9 +184,11 @@ keeps-edit keys random edit x e =
     let there = map_some (stepped edit keys) (step keys edit random) x e in
     subst (KeepsRefused keys) there.2 (keeps-served edit keys there.0.answer there.0.left)
 
-keeps-template : (edit : Row → Edit) (keys : Keys) (random : List ℕ) (found : Result Row Refusal) (x : Served) → with_template edit keys random found ≡ Some x → KeepsRefused keys x
-keeps-template edit keys random (Ok row) x e = keeps-edit keys random (edit row) x e
-keeps-template edit keys random (Err why) x e = keeps-answered keys random (Refuses why) x e
+keeps-asked : (keys : Keys) (random : List ℕ) (asked : EditOf (List ℕ)) (x : Served) → asked_line keys random asked ≡ Some x → KeepsRefused keys x
+keeps-asked keys random asked x e = elim (asked_cases keys asked) [
+  | inl found ↦ keeps-edit keys random found.0 x (sym (found.2 random) ∙ e)
+  | inr refused ↦ keeps-answered keys random (Refuses refused.0) x (sym (refused.1 random) ∙ e)
+]
 
 keeps-line : (table : Table) (keys : Keys) (line : Line) (random : List ℕ) (x : Served) → serve table keys line random ≡ Some x → KeepsRefused keys x
 unfolding serve
@@ -192,13 +199,7 @@ keeps-line table keys (Dopen sealed ad) random x e = keeps-unless (unfit keys Da
 keeps-line table keys (Tag body) random x e = keeps-unless (unfit keys Mac table) keys random _ x (keeps-computed keys random Gives (tag_answer keys table body) x) e
 keeps-line table keys (Verify tag body) random x e = keeps-unless (unfit keys Mac table) keys random _ x (keeps-answered keys random _ x) e
 keeps-line table keys (Derive size input) random x e = keeps-unless (unfit keys Prf table) keys random _ x (keeps-computed keys random (derived_reply size) (derive_answer keys table input size) x) e
-keeps-line table keys (Add name) random x e = keeps-template edits.Add keys random (template_of name) x e
-keeps-line table keys (Rotate name) random x e = keeps-template edits.Rotate keys random (template_of name) x e
-keeps-line table keys (Promote id) random x e = keeps-edit keys random (edits.Promote id) x e
-keeps-line table keys (Enable id) random x e = keeps-edit keys random (edits.Enable id) x e
-keeps-line table keys (Disable id) random x e = keeps-edit keys random (edits.Disable id) x e
-keeps-line table keys (Destroy id) random x e = keeps-edit keys random (edits.Destroy id) x e
-keeps-line table keys (Delete id) random x e = keeps-edit keys random (edits.Delete id) x e
+keeps-line table keys (AsksEdit edit) random x e = keeps-asked keys random edit x e
 keeps-line table keys Bad random x e = keeps-answered keys random _ x e
 
 pub refusals_leave : RefusalsLeave

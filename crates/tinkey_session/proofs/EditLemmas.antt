@@ -4,6 +4,7 @@ use Rattle.std.specs.Borrow.{Bor}
 use Rattle.std.specs.Prelude.{IfSome, slice_get}
 use Rattle.std.specs.Result.{IsErrAnd}
 use Rattle.std.proofs.lemmas.Option.{same_Some}
+use Rattle.key_msgs.specs.declared.template.Template.{Template}
 use Rattle.keyset_model.specs.Keyset.{Keys}
 use Rattle.keyset_model.specs.declared.record.Record.{Record}
 use Rattle.tink_spec.specs.Outside.{EntropyState}
@@ -16,17 +17,18 @@ use Rattle.tinkey_session.proofs.Options.{clash}
 use Rattle.tinkey_session.specs.Answered.{Serves}
 use Rattle.tinkey_session.specs.Keeping.{Asks, needs, unedited}
 use Rattle.tinkey_session.specs.Lines.{Line}
-use Rattle.tinkey_session.specs.Reading.{seen_line, seen_reply}
-use Rattle.tinkey_session.specs.Serving.{NewId, answered, edit_line, edited_reply, last_id, serve, stepped}
+use Rattle.tinkey_session.specs.Reading.{seen_line}
+use Rattle.tinkey_session.specs.Serving.{answered, edit_line, edited_reply, last_id, serve, stepped}
+use Rattle.tinkey_session.specs.declared.reply.Reply.TheVariants.{NewId}
 use Rattle.tinkey_session.specs.declared.line.Line.{Line as CodeLine}
 use Rattle.tinkey_session.specs.declared.line.Line.TheVariants as lines
-use Rattle.tinkey_session.specs.declared.reply.Refusal.{Refusal as CodeRefusal}
+use Rattle.tinkey_session.specs.declared.reply.Refusal.{Refusal}
 use Rattle.tinkey_session.specs.declared.reply.Refusal.TheVariants as refusals
-use Rattle.tinkey_session.specs.declared.reply.Reply.{Reply as CodeReply}
+use Rattle.tinkey_session.specs.declared.reply.Reply.{Reply}
 
 -- ---- accepted and refused edits
 
-pub applied_serves : (keys edited : Keys) (edit : Edit) (reply : CodeReply) (old new : EntropyState) → Applied (Ok edited) (step keys edit) old new → seen_reply reply ≡ edited_reply edit edited → Serves (λ random. edit_line keys random edit) (Ok reply) edited old new
+pub applied_serves : (keys edited : Keys) (edit : Edit) (reply : Reply) (old new : EntropyState) → Applied (Ok edited) (step keys edit) old new → reply ≡ edited_reply edit edited → Serves (λ random. edit_line keys random edit) (Ok reply) edited old new
 applied_serves keys edited edit reply old new (stood, (drawn, drew, is)) same = record {
   drawn = drawn;
   drew = drew;
@@ -73,29 +75,20 @@ last_there (x ∷ rs) r n count there = last_at (x ∷ rs) r (n - 1) (omega arit
 -- ---- the edits that lines ask for
 
 -- what a `?` hands on
-pub asks_error : (line : Line) (why : CodeRefusal) (result : Result Command CodeRefusal) → IsErrAnd result (λ e. e ≡ why) → Asks line (Err why) → Asks line result
+pub asks_error : (line : Line) (why : Refusal) (result : Result (Command Template) Refusal) → IsErrAnd result (λ e. e ≡ why) → Asks line (Err why) → Asks line result
 asks_error line why (Ok command) is asks = absurd is
 asks_error line why (Err e) is asks = subst (λ w. Asks line (Err w)) (sym is) asks
 
--- a line that needs no keys and isn't one of the edits is bad
-pub asks_nothing : (line : CodeLine) → needs (seen_line line) ≡ None
-    → ((name : Bor (List ℕ)) → line ≡ lines.Add name → ⊥) → ((name : Bor (List ℕ)) → line ≡ lines.Rotate name → ⊥)
-    → ((id : ℕ) → line ≡ lines.Promote id → ⊥) → ((id : ℕ) → line ≡ lines.Enable id → ⊥) → ((id : ℕ) → line ≡ lines.Disable id → ⊥)
-    → ((id : ℕ) → line ≡ lines.Destroy id → ⊥) → ((id : ℕ) → line ≡ lines.Delete id → ⊥)
+-- a line that needs no keys and isn't an edit is bad
+pub asks_nothing : (line : CodeLine) → needs (seen_line line) ≡ None → ((edit : Command (Bor (List ℕ))) → line ≡ lines.Edit edit → ⊥)
     → Asks (seen_line line) (Err refusals.BadLine)
 unfolding serve
-asks_nothing (lines.Seal plain ad) keyless a r p e d y l = clash (sym keyless)
-asks_nothing (lines.Dseal plain ad) keyless a r p e d y l = clash (sym keyless)
-asks_nothing (lines.Open sealed ad) keyless a r p e d y l = clash (sym keyless)
-asks_nothing (lines.Dopen sealed ad) keyless a r p e d y l = clash (sym keyless)
-asks_nothing (lines.Tag body) keyless a r p e d y l = clash (sym keyless)
-asks_nothing (lines.Verify tag body) keyless a r p e d y l = clash (sym keyless)
-asks_nothing (lines.Derive size input) keyless a r p e d y l = clash (sym keyless)
-asks_nothing (lines.Add name) keyless a r p e d y l = absurd (a name refl)
-asks_nothing (lines.Rotate name) keyless a r p e d y l = absurd (r name refl)
-asks_nothing (lines.Promote id) keyless a r p e d y l = absurd (p id refl)
-asks_nothing (lines.Enable id) keyless a r p e d y l = absurd (e id refl)
-asks_nothing (lines.Disable id) keyless a r p e d y l = absurd (d id refl)
-asks_nothing (lines.Destroy id) keyless a r p e d y l = absurd (y id refl)
-asks_nothing (lines.Delete id) keyless a r p e d y l = absurd (l id refl)
-asks_nothing lines.Bad keyless a r p e d y l = λ table keys random. refl
+asks_nothing (lines.Seal plain ad) keyless none = clash (sym keyless)
+asks_nothing (lines.Dseal plain ad) keyless none = clash (sym keyless)
+asks_nothing (lines.Open sealed ad) keyless none = clash (sym keyless)
+asks_nothing (lines.Dopen sealed ad) keyless none = clash (sym keyless)
+asks_nothing (lines.Tag body) keyless none = clash (sym keyless)
+asks_nothing (lines.Verify tag body) keyless none = clash (sym keyless)
+asks_nothing (lines.Derive size input) keyless none = clash (sym keyless)
+asks_nothing (lines.Edit edit) keyless none = absurd (none edit refl)
+asks_nothing lines.Bad keyless none = λ table keys random. refl

@@ -23,18 +23,21 @@ use Rattle.managers.specs.Uses.{dseal_of, iv_size, seal_of, tag_of, tagged}
 use Rattle.tinkey_cmds.proofs.Among.{Among, among-all, find-among}
 use Rattle.tinkey_cmds.proofs.Kept.{most_random}
 use Rattle.tinkey_cmds.specs.Draws.{Draw, Drawn, and_then, answered as answers, fill, unless_err}
-use Rattle.tinkey_cmds.specs.Edits.{Edit, added, alone, effect_of, grown, id_of, is_taken, new_id, new_record, record_of, refusal_of, rotated, step, unless_refused, with_key}
+use Rattle.tinkey_cmds.specs.Edits.{Edit, EditOf, added, alone, effect_of, grown, id_of, is_taken, new_id, new_record, record_of, refusal_of, rotated, step, unless_refused, with_key}
 use Rattle.tinkey_cmds.specs.Edits as edits
 use Rattle.tinkey_cmds.specs.Laws.{HasTemplate, IsTemplate}
 use Rattle.tinkey_cmds.specs.declared.command.CmdFault.{CmdFault}
 use Rattle.tinkey_cmds.specs.declared.command.CmdFault.TheVariants.{IdsExhausted}
 use Rattle.tinkey_session.proofs.DrawLemmas.{served_left}
 use Rattle.tinkey_session.proofs.Options.{clash, no_truth}
-use Rattle.tinkey_session.proofs.TurnLemmas.{template_there}
+use Rattle.tinkey_session.proofs.TurnLemmas.{asked_cases}
 use Rattle.tinkey_session.proofs.UsableLemmas.{fit_reading}
 use Rattle.tinkey_session.specs.LineLaws.{FirstsDrawFew, LinesDrawFew}
-use Rattle.tinkey_session.specs.Lines.{Line, Seal, Dseal, Open, Dopen, Tag, Verify, Derive, Add, Rotate, Promote, Enable, Disable, Destroy, Delete, Bad}
-use Rattle.tinkey_session.specs.Serving.{CannotServe, Gives, Refusal, Refuses, Reply, Served, answered, computed, derived_reply, edit_line, sealed_reply, serve, stepped, template_of, unless_unfit, with_template}
+use Rattle.tinkey_session.specs.Lines.{Line, Seal, Dseal, Open, Dopen, Tag, Verify, Derive, Edit as AsksEdit, Bad}
+use Rattle.tinkey_session.specs.Serving.{cannot_serve, Served, answered, asked_line, computed, derived_reply, edit_line, sealed_reply, serve, stepped, unless_unfit}
+use Rattle.tinkey_session.specs.declared.reply.Refusal.{Refusal}
+use Rattle.tinkey_session.specs.declared.reply.Reply.{Reply}
+use Rattle.tinkey_session.specs.declared.reply.Reply.TheVariants.{Gives, Refuses}
 use Rattle.wrapped_prims.proofs.OpenLemmas.{none_here}
 use Rattle.wrapped_prims.specs.Answers.{Sealed, derive_answer, derive_under, dseal_answer, made, made_by, seal_answer, seal_behind, seal_under, tag_answer}
 use Rattle.wrapped_prims.specs.Candidates.{is_legacy, prefix_bytes, prefix_of}
@@ -195,7 +198,7 @@ few-answered keys random reply = (answered keys random reply, refl, omega arith)
 
 few-unless : (u : Option (ℕ × Unfit)) (keys : Keys) (random : List ℕ) (served : Option Served) → (u ≡ None → Few random served) → Few random (unless_unfit u keys random served)
 few-unless None keys random served few = few refl
-few-unless (Some found) keys random served few = few-answered keys random (Refuses (CannotServe found.0 found.1))
+few-unless (Some found) keys random served few = few-answered keys random (Refuses (cannot_serve found.0 found.1))
 
 few-computed : {A : Type 0} (keys : Keys) (random : List ℕ) (reply : A → Reply) (answer : Option A) (value : A) → answer ≡ Some value → Few random (computed keys random reply answer)
 few-computed keys random reply answer value e = subst (λ o. Few random (computed keys random reply o)) (sym e) (few-answered keys random (reply value))
@@ -232,10 +235,11 @@ few-edit keys random edit is enough =
     let s = there.0 in
     (stepped edit keys s, ap (option_map (stepped edit keys)) there.1, subst (λ left. length random ≤ length left + 320) (served_left edit keys s.answer s.left) there.2)
 
-few-template : (edit : Row → Edit) → ((row : Row) → IsTemplate row → HasTemplate (edit row)) → (keys : Keys) (random : List ℕ) (found : Result Row Refusal)
-    → ((row : Row) → found ≡ Ok row → IsTemplate row) → 320 ≤ length random → Few random (with_template edit keys random found)
-few-template edit has keys random (Ok row) there enough = few-edit keys random (edit row) (has row (there row refl)) enough
-few-template edit has keys random (Err why) there enough = few-answered keys random (Refuses why)
+few-asked : (keys : Keys) (random : List ℕ) (asked : EditOf (List ℕ)) → 320 ≤ length random → Few random (asked_line keys random asked)
+few-asked keys random asked enough = elim (asked_cases keys asked) [
+  | inl found ↦ subst (Few random) (sym (found.2 random)) (few-edit keys random found.0 found.1 enough)
+  | inr refused ↦ subst (Few random) (sym (refused.1 random)) (few-answered keys random (Refuses refused.0))
+]
 
 few-line : (table : Table) (keys : Keys) (line : Line) (random : List ℕ) → fault_of keys ≡ None → 320 ≤ length random → Few random (serve table keys line random)
 unfolding serve
@@ -249,13 +253,7 @@ few-line table keys (Tag body) random k enough = few-unless (unfit keys Mac tabl
 few-line table keys (Verify tag body) random k enough = few-unless (unfit keys Mac table) keys random _ (λ fit. few-answered keys random _)
 few-line table keys (Derive size input) random k enough = few-unless (unfit keys Prf table) keys random _ (λ fit.
     few-computed keys random (derived_reply size) (derive_answer keys table input size) _ (derived_there table keys input size (has_primary_key table Prf keys k fit)))
-few-line table keys (Add name) random k enough = few-template edits.Add (λ row is. is) keys random (template_of name) (template_there name) enough
-few-line table keys (Rotate name) random k enough = few-template edits.Rotate (λ row is. is) keys random (template_of name) (template_there name) enough
-few-line table keys (Promote id) random k enough = few-edit keys random (edits.Promote id) tt enough
-few-line table keys (Enable id) random k enough = few-edit keys random (edits.Enable id) tt enough
-few-line table keys (Disable id) random k enough = few-edit keys random (edits.Disable id) tt enough
-few-line table keys (Destroy id) random k enough = few-edit keys random (edits.Destroy id) tt enough
-few-line table keys (Delete id) random k enough = few-edit keys random (edits.Delete id) tt enough
+few-line table keys (AsksEdit edit) random k enough = few-asked keys random edit enough
 few-line table keys Bad random k enough = few-answered keys random _
 
 pub lines_draw_few : LinesDrawFew

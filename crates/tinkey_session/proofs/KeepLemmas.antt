@@ -11,10 +11,11 @@ use Rattle.tinkey_session.proofs.Options.{clash}
 use Rattle.tinkey_session.specs.Answered.{Serves}
 use Rattle.tinkey_session.specs.Keeping.{IsHeldFor, IsKept, ServesBy, needs, unserved}
 use Rattle.tinkey_session.specs.Lines.{Line, Seal, Dseal, Open, Dopen, Tag, Verify, Derive}
-use Rattle.tinkey_session.specs.Serving.{CannotServe, Refuses, Served, answered, by_handle, serve, unless_unfit}
+use Rattle.tinkey_session.specs.Serving.{cannot_serve, Served, answered, by_handle, serve, unless_unfit}
+use Rattle.tinkey_session.specs.declared.reply.Reply.TheVariants.{Refuses}
 use Rattle.tinkey_session.specs.declared.reply.Refusal.TheVariants as refusals
 use Rattle.tinkey_session.specs.declared.reply.Reply.TheVariants as replies
-use Rattle.tinkey_session.specs.declared.reply.Reply.{Reply as CodeReply}
+use Rattle.tinkey_session.specs.declared.reply.Reply.{Reply}
 use Rattle.tinkey_session.specs.declared.session.LineFault.{LineFault}
 use Rattle.wrapped_prims.specs.Fitness.{Unfit, unfit}
 use Rattle.wrapped_prims.specs.Making.{IsFaultOf, IsOver}
@@ -24,11 +25,11 @@ use Rattle.wrapped_prims.specs.declared.held.Held.{Held}
 
 -- ---- keysets that can't serve
 
-refused : (needed primitive : Primitive) (table : Table) (keys : Keys) (random : List ℕ) (served : Option Served) (found : ℕ × Unfit) → Some needed ≡ Some primitive → unfit keys primitive table ≡ Some found → by_handle needed table keys random served ≡ Some (answered keys random (Refuses (CannotServe found.0 found.1)))
+refused : (needed primitive : Primitive) (table : Table) (keys : Keys) (random : List ℕ) (served : Option Served) (found : ℕ × Unfit) → Some needed ≡ Some primitive → unfit keys primitive table ≡ Some found → by_handle needed table keys random served ≡ Some (answered keys random (Refuses (cannot_serve found.0 found.1)))
 refused needed primitive table keys random served found same is =
     ap (λ p. by_handle p table keys random served) (same_Some _ _ same) ∙ ap (λ u. unless_unfit u keys random served) is
 
-pub unfit_served : (line : Line) (primitive : Primitive) (table : Table) (keys : Keys) (random : List ℕ) (found : ℕ × Unfit) → needs line ≡ Some primitive → unfit keys primitive table ≡ Some found → serve table keys line random ≡ Some (answered keys random (Refuses (CannotServe found.0 found.1)))
+pub unfit_served : (line : Line) (primitive : Primitive) (table : Table) (keys : Keys) (random : List ℕ) (found : ℕ × Unfit) → needs line ≡ Some primitive → unfit keys primitive table ≡ Some found → serve table keys line random ≡ Some (answered keys random (Refuses (cannot_serve found.0 found.1)))
 unfolding serve
 unfit_served (Seal plain ad) primitive table keys random found is unfits = refused Aead primitive table keys random _ found is unfits
 unfit_served (Open sealed ad) primitive table keys random found is unfits = refused Aead primitive table keys random _ found is unfits
@@ -55,7 +56,7 @@ pub kept_held : (table own : Table) (primitive other : Primitive) (keys : Keys) 
 kept_held table own primitive other keys held line kept same is =
     held_for own (needs line) primitive keys held is (subst (λ p. IsOver own p keys held) same kept.over)
 
-pub kept_serves : (first table own : Table) (primitive other : Primitive) (keys after : Keys) (held : Held) (line : Line) (result : Result CodeReply LineFault) (old new : EntropyState) → table ≡ first → after ≡ keys → IsKept table own other after held → other ≡ primitive → needs line ≡ Some primitive → ServesBy own held line result old new → Serves (serve first keys line) result after old new
+pub kept_serves : (first table own : Table) (primitive other : Primitive) (keys after : Keys) (held : Held) (line : Line) (result : Result Reply LineFault) (old new : EntropyState) → table ≡ first → after ≡ keys → IsKept table own other after held → other ≡ primitive → needs line ≡ Some primitive → ServesBy own held line result old new → Serves (serve first keys line) result after old new
 kept_serves first table own primitive other keys after held line result old new tables same kept primitives is serves =
     subst (λ k. Serves (serve first k line) result after old new) same
     (subst (λ t. Serves (serve t after line) result after old new) (kept.same ∙ tables)

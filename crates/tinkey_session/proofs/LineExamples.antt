@@ -3,7 +3,8 @@ use Rattle.std.proofs.Common.{◌≡◌, refl, [], ◌∷◌, ◌++◌, codes}
 use Rattle.std.specs.Prelude.{⊤}
 use Rattle.std.specs.Str.{chars, is_utf8}
 use Rattle.hex.proofs.OnLiterals.{hex_on_literals}
-use Rattle.tinkey_session.specs.Lines.{Seal, Dseal, Open, Dopen, Tag, Verify, Derive, Add, Rotate, Promote, Enable, Disable, Destroy, Delete, Bad, line_of}
+use Rattle.tinkey_cmds.specs.Edits.{Add, Rotate, Promote, Enable, Disable, Destroy, Delete}
+use Rattle.tinkey_session.specs.Lines.{Seal, Dseal, Open, Dopen, Tag, Verify, Derive, Edit, Bad, line_of}
 use Rattle.tinkey_session.specs.Session.{lines_of}
 
 -- what unfolds to read a line that is a literal
@@ -20,21 +21,21 @@ forms :
     × (line_of (codes "tag 48") ≡ Tag (72 ∷ []))
     × (line_of (codes "verify 0A 48") ≡ Verify (10 ∷ []) (72 ∷ []))
     × (line_of (codes "derive 82 -") ≡ Derive 82 [])
-    × (line_of (codes "add AES128_GCM") ≡ Add (codes "AES128_GCM"))
-    × (line_of (codes "rotate x") ≡ Rotate (codes "x"))
-    × (line_of (codes "promote 16909060") ≡ Promote 16909060)
-    × (line_of (codes "enable 0") ≡ Enable 0)
-    × (line_of (codes "disable 4294967295") ≡ Disable 4294967295)
-    × (line_of (codes "destroy 0000000007") ≡ Destroy 7)
-    × (line_of (codes "delete 9") ≡ Delete 9)
+    × (line_of (codes "add AES128_GCM") ≡ Edit (Add (codes "AES128_GCM")))
+    × (line_of (codes "rotate x") ≡ Edit (Rotate (codes "x")))
+    × (line_of (codes "promote 16909060") ≡ Edit (Promote 16909060))
+    × (line_of (codes "enable 0") ≡ Edit (Enable 0))
+    × (line_of (codes "disable 4294967295") ≡ Edit (Disable 4294967295))
+    × (line_of (codes "destroy 0000000007") ≡ Edit (Destroy 7))
+    × (line_of (codes "delete 9") ≡ Edit (Delete 9))
 unfolding line_on_literals
 forms = (refl, refl, refl, refl, refl, refl, refl, refl, refl, refl, refl, refl, refl, refl)
 
 -- a tab, a carriage return or a letter of two bytes may stand in a name
 names :
-    (line_of (codes "add \t") ≡ Add (9 ∷ []))
-    × (line_of (codes "add A\r") ≡ Add (65 ∷ 13 ∷ []))
-    × (line_of (codes "add " ++ 195 ∷ 169 ∷ []) ≡ Add (195 ∷ 169 ∷ []))
+    (line_of (codes "add \t") ≡ Edit (Add (9 ∷ [])))
+    × (line_of (codes "add A\r") ≡ Edit (Add (65 ∷ 13 ∷ [])))
+    × (line_of (codes "add " ++ 195 ∷ 169 ∷ []) ≡ Edit (Add (195 ∷ 169 ∷ [])))
 unfolding line_on_literals
 names = (refl, refl, refl)
 

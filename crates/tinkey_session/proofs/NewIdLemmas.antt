@@ -10,8 +10,10 @@ use Rattle.tinkey_cmds.specs.Edits as edits
 use Rattle.tinkey_cmds.specs.declared.command.CmdFault.{CmdFault}
 use Rattle.tinkey_session.proofs.Options.{map_some}
 use Rattle.tinkey_session.specs.LineLaws.{TellsNewId}
-use Rattle.tinkey_session.specs.Lines.{Add, Rotate}
-use Rattle.tinkey_session.specs.Serving.{EditRefused, NewId, Refusal, Refuses, Served, edit_served, edited_reply, last_id, serve, stepped, template_of, with_template}
+use Rattle.tinkey_session.specs.Serving.{Served, edit_line, edit_served, edited_reply, last_id, serve, stepped, template_of, with_template}
+use Rattle.tinkey_session.specs.declared.reply.Refusal.{Refusal}
+use Rattle.tinkey_session.specs.declared.reply.Refusal.TheVariants.{EditRefused}
+use Rattle.tinkey_session.specs.declared.reply.Reply.TheVariants.{NewId, Refuses}
 
 -- one record more, which stands last
 abbrev HasOneMore : Keys → Keys → Type 0
@@ -56,7 +58,7 @@ told-served edit keys (Ok new) left tells grown =
     inr (more.0, tells new ∙ ap last_id more.1 ∙ last_id-push keys.records more.0, more.1)
 
 told-line : (edit : Row → Edit) → ((row : Row) → TellsLast (edit row)) → ((old new : Keys) (row : Row) → Grows old (edit row) new → HasOneMore old new)
-    → (keys : Keys) (random : List ℕ) (found : Result Row Refusal) (x : Served) → with_template edit keys random found ≡ Some x → IsTold keys x
+    → (keys : Keys) (random : List ℕ) (found : Result Row Refusal) (x : Served) → with_template keys random found (λ row. edit_line keys random (edit row)) ≡ Some x → IsTold keys x
 told-line edit tells grown keys random (Err why) x e = inl (why, ap (λ y. y.reply) (sym (same_Some _ _ e)))
 told-line edit tells grown keys random (Ok row) x e =
     let there = map_some (stepped (edit row) keys) (step keys (edit row) random) x e in
@@ -64,10 +66,10 @@ told-line edit tells grown keys random (Ok row) x e =
     subst (IsTold keys) there.2 (told-served (edit row) keys s.answer s.left (tells row)
     (λ new ok. grown keys new row (grows keys new (edit row) random s there.1 ok)))
 
-pub tells_added : TellsNewId Add
+pub tells_added : TellsNewId edits.Add
 unfolding serve
 tells_added table keys name random x e = told-line edits.Add (λ row keys. refl) (λ old new row g. g) keys random (template_of name) x e
 
-pub tells_rotated : TellsNewId Rotate
+pub tells_rotated : TellsNewId edits.Rotate
 unfolding serve
 tells_rotated table keys name random x e = told-line edits.Rotate (λ row keys. refl) (λ old new row g. g) keys random (template_of name) x e

@@ -5,10 +5,14 @@ use Rattle.key_msgs.specs.Templates.{row_named}
 use Rattle.keyset_model.specs.Keyset.{Keys, first_some, when}
 use Rattle.keyset_model.specs.declared.record.Record.{Record}
 use Rattle.managers.specs.Standard.{standard_table}
-use Rattle.tinkey_cmds.specs.Edits.{changed, effect_of, full_or_mixed, new_id, of_named, refusal_of}
+use Rattle.tinkey_cmds.specs.Edits.{Add, Rotate, Disable, Delete, changed, effect_of, full_or_mixed, new_id, of_named, refusal_of}
 use Rattle.tinkey_cmds.specs.declared.command.CmdFault.TheVariants.{IdsExhausted, KeyIsPrimary, KeyNotFound, MixedPrimitive}
-use Rattle.tinkey_session.specs.Lines.{Line, Add, Rotate, Disable, Delete, Bad}
-use Rattle.tinkey_session.specs.Serving.{AsymmetricTemplate, BadLine, Done, EditRefused, NewId, Refusal, Refuses, Reply, Served, UnknownTemplate, answered, serve}
+use Rattle.tinkey_session.specs.Lines.{Line, Edit, Bad}
+use Rattle.tinkey_session.specs.Serving.{Served, answered, serve}
+use Rattle.tinkey_session.specs.declared.reply.Refusal.{Refusal}
+use Rattle.tinkey_session.specs.declared.reply.Refusal.TheVariants.{AsymmetricTemplate, BadLine, EditRefused, UnknownTemplate}
+use Rattle.tinkey_session.specs.declared.reply.Reply.{Reply}
+use Rattle.tinkey_session.specs.declared.reply.Reply.TheVariants.{Done, NewId, Refuses}
 
 abbrev url : List ℕ
 url = codes "type.googleapis.com/google.crypto.tink.AesGcmKey"
@@ -28,11 +32,11 @@ IsRefused before line random left why = serve standard_table before line random 
 
 refused :
     IsRefused keys Bad (1 ∷ []) (1 ∷ []) BadLine
-    × IsRefused keys (Add (codes "AES128_GCN")) [] [] UnknownTemplate
-    × IsRefused keys (Rotate (codes "ECDSA_P256")) [] [] AsymmetricTemplate
-    × IsRefused keys (Add (codes "AES256_SIV")) (1 ∷ []) (1 ∷ []) (EditRefused MixedPrimitive)
-    × IsRefused (rotated 1) (Delete 168496141) [] [] (EditRefused KeyIsPrimary)
-    × IsRefused keys (Disable 8) [] [] (EditRefused KeyNotFound)
+    × IsRefused keys (Edit (Add (codes "AES128_GCN"))) [] [] UnknownTemplate
+    × IsRefused keys (Edit (Rotate (codes "ECDSA_P256"))) [] [] AsymmetricTemplate
+    × IsRefused keys (Edit (Add (codes "AES256_SIV"))) (1 ∷ []) (1 ∷ []) (EditRefused MixedPrimitive)
+    × IsRefused (rotated 1) (Edit (Delete 168496141)) [] [] (EditRefused KeyIsPrimary)
+    × IsRefused keys (Edit (Disable 8)) [] [] (EditRefused KeyNotFound)
 unfolding serve row_named type_of_url first_some when of_named full_or_mixed refusal_of
 refused = (refl, refl, refl, refl, refl, refl)
 
@@ -41,13 +45,13 @@ seen s = (s.reply, s.left, s.keys.primary)
 
 -- the new key's id is answered, 20 bytes are drawn, and the new key is primary
 accepted :
-    (option_map seen (serve standard_table keys (Rotate (codes "AES128_GCM")) (10 ∷ 11 ∷ 12 ∷ 13 ∷ replicate 16 0 ++ 7 ∷ []))
+    (option_map seen (serve standard_table keys (Edit (Rotate (codes "AES128_GCM"))) (10 ∷ 11 ∷ 12 ∷ 13 ∷ replicate 16 0 ++ 7 ∷ []))
     ≡ Some (NewId 168496141, 7 ∷ [], 168496141))
-    × (serve standard_table (rotated 1) (Disable 16909060) [] ≡ Some (answered (rotated 2) [] Done))
+    × (serve standard_table (rotated 1) (Edit (Disable 16909060)) [] ≡ Some (answered (rotated 2) [] Done))
 unfolding serve row_named type_of_url first_some when of_named full_or_mixed refusal_of effect_of new_id changed
 accepted = (refl, refl)
 
 -- 64 groups of four bytes 0 are drawn, none of which is an id
-exhausted : IsRefused keys (Rotate (codes "AES128_GCM")) (replicate 257 0) (0 ∷ []) (EditRefused IdsExhausted)
+exhausted : IsRefused keys (Edit (Rotate (codes "AES128_GCM"))) (replicate 257 0) (0 ∷ []) (EditRefused IdsExhausted)
 unfolding serve row_named type_of_url first_some when full_or_mixed refusal_of effect_of new_id
 exhausted = refl

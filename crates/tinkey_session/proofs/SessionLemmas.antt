@@ -12,7 +12,10 @@ use Rattle.tinkey_session.specs.Laws.{EditsKeepSound, IsEdited, KeptDopen, KeptD
 use Rattle.tinkey_session.specs.LineLaws.{LinesOpen, LinesOpenRaw}
 use Rattle.tinkey_session.specs.SessionLaws.{HasTurns, SessionDopens, SessionDopensRaw, SessionOpens, SessionOpensRaw, SessionVerifies}
 use Rattle.tinkey_session.specs.Lines.{Line, Seal, Dseal, Open, Dopen, Tag, Verify}
-use Rattle.tinkey_session.specs.Serving.{CannotServe, Gives, Refusal, Refuses, Reply, Served, answered, by_handle, computed, opened_reply, sealed_reply, serve, unless_unfit, verified_reply}
+use Rattle.tinkey_session.specs.Serving.{cannot_serve, Served, answered, by_handle, computed, opened_reply, sealed_reply, serve, unless_unfit, verified_reply}
+use Rattle.tinkey_session.specs.declared.reply.Refusal.{Refusal}
+use Rattle.tinkey_session.specs.declared.reply.Reply.{Reply}
+use Rattle.tinkey_session.specs.declared.reply.Reply.TheVariants.{Gives, Refuses}
 use Rattle.tinkey_session.specs.Session.{Turn}
 use Rattle.wrapped_prims.specs.Answers.{Sealed, dseal_answer, open_answer, seal_answer, tag_answer}
 use Rattle.wrapped_prims.specs.Fitness.{unfit}
@@ -37,7 +40,7 @@ gave : (p : Primitive) (keys : Keys) (random : List ℕ) (served : Option Served
     → Gave p keys served x
 gave p keys random served x bytes e reply = elim (handle_cases (unfit keys p standard_table) keys random served x e) [
   | inl is ↦ record { fit = is.0; is = is.1 }
-  | inr other ↦ refuses_not_gives (CannotServe other.0.0 other.0.1) bytes (ap (λ y. y.reply) other.1 ∙ reply)
+  | inr other ↦ refuses_not_gives (cannot_serve other.0.0 other.0.1) bytes (ap (λ y. y.reply) other.1 ∙ reply)
 ]
 
 -- ---- the second line

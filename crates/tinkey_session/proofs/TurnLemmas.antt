@@ -1,5 +1,5 @@
 -- A session's turns, and the edits that lead to each.
-use Rattle.std.proofs.Common.{◌≡◌, ◌∙◌, ◌⊎◌, inl, inr, refl, ap, subst, ℕ, zero, suc, ◌<◌, Bool, true, false, List, [], ◌∷◌, ◌++◌, Option, Some, None, Result, Ok, Err, arith}
+use Rattle.std.proofs.Common.{◌≡◌, ◌∙◌, ◌⊎◌, inl, inr, refl, sym, ap, subst, ℕ, zero, suc, ◌<◌, Bool, true, false, List, [], ◌∷◌, ◌++◌, Option, Some, None, Result, Ok, Err, arith}
 use Rattle.std.specs.Prelude.{slice_get}
 use Rattle.std.specs.Option.{option_and_then}
 use Rattle.std.specs.Str.{bytes_eq}
@@ -11,15 +11,18 @@ use Rattle.keyset_model.specs.Keyset.{Keys}
 use Rattle.managers.specs.Table.{Table}
 use Rattle.tinkey_cmds.proofs.Among.{contains-among, find-among}
 use Rattle.tinkey_cmds.proofs.Lists.{each-append}
-use Rattle.tinkey_cmds.specs.Edits.{Edit, Stepped, step}
+use Rattle.tinkey_cmds.specs.Edits.{Edit, EditOf, Stepped, step}
 use Rattle.tinkey_cmds.specs.Edits as edits
 use Rattle.tinkey_cmds.specs.Laws.{HasTemplate, IsTemplate}
 use Rattle.tinkey_cmds.specs.declared.command.CmdFault.{CmdFault}
 use Rattle.tinkey_session.proofs.Options.{clash, map_some}
 use Rattle.tinkey_session.specs.Laws.{Asked, IsAsked, IsEdited, after, kept}
 use Rattle.tinkey_session.specs.SessionLaws.{SessionIsEdits}
-use Rattle.tinkey_session.specs.Lines.{Line, Seal, Dseal, Open, Dopen, Tag, Verify, Derive, Add, Rotate, Promote, Enable, Disable, Destroy, Delete, Bad}
-use Rattle.tinkey_session.specs.Serving.{CannotServe, Refusal, Refuses, Reply, Served, answered, by_handle, computed, edit_line, edit_served, sealed_reply, serve, stepped, template_of, template_or, unless_unfit, with_template}
+use Rattle.tinkey_session.specs.Lines.{Line, Seal, Dseal, Open, Dopen, Tag, Verify, Derive, Edit as AsksEdit, Bad}
+use Rattle.tinkey_session.specs.Serving.{cannot_serve, Served, answered, asked_line, by_handle, computed, edit_line, edit_served, sealed_reply, serve, stepped, template_of, template_or, unless_unfit, with_template}
+use Rattle.tinkey_session.specs.declared.reply.Refusal.{Refusal}
+use Rattle.tinkey_session.specs.declared.reply.Reply.{Reply}
+use Rattle.tinkey_session.specs.declared.reply.Reply.TheVariants.{Refuses}
 use Rattle.tinkey_session.specs.Session.{Turn, remains, turn_then, turns}
 use Rattle.wrapped_prims.specs.Answers.{derive_answer, dseal_answer, seal_answer, tag_answer}
 use Rattle.wrapped_prims.specs.Fitness.{Unfit, unfit}
@@ -68,7 +71,7 @@ Leaves keys random x = (keys ≡ x.keys) ⊎ ((edit : Edit) × HasTemplate edit 
 
 -- a keyset that can serve, or the first record that can't
 pub handle_cases : (u : Option (ℕ × Unfit)) (keys : Keys) (random : List ℕ) (served : Option Served) (x : Served) → unless_unfit u keys random served ≡ Some x
-    → ((u ≡ None) × (served ≡ Some x)) ⊎ ((f : ℕ × Unfit) × (answered keys random (Refuses (CannotServe f.0 f.1)) ≡ x))
+    → ((u ≡ None) × (served ≡ Some x)) ⊎ ((f : ℕ × Unfit) × (answered keys random (Refuses (cannot_serve f.0 f.1)) ≡ x))
 handle_cases None keys random served x e = inl (refl, e)
 handle_cases (Some f) keys random served x e = inr (f, same_Some _ _ e)
 
@@ -100,10 +103,31 @@ template_there name row e = by (row_named name) (is_asymmetric name) refl e
     by None true t k = absurd cc
     by None false t k = absurd cc
 
-templated : (edit : Row → Edit) → ((row : Row) → IsTemplate row → HasTemplate (edit row)) → (keys : Keys) (random : List ℕ) (found : Result Row Refusal) (x : Served)
-    → ((row : Row) → found ≡ Ok row → IsTemplate row) → with_template edit keys random found ≡ Some x → Leaves keys random x
-templated edit has keys random (Ok row) x there e = inr (edit row, has row (there row refl), e)
-templated edit has keys random (Err why) x there e = inl (answer_keeps keys random (Refuses why) x e)
+-- what is asked for is an edit, which has its template, or is refused for its name
+abbrev pub GivesAsked : Keys → (List ℕ → Option Served) → Type 0
+GivesAsked keys give =
+    ((edit : Edit) × HasTemplate edit × ((random : List ℕ) → give random ≡ edit_line keys random edit))
+    ⊎ ((why : Refusal) × ((random : List ℕ) → give random ≡ Some (answered keys random (Refuses why))))
+
+asked_by : (keys : Keys) (edit : Row → Edit) → ((row : Row) → IsTemplate row → HasTemplate (edit row)) → (found : Result Row Refusal) → ((row : Row) → found ≡ Ok row → IsTemplate row)
+    → GivesAsked keys (λ random. with_template keys random found (λ row. edit_line keys random (edit row)))
+asked_by keys edit has (Ok row) there = inl (edit row, has row (there row refl), λ random. refl)
+asked_by keys edit has (Err why) there = inr (why, λ random. refl)
+
+pub asked_cases : (keys : Keys) (asked : EditOf (List ℕ)) → GivesAsked keys (λ random. asked_line keys random asked)
+asked_cases keys (edits.Add name) = asked_by keys edits.Add (λ row is. is) (template_of name) (template_there name)
+asked_cases keys (edits.Rotate name) = asked_by keys edits.Rotate (λ row is. is) (template_of name) (template_there name)
+asked_cases keys (edits.Promote id) = inl (edits.Promote id, tt, λ random. refl)
+asked_cases keys (edits.Enable id) = inl (edits.Enable id, tt, λ random. refl)
+asked_cases keys (edits.Disable id) = inl (edits.Disable id, tt, λ random. refl)
+asked_cases keys (edits.Destroy id) = inl (edits.Destroy id, tt, λ random. refl)
+asked_cases keys (edits.Delete id) = inl (edits.Delete id, tt, λ random. refl)
+
+asked_leaves : (keys : Keys) (asked : EditOf (List ℕ)) (random : List ℕ) (x : Served) → asked_line keys random asked ≡ Some x → Leaves keys random x
+asked_leaves keys asked random x e = elim (asked_cases keys asked) [
+  | inl found ↦ inr (found.0, found.1, sym (found.2 random) ∙ e)
+  | inr refused ↦ inl (answer_keeps keys random (Refuses refused.0) x (sym (refused.1 random) ∙ e))
+]
 
 -- ---- every line
 
@@ -117,13 +141,7 @@ serve_leaves table keys (Dopen sealed ad) random x e = handled Daead table keys 
 serve_leaves table keys (Tag body) random x e = handled Mac table keys random _ x e (computed_keeps keys random _ (tag_answer keys table body) x)
 serve_leaves table keys (Verify tag body) random x e = handled Mac table keys random _ x e (answer_keeps keys random _ x)
 serve_leaves table keys (Derive size input) random x e = handled Prf table keys random _ x e (computed_keeps keys random _ (derive_answer keys table input size) x)
-serve_leaves table keys (Add name) random x e = templated edits.Add (λ row is. is) keys random (template_of name) x (template_there name) e
-serve_leaves table keys (Rotate name) random x e = templated edits.Rotate (λ row is. is) keys random (template_of name) x (template_there name) e
-serve_leaves table keys (Promote id) random x e = inr (edits.Promote id, tt, e)
-serve_leaves table keys (Enable id) random x e = inr (edits.Enable id, tt, e)
-serve_leaves table keys (Disable id) random x e = inr (edits.Disable id, tt, e)
-serve_leaves table keys (Destroy id) random x e = inr (edits.Destroy id, tt, e)
-serve_leaves table keys (Delete id) random x e = inr (edits.Delete id, tt, e)
+serve_leaves table keys (AsksEdit edit) random x e = asked_leaves keys edit random x e
 serve_leaves table keys Bad random x e = inl (answer_keeps keys random _ x e)
 
 pub serve_edits : (table : Table) (keys : Keys) (line : Line) (random : List ℕ) (x : Served) → serve table keys line random ≡ Some x → IsEdited keys x.keys

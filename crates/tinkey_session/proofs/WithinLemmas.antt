@@ -7,7 +7,8 @@ use Rattle.hex.specs.Hex.{decode_of, decode_pairs}
 use Rattle.hex.specs.declared.error.FromHexError.{FromHexError}
 use Rattle.hex.specs.declared.error.FromHexError.TheVariants as hex_errors
 use Rattle.hex.proofs.HexLemmas.{decode_pairs-ok}
-use Rattle.tinkey_session.specs.Lines.{Line, Seal, Dseal, Open, Dopen, Tag, Verify, Derive, Add, Rotate, Promote, Enable, Disable, Destroy, Delete, Bad, bytes_in, line_of, line_of_words, line_with_bytes, line_with_id, line_with_one, line_with_two, name_in, number_in, with_one, with_two, words_of}
+use Rattle.tinkey_cmds.specs.Edits.{Add, Rotate, Promote, Enable, Disable, Destroy, Delete}
+use Rattle.tinkey_session.specs.Lines.{Line, Seal, Dseal, Open, Dopen, Tag, Verify, Derive, Edit, Bad, bytes_in, line_of, line_of_words, line_with_bytes, line_with_id, line_with_one, line_with_two, name_in, number_in, with_one, with_two, words_of}
 use Rattle.tinkey_session.specs.Reading.{IsWithin}
 
 -- ---- words
@@ -58,7 +59,7 @@ bytes_fit most word le = by (bytes_eq word (codes "-")) (length word == 0)
 id_within : (most : ℕ) (name : List ℕ) (id : ℕ) → IsWithin most (line_with_id name id)
 id_within most name id = by (bytes_eq name (codes "promote")) (bytes_eq name (codes "enable")) (bytes_eq name (codes "disable")) (bytes_eq name (codes "destroy")) (bytes_eq name (codes "delete"))
   where
-    by : (a b c d e : Bool) → IsWithin most (cond a (Promote id) (cond b (Enable id) (cond c (Disable id) (cond d (Destroy id) (cond e (Delete id) Bad)))))
+    by : (a b c d e : Bool) → IsWithin most (cond a (Edit (Promote id)) (cond b (Edit (Enable id)) (cond c (Edit (Disable id)) (cond d (Edit (Destroy id)) (cond e (Edit (Delete id)) Bad)))))
     by true b c d e = tt
     by false true c d e = tt
     by false false true d e = tt
@@ -70,7 +71,7 @@ one_within : (most : ℕ) (name a : List ℕ) → length a ≤ most → IsWithin
 one_within most name a le = by (bytes_eq name (codes "tag")) (bytes_eq name (codes "add")) (bytes_eq name (codes "rotate")) (bytes_in a) (bytes_fit most a le) (name_in a) (number_in a)
   where
     by : (tag add rotate : Bool) (bytes : Option (List ℕ)) → Fits most bytes → (named : Option (List ℕ)) (number : Option ℕ)
-        → IsWithin most (cond tag (with_one Tag bytes) (cond add (with_one Add named) (cond rotate (with_one Rotate named) (with_one (line_with_id name) number))))
+        → IsWithin most (cond tag (with_one Tag bytes) (cond add (with_one (λ name. Edit (Add name)) named) (cond rotate (with_one (λ name. Edit (Rotate name)) named) (with_one (line_with_id name) number))))
     by true add rotate (Some bytes) fits named number = fits
     by true add rotate None fits named number = tt
     by false true rotate bytes fits (Some template) number = tt
@@ -136,13 +137,7 @@ within_limit least most (Dopen plain ad) le is = let a = is.0 in let b = is.1 in
 within_limit least most (Tag body) le is = omega (arith, is, le)
 within_limit least most (Verify tag body) le is = let a = is.0 in let b = is.1 in (omega (arith, a, le), omega (arith, b, le))
 within_limit least most (Derive size input) le is = omega (arith, is, le)
-within_limit least most (Add name) le is = tt
-within_limit least most (Rotate name) le is = tt
-within_limit least most (Promote id) le is = tt
-within_limit least most (Enable id) le is = tt
-within_limit least most (Disable id) le is = tt
-within_limit least most (Destroy id) le is = tt
-within_limit least most (Delete id) le is = tt
+within_limit least most (Edit edit) le is = tt
 within_limit least most Bad le is = tt
 
 pub all_within : {A E : Type 0} (seen : A → Line) (line : List ℕ) (r : Result A E) → IfOk r (λ read. seen read ≡ line_of line) → IfOk r (λ read. IsWithin (length line) (seen read))

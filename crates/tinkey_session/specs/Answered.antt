@@ -2,9 +2,8 @@
 use Rattle.std.specs.Prelude.{◌≡◌, ℕ, List, ◌++◌, Option, Some, None, IfSome, IsTrue, Result, Ok, Err}
 use Rattle.keyset_model.specs.Keyset.{Keys}
 use Rattle.tink_spec.specs.Outside.{EntropyState, Drew, Rose, Stood}
-use Rattle.tinkey_session.specs.Reading.{seen_reply}
-use Rattle.tinkey_session.specs.Serving.{Reply, Served}
-use Rattle.tinkey_session.specs.declared.reply.Reply.{Reply as CodeReply}
+use Rattle.tinkey_session.specs.Serving.{Served}
+use Rattle.tinkey_session.specs.declared.reply.Reply.{Reply}
 use Rattle.tinkey_session.specs.declared.session.LineFault.{LineFault}
 use Rattle.tinkey_session.specs.declared.session.LineFault.TheVariants as faults
 
@@ -37,7 +36,7 @@ pub record DrewSome (old new : EntropyState) : Type 0 where
   pub stood : Stood old.faults new.faults
 
 -- what came of a line, with this keyset after it
-abbrev pub Serves : Gives → Result CodeReply LineFault → Keys → (old new : EntropyState) → Type 0
-Serves gives (Ok reply) keys old new = IsAnswered gives (seen_reply reply) keys old new
+abbrev pub Serves : Gives → Result Reply LineFault → Keys → (old new : EntropyState) → Type 0
+Serves gives (Ok reply) keys old new = IsAnswered gives reply keys old new
 Serves gives (Err faults.EntropyFault) keys old new = IsUnanswered gives old new
 Serves gives (Err faults.NoMemory) keys old new = DrewSome old new

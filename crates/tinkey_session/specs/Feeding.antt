@@ -8,7 +8,7 @@ use Rattle.keyset_model.specs.Keyset.{Keys}
 use Rattle.managers.specs.Table.{Table}
 use Rattle.tink_spec.specs.Outside.{SinkState, EntropyState, Drew, Rose, Stood, Took, TookPrefix}
 use Rattle.tinkey_session.specs.Answered.{DrewSome, Gives, IsAnswered, IsUnanswered}
-use Rattle.tinkey_session.specs.Serving.{Reply}
+use Rattle.tinkey_session.specs.declared.reply.Reply.{Reply}
 use Rattle.tinkey_session.specs.Talking.{Limit, goes, wants, passes, Talk, finish, going, over}
 use Rattle.tinkey_session.specs.Talks.{limit_fault}
 use Rattle.tinkey_session.specs.Texts.{reply_text}

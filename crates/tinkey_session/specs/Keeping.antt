@@ -1,6 +1,7 @@
 -- The keys that lines need, what a session keeps of them, and the edits that lines ask for.
 use Rattle.std.specs.Prelude.{◌≡◌, ℕ, List, Option, Some, None, Result, Ok, Err}
 use Rattle.key_msgs.specs.declared.primitive.Primitive.{Primitive}
+use Rattle.key_msgs.specs.declared.template.Template.{Template}
 use Rattle.key_msgs.specs.declared.primitive.Primitive.TheVariants.{Aead, Daead, Mac, Prf}
 use Rattle.keyset_model.specs.Keyset.{Keys}
 use Rattle.managers.specs.Table.{Table}
@@ -11,11 +12,11 @@ use Rattle.tinkey_cmds.specs.declared.command.CmdError.TheVariants as errors
 use Rattle.tinkey_cmds.specs.declared.command.Command.{Command}
 use Rattle.tinkey_session.specs.Answered.{Serves}
 use Rattle.tinkey_session.specs.Lines.{Line, Seal, Dseal, Open, Dopen, Tag, Verify, Derive}
-use Rattle.tinkey_session.specs.Reading.{seen_refusal}
-use Rattle.tinkey_session.specs.Serving.{Refuses, answered, edit_line, serve}
-use Rattle.tinkey_session.specs.declared.reply.Refusal.{Refusal as CodeRefusal}
+use Rattle.tinkey_session.specs.Serving.{answered, edit_line, serve}
+use Rattle.tinkey_session.specs.declared.reply.Reply.TheVariants.{Refuses}
+use Rattle.tinkey_session.specs.declared.reply.Refusal.{Refusal}
 use Rattle.tinkey_session.specs.declared.reply.Refusal.TheVariants as refusals
-use Rattle.tinkey_session.specs.declared.reply.Reply.{Reply as CodeReply}
+use Rattle.tinkey_session.specs.declared.reply.Reply.{Reply}
 use Rattle.tinkey_session.specs.declared.reply.Reply.TheVariants as replies
 use Rattle.tinkey_session.specs.declared.session.LineFault.{LineFault}
 use Rattle.tinkey_session.specs.declared.session.LineFault.TheVariants as line_faults
@@ -45,7 +46,7 @@ abbrev pub Answers : Table → Line → Held → Type 0
 Answers table line held = (keys : Keys) × IsHeldFor (needs line) table keys held
 
 -- this came of a line, by the keys that are held
-abbrev pub ServesBy : Table → Held → Line → Result CodeReply LineFault → (old new : EntropyState)
+abbrev pub ServesBy : Table → Held → Line → Result Reply LineFault → (old new : EntropyState)
     → Type 0
 ServesBy table held line result old new =
     (keys : Keys) → IsHeldFor (needs line) table keys held
@@ -59,20 +60,20 @@ pub record IsKept (table own : Table) (primitive : Primitive) (keys : Keys) (hel
   pub over : IsOver own primitive keys held
 
 -- the edit that a line asks for, or why it is refused, over any keyset
-abbrev pub Asks : Line → Result Command CodeRefusal → Type 0
+abbrev pub Asks : Line → Result (Command Template) Refusal → Type 0
 Asks line (Ok command) = (table : Table) (keys : Keys) (random : List ℕ)
     → serve table keys line random ≡ edit_line keys random (seen_edit command)
 Asks line (Err why) = (table : Table) (keys : Keys) (random : List ℕ)
-    → serve table keys line random ≡ Some (answered keys random (Refuses (seen_refusal why)))
+    → serve table keys line random ≡ Some (answered keys random (Refuses why))
 
 -- what comes of an edit that gives no keyset
-abbrev pub unedited : CmdError → Result CodeReply LineFault
+abbrev pub unedited : CmdError → Result Reply LineFault
 unedited (errors.Refused fault) = Ok (replies.Refuses (refusals.EditRefused fault))
 unedited errors.EntropyFault = Err line_faults.EntropyFault
 unedited errors.NoMemory = Err line_faults.NoMemory
 
 -- what comes of a line whose keyset can't serve
-abbrev pub unserved : HandleFault → Result CodeReply LineFault
+abbrev pub unserved : HandleFault → Result Reply LineFault
 unserved (faults.NoManager i) = Ok (replies.Refuses (refusals.NoManager i))
 unserved (faults.BadKey i rule) = Ok (replies.Refuses (refusals.BadKey i rule))
 unserved (faults.NotRaw i) = Ok (replies.Refuses (refusals.NotRaw i))

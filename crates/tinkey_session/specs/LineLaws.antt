@@ -6,11 +6,13 @@ use Rattle.keyset_model.specs.Keyset.{Keys, fault_of, primary_of}
 use Rattle.keyset_model.specs.declared.record.Record.{Record}
 use Rattle.managers.specs.Standard.{standard_table}
 use Rattle.managers.specs.Table.{Table}
-use Rattle.tinkey_cmds.specs.Edits.{Stepped, first}
+use Rattle.tinkey_cmds.specs.Edits.{EditOf, Stepped, first}
 use Rattle.tinkey_cmds.specs.Laws.{IsTemplate}
 use Rattle.tinkey_session.specs.Laws.{IsEdited}
-use Rattle.tinkey_session.specs.Lines.{Line, Seal, Open, bytes_in, word_of}
-use Rattle.tinkey_session.specs.Serving.{Gives, NewId, Refusal, Refuses, Served, serve}
+use Rattle.tinkey_session.specs.Lines.{Line, Seal, Open, Edit, bytes_in, word_of}
+use Rattle.tinkey_session.specs.Serving.{Served, serve}
+use Rattle.tinkey_session.specs.declared.reply.Refusal.{Refusal}
+use Rattle.tinkey_session.specs.declared.reply.Reply.TheVariants.{Gives, NewId, Refuses}
 use Rattle.wrapped_prims.specs.Candidates.{prefix_of}
 use Rattle.wrapped_prims.specs.Laws.{HasSameKey, IsKeyset}
 
@@ -22,9 +24,9 @@ RefusalsLeave = (table : Table) (keys : Keys) (line : Line) (random : List ℕ) 
 
 -- An accepted line that makes a key answers the id of the one new record, which stands last. Any
 -- other answer of it is a refusal.
-abbrev pub TellsNewId : (List ℕ → Line) → Type 0
+abbrev pub TellsNewId : (List ℕ → EditOf (List ℕ)) → Type 0
 TellsNewId asks = (table : Table) (keys : Keys) (name random : List ℕ) (x : Served)
-    → serve table keys (asks name) random ≡ Some x
+    → serve table keys (Edit (asks name)) random ≡ Some x
     → ((why : Refusal) × (x.reply ≡ Refuses why))
     ⊎ ((r : Record) × (x.reply ≡ NewId r.id) × (x.keys.records ≡ keys.records ++ r ∷ []))
 

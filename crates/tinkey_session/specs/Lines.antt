@@ -14,6 +14,7 @@ use Rattle.std.specs.Result.{result_ok}
 use Rattle.std.specs.Str.{all_ascii_digits, bytes_eq, is_utf8}
 use Rattle.std.specs.Str.Parse.{digits_value}
 use Rattle.hex.specs.Hex.{decode_of, encode_lower}
+use Rattle.tinkey_cmds.specs.Edits.{EditOf, Add, Rotate, Promote, Enable, Disable, Destroy, Delete}
 
 -- what a line asks
 pub data Line : Type 0 where
@@ -22,8 +23,8 @@ pub data Line : Type 0 where
   Tag : (body : List ℕ) → Line
   Verify : (tag body : List ℕ) → Line
   Derive : (size : ℕ) (input : List ℕ) → Line
-  Add Rotate : (name : List ℕ) → Line
-  Promote Enable Disable Destroy Delete : (id : ℕ) → Line
+  -- an edit, by the name of a template or the id of a record
+  Edit : (edit : EditOf (List ℕ)) → Line
   -- any other line
   Bad : Line
 
@@ -73,19 +74,19 @@ with_two asks None word = Bad
 -- the lines of a name and a number
 abbrev pub line_with_id : (name : List ℕ) → (id : ℕ) → Line
 line_with_id name id =
-    if bytes_eq name (codes "promote") then Promote id
-    else (if bytes_eq name (codes "enable") then Enable id
-    else (if bytes_eq name (codes "disable") then Disable id
-    else (if bytes_eq name (codes "destroy") then Destroy id
-    else (if bytes_eq name (codes "delete") then Delete id
+    if bytes_eq name (codes "promote") then Edit (Promote id)
+    else (if bytes_eq name (codes "enable") then Edit (Enable id)
+    else (if bytes_eq name (codes "disable") then Edit (Disable id)
+    else (if bytes_eq name (codes "destroy") then Edit (Destroy id)
+    else (if bytes_eq name (codes "delete") then Edit (Delete id)
     else Bad))))
 
 -- the lines of a name and one word
 abbrev pub line_with_one : (name a : List ℕ) → Line
 line_with_one name a =
     if bytes_eq name (codes "tag") then with_one Tag (bytes_in a)
-    else (if bytes_eq name (codes "add") then with_one Add (name_in a)
-    else (if bytes_eq name (codes "rotate") then with_one Rotate (name_in a)
+    else (if bytes_eq name (codes "add") then with_one (λ name. Edit (Add name)) (name_in a)
+    else (if bytes_eq name (codes "rotate") then with_one (λ name. Edit (Rotate name)) (name_in a)
     else with_one (line_with_id name) (number_in a)))
 
 -- the lines of a name and twice bytes

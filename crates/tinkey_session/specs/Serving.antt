@@ -1,7 +1,6 @@
 -- What a line of a session answers, and the keyset that it leaves. This is the only place where a
 -- line's meaning stands.
 --
---   Refusal, Reply   the answer of a line, as a value
 --   Served           a reply, the keyset after the line, and the random bytes that are left
 --   serve            a line over a keyset, under a table of managers
 --
@@ -14,33 +13,17 @@ use Rattle.key_msgs.specs.declared.primitive.Primitive.TheVariants.{Aead, Daead,
 use Rattle.keyset_model.specs.Keyset.{Keys}
 use Rattle.keyset_model.specs.declared.record.Record.{Record}
 use Rattle.managers.specs.Table.{Table}
-use Rattle.tinkey_cmds.specs.Edits.{Edit, Stepped, step}
+use Rattle.tinkey_cmds.specs.Edits.{Edit, EditOf, Stepped, edit_then, step}
 use Rattle.tinkey_cmds.specs.Edits as edits
 use Rattle.tinkey_cmds.specs.declared.command.CmdFault.{CmdFault}
-use Rattle.tinkey_session.specs.Lines.{Line, Seal, Dseal, Open, Dopen, Tag, Verify, Derive, Add, Rotate, Promote, Enable, Disable, Destroy, Delete, Bad}
+use Rattle.tinkey_session.specs.Lines.{Line, Seal, Dseal, Open, Dopen, Tag, Verify, Derive, Edit as AsksEdit, Bad}
+use Rattle.tinkey_session.specs.declared.reply.Refusal.{Refusal}
+use Rattle.tinkey_session.specs.declared.reply.Refusal.TheVariants.{AsymmetricTemplate, BadLine, EditRefused, OpenFailed, OutputTooLong, UnknownTemplate, VerifyFailed}
+use Rattle.tinkey_session.specs.declared.reply.Refusal.TheVariants as refusals
+use Rattle.tinkey_session.specs.declared.reply.Reply.{Reply}
+use Rattle.tinkey_session.specs.declared.reply.Reply.TheVariants.{Done, Gives, NewId, Refuses}
 use Rattle.wrapped_prims.specs.Answers.{Sealed, derive_answer, dopen_answer, dseal_answer, open_answer, seal_answer, tag_answer, verify_answer}
-use Rattle.wrapped_prims.specs.Fitness.{Unfit, unfit}
-
--- why a line is refused
-pub data Refusal : Type 0 where
-  -- it isn't of the grammar
-  BadLine : Refusal
-  -- no template has the name; one of Tink's for asymmetric keys has it
-  UnknownTemplate AsymmetricTemplate : Refusal
-  -- the record of this place can't serve
-  CannotServe : (place : ℕ) (why : Unfit) → Refusal
-  -- there are no more bytes to derive than so many
-  OutputTooLong : (asked greatest : ℕ) → Refusal
-  EditRefused : (fault : CmdFault) → Refusal
-  OpenFailed VerifyFailed : Refusal
-
--- the answer of a line
-pub data Reply : Type 0 where
-  Done : Reply
-  Gives : (bytes : List ℕ) → Reply
-  -- the id of the key that was made
-  NewId : (id : ℕ) → Reply
-  Refuses : (why : Refusal) → Reply
+use Rattle.wrapped_prims.specs.Fitness.{Unfit, NoManager, BadKey, NotRaw, unfit}
 
 -- what a line gives: its reply, the keyset after it, and the random bytes that are left
 pub record Served : Type 0 where
@@ -53,11 +36,17 @@ pub record Served : Type 0 where
 abbrev pub answered : Keys → (random : List ℕ) → Reply → Served
 answered keys random reply = record { reply = reply; keys = keys; left = random }
 
+-- the refusal for the record of this place, which can't serve
+abbrev pub cannot_serve : (place : ℕ) → Unfit → Refusal
+cannot_serve place NoManager = refusals.NoManager place
+cannot_serve place (BadKey rule) = refusals.BadKey place rule
+cannot_serve place NotRaw = refusals.NotRaw place
+
 -- the first record that can't serve is named, before anything else
 abbrev pub unless_unfit : Option (ℕ × Unfit) → Keys → List ℕ → Option Served → Option Served
 unless_unfit None keys random served = served
 unless_unfit (Some found) keys random served =
-    Some (answered keys random (Refuses (CannotServe found.0 found.1)))
+    Some (answered keys random (Refuses (cannot_serve found.0 found.1)))
 
 -- under a keyset whose ENABLED records all serve the primitive
 abbrev pub by_handle : Primitive → Table → Keys → List ℕ → Option Served → Option Served
@@ -118,10 +107,16 @@ template_or None false = Err UnknownTemplate
 abbrev pub template_of : List ℕ → Result Row Refusal
 template_of name = template_or (row_named name) (is_asymmetric name)
 
--- an edit by a template, which is looked for first
-abbrev pub with_template : (Row → Edit) → Keys → List ℕ → Result Row Refusal → Option Served
-with_template edit keys random (Ok row) = edit_line keys random (edit row)
-with_template edit keys random (Err why) = Some (answered keys random (Refuses why))
+-- the template of a name, and then what comes of it
+abbrev pub with_template : Keys → List ℕ → Result Row Refusal → (Row → Option Served)
+    → Option Served
+with_template keys random (Ok row) next = next row
+with_template keys random (Err why) next = Some (answered keys random (Refuses why))
+
+-- an edit by the name of a template or the id of a record
+abbrev pub asked_line : Keys → List ℕ → EditOf (List ℕ) → Option Served
+asked_line keys random edit = edit_then
+    (λ name. with_template keys random (template_of name)) edit (edit_line keys random)
 
 -- ---- every line
 
@@ -142,11 +137,5 @@ serve table keys (Verify tag body) random = by_handle Mac table keys random
     (Some (answered keys random (verified_reply (verify_answer keys table tag body))))
 serve table keys (Derive size input) random = by_handle Prf table keys random
     (computed keys random (derived_reply size) (derive_answer keys table input size))
-serve table keys (Add name) random = with_template edits.Add keys random (template_of name)
-serve table keys (Rotate name) random = with_template edits.Rotate keys random (template_of name)
-serve table keys (Promote id) random = edit_line keys random (edits.Promote id)
-serve table keys (Enable id) random = edit_line keys random (edits.Enable id)
-serve table keys (Disable id) random = edit_line keys random (edits.Disable id)
-serve table keys (Destroy id) random = edit_line keys random (edits.Destroy id)
-serve table keys (Delete id) random = edit_line keys random (edits.Delete id)
+serve table keys (AsksEdit edit) random = asked_line keys random edit
 serve table keys Bad random = Some (answered keys random (Refuses BadLine))

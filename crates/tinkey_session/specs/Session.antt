@@ -8,7 +8,8 @@ use Rattle.std.specs.List.{onto_first}
 use Rattle.keyset_model.specs.Keyset.{Keys}
 use Rattle.managers.specs.Table.{Table}
 use Rattle.tinkey_session.specs.Lines.{Line, line_of}
-use Rattle.tinkey_session.specs.Serving.{Reply, Served, serve}
+use Rattle.tinkey_session.specs.Serving.{Served, serve}
+use Rattle.tinkey_session.specs.declared.reply.Reply.{Reply}
 
 -- A line ends with a newline. A last one without it counts where it isn't empty.
 unfoldable pub lines_of : List ℕ → List (List ℕ)

@@ -10,7 +10,7 @@ use Rattle.managers.specs.Standard.{standard_table}
 use Rattle.managers.specs.Table.{Table}
 use Rattle.tinkey_session.specs.Laws.{IsEdited}
 use Rattle.tinkey_session.specs.Lines.{Line, Seal, Dseal, Open, Dopen, Tag, Verify, line_of}
-use Rattle.tinkey_session.specs.Serving.{Done, Gives}
+use Rattle.tinkey_session.specs.declared.reply.Reply.TheVariants.{Done, Gives}
 use Rattle.tinkey_session.specs.Session.{Remains, Turn, asked_in, lines_of, remains, turns}
 use Rattle.wrapped_prims.specs.Candidates.{prefix_of}
 use Rattle.wrapped_prims.specs.Laws.{HasSameKey, IsKeyset}

@@ -7,8 +7,10 @@ use Rattle.key_msgs.specs.declared.rule.Rule.TheVariants as broken
 use Rattle.tinkey_cmds.specs.declared.command.CmdFault.{CmdFault}
 use Rattle.tinkey_cmds.specs.declared.command.CmdFault.TheVariants as refused
 use Rattle.tinkey_session.specs.Lines.{word_of}
-use Rattle.tinkey_session.specs.Serving.{Refusal, BadLine, UnknownTemplate, AsymmetricTemplate, CannotServe, OutputTooLong, EditRefused, OpenFailed, VerifyFailed, Reply, Done, Gives, NewId, Refuses}
-use Rattle.wrapped_prims.specs.Fitness.{Unfit, NoManager, BadKey, NotRaw}
+use Rattle.tinkey_session.specs.declared.reply.Refusal.{Refusal}
+use Rattle.tinkey_session.specs.declared.reply.Refusal.TheVariants.{AsymmetricTemplate, BadKey, BadLine, EditRefused, NoManager, NotRaw, OpenFailed, OutputTooLong, UnknownTemplate, VerifyFailed}
+use Rattle.tinkey_session.specs.declared.reply.Reply.{Reply}
+use Rattle.tinkey_session.specs.declared.reply.Reply.TheVariants.{Done, Gives, NewId, Refuses}
 
 -- the name of a rule of key messages
 unfoldable pub rule_text : Rule → List ℕ
@@ -32,18 +34,14 @@ edit_text refused.MixedPrimitive = codes "key of another primitive"
 edit_text refused.IdsExhausted = codes "no free key id"
 edit_text refused.TooManyKeys = codes "too many keys"
 
--- the text of a record that can't serve, by its place
-unfoldable pub unfit_text : (place : ℕ) → Unfit → List ℕ
-unfit_text i NoManager = codes "key " ++ decimal i ++ codes " has no manager for this command"
-unfit_text i (BadKey rule) = codes "key " ++ decimal i ++ codes " is not valid: " ++ rule_text rule
-unfit_text i NotRaw = codes "key " ++ decimal i ++ codes " is not RAW"
-
 -- the text of a refusal
 unfoldable pub refusal_text : Refusal → List ℕ
 refusal_text BadLine = codes "bad line"
 refusal_text UnknownTemplate = codes "unknown key template"
 refusal_text AsymmetricTemplate = codes "asymmetric key template"
-refusal_text (CannotServe place why) = unfit_text place why
+refusal_text (NoManager i) = codes "key " ++ decimal i ++ codes " has no manager for this command"
+refusal_text (BadKey i rule) = codes "key " ++ decimal i ++ codes " is not valid: " ++ rule_text rule
+refusal_text (NotRaw i) = codes "key " ++ decimal i ++ codes " is not RAW"
 refusal_text (OutputTooLong asked greatest) =
     codes "output too long: " ++ decimal asked ++ codes " over " ++ decimal greatest
 refusal_text (EditRefused fault) = edit_text fault

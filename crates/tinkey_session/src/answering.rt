@@ -4,7 +4,7 @@ ghost use Rattle.std.specs.Prelude.{◌≡◌, ◌≤◌, ◌^◌, length, optio
 ghost use Rattle.tink_spec.specs.Outside.{EntropyState};
 ghost use Rattle.tinkey_session.specs.Keeping.{Answers, needs, ServesBy};
 ghost use Rattle.tinkey_session.specs.Lines.{Seal, Dseal, Open, Dopen, Tag, Verify, Derive};
-ghost use Rattle.tinkey_session.specs.Reading.{IsWithin, seen_line, seen_reply};
+ghost use Rattle.tinkey_session.specs.Reading.{IsWithin, seen_line};
 ghost use Rattle.tinkey_session.specs.Serving.{opened_reply};
 
 use crate::line::Line;
@@ -46,7 +46,7 @@ fn open(alloc: Global, handle: &Handle<'_>, sealed: &[u8], ad: &[u8]) -> Result<
 
 /// The plaintext, or that nothing opened.
 fn opened_reply(opened: Option<Vec<u8>>) -> Reply
-    ensures { seen_reply result ≡ opened_reply (option_map (λ plain. plain.items) opened) }
+    ensures { result ≡ opened_reply (option_map (λ plain. plain.items) opened) }
 {
     match opened {
         Some(plain) => Reply::Gives(Bytes::own(plain)),

@@ -8,6 +8,7 @@ use hex::FromHexError;
 use std::alloc::Global;
 use std::str::from_utf8;
 use tink_base::{Bytes, NoMemory};
+use tinkey_cmds::Command;
 
 /// What a line asks.
 #[derive(Drop)]
@@ -26,20 +27,8 @@ pub enum Line<'a> {
     Verify(Bytes, Bytes),
     /// Derive so many bytes from this input.
     Derive(u32, Bytes),
-    /// Add a new key by the template of this name, whether or not there is one.
-    Add(&'a str),
-    /// The same, and the new key is primary.
-    Rotate(&'a str),
-    /// Make the key of this id primary.
-    Promote(u32),
-    /// Make it ENABLED.
-    Enable(u32),
-    /// Make it DISABLED.
-    Disable(u32),
-    /// Make it DESTROYED.
-    Destroy(u32),
-    /// Remove it.
-    Delete(u32),
+    /// Edit the keyset, by the name of a template, whether or not there is one, or by a key id.
+    Edit(Command<&'a str>),
     /// None of these.
     Bad,
 }
@@ -83,11 +72,11 @@ fn line_with_one<'a>(alloc: Global, name: &str, word: &'a str) -> Result<Line<'a
             None => Line::Bad,
         },
         "add" => match name_in(word) {
-            Some(template) => Line::Add(template),
+            Some(template) => Line::Edit(Command::Add(template)),
             None => Line::Bad,
         },
         "rotate" => match name_in(word) {
-            Some(template) => Line::Rotate(template),
+            Some(template) => Line::Edit(Command::Rotate(template)),
             None => Line::Bad,
         },
         _ => match number_in(word) {
@@ -102,11 +91,11 @@ fn line_with_id<'a>(name: &str, id: u32) -> Line<'a>
     ensures { seen_line result ≡ line_with_id name.now id }
 {
     match name {
-        "promote" => Line::Promote(id),
-        "enable" => Line::Enable(id),
-        "disable" => Line::Disable(id),
-        "destroy" => Line::Destroy(id),
-        "delete" => Line::Delete(id),
+        "promote" => Line::Edit(Command::Promote(id)),
+        "enable" => Line::Edit(Command::Enable(id)),
+        "disable" => Line::Edit(Command::Disable(id)),
+        "destroy" => Line::Edit(Command::Destroy(id)),
+        "delete" => Line::Edit(Command::Delete(id)),
         _ => Line::Bad,
     }
 }

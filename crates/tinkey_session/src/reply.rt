@@ -2,9 +2,8 @@
 
 ghost use Rattle.std.specs.Prelude.{◌≡◌, ◌+◌, ◌≤◌, ◌++◌, length, codes, decimal, IfOk};
 ghost use Rattle.tinkey_session.specs.Lines.{word_of};
-ghost use Rattle.tinkey_session.specs.Reading.{seen_refusal, seen_reply};
-ghost use Rattle.wrapped_prims.specs.Fitness.{BadKey};
-ghost use Rattle.tinkey_session.specs.Texts.{edit_text, refusal_text, reply_text, rule_text, unfit_text};
+ghost use Rattle.tinkey_session.specs.declared.reply.Refusal.TheVariants.{BadKey};
+ghost use Rattle.tinkey_session.specs.Texts.{edit_text, refusal_text, reply_text, rule_text};
 
 use crate::short_text::ShortText;
 use itoa::Buffer;
@@ -52,9 +51,9 @@ pub enum Reply {
 }
 
 /// The text of a refusal, as replies and diagnostic lines tell it.
-#[tactic(auto, unfolding(crate::specs::Texts::refusal_text, crate::specs::Texts::unfit_text))]
+#[tactic(auto, unfolding(crate::specs::Texts::refusal_text))]
 pub fn refusal_text(refusal: Refusal) -> ShortText
-    ensures text { result ≡ refusal_text (seen_refusal refusal) }
+    ensures text { result ≡ refusal_text refusal }
     ensures short { length result ≤ 110 }
 {
     match refusal {
@@ -74,7 +73,7 @@ pub fn refusal_text(refusal: Refusal) -> ShortText
 /// The text of a reply, with its newline.
 #[tactic(auto, unfolding(crate::specs::Texts::reply_text))]
 pub fn reply_text(alloc: Global, reply: &Reply) -> Result<Vec<u8>, NoMemory>
-    ensures { IfOk result (λ text. text.items ≡ reply_text (seen_reply reply.now)) }
+    ensures { IfOk result (λ text. text.items ≡ reply_text reply.now) }
 {
     match reply {
         Reply::Done => line_of(alloc, b"ok", b""),
@@ -140,9 +139,9 @@ fn key_text(i: usize, says: &str) -> ShortText
 }
 
 /// That the key of this place breaks this rule.
-#[tactic(auto, unfolding(crate::specs::Texts::unfit_text))]
+#[tactic(auto, unfolding(crate::specs::Texts::refusal_text))]
 fn invalid_text(i: usize, rule: Rule) -> ShortText
-    ensures text { result ≡ unfit_text i (BadKey rule) }
+    ensures text { result ≡ refusal_text (BadKey i rule) }
     ensures short { length result ≤ 110 }
 {
     let mut text = key_text(i, " is not valid: ");

@@ -9,8 +9,9 @@ ghost use Rattle.keyset_model.specs.Keyset.{IsShort};
 ghost use Rattle.tinkey_cmds.specs.Edits.{seen_edit};
 ghost use Rattle.tinkey_session.specs.Answered.{Serves};
 ghost use Rattle.tinkey_session.specs.Keeping.{Asks, IsKept, needs, unedited, unserved};
-ghost use Rattle.tinkey_session.specs.Reading.{IsWithin, seen_line, seen_refusal, seen_reply};
+ghost use Rattle.tinkey_session.specs.Reading.{IsWithin, seen_line};
 ghost use Rattle.tinkey_session.specs.Serving.{edit_line, edited_reply, serve as served, template_of};
+ghost use Rattle.tinkey_session.specs.declared.line.Line.TheVariants as lines;
 ghost use Rattle.wrapped_prims.specs.Fitness.{unfit};
 ghost use Rattle.wrapped_prims.specs.Making.{IsFaultOf};
 
@@ -182,7 +183,7 @@ impl<'m> Session<'m> {
     fn edit<E: Entropy>(
         &mut self,
         alloc: Global,
-        command: &Command,
+        command: &Command<Template>,
         entropy: &mut E,
     ) -> Result<Reply, LineFault>
         requires kept { IfSome self.old.kept (λ h. IsKept
@@ -215,7 +216,7 @@ impl<'m> Session<'m> {
 /// The template of this name, or why there is none.
 fn template_of(name: &str) -> Result<Template, Refusal>
     ensures { MatchResult result (λ template. template_of name.now ≡ Ok (seen template))
-        (λ why. template_of name.now ≡ Err (seen_refusal why)) }
+        (λ why. template_of name.now ≡ Err why) }
 {
     match template_named(name) {
         Ok(template) => Ok(template),
@@ -226,25 +227,35 @@ fn template_of(name: &str) -> Result<Template, Refusal>
 
 /// The edit that the line asks for, or why it asks for none.
 #[tactic(auto, unfolding(crate::specs::Serving::serve))]
-fn command_of(line: &Line<'_>) -> Result<Command, Refusal>
+fn command_of(line: &Line<'_>) -> Result<Command<Template>, Refusal>
     requires no_keys { needs (seen_line line.now) ≡ None }
     ensures { Asks (seen_line line.now) result }
 {
     match line {
-        Line::Add(name) => Ok(Command::Add(template_of(name)?)),
-        Line::Rotate(name) => Ok(Command::Rotate(template_of(name)?)),
-        Line::Promote(id) => Ok(Command::Promote(*id)),
-        Line::Enable(id) => Ok(Command::Enable(*id)),
-        Line::Disable(id) => Ok(Command::Disable(*id)),
-        Line::Destroy(id) => Ok(Command::Destroy(*id)),
-        Line::Delete(id) => Ok(Command::Delete(*id)),
+        Line::Edit(edit) => found_edit(*edit),
         _ => Err(Refusal::BadLine),
     }
 }
 
+/// The edit with its template found, or why there is none.
+#[tactic(auto, unfolding(crate::specs::Serving::serve))]
+fn found_edit(edit: Command<&str>) -> Result<Command<Template>, Refusal>
+    ensures { Asks (seen_line (lines.Edit edit.entry)) result }
+{
+    match edit {
+        Command::Add(name) => Ok(Command::Add(template_of(name)?)),
+        Command::Rotate(name) => Ok(Command::Rotate(template_of(name)?)),
+        Command::Promote(id) => Ok(Command::Promote(id)),
+        Command::Enable(id) => Ok(Command::Enable(id)),
+        Command::Disable(id) => Ok(Command::Disable(id)),
+        Command::Destroy(id) => Ok(Command::Destroy(id)),
+        Command::Delete(id) => Ok(Command::Delete(id)),
+    }
+}
+
 /// The reply to an accepted edit that gave this keyset: the id of the key that it made, if any.
-fn edited_reply(command: &Command, keyset: &Keyset) -> Reply
-    ensures { seen_reply result ≡ edited_reply (seen_edit command.now) keyset.now }
+fn edited_reply(command: &Command<Template>, keyset: &Keyset) -> Reply
+    ensures { result ≡ edited_reply (seen_edit command.now) keyset.now }
 {
     match command {
         Command::Add(_) | Command::Rotate(_) => {

@@ -5,6 +5,7 @@ use hex::encode;
 use std::alloc::Global;
 use std::test::Fail;
 use tink_base::Bytes;
+use tinkey_cmds::Command;
 
 // What a row shows, a line, and how it is read: spelled again, in lower case, with no leading
 // zeros. The answers are those of Python's regular expressions, with `bytes.fromhex` and `int`.
@@ -92,14 +93,21 @@ fn told(alloc: Global, line: &Line<'_>) -> Result<String, Fail> {
             let input = spelled(alloc, input)?;
             Ok(format!(in alloc; "derive {size} {input}")?)
         }
-        Line::Add(name) => Ok(format!(in alloc; "add {name}")?),
-        Line::Rotate(name) => Ok(format!(in alloc; "rotate {name}")?),
-        Line::Promote(id) => Ok(format!(in alloc; "promote {id}")?),
-        Line::Enable(id) => Ok(format!(in alloc; "enable {id}")?),
-        Line::Disable(id) => Ok(format!(in alloc; "disable {id}")?),
-        Line::Destroy(id) => Ok(format!(in alloc; "destroy {id}")?),
-        Line::Delete(id) => Ok(format!(in alloc; "delete {id}")?),
+        Line::Edit(edit) => told_edit(alloc, edit),
         Line::Bad => Ok(format!(in alloc; "bad")?),
+    }
+}
+
+// The edit that a line asks for, spelled again.
+fn told_edit(alloc: Global, edit: &Command<&str>) -> Result<String, Fail> {
+    match edit {
+        Command::Add(name) => Ok(format!(in alloc; "add {name}")?),
+        Command::Rotate(name) => Ok(format!(in alloc; "rotate {name}")?),
+        Command::Promote(id) => Ok(format!(in alloc; "promote {id}")?),
+        Command::Enable(id) => Ok(format!(in alloc; "enable {id}")?),
+        Command::Disable(id) => Ok(format!(in alloc; "disable {id}")?),
+        Command::Destroy(id) => Ok(format!(in alloc; "destroy {id}")?),
+        Command::Delete(id) => Ok(format!(in alloc; "delete {id}")?),
     }
 }
 

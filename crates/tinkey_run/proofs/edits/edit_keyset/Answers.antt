@@ -13,6 +13,11 @@ makes edit keys = makes_keyset (step keys edit)
 abbrev takes : Place → Edit → (Keys → Plan) → Plan
 takes in' edit next = takes_keyset in' (λ keys. makes edit keys next)
 
+pub returns-in_err-command-clause-passes : goal.returns-in_err-command-clause-passes
+returns-in_err-command-clause-passes g c = λ w.
+    let old = record w { source = g.S.Source.state c.args.source.now; store = g.D.Store.state c.args.store.now; entropy = g.E.Entropy.state c.args.entropy.now } in
+    ends_there {A = Edit} (finds_edit (seen_edit c.args.edit)) (takes (seen_place c.args.input)) old old _ _ c.from_residual.ensures.1 (c.in_err-command.ensures old)
+
 pub returns-in_err-keyset-clause-passes : goal.returns-in_err-keyset-clause-passes
 returns-in_err-keyset-clause-passes g c = λ w.
     let in' = seen_place c.args.input in

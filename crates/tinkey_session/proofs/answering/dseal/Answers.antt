@@ -1,9 +1,8 @@
 use Rattle.std.proofs.Common.{ap}
 use Rattle.tinkey_session.proofs.AnswerLemmas.{dseal_served, undrawn}
-use Rattle.tinkey_session.specs.Serving as serving
 use Rattle.tinkey_session.specs.declared.reply.Reply.TheVariants as replies
 use Rattle.tinkey_session.proofs.answering.dseal.Goals as goal
 
 pub returns-in-Ok : goal.returns-in-Ok
 returns-in-Ok g c = λ e keys over.
-    undrawn _ (replies.Gives c.own.result) keys e (λ random. dseal_served _ keys _ _ _ _ random over.fit (c.in-Ok.ensures keys over) (ap serving.Gives c.own.ensures))
+    undrawn _ (replies.Gives c.own.result) keys e (λ random. dseal_served _ keys _ _ _ _ random over.fit (c.in-Ok.ensures keys over) (ap replies.Gives c.own.ensures))

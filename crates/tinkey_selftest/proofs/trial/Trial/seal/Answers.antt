@@ -6,13 +6,12 @@ use Rattle.std.proofs.lemmas.List.Elements.{same_from_all_zip}
 use Rattle.tinkey_selftest.proofs.DrawnLemmas.{all_small, plain_small, sealed_done, word_small}
 use Rattle.tinkey_selftest.specs.Ready.{trial_of}
 use Rattle.tinkey_selftest.specs.Trial.{Seals, counted}
-use Rattle.tinkey_session.specs.Reading.{seen_reply}
 use Rattle.tinkey_selftest.proofs.trial.Trial.seal.Goals as goal
 
 pub returns-clause-done : goal.returns-clause-done
 returns-clause-done g c =
     let old = c.args.self.now in
-    let reply = seen_reply c.in_ok-reply.reply in
+    let reply = c.in_ok-reply.reply in
     let plain : c.own.result ≡ repeat (c.args.words.b % 64) (to_le_bytes w32 c.args.words.c)
     = c.own.ensures ∙ same_from_all_zip _ _ _ c.in_ok-plain.ensures.items (λ x y r. r) ∙ ap (repeat (c.args.words.b % 64)) c.to_le_bytes.ensures in
     let own : c.in_ok-ad.ad ≡ to_le_bytes w32 c.args.words.d = c.in_ok-ad.ensures ∙ c.to_le_bytes-2.ensures in
@@ -32,7 +31,7 @@ returns-clause-ready g c =
       keyset = ready.keyset;
       short = ready.short;
       steady = ready.steady;
-      small = all_small _ old.session.keyset _ c.own.result c.in_ok-copy.field-0 c.in_ok-ad.ad old.entropy.left _ c.in_ok-sealer.sealer (seen_reply c.in_ok-reply.reply) _ _
+      small = all_small _ old.session.keyset _ c.own.result c.in_ok-copy.field-0 c.in_ok-ad.ad old.entropy.left _ c.in_ok-sealer.sealer c.in_ok-reply.reply _ _
           c.requires.ready.keyset.faultless c.requires.enough (plain_small c.own.result c.args.words.b c.args.words.c plain) (word_small c.in_ok-ad.ad c.args.words.d own)
           c.in_ok-reply.ensures.served ready.small c.in_ok-keep.ensures;
     }
