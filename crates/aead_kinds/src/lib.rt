@@ -13,4 +13,3 @@ mod segment;
 pub use aead::{AeadKey, open, seal};
 pub use gcm::{Gcm, gcm_open_in_place, gcm_seal_in_place};
 pub use segment::{ctr_hmac_open_in_place, ctr_hmac_seal_in_place};
-

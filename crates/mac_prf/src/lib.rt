@@ -11,4 +11,3 @@ pub mod laws;
 pub use cmac::Cmac;
 pub use derive::{TooLong, hkdf};
 pub use hmac::Hmac;
-

@@ -34,4 +34,3 @@ pub use store::{Created, Loaded, Store, StoreError};
 pub use stream::MemEntropy;
 pub use text::Text;
 pub use trials::Trials;
-
