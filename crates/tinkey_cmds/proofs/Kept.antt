@@ -12,7 +12,8 @@ use Rattle.tinkey_cmds.specs.Edits.{Edit, named, changed, with_status, destroyed
 use Rattle.tinkey_cmds.specs.Laws.{IsTemplate, HasTemplate, IsHeld, IsFree, Comes, stayed, was_destroyed, is_new, Follows, HasPrimary, EditsKeepKeysets, FirstsAreKeysets, EditsKeepBounds, FirstsHaveBounds, EditsFollow, EditsKeepThePrimary}
 use Rattle.tinkey_cmds.proofs.Lists.{each-append, all_each}
 use Rattle.tinkey_cmds.proofs.Among.{among-all, all-among, among-any, find-among, contains-among, each-contains}
-use Rattle.tinkey_cmds.proofs.WellFormed.{Distinct, IsFine, IsGood, good-keyset, keyset-good}
+use Rattle.keyset_model.proofs.WellFormedLemmas.{Distinct}
+use Rattle.tinkey_cmds.proofs.WellFormed.{IsFine, IsGood, good-keyset, keyset-good}
 use Rattle.tinkey_cmds.proofs.Changes.{changed-each, changed-some, changed-distinct, length-changed, without-each, without-distinct, without-any, length-without, distinct-push, any-push_left, any-push_right, length-push, find-id}
 use Rattle.tinkey_cmds.proofs.Cases.{Yields, yielded, IsNew, Seven, edit_case, first_case}
 use Rattle.tinkey_cmds.proofs.Sizes.{length-made, length-url}
