@@ -14,13 +14,13 @@ use Rattle.keyset_model.proofs.Exits.{on, end, fails, fewer, nowhere}
 
 -- ---- tests
 
-known_status : (r : Record) → IsKnown r → has_status r ≡ true
+pub known_status : (r : Record) → IsKnown r → has_status r ≡ true
 known_status r known = let least = known.least_status in let most = known.most_status in grind (arith, nat_tests)
 
-known_prefix : (r : Record) → IsKnown r → has_prefix r ≡ true
+pub known_prefix : (r : Record) → IsKnown r → has_prefix r ≡ true
 known_prefix r known = let least = known.least_prefix in let most = known.most_prefix in grind (arith, nat_tests)
 
-data_material : (r : Record) → HasData r → has_material r ≡ true
+pub data_material : (r : Record) → HasData r → has_material r ≡ true
 data_material r has =
     let most : nat_le r.material 4 ≡ true = let is = has.most_material in grind (arith, nat_tests) in
     elim has.material [
@@ -28,7 +28,7 @@ data_material r has =
       | inr destroyed ↦ grind (arith, nat_tests)
     ]
 
-data_url : (r : Record) → HasData r → has_key_data r ≡ true
+pub data_url : (r : Record) → HasData r → has_key_data r ≡ true
 data_url r has = elim has.url [
   | inl some ↦ grind (arith, nat_tests)
   | inr destroyed ↦ grind (arith, nat_tests)
@@ -43,7 +43,7 @@ whole_prefix : {A : Type 0} (p : A → Bool) (xs : List A) → list_any p xs ≡
 whole_prefix p [] none = refl
 whole_prefix p (x ∷ xs) none = whole_here p x xs _ refl none (whole_prefix p xs)
 
-position-none : {A : Type 0} (p : A → Bool) (xs : List A) → list_any p xs ≡ false → position p xs ≡ None
+pub position-none : {A : Type 0} (p : A → Bool) (xs : List A) → list_any p xs ≡ false → position p xs ≡ None
 position-none p xs none = rw (whole_prefix p xs none, le-ltb (length xs) (length xs) (omega arith)) refl
 
 -- a test that every element passes
@@ -57,7 +57,7 @@ nowhere_without P test records passes all = sym (position-none (λ r. not (test 
 
 -- ---- ids
 
-not_in : (id : ℕ) (records : List Record) → ((i : ℕ) (s : Record) → slice_get records i ≡ Some s → s.id ≢ id) → is_in records id ≡ false
+pub not_in : (id : ℕ) (records : List Record) → ((i : ℕ) (s : Record) → slice_get records i ≡ Some s → s.id ≢ id) → is_in records id ≡ false
 not_in id [] other = refl
 not_in id (x ∷ records) other = rw (ne_eqb x.id id (other 0 x refl)) (not_in id records (λ i s there. other (suc i) s there))
 
@@ -89,7 +89,7 @@ any_here p q x y records true test more found later = rw (more x test) refl
 any_here p q x y records false test more found later = or_last (q x) (list_any q records) (later (rw test at found))
 
 -- a test that passes where another does, which finds a record
-any_found : (p q : Record → Bool) (records : List Record) (y : Record) → ((r : Record) → p r ≡ true → q r ≡ true) → find p records ≡ Some y → list_any q records ≡ true
+pub any_found : (p q : Record → Bool) (records : List Record) (y : Record) → ((r : Record) → p r ≡ true → q r ≡ true) → find p records ≡ Some y → list_any q records ≡ true
 any_found p q [] y more found = cc
 any_found p q (x ∷ records) y more found = any_here p q x y records _ refl more found (any_found p q records y more)
 

@@ -15,7 +15,7 @@ passes_here : {A : Type 0} (p : A → Bool) (x y : A) (xs : List A) (b : Bool) �
 passes_here p x y xs true test found later = let same : Some x ≡ Some y = rw test at found in cc
 passes_here p x y xs false test found later = later (rw test at found)
 
-found_passes : {A : Type 0} (p : A → Bool) (xs : List A) (y : A) → find p xs ≡ Some y → p y ≡ true
+pub found_passes : {A : Type 0} (p : A → Bool) (xs : List A) (y : A) → find p xs ≡ Some y → p y ≡ true
 found_passes p [] y found = cc
 found_passes p (x ∷ xs) y found = passes_here p x y xs _ refl found (found_passes p xs y)
 
@@ -24,15 +24,15 @@ found_here : {A : Type 0} (p : A → Bool) (x : A) (xs : List A) (b : Bool) → 
 found_here p x xs true test any later = (x, rw test refl)
 found_here p x xs false test any later = let there = later (rw test at any) in (there.0, rw test there.1)
 
-found_there : {A : Type 0} (p : A → Bool) (xs : List A) → list_any p xs ≡ true → (y : A) × (find p xs ≡ Some y)
+pub found_there : {A : Type 0} (p : A → Bool) (xs : List A) → list_any p xs ≡ true → (y : A) × (find p xs ≡ Some y)
 found_there p [] any = let clash : false ≡ true = any in cc
 found_there p (x ∷ xs) any = found_here p x xs _ refl any (found_there p xs)
 
 -- a record that is primary is ENABLED and has the primary id
-primary_status : (primary : ℕ) (r : Record) → is_primary primary r ≡ true → r.status ≡ 1
+pub primary_status : (primary : ℕ) (r : Record) → is_primary primary r ≡ true → r.status ≡ 1
 primary_status primary r is = grind (arith, nat_tests)
 
-primary_id : (primary : ℕ) (r : Record) → is_primary primary r ≡ true → r.id ≡ primary
+pub primary_id : (primary : ℕ) (r : Record) → is_primary primary r ≡ true → r.id ≡ primary
 primary_id primary r is = grind (arith, nat_tests)
 
 pub primary_enabled : (keys : Keys) (r : Record) → primary_of keys ≡ Some r → r.status ≡ 1

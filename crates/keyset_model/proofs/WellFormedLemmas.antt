@@ -22,7 +22,7 @@ any_where p (x ∷ xs) h = elim (p x) as (λ b. suc (length xs) ≤ cond (not b)
 ] h
 
 -- where no place is found, no element passes
-any-position : {A : Type 0} (p : A → Bool) (xs : List A) → position p xs ≡ None → list_any p xs ≡ false
+pub any-position : {A : Type 0} (p : A → Bool) (xs : List A) → position p xs ≡ None → list_any p xs ≡ false
 any-position p xs e = any_where p xs (ltb-false _ _ (go (ltb (prefix_len (λ x. not (p x)) xs) (length xs)) e))
   where
     go : (b : Bool) → cond b (Some (prefix_len (λ x. not (p x)) xs)) None ≡ None → b ≡ false
@@ -37,23 +37,23 @@ each_passes p (x ∷ xs) h = elim (p x) as (λ b. (not b || list_any (λ x. not 
   | false ↦ λ k. absurd (true≢false k)
 ] h
 
-any-append : {A : Type 0} (p : A → Bool) (xs ys : List A) → list_any p (xs ++ ys) ≡ (list_any p xs || list_any p ys)
+pub any-append : {A : Type 0} (p : A → Bool) (xs ys : List A) → list_any p (xs ++ ys) ≡ (list_any p xs || list_any p ys)
 any-append p [] ys = refl
 any-append p (x ∷ xs) ys = elim (p x) as (λ b. (b || list_any p (xs ++ ys)) ≡ ((b || list_any p xs) || list_any p ys)) [ true ↦ refl | false ↦ any-append p xs ys ]
 
 -- ---- options
 
-first_none : {A : Type 0} (o : Option A) (later : List (Option A)) → first_some (o ∷ later) ≡ None → (o ≡ None) × (first_some later ≡ None)
+pub first_none : {A : Type 0} (o : Option A) (later : List (Option A)) → first_some (o ∷ later) ≡ None → (o ≡ None) × (first_some later ≡ None)
 unfolding first_some
 first_none None later e = (refl, e)
 first_none (Some x) later e = absurd (some≢none e)
 
-when-none : {A : Type 0} (b : Bool) (x : A) → when b x ≡ None → b ≡ false
+pub when-none : {A : Type 0} (b : Bool) (x : A) → when b x ≡ None → b ≡ false
 unfolding when
 when-none true x e = absurd (some≢none e)
 when-none false x e = refl
 
-map-none : {A B : Type 0} (f : A → B) (o : Option A) → option_map f o ≡ None → o ≡ None
+pub map-none : {A B : Type 0} (f : A → B) (o : Option A) → option_map f o ≡ None → o ≡ None
 map-none f None e = refl
 map-none f (Some x) e = absurd (some≢none e)
 
@@ -61,7 +61,7 @@ or-none : {A : Type 0} (o p : Option A) → option_or o p ≡ None → (o ≡ No
 or-none None p e = (refl, e)
 or-none (Some x) p e = absurd (some≢none e)
 
-not-false' : (b : Bool) → not b ≡ false → b ≡ true
+pub not-false' : (b : Bool) → not b ≡ false → b ≡ true
 not-false' true e = refl
 not-false' false e = absurd (true≢false e)
 
@@ -77,7 +77,7 @@ unfoldable pub Apart : List Record → List Record → Type 0
 Apart before [] = Unit {0}
 Apart before (r ∷ later) = (is_in before r.id ≡ false) × Apart before later
 
-eqb-flip : (a b : ℕ) → (a == b) ≡ false → (b == a) ≡ false
+pub eqb-flip : (a b : ℕ) → (a == b) ≡ false → (b == a) ≡ false
 eqb-flip a b e = ne_eqb b a (λ k. true≢false (sym (eq-eqb a b (sym k)) ∙ e))
 
 -- r is apart from those later, when they are apart from a list with r at its end
@@ -108,7 +108,7 @@ not_at id zero (r ∷ later) s none there = λ same.
     true≢false (sym (eq-eqb r.id id (grind arith)) ∙ parts.0)
 not_at id (suc j) (r ∷ later) s none there = not_at id j later s (or_parts _ _ none).1 there
 
-own_ids : (records : List Record) → Distinct records → HasOwnIds records
+pub own_ids : (records : List Record) → Distinct records → HasOwnIds records
 unfolding Distinct
 own_ids [] d i j r s before here there = cc
 own_ids (x ∷ later) d i zero r s before here there = absurd (omega arith)
@@ -158,7 +158,7 @@ whole-faultless keys e =
 
 -- ---- what the parts say of each record
 
-known_of : (r : Record) → has_status r ≡ true → has_prefix r ≡ true → IsKnown r
+pub known_of : (r : Record) → has_status r ≡ true → has_prefix r ≡ true → IsKnown r
 known_of r status prefix = record {
   least_status = grind (arith, nat_tests);
   most_status = grind (arith, nat_tests);
@@ -180,7 +180,7 @@ both : (a b : Bool) → (a && b) ≡ true → (a ≡ true) × (b ≡ true)
 both true b e = (refl, e)
 both false b e = absurd (true≢false (sym e))
 
-data_of : (r : Record) → has_material r ≡ true → has_key_data r ≡ true → HasData r
+pub data_of : (r : Record) → has_material r ≡ true → has_key_data r ≡ true → HasData r
 data_of r material key_data =
     let parts : (nat_le r.material 4 ≡ true) × ((nat_le 1 r.material || r.status == 3) ≡ true) = both _ _ material in
     record {
@@ -189,7 +189,7 @@ data_of r material key_data =
       url = or_destroyed (length r.url) r.status key_data;
     }
 
-each_of_two : (P Q R : Record → Type 0) (xs : List Record) → ((r : Record) → P r → Q r → R r) → AllByRecursion P xs → AllByRecursion Q xs → AllByRecursion R xs
+pub each_of_two : (P Q R : Record → Type 0) (xs : List Record) → ((r : Record) → P r → Q r → R r) → AllByRecursion P xs → AllByRecursion Q xs → AllByRecursion R xs
 each_of_two P Q R [] f p q = tt
 each_of_two P Q R (x ∷ xs) f p q = (f x p.0 q.0, each_of_two P Q R xs f p.1 q.1)
 

@@ -1,11 +1,14 @@
 //! Edits of small keysets, over random bytes in memory.
 
+use crate::keysets::{keyset_of, record_text};
+use crate::rows::{count, holds, holds_text};
 use key_msgs::{Template, template_named};
-use keyset_model::{Keyset, read_binary};
+use keyset_model::Keyset;
 use std::alloc::Global;
 use std::test::Fail;
+use test_words::{cell, number_in};
 use tink_base::MemEntropy;
-use tinkey_cmds::{CmdError, CmdFault, Command, apply, create};
+use tinkey_cmds::{Command, apply, create};
 
 // `Keyset` messages, as protoc 3.21.12 encodes them: the primary id and key 7 of AES-GCM.
 const FIRST: &[u8] = b"\x08\x07\
@@ -29,17 +32,6 @@ const UNKNOWN: &[u8] = b"\x08\x01\
     \x12\x12\x0a\x0a\x0a\x03odd\x12\x01k\x18\x01\x10\x01\x18\x01\x20\x01\
     \x12\x13\x0a\x0b\x0a\x04even\x12\x01k\x18\x01\x10\x02\x18\x02\x20\x01";
 
-/// An edit of a record.
-fn by_id(word: &str, id: u32) -> Command<Template> {
-    match word {
-        "promote" => Command::Promote(id),
-        "enable" => Command::Enable(id),
-        "disable" => Command::Disable(id),
-        "destroy" => Command::Destroy(id),
-        _ => Command::Delete(id),
-    }
-}
-
 /// The primary id, and the id and status of each record.
 fn shown(alloc: Global, keyset: &Keyset) -> Result<String, Fail> {
     let mut text = format!(in alloc; "{}:", keyset.primary())?;
@@ -51,141 +43,208 @@ fn shown(alloc: Global, keyset: &Keyset) -> Result<String, Fail> {
     Ok(text)
 }
 
-/// What an edit gives over these random bytes, as a text: the keyset or the error, and how many
-/// bytes are left.
+/// The edit of a record.
+fn by_id(word: &str, id: u32) -> Result<Command<Template>, Fail> {
+    let commands = [
+        ("promote", Command::Promote(id)),
+        ("enable", Command::Enable(id)),
+        ("disable", Command::Disable(id)),
+        ("destroy", Command::Destroy(id)),
+        ("delete", Command::Delete(id)),
+    ];
+    for (known, command) in commands {
+        if known == word {
+            return Ok(command);
+        }
+    }
+    Err("an edit of a record".into())
+}
+
+/// The edit that makes a key of a template.
+fn by_template(word: &str, name: &str) -> Result<Command<Template>, Fail> {
+    let template = template_named(name)?;
+    for (known, command) in [
+        ("add", Command::Add(template)),
+        ("rotate", Command::Rotate(template)),
+    ] {
+        if known == word {
+            return Ok(command);
+        }
+    }
+    Err("an edit that makes a key".into())
+}
+
+/// The edit of a row: its word, and an id or a template.
+fn command_in(row: &str) -> Result<Command<Template>, Fail> {
+    let word = cell(row, 0)?;
+    let argument = cell(row, 1)?;
+    match argument.parse::<u32>() {
+        Ok(id) => by_id(word, id),
+        Err(_) => by_template(word, argument),
+    }
+}
+
+/// The keyset that an edit gives, or the refusal.
+fn edited(
+    alloc: Global,
+    keyset: &Keyset,
+    command: &Command<Template>,
+    entropy: &mut MemEntropy,
+) -> Result<String, Fail> {
+    match apply(alloc, keyset, command, entropy) {
+        Ok(edited) => shown(alloc, &edited),
+        Err(error) => Ok(format!(in alloc; "{error:?}")?),
+    }
+}
+
+/// The same over these random bytes, and how many of them are left.
 fn edit(
     alloc: Global,
     keyset: &Keyset,
-    command: Command<Template>,
+    command: &Command<Template>,
     random: &[u8],
 ) -> Result<String, Fail> {
     let mut entropy = MemEntropy::new(random.to_vec(alloc)?, Vec::new(alloc));
-    let text = match apply(alloc, keyset, &command, &mut entropy) {
-        Ok(edited) => shown(alloc, &edited)?,
-        Err(error) => format!(in alloc; "{error:?}")?,
-    };
+    let text = edited(alloc, keyset, command, &mut entropy)?;
     Ok(format!(in alloc; "{text}, {} left", entropy.left())?)
 }
 
-// 00000000 is no id, and 01020304 is 16909060. The message of the key is 1a10 and 16 zeros.
-#[test]
-fn creates_a_keyset_of_one_key(rt: HostRuntime) -> Result<(), Fail> {
-    let random = b"\0\0\0\0\x01\x02\x03\x04\0\0\0\0\0\0\0\0\0\0\0\0\0\0\0\0rest";
-    let mut entropy = MemEntropy::new(random.to_vec(rt.alloc())?, Vec::new(rt.alloc()));
-    let template = template_named("AES128_GCM")?;
-    let keyset = create(rt.alloc(), &template, &mut entropy)?;
-    assert_eq!(rt; entropy.left(), 4);
-    assert_eq!(rt;
-        shown(rt.alloc(), &keyset)?.as_str(),
-        "16909060: 16909060/1"
-    );
-    let key = keyset.primary_record();
-    assert_eq!(rt;
-        key.url.as_str(),
-        "type.googleapis.com/google.crypto.tink.AesGcmKey"
-    );
-    assert_eq!(rt;
-        key.value.as_slice(),
-        b"\x1a\x10\0\0\0\0\0\0\0\0\0\0\0\0\0\0\0\0".as_slice()
-    );
-    assert_eq!(rt; key.prefix, 1);
-    assert_eq!(rt; key.material, 1);
-    let random = b"\x0a\x0b\x0c\x0d\0\0\0\0\0\0\0\0\0\0\0\0\0\0\0\0";
-    let rotated = edit(rt.alloc(), &keyset, Command::Rotate(template), random)?;
-    assert_eq!(rt;
-        rotated.as_str(),
-        "168496141: 16909060/1 168496141/1, 0 left"
-    );
-    Ok(())
+// A row has a word, what it takes, and what the edit gives.
+fn assert_edit(alloc: Global, keyset: &Keyset, random: &[u8], row: &str) -> Result<(), Fail> {
+    let command = command_in(row)?;
+    let found = edit(alloc, keyset, &command, random)?;
+    holds_text(row, "the edit", cell(row, 2)?, found.as_str())
 }
 
-// 64 draws of four bytes.
-#[test]
-fn gives_up_where_no_id_is_free(rt: HostRuntime) -> Result<(), Fail> {
-    let exhausted = CmdError::Refused(CmdFault::IdsExhausted);
-    let cases = [
-        ("a byte too few", 255, CmdError::EntropyFault, 3),
-        ("all draws", 256, exhausted, 0),
-        ("more bytes", 300, exhausted, 44),
-        ("none", 0, CmdError::EntropyFault, 0),
-    ];
-    for (shows, size, want, left) in cases {
-        let stream = vec![in rt.alloc(); 0u8; size]?;
-        let mut entropy = MemEntropy::new(stream, Vec::new(rt.alloc()));
-        let template = template_named("AES128_GCM")?;
-        let made = create(rt.alloc(), &template, &mut entropy);
-        assert_eq!(rt; made.err(), Some(want), "{shows}");
-        assert_eq!(rt; entropy.left(), left, "{shows}");
+fn assert_edits(
+    alloc: Global,
+    keyset: &Keyset,
+    random: &[u8],
+    table: &str,
+    rows: usize,
+) -> Result<(), Fail> {
+    count(table, rows)?;
+    for row in table.lines() {
+        assert_edit(alloc, keyset, random, row)?;
     }
     Ok(())
 }
 
-// Behind each edit its refusal, or the keyset.
+/// A new keyset of AES-GCM, or the refusal.
+fn created(alloc: Global, entropy: &mut MemEntropy) -> Result<String, Fail> {
+    match create(alloc, &template_named("AES128_GCM")?, entropy) {
+        Ok(keyset) => shown(alloc, &keyset),
+        Err(error) => Ok(format!(in alloc; "{error:?}")?),
+    }
+}
+
+// 00000000 is no id, and 01020304 is 16909060. The message of the key is 1a10 and 16 zeros.
+const RANDOM: &[u8] = b"\0\0\0\0\x01\x02\x03\x04\0\0\0\0\0\0\0\0\0\0\0\0\0\0\0\0rest";
+
+const MADE: &str = "\
+16909060 1 1 type.googleapis.com/google.crypto.tink.AesGcmKey \
+1a1000000000000000000000000000000000 1";
+
+// Over the bytes of ROTATION.
+const ROTATED: &str = "\
+rotate|AES128_GCM|168496141: 16909060/1 168496141/1, 0 left";
+
+const ROTATION: &[u8] = b"\x0a\x0b\x0c\x0d\0\0\0\0\0\0\0\0\0\0\0\0\0\0\0\0";
+
+#[test]
+fn creates_a_keyset_of_one_key(rt: HostRuntime) -> Result<(), Fail> {
+    let mut entropy = MemEntropy::new(RANDOM.to_vec(rt.alloc())?, Vec::new(rt.alloc()));
+    let keyset = create(rt.alloc(), &template_named("AES128_GCM")?, &mut entropy)?;
+    assert_eq!(rt; entropy.left(), 4);
+    let text = shown(rt.alloc(), &keyset)?;
+    holds_text(
+        "one key",
+        "the keyset",
+        "16909060: 16909060/1",
+        text.as_str(),
+    )?;
+    let text = record_text(rt.alloc(), keyset.primary_record())?;
+    holds_text("one key", "the record", MADE, text.as_str())?;
+    assert_edits(rt.alloc(), &keyset, ROTATION, ROTATED, 1)
+}
+
+// 64 draws of four bytes. A row has what it shows, how many bytes 0 there are, and what is left.
+const DRAWS: &str = "\
+a byte too few|255|EntropyFault, 3 left
+all draws|256|Refused(IdsExhausted), 0 left
+more bytes|300|Refused(IdsExhausted), 44 left
+none|0|EntropyFault, 0 left";
+
+fn drawn(alloc: Global, row: &str) -> Result<String, Fail> {
+    let stream = vec![in alloc; 0u8; number_in(row, 1)?]?;
+    let mut entropy = MemEntropy::new(stream, Vec::new(alloc));
+    let text = created(alloc, &mut entropy)?;
+    Ok(format!(in alloc; "{text}, {} left", entropy.left())?)
+}
+
+#[test]
+fn gives_up_where_no_id_is_free(rt: HostRuntime) -> Result<(), Fail> {
+    count(DRAWS, 4)?;
+    for row in DRAWS.lines() {
+        holds(row, 2, "the keyset", drawn(rt.alloc(), row)?.as_str())?;
+    }
+    Ok(())
+}
+
+const BY_ID: &str = "\
+promote|99|Refused(KeyNotFound), 4 left
+promote|8|Refused(KeyNotEnabled), 4 left
+promote|9|Refused(KeyNotEnabled), 4 left
+promote|7|7: 7/1 8/2 9/3 10/2 11/2 12/2, 4 left
+enable|0|Refused(KeyNotFound), 4 left
+enable|9|Refused(KeyDestroyed), 4 left
+enable|10|Refused(MixedPrimitive), 4 left
+enable|11|Refused(KeyRefused(KeySize)), 4 left
+enable|12|Refused(MixedPrimitive), 4 left
+enable|7|7: 7/1 8/2 9/3 10/2 11/2 12/2, 4 left
+enable|8|7: 7/1 8/1 9/3 10/2 11/2 12/2, 4 left
+disable|99|Refused(KeyNotFound), 4 left
+disable|7|Refused(KeyIsPrimary), 4 left
+disable|9|Refused(KeyDestroyed), 4 left
+disable|8|7: 7/1 8/2 9/3 10/2 11/2 12/2, 4 left
+destroy|99|Refused(KeyNotFound), 4 left
+destroy|7|Refused(KeyIsPrimary), 4 left
+destroy|9|7: 7/1 8/2 9/3 10/2 11/2 12/2, 4 left
+destroy|12|7: 7/1 8/2 9/3 10/2 11/2 12/3, 4 left
+delete|99|Refused(KeyNotFound), 4 left
+delete|7|Refused(KeyIsPrimary), 4 left
+delete|9|7: 7/1 8/2 10/2 11/2 12/2, 4 left";
+
 #[test]
 fn edits_records_by_their_ids(rt: HostRuntime) -> Result<(), Fail> {
     let mut bytes = FIRST.to_vec(rt.alloc())?;
     bytes.extend_from_slice(OTHERS)?;
-    assert!(rt; bytes.len() < 1000);
-    let keyset = read_binary(rt.alloc(), &bytes)?;
-    let before = "7: 7/1 8/2 9/3 10/2 11/2 12/2";
-    let cases = [
-        ("promote", 99, "Refused(KeyNotFound)"),
-        ("promote", 8, "Refused(KeyNotEnabled)"),
-        ("promote", 9, "Refused(KeyNotEnabled)"),
-        ("promote", 7, before),
-        ("enable", 0, "Refused(KeyNotFound)"),
-        ("enable", 9, "Refused(KeyDestroyed)"),
-        ("enable", 10, "Refused(MixedPrimitive)"),
-        ("enable", 11, "Refused(KeyRefused(KeySize))"),
-        ("enable", 12, "Refused(MixedPrimitive)"),
-        ("enable", 7, before),
-        ("enable", 8, "7: 7/1 8/1 9/3 10/2 11/2 12/2"),
-        ("disable", 99, "Refused(KeyNotFound)"),
-        ("disable", 7, "Refused(KeyIsPrimary)"),
-        ("disable", 9, "Refused(KeyDestroyed)"),
-        ("disable", 8, before),
-        ("destroy", 99, "Refused(KeyNotFound)"),
-        ("destroy", 7, "Refused(KeyIsPrimary)"),
-        ("destroy", 9, before),
-        ("destroy", 12, "7: 7/1 8/2 9/3 10/2 11/2 12/3"),
-        ("delete", 99, "Refused(KeyNotFound)"),
-        ("delete", 7, "Refused(KeyIsPrimary)"),
-        ("delete", 9, "7: 7/1 8/2 10/2 11/2 12/2"),
-    ];
-    for (word, id, want) in cases {
-        let want = format!(in rt.alloc(); "{want}, 4 left")?;
-        let given = edit(rt.alloc(), &keyset, by_id(word, id), b"some")?;
-        assert_eq!(rt; given.as_str(), want.as_str(), "{word} {id}");
-    }
-    Ok(())
+    let keyset = keyset_of(rt.alloc(), &bytes)?;
+    assert_edits(rt.alloc(), &keyset, b"some", BY_ID, 22)
 }
+
+const BESIDE_UNKNOWN: &str = "\
+enable|2|1: 1/1 2/1, 0 left";
 
 #[test]
 fn enables_a_key_beside_an_unknown_primary(rt: HostRuntime) -> Result<(), Fail> {
-    assert!(rt; UNKNOWN.len() < 100);
-    let keyset = read_binary(rt.alloc(), UNKNOWN)?;
-    let enabled = edit(rt.alloc(), &keyset, Command::Enable(2), b"")?;
-    assert_eq!(rt; enabled.as_str(), "1: 1/1 2/1, 0 left");
-    Ok(())
+    let keyset = keyset_of(rt.alloc(), UNKNOWN)?;
+    assert_edits(rt.alloc(), &keyset, b"", BESIDE_UNKNOWN, 1)
 }
 
 // The ids 7 and 0 are drawn, then 0x01000000, and the first 16 bytes behind it are the key.
+const NEW_IDS: &[u8] = b"\0\0\0\x07\0\0\0\0\x01\0\0\0kkkkkkkkkkkkkkkkrest";
+
+const NEW_KEYS: &str = "\
+add|AES128_GCM|7: 7/1 16777216/1, 4 left
+rotate|AES128_GCM|16777216: 7/1 16777216/1, 4 left
+add|AES256_SIV|Refused(MixedPrimitive), 32 left
+rotate|AES256_SIV|Refused(MixedPrimitive), 32 left";
+
 #[test]
 fn adds_a_key_with_a_new_id(rt: HostRuntime) -> Result<(), Fail> {
-    assert!(rt; FIRST.len() < 100);
-    let keyset = read_binary(rt.alloc(), FIRST)?;
-    let random = b"\0\0\0\x07\0\0\0\0\x01\0\0\0kkkkkkkkkkkkkkkkrest";
-    let gcm = template_named("AES128_GCM")?;
-    let siv = template_named("AES256_SIV")?;
-    let added = edit(rt.alloc(), &keyset, Command::Add(gcm), random)?;
-    assert_eq!(rt; added.as_str(), "7: 7/1 16777216/1, 4 left");
-    let rotated = edit(rt.alloc(), &keyset, Command::Rotate(gcm), random)?;
-    assert_eq!(rt; rotated.as_str(), "16777216: 7/1 16777216/1, 4 left");
-    let added = edit(rt.alloc(), &keyset, Command::Add(siv), random)?;
-    assert_eq!(rt; added.as_str(), "Refused(MixedPrimitive), 32 left");
-    let rotated = edit(rt.alloc(), &keyset, Command::Rotate(siv), random)?;
-    assert_eq!(rt; rotated.as_str(), "Refused(MixedPrimitive), 32 left");
-    Ok(())
+    let keyset = keyset_of(rt.alloc(), FIRST)?;
+    assert_edits(rt.alloc(), &keyset, NEW_IDS, NEW_KEYS, 4)
 }
 
 /// Key 7 and so many DISABLED ones, of an unknown URL and of ids from 128 on.
@@ -199,23 +258,26 @@ fn crowd(alloc: Global, others: u32) -> Result<Vec<u8>, Fail> {
     Ok(bytes)
 }
 
+/// A keyset of 1,000 keys, of which AES-GCM made the last one, of these random bytes.
+fn full(alloc: Global, entropy: &mut MemEntropy) -> Result<Keyset, Fail> {
+    let keyset = keyset_of(alloc, &crowd(alloc, 998)?)?;
+    let command = Command::Add(template_named("AES128_GCM")?);
+    Ok(apply(alloc, &keyset, &command, entropy)?)
+}
+
+const NEW_KEY: &[u8] = b"\x01\0\0\0kkkkkkkkkkkkkkkk";
+
+const NO_ROOM: &str = "\
+add|AES256_SIV|Refused(TooManyKeys), 20 left
+rotate|AES128_GCM|Refused(TooManyKeys), 20 left";
+
 #[test]
 fn holds_a_thousand_keys(rt: HostRuntime) -> Result<(), Fail> {
-    let random = b"\x01\0\0\0kkkkkkkkkkkkkkkk";
-    let gcm = template_named("AES128_GCM")?;
-    let bytes = crowd(rt.alloc(), 998)?;
-    assert!(rt; bytes.len() < 100000);
-    let keyset = read_binary(rt.alloc(), &bytes)?;
-    let mut entropy = MemEntropy::new(random.to_vec(rt.alloc())?, Vec::new(rt.alloc()));
-    let full = apply(rt.alloc(), &keyset, &Command::Add(gcm), &mut entropy)?;
+    let mut entropy = MemEntropy::new(NEW_KEY.to_vec(rt.alloc())?, Vec::new(rt.alloc()));
+    let full = full(rt.alloc(), &mut entropy)?;
     assert_eq!(rt; full.len(), 1000);
     assert_eq!(rt; full.record_at(999).id, 0x01000000);
-    let no_room = "Refused(TooManyKeys), 20 left";
-    let siv = template_named("AES256_SIV")?;
-    let added = edit(rt.alloc(), &full, Command::Add(siv), random)?;
-    assert_eq!(rt; added.as_str(), no_room);
-    let rotated = edit(rt.alloc(), &full, Command::Rotate(gcm), random)?;
-    assert_eq!(rt; rotated.as_str(), no_room);
+    assert_edits(rt.alloc(), &full, NEW_KEY, NO_ROOM, 2)?;
     let fewer = apply(rt.alloc(), &full, &Command::Delete(128), &mut entropy)?;
     assert_eq!(rt; fewer.len(), 999);
     Ok(())

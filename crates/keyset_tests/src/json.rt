@@ -1,7 +1,11 @@
-use keyset_json::{JsonError, Member, Path, read_bytes, read_json, write_json};
-use keyset_model::{KeysetFault, read_binary, write_binary};
+//! Keysets as JSON: other writers' texts, other spellings, and what is refused.
+
+use crate::rows::{count, few, holds, holds_text, holds_to};
+use keyset_json::{Member, read_bytes, read_json, write_json};
+use keyset_model::{read_binary, write_binary};
 use std::alloc::Global;
 use std::test::Fail;
+use test_words::{cell, digits_of};
 
 // Keysets as protoc 3.21.12 encodes them, and as python's json prints the same values (with sorted
 // names, no spaces and characters beyond ASCII as they are).
@@ -40,24 +44,30 @@ const ODD_KEYS_JSON: &str = "{\"key\":[{\"keyData\":{\"keyMaterialType\":\"ASYMM
     \"value\":\"//4=\"},\"keyId\":4294967295,\"outputPrefixType\":\"LEGACY\",\
     \"status\":\"DESTROYED\"}],\"primaryKeyId\":0}\n";
 
+// What a form shows, and a keyset in both forms.
+const FORMS: [(&str, &[u8], &str); 3] = [
+    ("one key", ONE_KEY, ONE_KEY_JSON),
+    ("a bare key", BARE_KEY, BARE_KEY_JSON),
+    ("all kinds of characters", ODD_KEYS, ODD_KEYS_JSON),
+];
+
+fn assert_written(alloc: Global, shows: &str, bytes: &[u8], text: &str) -> Result<(), Fail> {
+    let bytes = few(bytes.to_vec(alloc)?)?;
+    let found = write_json(alloc, &read_binary(alloc, &bytes)?)?;
+    holds_text(shows, "the JSON", text, str::from_utf8(&found)?)
+}
+
+fn assert_read(alloc: Global, shows: &str, bytes: &[u8], text: &str) -> Result<(), Fail> {
+    let text = few(text.as_bytes().to_vec(alloc)?)?;
+    let found = write_binary(alloc, &read_json(alloc, &text)?)?;
+    holds_to(alloc, shows, "the binary form", bytes, &found)
+}
+
 #[test]
 fn takes_keysets_from_one_form_to_the_other_and_back(rt: HostRuntime) -> Result<(), Fail> {
-    let cases = [
-        ("one key", ONE_KEY, ONE_KEY_JSON),
-        ("a bare key", BARE_KEY, BARE_KEY_JSON),
-        ("all kinds of characters", ODD_KEYS, ODD_KEYS_JSON),
-    ];
-    for (shows, bytes, text) in cases {
-        assert!(rt; bytes.len() < 200);
-        assert!(rt; text.len() < 1000);
-        let written = write_json(rt.alloc(), &read_binary(rt.alloc(), bytes)?)?;
-        assert_eq!(rt; str::from_utf8(&written)?, text, "{shows}");
-        let keyset = read_json(rt.alloc(), text.as_bytes())?;
-        assert_eq!(rt;
-            write_binary(rt.alloc(), &keyset)?.as_slice(),
-            bytes,
-            "{shows}"
-        );
+    for (shows, bytes, text) in FORMS {
+        assert_written(rt.alloc(), shows, bytes, text)?;
+        assert_read(rt.alloc(), shows, bytes, text)?;
     }
     Ok(())
 }
@@ -68,280 +78,192 @@ const ONE_JSON: &str =
     \"value\":\"+/8=\"},\"keyId\":7,\"outputPrefixType\":\"RAW\",\"status\":\"ENABLED\"}],\
     \"primaryKeyId\":7}\n";
 
+const SPELLINGS: [(&str, &str); 4] = [
+    (
+        "field names of tink.proto, numbers as texts, the URL alphabet without padding",
+        "{\"primary_key_id\":\"7\",\"key\":[{\"key_data\":{\"type_url\":\"u\",\"value\":\"-_8\",\
+        \"key_material_type\":1},\"status\":1,\"key_id\":\"007\",\"output_prefix_type\":\"RAW\"}],\
+        \"note\":null}",
+    ),
+    (
+        "white space, a newline, members in another order",
+        "{\n  \"primaryKeyId\": 7,\n  \"key\": [\n    {\n      \"status\": \"ENABLED\",\n\
+        \"keyId\": 7, \"outputPrefixType\": 3,\n\"keyData\": {\"value\": \"+/8\",\n\
+        \"typeUrl\": \"u\", \"keyMaterialType\": \"SYMMETRIC\"}\n    }\n  ]\n}\n",
+    ),
+    (
+        "two newlines, a name that stands twice, escapes",
+        "{\"primaryKeyId\":6,\"primaryKeyId\":7,\"key\":[{\"keyData\":{\"typeUrl\":\"\\u0075\",\
+        \"value\":\"\\u002b\\/8=\",\"keyMaterialType\":1},\"status\":1,\"keyId\":7,\
+        \"outputPrefixType\":3}]}\n\n",
+    ),
+    (
+        "the field name counts only where the other isn't there",
+        "{\"primaryKeyId\":7,\"primary_key_id\":[],\"key\":[{\"key_data\":{\"type_url\":\"u\",\
+        \"value\":\"+/8=\",\"keyMaterialType\":1},\"status\":1,\"keyId\":\"7\",\"key_id\":8,\
+        \"outputPrefixType\":3}]}",
+    ),
+];
+
+fn assert_spelled(alloc: Global, shows: &str, text: &str) -> Result<(), Fail> {
+    let text = few(text.as_bytes().to_vec(alloc)?)?;
+    let found = write_json(alloc, &read_json(alloc, &text)?)?;
+    holds_text(shows, "the JSON", ONE_JSON, str::from_utf8(&found)?)
+}
+
 #[test]
 fn reads_other_spellings_of_one_keyset(rt: HostRuntime) -> Result<(), Fail> {
-    let cases = [
-        (
-            "field names of tink.proto, numbers as texts, the URL alphabet without padding",
-            "{\"primary_key_id\":\"7\",\"key\":[{\"key_data\":{\"type_url\":\"u\",\"value\":\"-_8\",\
-            \"key_material_type\":1},\"status\":1,\"key_id\":\"007\",\"output_prefix_type\":\"RAW\"}],\
-            \"note\":null}",
-        ),
-        (
-            "white space, a newline, members in another order",
-            "{\n  \"primaryKeyId\": 7,\n  \"key\": [\n    {\n      \"status\": \"ENABLED\",\n\
-            \"keyId\": 7, \"outputPrefixType\": 3,\n\"keyData\": {\"value\": \"+/8\",\n\
-            \"typeUrl\": \"u\", \"keyMaterialType\": \"SYMMETRIC\"}\n    }\n  ]\n}\n",
-        ),
-        (
-            "two newlines, a name that stands twice, escapes",
-            "{\"primaryKeyId\":6,\"primaryKeyId\":7,\"key\":[{\"keyData\":{\"typeUrl\":\"\\u0075\",\
-            \"value\":\"\\u002b\\/8=\",\"keyMaterialType\":1},\"status\":1,\"keyId\":7,\
-            \"outputPrefixType\":3}]}\n\n",
-        ),
-        (
-            "the field name counts only where the other isn't there",
-            "{\"primaryKeyId\":7,\"primary_key_id\":[],\"key\":[{\"key_data\":{\"type_url\":\"u\",\
-            \"value\":\"+/8=\",\"keyMaterialType\":1},\"status\":1,\"keyId\":\"7\",\"key_id\":8,\
-            \"outputPrefixType\":3}]}",
-        ),
-    ];
-    for (shows, text) in cases {
-        assert!(rt; text.len() < 1000);
-        let written = write_json(rt.alloc(), &read_json(rt.alloc(), text.as_bytes())?)?;
-        assert_eq!(rt; str::from_utf8(&written)?, ONE_JSON, "{shows}");
+    for (shows, text) in SPELLINGS {
+        assert_spelled(rt.alloc(), shows, text)?;
     }
     Ok(())
 }
 
-/// The refusal of a text.
-fn refused(alloc: Global, text: &[u8]) -> Option<JsonError> {
-    if text.len() < 10000 {
-        read_json(alloc, text).err()
-    } else {
-        None
+// The refusal of a text, as a text.
+fn refusal(alloc: Global, text: &[u8]) -> Result<String, Fail> {
+    let text = few(text.to_vec(alloc)?)?;
+    match read_json(alloc, &text) {
+        Ok(_) => Ok(String::from_str(alloc, "read")?),
+        Err(error) => Ok(format!(in alloc; "{error:?}")?),
     }
 }
 
+const NOT_JSON: [(&str, &[u8]); 6] = [
+    ("no byte", b""),
+    ("a newline", b"\n"),
+    ("a byte order mark", b"\xef\xbb\xbf{}"),
+    ("a text that isn't UTF-8", b"{\"note\":\"\xff\"}"),
+    ("two values", b"{}{}"),
+    ("a number too large for a float", b"{\"keyId\":1e999}"),
+];
+
 #[test]
-fn refuses_what_is_no_json(rt: HostRuntime) {
-    let cases = [
-        ("no byte", b"".as_slice()),
-        ("a newline", b"\n".as_slice()),
-        ("a byte order mark", b"\xef\xbb\xbf{}".as_slice()),
-        ("a text that isn't UTF-8", b"{\"note\":\"\xff\"}".as_slice()),
-        ("two values", b"{}{}".as_slice()),
-        (
-            "a number too large for a float",
-            b"{\"keyId\":1e999}".as_slice(),
-        ),
-    ];
-    for (shows, text) in cases {
-        assert_eq!(rt;
-            refused(rt.alloc(), text),
-            Some(JsonError::NotJson),
-            "{shows}"
-        );
+fn refuses_what_is_no_json(rt: HostRuntime) -> Result<(), Fail> {
+    for (shows, text) in NOT_JSON {
+        let found = refusal(rt.alloc(), text)?;
+        holds_text(shows, "the refusal", "NotJson", found.as_str())?;
     }
+    Ok(())
 }
+
+const LEVELS: [(usize, &str); 3] = [
+    (127, "Shape(Path { key: None, member: Keyset })"),
+    (128, "NotJson"),
+    (200, "NotJson"),
+];
 
 #[test]
 fn takes_127_levels_of_lists(rt: HostRuntime) -> Result<(), Fail> {
-    for (levels, want) in [
-        (
-            127usize,
-            JsonError::Shape(Path {
-                key: None,
-                member: Member::Keyset,
-            }),
-        ),
-        (128, JsonError::NotJson),
-        (200, JsonError::NotJson),
-    ] {
-        let mut text = Vec::new(rt.alloc());
-        for _ in 0..levels {
-            text.push(b'[')?;
-        }
-        for _ in 0..levels {
-            text.push(b']')?;
-        }
-        assert_eq!(rt; refused(rt.alloc(), &text), Some(want), "{levels} levels");
+    for (levels, want) in LEVELS {
+        let mut text = b"[".repeat(rt.alloc(), levels)?;
+        text.extend_from_slice(&b"]".repeat(rt.alloc(), levels)?)?;
+        let found = refusal(rt.alloc(), &text)?;
+        assert_eq!(rt; found.as_str(), want, "{levels} levels");
     }
     Ok(())
 }
 
-#[test]
-fn names_the_first_member_of_the_keyset_that_is_not_of_its_form(rt: HostRuntime) {
-    let cases = [
-        ("a list", "[]", Member::Keyset),
-        (
-            "a number past 32 bits",
-            "{\"primaryKeyId\":4294967296,\"key\":5}",
-            Member::PrimaryKeyId,
-        ),
-        (
-            "eleven digits",
-            "{\"primaryKeyId\":\"00000000001\"}",
-            Member::PrimaryKeyId,
-        ),
-        ("a space", "{\"primaryKeyId\":\" 7\"}", Member::PrimaryKeyId),
-        ("a fraction", "{\"primaryKeyId\":7.0}", Member::PrimaryKeyId),
-        (
-            "an exponent",
-            "{\"primaryKeyId\":1e1}",
-            Member::PrimaryKeyId,
-        ),
-        ("minus zero", "{\"primaryKeyId\":-0}", Member::PrimaryKeyId),
-        (
-            "by its field's name",
-            "{\"primary_key_id\":[]}",
-            Member::PrimaryKeyId,
-        ),
-        ("an object as the list", "{\"key\":{}}", Member::Key),
-    ];
-    for (shows, text, member) in cases {
-        let want = JsonError::Shape(Path { key: None, member });
-        assert_eq!(rt; refused(rt.alloc(), text.as_bytes()), Some(want), "{shows}");
+// A row has what it shows, a text, and its refusal.
+fn assert_refused(alloc: Global, table: &str, rows: usize) -> Result<(), Fail> {
+    count(table, rows)?;
+    for row in table.lines() {
+        let found = refusal(alloc, cell(row, 1)?.as_bytes())?;
+        holds(row, 2, "the refusal", found.as_str())?;
     }
+    Ok(())
+}
+
+const KEYSET_MEMBERS: &str = "\
+a list|[]|Shape(Path { key: None, member: Keyset })
+a number past 32 bits|{\"primaryKeyId\":4294967296,\"key\":5}|Shape(Path { key: None, member: PrimaryKeyId })
+eleven digits|{\"primaryKeyId\":\"00000000001\"}|Shape(Path { key: None, member: PrimaryKeyId })
+a space|{\"primaryKeyId\":\" 7\"}|Shape(Path { key: None, member: PrimaryKeyId })
+a fraction|{\"primaryKeyId\":7.0}|Shape(Path { key: None, member: PrimaryKeyId })
+an exponent|{\"primaryKeyId\":1e1}|Shape(Path { key: None, member: PrimaryKeyId })
+minus zero|{\"primaryKeyId\":-0}|Shape(Path { key: None, member: PrimaryKeyId })
+by its field's name|{\"primary_key_id\":[]}|Shape(Path { key: None, member: PrimaryKeyId })
+an object as the list|{\"key\":{}}|Shape(Path { key: None, member: Key })";
+
+const KEY_MEMBERS: &str = "\
+a number as a key|{\"key\":[7]}|Shape(Path { key: Some(0), member: Key })
+null as a key|{\"key\":[{},null]}|Shape(Path { key: Some(1), member: Key })
+a list as key data|{\"key\":[{\"keyData\":[],\"status\":[]}]}|Shape(Path { key: Some(0), member: KeyData })
+a number as URL|{\"key\":[{\"keyData\":{\"typeUrl\":7,\"value\":7}}]}|Shape(Path { key: Some(0), member: TypeUrl })
+both alphabets|{\"key\":[{\"keyData\":{\"value\":\"+_8=\",\"keyMaterialType\":\"X\"}}]}|Shape(Path { key: Some(0), member: Value })
+a name of another enum|{\"key\":[{\"keyData\":{\"keyMaterialType\":\"RAW\"},\"status\":\"enabled\"}]}|Shape(Path { key: Some(0), member: KeyMaterialType })
+a name in lower case|{\"key\":[{\"status\":\"enabled\",\"keyId\":-1}]}|Shape(Path { key: Some(0), member: Status })
+a number as a text is no enum|{\"key\":[{},{\"status\":\"1\"}]}|Shape(Path { key: Some(1), member: Status })
+an id below 0|{\"key\":[{\"keyId\":-1,\"outputPrefixType\":\"\"}]}|Shape(Path { key: Some(0), member: KeyId })
+an enum past 32 bits|{\"key\":[{\"outputPrefixType\":4294967296},7]}|Shape(Path { key: Some(0), member: OutputPrefixType })";
+
+const FAULTS: &str = "\
+nothing|{}|Fault(Empty)
+null as the list|{\"key\":null,\"primaryKeyId\":null}|Fault(Empty)
+an empty object as a key|{\"key\":[{}]}|Fault(UnknownStatus(0))
+null, though the field's name is there|{\"key\":[{\"status\":1,\"outputPrefixType\":null,\"output_prefix_type\":1}]}|Fault(UnknownPrefix(0))
+a status without a name|{\"key\":[{\"status\":4294967295}]}|Fault(UnknownStatus(0))
+no primary key|{\"key\":[{\"status\":3,\"outputPrefixType\":1}],\"primaryKeyId\":1}|Fault(NoPrimary)";
+
+#[test]
+fn names_the_first_member_of_the_keyset_that_is_not_of_its_form(
+    rt: HostRuntime,
+) -> Result<(), Fail> {
+    assert_refused(rt.alloc(), KEYSET_MEMBERS, 9)
 }
 
 #[test]
-fn names_the_first_member_of_a_key_that_is_not_of_its_form(rt: HostRuntime) {
-    let cases = [
-        ("a number as a key", "{\"key\":[7]}", 0, Member::Key),
-        ("null as a key", "{\"key\":[{},null]}", 1, Member::Key),
-        (
-            "a list as key data",
-            "{\"key\":[{\"keyData\":[],\"status\":[]}]}",
-            0,
-            Member::KeyData,
-        ),
-        (
-            "a number as URL",
-            "{\"key\":[{\"keyData\":{\"typeUrl\":7,\"value\":7}}]}",
-            0,
-            Member::TypeUrl,
-        ),
-        (
-            "both alphabets",
-            "{\"key\":[{\"keyData\":{\"value\":\"+_8=\",\"keyMaterialType\":\"X\"}}]}",
-            0,
-            Member::Value,
-        ),
-        (
-            "a name of another enum",
-            "{\"key\":[{\"keyData\":{\"keyMaterialType\":\"RAW\"},\"status\":\"enabled\"}]}",
-            0,
-            Member::KeyMaterialType,
-        ),
-        (
-            "a name in lower case",
-            "{\"key\":[{\"status\":\"enabled\",\"keyId\":-1}]}",
-            0,
-            Member::Status,
-        ),
-        (
-            "a number as a text is no enum",
-            "{\"key\":[{},{\"status\":\"1\"}]}",
-            1,
-            Member::Status,
-        ),
-        (
-            "an id below 0",
-            "{\"key\":[{\"keyId\":-1,\"outputPrefixType\":\"\"}]}",
-            0,
-            Member::KeyId,
-        ),
-        (
-            "an enum past 32 bits",
-            "{\"key\":[{\"outputPrefixType\":4294967296},7]}",
-            0,
-            Member::OutputPrefixType,
-        ),
-    ];
-    for (shows, text, key, member) in cases {
-        let want = JsonError::Shape(Path {
-            key: Some(key),
-            member,
-        });
-        assert_eq!(rt; refused(rt.alloc(), text.as_bytes()), Some(want), "{shows}");
-    }
+fn names_the_first_member_of_a_key_that_is_not_of_its_form(rt: HostRuntime) -> Result<(), Fail> {
+    assert_refused(rt.alloc(), KEY_MEMBERS, 10)
 }
 
 #[test]
-fn names_the_faults_of_a_keyset(rt: HostRuntime) {
-    let cases = [
-        ("nothing", "{}", KeysetFault::Empty),
-        (
-            "null as the list",
-            "{\"key\":null,\"primaryKeyId\":null}",
-            KeysetFault::Empty,
-        ),
-        (
-            "an empty object as a key",
-            "{\"key\":[{}]}",
-            KeysetFault::UnknownStatus(0),
-        ),
-        (
-            "null, though the field's name is there",
-            "{\"key\":[{\"status\":1,\"outputPrefixType\":null,\"output_prefix_type\":1}]}",
-            KeysetFault::UnknownPrefix(0),
-        ),
-        (
-            "a status without a name",
-            "{\"key\":[{\"status\":4294967295}]}",
-            KeysetFault::UnknownStatus(0),
-        ),
-        (
-            "no primary key",
-            "{\"key\":[{\"status\":3,\"outputPrefixType\":1}],\"primaryKeyId\":1}",
-            KeysetFault::NoPrimary,
-        ),
-    ];
-    for (shows, text, fault) in cases {
-        assert_eq!(rt;
-            refused(rt.alloc(), text.as_bytes()),
-            Some(JsonError::Fault(fault)),
-            "{shows}"
-        );
+fn names_the_faults_of_a_keyset(rt: HostRuntime) -> Result<(), Fail> {
+    assert_refused(rt.alloc(), FAULTS, 6)
+}
+
+// RFC 4648, section 10, and by hand: what it shows, a text, and the digits of its bytes.
+const ALPHABETS: [(&str, &str, &str); 13] = [
+    ("no byte", "", ""),
+    ("one byte", "Zg==", "66"),
+    ("two bytes, without padding", "Zm8", "666f"),
+    ("the standard alphabet", "+/8=", "fbff"),
+    ("the URL alphabet", "-_8=", "fbff"),
+    ("the URL alphabet, without padding", "-_8", "fbff"),
+    ("both alphabets", "+_8=", "none"),
+    ("five symbols", "Zm9vY", "none"),
+    ("half its padding", "Zg=", "none"),
+    ("padding behind whole groups", "Zm9v====", "none"),
+    ("bits behind one byte", "Zh==", "none"),
+    ("bits behind two bytes, without padding", "Zm9", "none"),
+    ("a newline", "Zm9v\n", "none"),
+];
+
+fn digits_read(alloc: Global, text: &str) -> Result<String, Fail> {
+    match read_bytes(alloc, text)? {
+        Some(bytes) => digits_of(alloc, bytes.as_slice()),
+        None => Ok(String::from_str(alloc, "none")?),
     }
 }
 
-// RFC 4648, section 10, and by hand.
 #[test]
 fn reads_bytes_in_both_alphabets(rt: HostRuntime) -> Result<(), Fail> {
-    let cases = [
-        ("no byte", "", Some(b"".as_slice())),
-        ("one byte", "Zg==", Some(b"f".as_slice())),
-        ("two bytes, without padding", "Zm8", Some(b"fo".as_slice())),
-        (
-            "the standard alphabet",
-            "+/8=",
-            Some(b"\xfb\xff".as_slice()),
-        ),
-        ("the URL alphabet", "-_8=", Some(b"\xfb\xff".as_slice())),
-        (
-            "the URL alphabet, without padding",
-            "-_8",
-            Some(b"\xfb\xff".as_slice()),
-        ),
-        ("both alphabets", "+_8=", None),
-        ("five symbols", "Zm9vY", None),
-        ("half its padding", "Zg=", None),
-        ("padding behind whole groups", "Zm9v====", None),
-        ("bits behind one byte", "Zh==", None),
-        ("bits behind two bytes, without padding", "Zm9", None),
-        ("a newline", "Zm9v\n", None),
-    ];
-    for (shows, text, want) in cases {
-        let bytes = read_bytes(rt.alloc(), text)?;
-        match bytes {
-            Some(bytes) => assert_eq!(rt; Some(bytes.as_slice()), want, "{shows}"),
-            None => assert_eq!(rt; None, want, "{shows}"),
-        }
+    for (shows, text, want) in ALPHABETS {
+        let found = digits_read(rt.alloc(), text)?;
+        holds_text(shows, "the bytes", want, found.as_str())?;
     }
     Ok(())
 }
+
+const MEMBERS: [(Member, &str); 4] = [
+    (Member::Keyset, "keyset"),
+    (Member::PrimaryKeyId, "primaryKeyId"),
+    (Member::Key, "key"),
+    (Member::OutputPrefixType, "outputPrefixType"),
+];
 
 #[test]
 fn names_members_as_json_does(rt: HostRuntime) {
-    let cases = [
-        (Member::Keyset, "keyset"),
-        (Member::PrimaryKeyId, "primaryKeyId"),
-        (Member::Key, "key"),
-        (Member::OutputPrefixType, "outputPrefixType"),
-    ];
-    for (member, name) in cases {
+    for (member, name) in MEMBERS {
         assert_eq!(rt; member.name(), name);
     }
 }

@@ -1,140 +1,125 @@
 //! Key messages as `protoc --encode` 3.21.12 writes them from Tink's message definitions, each with
-//! the first rule that it breaks by the tables of the key types.
+//! the first rule that it breaks by the tables of the key types; URLs, and rows of templates.
 
-ghost use Rattle.std.specs.Prelude.{◌<◌};
-
-use key_msgs::{
-    KeyFault, KeyKind, Primitive, Rule, TemplateFault, primitive_of, read_key, template_at,
-    template_named,
-};
-use std::alloc::{AllocError, Global};
+use crate::rows::{bytes_in, count, holds};
+use key_msgs::{Primitive, primitive_of, read_key, template_at, template_named};
+use std::alloc::Global;
 use std::test::Fail;
+use test_words::cell;
 
-// `kind bytes rule`: the key values are letters k, those of a second key m.
+// A row has the name of the key type, the message, and `ok` or the fault. The key values are
+// letters k, those of a second key m.
 const MESSAGES: &str = "\
-AesGcmKey 1a106b6b6b6b6b6b6b6b6b6b6b6b6b6b6b6b ok\n\
-AesGcmKey 08011a106b6b6b6b6b6b6b6b6b6b6b6b6b6b6b6b version\n\
-AesGcmKey 1a186b6b6b6b6b6b6b6b6b6b6b6b6b6b6b6b6b6b6b6b6b6b6b6b key\n\
-AesEaxKey 120208101a206b6b6b6b6b6b6b6b6b6b6b6b6b6b6b6b6b6b6b6b6b6b6b6b6b6b6b6b6b6b6b6b ok\n\
-AesEaxKey 1202080d1a206b6b6b6b6b6b6b6b6b6b6b6b6b6b6b6b6b6b6b6b6b6b6b6b6b6b6b6b6b6b6b6b iv\n\
-AesCtrHmacAeadKey 12161202080c1a106b6b6b6b6b6b6b6b6b6b6b6b6b6b6b6b1a181204080310101a106d6d6d6d6d6d6d6d6d6d6d6d6d6d6d6d ok\n\
-AesCtrHmacAeadKey 12161202080c1a106b6b6b6b6b6b6b6b6b6b6b6b6b6b6b6b1a1a08011204080310101a106d6d6d6d6d6d6d6d6d6d6d6d6d6d6d6d version\n\
-AesCtrHmacAeadKey 121808021202080c1a106b6b6b6b6b6b6b6b6b6b6b6b6b6b6b6b1a181204080310101a106d6d6d6d6d6d6d6d6d6d6d6d6d6d6d6d version\n\
-AesCtrHmacAeadKey 12161202080b1a106b6b6b6b6b6b6b6b6b6b6b6b6b6b6b6b1a171204080310101a0f6d6d6d6d6d6d6d6d6d6d6d6d6d6d6d key\n\
-AesCtrHmacAeadKey 1216120208111a106b6b6b6b6b6b6b6b6b6b6b6b6b6b6b6b1a181204080310091a106d6d6d6d6d6d6d6d6d6d6d6d6d6d6d6d iv\n\
-AesSivKey 12406b6b6b6b6b6b6b6b6b6b6b6b6b6b6b6b6b6b6b6b6b6b6b6b6b6b6b6b6b6b6b6b6b6b6b6b6b6b6b6b6b6b6b6b6b6b6b6b6b6b6b6b6b6b6b6b6b6b6b6b6b6b6b6b ok\n\
-AesSivKey 123f6b6b6b6b6b6b6b6b6b6b6b6b6b6b6b6b6b6b6b6b6b6b6b6b6b6b6b6b6b6b6b6b6b6b6b6b6b6b6b6b6b6b6b6b6b6b6b6b6b6b6b6b6b6b6b6b6b6b6b6b6b6b6b key\n\
-HmacKey 1204080110141a106b6b6b6b6b6b6b6b6b6b6b6b6b6b6b6b ok\n\
-HmacKey 1204080110151a106b6b6b6b6b6b6b6b6b6b6b6b6b6b6b6b tag\n\
-HmacKey 1204080410091a0f6b6b6b6b6b6b6b6b6b6b6b6b6b6b6b key\n\
-HmacKey 120210101a0f6b6b6b6b6b6b6b6b6b6b6b6b6b6b6b hash\n\
-AesCmacKey 12206b6b6b6b6b6b6b6b6b6b6b6b6b6b6b6b6b6b6b6b6b6b6b6b6b6b6b6b6b6b6b6b1a02080a ok\n\
-AesCmacKey 12206b6b6b6b6b6b6b6b6b6b6b6b6b6b6b6b6b6b6b6b6b6b6b6b6b6b6b6b6b6b6b6b1a020811 tag\n\
-HkdfPrfKey 120508031201731a206b6b6b6b6b6b6b6b6b6b6b6b6b6b6b6b6b6b6b6b6b6b6b6b6b6b6b6b6b6b6b6b ok\n\
-HkdfPrfKey 120208021a206b6b6b6b6b6b6b6b6b6b6b6b6b6b6b6b6b6b6b6b6b6b6b6b6b6b6b6b6b6b6b6b hash\n\
-HkdfPrfKey 120208041a1f6b6b6b6b6b6b6b6b6b6b6b6b6b6b6b6b6b6b6b6b6b6b6b6b6b6b6b6b6b6b6b key\n\
-HmacPrfKey 120208051a106b6b6b6b6b6b6b6b6b6b6b6b6b6b6b6b ok\n\
-AesCmacPrfKey 12206b6b6b6b6b6b6b6b6b6b6b6b6b6b6b6b6b6b6b6b6b6b6b6b6b6b6b6b6b6b6b6b ok\n\
-AesCmacPrfKey 12106b6b6b6b6b6b6b6b6b6b6b6b6b6b6b6b key\n\
-AesGcmHkdfStreamingKey 12060829101018011a106b6b6b6b6b6b6b6b6b6b6b6b6b6b6b6b ok\n\
-AesGcmHkdfStreamingKey 12060828101018011a106b6b6b6b6b6b6b6b6b6b6b6b6b6b6b6b segment\n\
-AesGcmHkdfStreamingKey 120a088080808008101818031a206b6b6b6b6b6b6b6b6b6b6b6b6b6b6b6b6b6b6b6b6b6b6b6b6b6b6b6b6b6b6b6b derived\n\
-AesGcmHkdfStreamingKey 120a088080808008102018031a206b6b6b6b6b6b6b6b6b6b6b6b6b6b6b6b6b6b6b6b6b6b6b6b6b6b6b6b6b6b6b6b segment\n\
-AesGcmHkdfStreamingKey 1207088020101818031a176b6b6b6b6b6b6b6b6b6b6b6b6b6b6b6b6b6b6b6b6b6b6b key\n\
-AesCtrHmacStreamingKey 120c0839101018042204080210201a106b6b6b6b6b6b6b6b6b6b6b6b6b6b6b6b ok\n\
-AesCtrHmacStreamingKey 120c0838101018042204080210201a106b6b6b6b6b6b6b6b6b6b6b6b6b6b6b6b segment\n\
-AesCtrHmacStreamingKey 120c0838101018042204080210311a106b6b6b6b6b6b6b6b6b6b6b6b6b6b6b6b tag\n\
-AesCtrHmacStreamingKey 120a083910101804220210201a0f6b6b6b6b6b6b6b6b6b6b6b6b6b6b6b hash\n\
-HmacKey 0a00 form\n\
-HmacKey 12021220 form\n\
-HmacKey 12020803120210101a106b6b6b6b6b6b6b6b6b6b6b6b6b6b6b6b ok\n\
-AesGcmKey 0a001a0108 form";
+AesGcmKey|1a106b6b6b6b6b6b6b6b6b6b6b6b6b6b6b6b|ok
+AesGcmKey|08011a106b6b6b6b6b6b6b6b6b6b6b6b6b6b6b6b|Bad(Version)
+AesGcmKey|1a186b6b6b6b6b6b6b6b6b6b6b6b6b6b6b6b6b6b6b6b6b6b6b6b|Bad(KeySize)
+AesEaxKey|120208101a206b6b6b6b6b6b6b6b6b6b6b6b6b6b6b6b6b6b6b6b6b6b6b6b6b6b6b6b6b6b6b6b|ok
+AesEaxKey|1202080d1a206b6b6b6b6b6b6b6b6b6b6b6b6b6b6b6b6b6b6b6b6b6b6b6b6b6b6b6b6b6b6b6b|Bad(IvSize)
+AesCtrHmacAeadKey|12161202080c1a106b6b6b6b6b6b6b6b6b6b6b6b6b6b6b6b1a181204080310101a106d6d6d6d6d6d6d6d6d6d6d6d6d6d6d6d|ok
+AesCtrHmacAeadKey|12161202080c1a106b6b6b6b6b6b6b6b6b6b6b6b6b6b6b6b1a1a08011204080310101a106d6d6d6d6d6d6d6d6d6d6d6d6d6d6d6d|Bad(Version)
+AesCtrHmacAeadKey|121808021202080c1a106b6b6b6b6b6b6b6b6b6b6b6b6b6b6b6b1a181204080310101a106d6d6d6d6d6d6d6d6d6d6d6d6d6d6d6d|Bad(Version)
+AesCtrHmacAeadKey|12161202080b1a106b6b6b6b6b6b6b6b6b6b6b6b6b6b6b6b1a171204080310101a0f6d6d6d6d6d6d6d6d6d6d6d6d6d6d6d|Bad(KeySize)
+AesCtrHmacAeadKey|1216120208111a106b6b6b6b6b6b6b6b6b6b6b6b6b6b6b6b1a181204080310091a106d6d6d6d6d6d6d6d6d6d6d6d6d6d6d6d|Bad(IvSize)
+AesSivKey|12406b6b6b6b6b6b6b6b6b6b6b6b6b6b6b6b6b6b6b6b6b6b6b6b6b6b6b6b6b6b6b6b6b6b6b6b6b6b6b6b6b6b6b6b6b6b6b6b6b6b6b6b6b6b6b6b6b6b6b6b6b6b6b6b|ok
+AesSivKey|123f6b6b6b6b6b6b6b6b6b6b6b6b6b6b6b6b6b6b6b6b6b6b6b6b6b6b6b6b6b6b6b6b6b6b6b6b6b6b6b6b6b6b6b6b6b6b6b6b6b6b6b6b6b6b6b6b6b6b6b6b6b6b6b|Bad(KeySize)
+HmacKey|1204080110141a106b6b6b6b6b6b6b6b6b6b6b6b6b6b6b6b|ok
+HmacKey|1204080110151a106b6b6b6b6b6b6b6b6b6b6b6b6b6b6b6b|Bad(TagSize)
+HmacKey|1204080410091a0f6b6b6b6b6b6b6b6b6b6b6b6b6b6b6b|Bad(KeySize)
+HmacKey|120210101a0f6b6b6b6b6b6b6b6b6b6b6b6b6b6b6b|Bad(Hash)
+AesCmacKey|12206b6b6b6b6b6b6b6b6b6b6b6b6b6b6b6b6b6b6b6b6b6b6b6b6b6b6b6b6b6b6b6b1a02080a|ok
+AesCmacKey|12206b6b6b6b6b6b6b6b6b6b6b6b6b6b6b6b6b6b6b6b6b6b6b6b6b6b6b6b6b6b6b6b1a020811|Bad(TagSize)
+HkdfPrfKey|120508031201731a206b6b6b6b6b6b6b6b6b6b6b6b6b6b6b6b6b6b6b6b6b6b6b6b6b6b6b6b6b6b6b6b|ok
+HkdfPrfKey|120208021a206b6b6b6b6b6b6b6b6b6b6b6b6b6b6b6b6b6b6b6b6b6b6b6b6b6b6b6b6b6b6b6b|Bad(Hash)
+HkdfPrfKey|120208041a1f6b6b6b6b6b6b6b6b6b6b6b6b6b6b6b6b6b6b6b6b6b6b6b6b6b6b6b6b6b6b6b|Bad(KeySize)
+HmacPrfKey|120208051a106b6b6b6b6b6b6b6b6b6b6b6b6b6b6b6b|ok
+AesCmacPrfKey|12206b6b6b6b6b6b6b6b6b6b6b6b6b6b6b6b6b6b6b6b6b6b6b6b6b6b6b6b6b6b6b6b|ok
+AesCmacPrfKey|12106b6b6b6b6b6b6b6b6b6b6b6b6b6b6b6b|Bad(KeySize)
+AesGcmHkdfStreamingKey|12060829101018011a106b6b6b6b6b6b6b6b6b6b6b6b6b6b6b6b|ok
+AesGcmHkdfStreamingKey|12060828101018011a106b6b6b6b6b6b6b6b6b6b6b6b6b6b6b6b|Bad(Segment)
+AesGcmHkdfStreamingKey|120a088080808008101818031a206b6b6b6b6b6b6b6b6b6b6b6b6b6b6b6b6b6b6b6b6b6b6b6b6b6b6b6b6b6b6b6b|Bad(DerivedSize)
+AesGcmHkdfStreamingKey|120a088080808008102018031a206b6b6b6b6b6b6b6b6b6b6b6b6b6b6b6b6b6b6b6b6b6b6b6b6b6b6b6b6b6b6b6b|Bad(Segment)
+AesGcmHkdfStreamingKey|1207088020101818031a176b6b6b6b6b6b6b6b6b6b6b6b6b6b6b6b6b6b6b6b6b6b6b|Bad(KeySize)
+AesCtrHmacStreamingKey|120c0839101018042204080210201a106b6b6b6b6b6b6b6b6b6b6b6b6b6b6b6b|ok
+AesCtrHmacStreamingKey|120c0838101018042204080210201a106b6b6b6b6b6b6b6b6b6b6b6b6b6b6b6b|Bad(Segment)
+AesCtrHmacStreamingKey|120c0838101018042204080210311a106b6b6b6b6b6b6b6b6b6b6b6b6b6b6b6b|Bad(TagSize)
+AesCtrHmacStreamingKey|120a083910101804220210201a0f6b6b6b6b6b6b6b6b6b6b6b6b6b6b6b|Bad(Hash)
+HmacKey|0a00|Bad(Form)
+HmacKey|12021220|Bad(Form)
+HmacKey|12020803120210101a106b6b6b6b6b6b6b6b6b6b6b6b6b6b6b6b|ok
+AesGcmKey|0a001a0108|Bad(Form)";
 
-fn digit(letter: u8) -> u8
-    ensures { result < 16 }
-{
-    match letter {
-        b'0'..=b'9' => letter - b'0',
-        b'a'..=b'f' => letter - b'a' + 10,
-        _ => 0,
+// A URL that isn't known, though Tink has the message within others.
+const OTHERS: &str = "\
+AesCtrKey||NotKnown";
+
+const PREFIX: &str = "type.googleapis.com/google.crypto.tink.";
+
+fn url_in(alloc: Global, row: &str) -> Result<String, Fail> {
+    Ok(format!(in alloc; "{PREFIX}{}", cell(row, 0)?)?)
+}
+
+/// `ok` where the message reads as a key, or the fault.
+pub(crate) fn outcome(alloc: Global, url: &str, value: &[u8]) -> Result<String, Fail> {
+    match read_key(alloc, url, value) {
+        Ok(_) => Ok(String::from_str(alloc, "ok")?),
+        Err(fault) => Ok(format!(in alloc; "{fault:?}")?),
     }
 }
 
-pub(crate) fn bytes_of(alloc: Global, digits: &str) -> Result<Vec<u8>, AllocError> {
-    let mut bytes = Vec::new(alloc);
-    for pair in digits.as_bytes().chunks_exact(2) {
-        if let [high, low] = pair {
-            bytes.push(digit(*high) * 16 + digit(*low))?;
-        }
-    }
-    Ok(bytes)
-}
-
-pub(crate) fn outcome(key: Result<KeyKind, KeyFault>) -> &'static str {
-    match key {
-        Ok(_) => "ok",
-        Err(KeyFault::NotKnown) => "not known",
-        Err(KeyFault::NoMemory) => "no memory",
-        Err(KeyFault::Bad(rule)) => match rule {
-            Rule::Form => "form",
-            Rule::Version => "version",
-            Rule::Hash => "hash",
-            Rule::KeySize => "key",
-            Rule::IvSize => "iv",
-            Rule::TagSize => "tag",
-            Rule::DerivedSize => "derived",
-            Rule::Segment => "segment",
-        },
-    }
+fn assert_read(alloc: Global, row: &str) -> Result<(), Fail> {
+    let url = url_in(alloc, row)?;
+    let value = bytes_in(alloc, row, 1)?;
+    holds(
+        row,
+        2,
+        "the key",
+        outcome(alloc, url.as_str(), &value)?.as_str(),
+    )
 }
 
 #[test]
 fn the_first_broken_rule_is_named(rt: HostRuntime) -> Result<(), Fail> {
-    let mut rows = 0u32;
-    for line in MESSAGES.lines() {
-        let mut words = line.split(' ');
-        let name = words.next().ok_or("name")?;
-        let value = bytes_of(rt.alloc(), words.next().ok_or("bytes")?)?;
-        let want = words.next().ok_or("rule")?;
-        let url = format!(in rt.alloc(); "type.googleapis.com/google.crypto.tink.{name}")?;
-        let read = outcome(read_key(rt.alloc(), url.as_str(), &value));
-        assert_eq!(rt; read, want, "{line}");
-        rows = rows.wrapping_add(1);
+    count(MESSAGES, 37)?;
+    for row in MESSAGES.lines() {
+        assert_read(rt.alloc(), row)?;
     }
-    assert_eq!(rt; rows, 37);
     Ok(())
 }
 
 #[test]
 fn urls_name_primitives(rt: HostRuntime) -> Result<(), Fail> {
-    let siv = "type.googleapis.com/google.crypto.tink.AesSivKey";
-    assert_eq!(rt; primitive_of(siv), Some(Primitive::Daead));
-    assert_eq!(rt;
-        primitive_of("type.googleapis.com/google.crypto.tink.AesCtrKey"),
-        None
-    );
-    let read = read_key(
-        rt.alloc(),
-        "type.googleapis.com/google.crypto.tink.AesCtrKey",
-        b"",
-    );
-    assert_eq!(rt; outcome(read), "not known");
-    Ok(())
+    let siv = primitive_of("type.googleapis.com/google.crypto.tink.AesSivKey");
+    assert_eq!(rt; siv, Some(Primitive::Daead));
+    let other = primitive_of("type.googleapis.com/google.crypto.tink.AesCtrKey");
+    assert_eq!(rt; other, None);
+    assert_read(rt.alloc(), OTHERS)
 }
 
-// The names of a page of the table, and one of each list and of none.
+// The first and the last row of the table of templates, and the place behind it.
+const PLACES: [(usize, &str); 3] = [
+    (0, "AES128_GCM"),
+    (31, "AES256_CTR_HMAC_SHA256_1MB"),
+    (32, "none"),
+];
+
+// A name of the table with the random bytes of its keys, one of Tink's asymmetric templates, and one
+// of none.
+const NAMES: &str = "\
+HMAC_SHA512_512BITTAG|Ok(64)
+ED25519|Err(Asymmetric)
+AES128_gcm|Err(Unknown)";
+
 #[test]
 fn templates_by_row_and_name(rt: HostRuntime) -> Result<(), Fail> {
-    let first = template_at(0).ok_or("row 0")?;
-    assert_eq!(rt; first.name(), "AES128_GCM");
-    let last = template_at(31).ok_or("row 31")?;
-    assert_eq!(rt; last.name(), "AES256_CTR_HMAC_SHA256_1MB");
-    assert!(rt; template_at(32).is_none());
-    let named = template_named("HMAC_SHA512_512BITTAG");
-    assert_eq!(rt; named.map(|template| template.random_len()), Ok(64));
-    let fault = template_named("ED25519").map(|template| template.random_len());
-    assert_eq!(rt; fault, Err(TemplateFault::Asymmetric));
-    let fault = template_named("AES128_gcm").map(|template| template.random_len());
-    assert_eq!(rt; fault, Err(TemplateFault::Unknown));
+    for (place, name) in PLACES {
+        let found = template_at(place).map_or("none", |template| template.name());
+        assert_eq!(rt; found, name, "row {place}");
+    }
+    count(NAMES, 3)?;
+    for row in NAMES.lines() {
+        let size = template_named(cell(row, 0)?).map(|template| template.random_len());
+        let text = format!(in rt.alloc(); "{size:?}")?;
+        holds(row, 1, "the size", text.as_str())?;
+    }
     Ok(())
 }

@@ -3,6 +3,8 @@
 #![tactic(auto)]
 
 #[cfg(test)]
+mod boxes;
+#[cfg(test)]
 mod edits;
 #[cfg(test)]
 mod fields;
@@ -18,6 +20,8 @@ mod keysets;
 mod manager_answers;
 #[cfg(test)]
 mod new_keys;
+#[cfg(test)]
+mod rows;
 #[cfg(test)]
 mod writing_fields;
 #[cfg(test)]

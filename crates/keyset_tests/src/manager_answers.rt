@@ -1,16 +1,15 @@
 //! Each manager in its box, found by its URL, against published and independent answers; and which
 //! tables are refused.
 
+ghost use Rattle.std.specs.Prelude.{◌≤◌, length};
+
+use crate::boxes::{cmac, cmac_prf, ctr_hmac, eax, gcm, hkdf_prf, hmac, hmac_prf, siv};
+use crate::rows::{bytes_in, few, holds, holds_bytes, holds_text};
 use key_msgs::Primitive;
-use managers::{
-    AeadManager, CmacManager, CmacPrfManager, CtrHmacManager, DaeadManager, EaxManager, GcmManager,
-    HkdfPrfManager, HmacManager, HmacPrfManager, KeyManager, MacManager, Managers, PrfManager,
-    SivManager,
-};
+use managers::{AeadManager, DaeadManager, MacManager, Managers, PrfManager};
 use std::alloc::Global;
-use std::process::Abort;
-use std::str::from_utf8;
 use std::test::Fail;
+use test_words::{cell, digits_of, turned};
 use tink_base::Trials;
 
 // A row has what it shows, the URL, and the key message, written by hand from Tink's definitions;
@@ -41,266 +40,317 @@ HKDF, RFC 5869, case 2|HkdfPrfKey|125408031250606162636465666768696a6b6c6d6e6f70
 HMAC, RFC 4231, case 1|HmacPrfKey|120208031a140b0b0b0b0b0b0b0b0b0b0b0b0b0b0b0b0b0b0b0b|4869205468657265|b0344c61d8db38535ca8|0020
 CMAC, SP 800-38B, no byte|AesCmacPrfKey|1220603deb1015ca71be2b73aef0857d77811f352c073b6108d72d9810a30914dff4||028962f61b7bf89efc6b551f4667d983|0010";
 
-// The longest list of bytes here.
-const MOST: usize = 1000;
-
 // The cells of a row that are bytes.
 #[derive(Drop)]
-struct Row {
+struct Cells {
     value: Vec<u8>,
     given: Vec<u8>,
     made: Vec<u8>,
     last: Vec<u8>,
+    ghost few_given: { length given.items ≤ 1000 },
+    ghost few_made: { length made.items ≤ 1000 },
+    ghost few_last: { length last.items ≤ 1000 },
 }
 
-// The bytes of hexadecimal digits.
-fn bytes_of(alloc: Global, digits: &str) -> Result<Vec<u8>, Fail> {
-    let mut bytes = Vec::new(alloc);
-    for pair in digits.as_bytes().chunks(2) {
-        bytes.push(u8::from_str_radix(from_utf8(pair)?, 16)?)?;
-    }
-    Ok(bytes)
-}
-
-// The bytes with the last bit turned.
-fn turned(alloc: Global, bytes: &[u8]) -> Result<Vec<u8>, Fail> {
-    let mut altered = bytes.to_vec(alloc)?;
-    *altered.last_mut().ok_or("a byte")? ^= 1;
-    Ok(altered)
-}
-
-// A cell of a row.
-fn cell<'a>(row: &'a str, place: usize) -> Result<&'a str, Fail> {
-    Ok(row.split('|').nth(place).ok_or("a cell")?)
-}
-
-fn read_row(alloc: Global, row: &str) -> Result<Row, Fail> {
-    Ok(Row {
-        value: bytes_of(alloc, cell(row, 2)?)?,
-        given: bytes_of(alloc, cell(row, 3)?)?,
-        made: bytes_of(alloc, cell(row, 4)?)?,
-        last: bytes_of(alloc, cell(row, 5)?)?,
+fn cells_of(alloc: Global, row: &str) -> Result<Cells, Fail> {
+    Ok(Cells {
+        value: bytes_in(alloc, row, 2)?,
+        given: bytes_in(alloc, row, 3)?,
+        made: bytes_in(alloc, row, 4)?,
+        last: bytes_in(alloc, row, 5)?,
     })
 }
 
-fn assert_aead(rt: &impl Abort, alloc: Global, all: &Managers, row: &str) -> Result<(), Fail> {
-    let Row {
-        value,
-        given: ad,
-        made: sealed,
-        last: plain,
-    } = read_row(alloc, row)?;
-    assert!(rt; ad.len() <= MOST && plain.len() <= MOST);
-    assert!(rt; sealed.len() <= MOST);
-    let manager = all.aead_at(all.find(Primitive::Aead, cell(row, 1)?).ok_or("none")?);
-    let Ok(key) = manager.check(alloc, &value) else {
-        return Err("no key".into());
-    };
-    let iv = sealed.get(..manager.iv_size(&key)).ok_or("an IV")?;
-    let anew = manager.seal(alloc, &key, iv, &plain, &ad)?;
-    assert_eq!(rt; anew.as_slice(), sealed.as_slice(), "{row}");
-    let mut trials = Trials::new();
-    let opened = manager.open(alloc, &key, &sealed, &ad, &mut trials)?;
-    assert_eq!(rt;
-        opened.ok_or("refused")?.as_slice(),
-        plain.as_slice(),
-        "{row}"
-    );
-    assert_eq!(rt; trials.spent(), 1, "{row}");
-    Ok(())
+// The bytes with the last bit turned.
+fn altered(alloc: Global, bytes: &[u8]) -> Result<Vec<u8>, Fail> {
+    turned(
+        alloc,
+        bytes,
+        bytes.len().checked_sub(1).ok_or("a last byte")?,
+    )
 }
 
-// The last bit of what is sealed turned.
-fn refused_aead(rt: &impl Abort, alloc: Global, all: &Managers, row: &str) -> Result<(), Fail> {
-    let Row {
-        value,
-        given: ad,
-        made: sealed,
-        last: _,
-    } = read_row(alloc, row)?;
-    let altered = turned(alloc, &sealed)?;
-    assert!(rt; ad.len() <= MOST && altered.len() <= MOST);
-    let manager = all.aead_at(all.find(Primitive::Aead, cell(row, 1)?).ok_or("none")?);
-    let Ok(key) = manager.check(alloc, &value) else {
-        return Err("no key".into());
+/// The digits of what was opened, or `none`, and the trials spent.
+pub(crate) fn opened_text(
+    alloc: Global,
+    plain: Option<Vec<u8>>,
+    trials: &Trials,
+) -> Result<String, Fail> {
+    let text = match plain {
+        Some(plain) => digits_of(alloc, &plain)?,
+        None => String::from_str(alloc, "none")?,
     };
-    let mut trials = Trials::new();
-    let opened = manager.open(alloc, &key, &altered, &ad, &mut trials)?;
-    assert!(rt; opened.is_none() && trials.spent() == 1, "{row}");
-    Ok(())
+    Ok(format!(in alloc; "{text} {}", trials.spent())?)
 }
 
-fn assert_daead(rt: &impl Abort, alloc: Global, all: &Managers, row: &str) -> Result<(), Fail> {
-    let Row {
-        value,
-        given: ad,
-        made: sealed,
-        last: plain,
-    } = read_row(alloc, row)?;
-    assert!(rt; ad.len() <= MOST && plain.len() <= MOST);
-    assert!(rt; sealed.len() <= MOST);
-    let manager = all.daead_at(all.find(Primitive::Daead, cell(row, 1)?).ok_or("none")?);
-    let Ok(key) = manager.check(alloc, &value) else {
-        return Err("no key".into());
-    };
-    let anew = manager.seal(alloc, &key, &plain, &ad)?;
-    assert_eq!(rt; anew.as_slice(), sealed.as_slice(), "{row}");
-    let mut trials = Trials::new();
-    let opened = manager.open(alloc, &key, &sealed, &ad, &mut trials)?;
-    assert_eq!(rt;
-        opened.ok_or("refused")?.as_slice(),
-        plain.as_slice(),
-        "{row}"
-    );
-    assert_eq!(rt; trials.spent(), 1, "{row}");
-    Ok(())
+// Holds a text to the plaintext of a row, and one trial.
+fn holds_opened(alloc: Global, row: &str, found: &str) -> Result<(), Fail> {
+    let expected = format!(in alloc; "{} 1", cell(row, 5)?)?;
+    holds_text(cell(row, 0)?, "what opens", expected.as_str(), found)
 }
 
-// The last bit of what is sealed turned.
-fn refused_daead(rt: &impl Abort, alloc: Global, all: &Managers, row: &str) -> Result<(), Fail> {
-    let Row {
-        value,
-        given: ad,
-        made: sealed,
-        last: _,
-    } = read_row(alloc, row)?;
-    let altered = turned(alloc, &sealed)?;
-    assert!(rt; ad.len() <= MOST && altered.len() <= MOST);
-    let manager = all.daead_at(all.find(Primitive::Daead, cell(row, 1)?).ok_or("none")?);
-    let Ok(key) = manager.check(alloc, &value) else {
+fn aead_seals(alloc: Global, manager: &dyn AeadManager, cells: &Cells) -> Result<Vec<u8>, Fail> {
+    let Ok(key) = manager.check(alloc, &cells.value) else {
+        return Err("no key".into());
+    };
+    let iv = cells.made.get(..manager.iv_size(&key)).ok_or("an IV")?;
+    Ok(manager.seal(alloc, &key, iv, &cells.last, &cells.given)?)
+}
+
+fn aead_opens(
+    alloc: Global,
+    manager: &dyn AeadManager,
+    cells: &Cells,
+    sealed: &[u8],
+) -> Result<String, Fail>
+    requires few { length sealed.now ≤ 1000 }
+{
+    let Ok(key) = manager.check(alloc, &cells.value) else {
         return Err("no key".into());
     };
     let mut trials = Trials::new();
-    let opened = manager.open(alloc, &key, &altered, &ad, &mut trials)?;
-    assert!(rt; opened.is_none() && trials.spent() == 1, "{row}");
-    Ok(())
+    let plain = manager.open(alloc, &key, sealed, &cells.given, &mut trials)?;
+    opened_text(alloc, plain, &trials)
 }
 
-fn assert_mac(rt: &impl Abort, alloc: Global, all: &Managers, row: &str) -> Result<(), Fail> {
-    let Row {
-        value,
-        given: body,
-        made: tag,
-        last,
-    } = read_row(alloc, row)?;
-    let zero = !last.is_empty();
-    let altered = turned(alloc, &tag)?;
-    assert!(rt; body.len() <= MOST && tag.len() > 1);
-    let manager = all.mac_at(all.find(Primitive::Mac, cell(row, 1)?).ok_or("none")?);
-    let Ok(key) = manager.check(alloc, &value) else {
+fn assert_aead(alloc: Global, manager: &dyn AeadManager, row: &str) -> Result<(), Fail> {
+    let cells = cells_of(alloc, row)?;
+    holds_bytes(
+        alloc,
+        row,
+        4,
+        "the sealing",
+        &aead_seals(alloc, manager, &cells)?,
+    )?;
+    let opened = aead_opens(alloc, manager, &cells, &cells.made)?;
+    holds_opened(alloc, row, opened.as_str())?;
+    let other = few(altered(alloc, &cells.made)?)?;
+    let refused = aead_opens(alloc, manager, &cells, &other)?;
+    holds_text(
+        cell(row, 0)?,
+        "the last bit turned",
+        "none 1",
+        refused.as_str(),
+    )
+}
+
+fn daead_seals(alloc: Global, manager: &dyn DaeadManager, cells: &Cells) -> Result<Vec<u8>, Fail> {
+    let Ok(key) = manager.check(alloc, &cells.value) else {
         return Err("no key".into());
     };
-    let anew = manager.tag(alloc, &key, &body, zero)?;
-    assert_eq!(rt; anew.as_slice(), tag.as_slice(), "{row}");
+    Ok(manager.seal(alloc, &key, &cells.last, &cells.given)?)
+}
+
+fn daead_opens(
+    alloc: Global,
+    manager: &dyn DaeadManager,
+    cells: &Cells,
+    sealed: &[u8],
+) -> Result<String, Fail>
+    requires few { length sealed.now ≤ 1000 }
+{
+    let Ok(key) = manager.check(alloc, &cells.value) else {
+        return Err("no key".into());
+    };
     let mut trials = Trials::new();
-    let accepted = manager.verify(&key, &tag, &body, zero, &mut trials);
-    let other = manager.verify(&key, &tag, &body, !zero, &mut trials)
-        || manager.verify(&key, &altered, &body, zero, &mut trials)
-        || manager.verify(&key, &tag[1..], &body, zero, &mut trials)
-        || manager.verify(&key, &[], &body, zero, &mut trials);
-    assert!(rt; accepted && !other && trials.spent() == 5, "{row}");
-    Ok(())
+    let plain = manager.open(alloc, &key, sealed, &cells.given, &mut trials)?;
+    opened_text(alloc, plain, &trials)
 }
 
-fn assert_prf(rt: &impl Abort, alloc: Global, all: &Managers, row: &str) -> Result<(), Fail> {
-    let Row {
-        value,
-        given: input,
-        made: output,
-        last: _,
-    } = read_row(alloc, row)?;
-    assert!(rt; input.len() <= MOST);
-    let manager = all.prf_at(all.find(Primitive::Prf, cell(row, 1)?).ok_or("none")?);
-    let Ok(key) = manager.check(alloc, &value) else {
+fn assert_daead(alloc: Global, manager: &dyn DaeadManager, row: &str) -> Result<(), Fail> {
+    let cells = cells_of(alloc, row)?;
+    holds_bytes(
+        alloc,
+        row,
+        4,
+        "the sealing",
+        &daead_seals(alloc, manager, &cells)?,
+    )?;
+    let opened = daead_opens(alloc, manager, &cells, &cells.made)?;
+    holds_opened(alloc, row, opened.as_str())?;
+    let other = few(altered(alloc, &cells.made)?)?;
+    let refused = daead_opens(alloc, manager, &cells, &other)?;
+    holds_text(
+        cell(row, 0)?,
+        "the last bit turned",
+        "none 1",
+        refused.as_str(),
+    )
+}
+
+fn mac_tags(
+    alloc: Global,
+    manager: &dyn MacManager,
+    cells: &Cells,
+    zero: bool,
+) -> Result<Vec<u8>, Fail> {
+    let Ok(key) = manager.check(alloc, &cells.value) else {
         return Err("no key".into());
     };
-    let most = manager.greatest(&key);
-    assert_eq!(rt; most, usize::from_str_radix(cell(row, 5)?, 16)?, "{row}");
-    assert!(rt; output.len() <= most, "{row}");
-    let derived = manager.derive(alloc, &key, &input, output.len())?;
-    assert_eq!(rt; derived.as_slice(), output.as_slice(), "{row}");
-    Ok(())
+    Ok(manager.tag(alloc, &key, &cells.given, zero)?)
 }
 
-// The rows of AEAD, over managers that it makes.
-fn aead_rows(rt: &impl Abort, alloc: Global) -> Result<(), Fail> {
+// Whether a tag verifies, and the trials spent.
+fn mac_verifies(
+    alloc: Global,
+    manager: &dyn MacManager,
+    cells: &Cells,
+    tag: &[u8],
+    zero: bool,
+) -> Result<String, Fail> {
+    let Ok(key) = manager.check(alloc, &cells.value) else {
+        return Err("no key".into());
+    };
+    let mut trials = Trials::new();
+    let verified = manager.verify(&key, tag, &cells.given, zero, &mut trials);
+    Ok(format!(in alloc; "{verified} {}", trials.spent())?)
+}
+
+fn assert_refused(
+    alloc: Global,
+    manager: &dyn MacManager,
+    cells: &Cells,
+    row: &str,
+    part: &str,
+    tag: &[u8],
+    zero: bool,
+) -> Result<(), Fail> {
+    let found = mac_verifies(alloc, manager, cells, tag, zero)?;
+    holds_text(cell(row, 0)?, part, "false 1", found.as_str())
+}
+
+fn assert_mac(alloc: Global, manager: &dyn MacManager, row: &str) -> Result<(), Fail> {
+    let cells = cells_of(alloc, row)?;
+    let zero = !cells.last.is_empty();
+    holds_bytes(
+        alloc,
+        row,
+        4,
+        "the tag",
+        &mac_tags(alloc, manager, &cells, zero)?,
+    )?;
+    let tag = cells.made.as_slice();
+    let verified = mac_verifies(alloc, manager, &cells, tag, zero)?;
+    holds_text(
+        cell(row, 0)?,
+        "the tag verified",
+        "true 1",
+        verified.as_str(),
+    )?;
+    let other = altered(alloc, tag)?;
+    let shorter = tag.get(1..).ok_or("a byte")?;
+    assert_refused(
+        alloc,
+        manager,
+        &cells,
+        row,
+        "under the other body",
+        tag,
+        !zero,
+    )?;
+    assert_refused(
+        alloc,
+        manager,
+        &cells,
+        row,
+        "the last bit turned",
+        &other,
+        zero,
+    )?;
+    assert_refused(
+        alloc,
+        manager,
+        &cells,
+        row,
+        "the first byte gone",
+        shorter,
+        zero,
+    )?;
+    assert_refused(alloc, manager, &cells, row, "no tag", &[], zero)
+}
+
+// How many bytes can be derived, as the cell has them.
+fn prf_greatest(alloc: Global, manager: &dyn PrfManager, cells: &Cells) -> Result<String, Fail> {
+    let Ok(key) = manager.check(alloc, &cells.value) else {
+        return Err("no key".into());
+    };
+    Ok(format!(in alloc; "{:04x}", manager.greatest(&key))?)
+}
+
+fn prf_derives(alloc: Global, manager: &dyn PrfManager, cells: &Cells) -> Result<Vec<u8>, Fail> {
+    let Ok(key) = manager.check(alloc, &cells.value) else {
+        return Err("no key".into());
+    };
+    let size = cells.made.len();
+    if size > manager.greatest(&key) {
+        return Err("a size that can be derived".into());
+    }
+    Ok(manager.derive(alloc, &key, &cells.given, size)?)
+}
+
+fn assert_prf(alloc: Global, manager: &dyn PrfManager, row: &str) -> Result<(), Fail> {
+    let cells = cells_of(alloc, row)?;
+    let greatest = prf_greatest(alloc, manager, &cells)?;
+    holds(row, 5, "the greatest size", greatest.as_str())?;
+    let derived = prf_derives(alloc, manager, &cells)?;
+    holds_bytes(alloc, row, 4, "the bytes", &derived)
+}
+
+#[test]
+fn managers_of_aeads_answer_their_standards(rt: HostRuntime) -> Result<(), Fail> {
+    let alloc = rt.alloc();
     let mut aead: Vec<Box<dyn AeadManager>> = Vec::new(alloc);
-    aead.push(Box::new(
-        alloc,
-        GcmManager::new(String::from_str(alloc, "AesGcmKey")?),
-    )?)?;
-    aead.push(Box::new(
-        alloc,
-        EaxManager::new(String::from_str(alloc, "AesEaxKey")?),
-    )?)?;
-    aead.push(Box::new(
-        alloc,
-        CtrHmacManager::new(String::from_str(alloc, "AesCtrHmacAeadKey")?),
-    )?)?;
-    let Ok(all) = Managers::new(aead, Vec::new(alloc), Vec::new(alloc), Vec::new(alloc)) else {
-        return Err("one URL twice".into());
-    };
+    aead.push(gcm(alloc, "AesGcmKey")?)?;
+    aead.push(eax(alloc, "AesEaxKey")?)?;
+    aead.push(ctr_hmac(alloc, "AesCtrHmacAeadKey")?)?;
+    let all = Managers::new(aead, Vec::new(alloc), Vec::new(alloc), Vec::new(alloc))?;
     for row in AEAD.lines() {
-        assert_aead(rt, alloc, &all, row)?;
-        refused_aead(rt, alloc, &all, row)?;
+        let place = all.find(Primitive::Aead, cell(row, 1)?).ok_or("a manager")?;
+        assert_aead(alloc, all.aead_at(place), row)?;
     }
     Ok(())
 }
 
-// The rows of DAEAD, over managers that it makes.
-fn daead_rows(rt: &impl Abort, alloc: Global) -> Result<(), Fail> {
+#[test]
+fn the_manager_of_siv_answers_its_standard(rt: HostRuntime) -> Result<(), Fail> {
+    let alloc = rt.alloc();
     let mut daead: Vec<Box<dyn DaeadManager>> = Vec::new(alloc);
-    daead.push(Box::new(
-        alloc,
-        SivManager::new(String::from_str(alloc, "AesSivKey")?),
-    )?)?;
-    let Ok(all) = Managers::new(Vec::new(alloc), daead, Vec::new(alloc), Vec::new(alloc)) else {
-        return Err("one URL twice".into());
-    };
+    daead.push(siv(alloc, "AesSivKey")?)?;
+    let all = Managers::new(Vec::new(alloc), daead, Vec::new(alloc), Vec::new(alloc))?;
     for row in DAEAD.lines() {
-        assert_daead(rt, alloc, &all, row)?;
-        refused_daead(rt, alloc, &all, row)?;
+        let place = all
+            .find(Primitive::Daead, cell(row, 1)?)
+            .ok_or("a manager")?;
+        assert_daead(alloc, all.daead_at(place), row)?;
     }
     Ok(())
 }
 
-// The rows of MAC, over managers that it makes.
-fn mac_rows(rt: &impl Abort, alloc: Global) -> Result<(), Fail> {
+#[test]
+fn managers_of_macs_answer_their_standards(rt: HostRuntime) -> Result<(), Fail> {
+    let alloc = rt.alloc();
     let mut mac: Vec<Box<dyn MacManager>> = Vec::new(alloc);
-    mac.push(Box::new(alloc, HmacManager::new(String::from_str(alloc, "HmacKey")?))?)?;
-    mac.push(Box::new(
-        alloc,
-        CmacManager::new(String::from_str(alloc, "AesCmacKey")?),
-    )?)?;
-    let Ok(all) = Managers::new(Vec::new(alloc), Vec::new(alloc), mac, Vec::new(alloc)) else {
-        return Err("one URL twice".into());
-    };
+    mac.push(hmac(alloc, "HmacKey")?)?;
+    mac.push(cmac(alloc, "AesCmacKey")?)?;
+    let all = Managers::new(Vec::new(alloc), Vec::new(alloc), mac, Vec::new(alloc))?;
     for row in MAC.lines() {
-        assert_mac(rt, alloc, &all, row)?;
+        let place = all.find(Primitive::Mac, cell(row, 1)?).ok_or("a manager")?;
+        assert_mac(alloc, all.mac_at(place), row)?;
     }
     Ok(())
 }
 
-// The rows of PRF, over managers that it makes.
-fn prf_rows(rt: &impl Abort, alloc: Global) -> Result<(), Fail> {
+#[test]
+fn managers_of_prfs_answer_their_standards(rt: HostRuntime) -> Result<(), Fail> {
+    let alloc = rt.alloc();
     let mut prf: Vec<Box<dyn PrfManager>> = Vec::new(alloc);
-    prf.push(Box::new(
-        alloc,
-        HkdfPrfManager::new(String::from_str(alloc, "HkdfPrfKey")?),
-    )?)?;
-    prf.push(Box::new(
-        alloc,
-        HmacPrfManager::new(String::from_str(alloc, "HmacPrfKey")?),
-    )?)?;
-    prf.push(Box::new(
-        alloc,
-        CmacPrfManager::new(String::from_str(alloc, "AesCmacPrfKey")?),
-    )?)?;
-    let Ok(all) = Managers::new(Vec::new(alloc), Vec::new(alloc), Vec::new(alloc), prf) else {
-        return Err("one URL twice".into());
-    };
+    prf.push(hkdf_prf(alloc, "HkdfPrfKey")?)?;
+    prf.push(hmac_prf(alloc, "HmacPrfKey")?)?;
+    prf.push(cmac_prf(alloc, "AesCmacPrfKey")?)?;
+    let all = Managers::new(Vec::new(alloc), Vec::new(alloc), Vec::new(alloc), prf)?;
     for row in PRF.lines() {
-        assert_prf(rt, alloc, &all, row)?;
+        let place = all.find(Primitive::Prf, cell(row, 1)?).ok_or("a manager")?;
+        assert_prf(alloc, all.prf_at(place), row)?;
     }
     Ok(())
 }
@@ -313,67 +363,56 @@ fn place(
     wanted: &str,
 ) -> Result<Option<Option<usize>>, Fail> {
     let mut aead: Vec<Box<dyn AeadManager>> = Vec::new(alloc);
-    aead.push(Box::new(alloc, GcmManager::new(String::from_str(alloc, urls[0])?))?)?;
-    aead.push(Box::new(alloc, EaxManager::new(String::from_str(alloc, urls[1])?))?)?;
+    aead.push(gcm(alloc, urls[0])?)?;
+    aead.push(eax(alloc, urls[1])?)?;
     let mut mac: Vec<Box<dyn MacManager>> = Vec::new(alloc);
-    mac.push(Box::new(alloc, HmacManager::new(String::from_str(alloc, urls[2])?))?)?;
+    mac.push(hmac(alloc, urls[2])?)?;
     match Managers::new(aead, Vec::new(alloc), mac, Vec::new(alloc)) {
         Ok(all) => Ok(Some(all.find(primitive, wanted))),
         Err(_) => Ok(None),
     }
 }
 
-#[test]
-fn managers_of_aeads_answer_their_standards(rt: HostRuntime) -> Result<(), Fail> {
-    aead_rows(&rt, rt.alloc())
-}
-
-#[test]
-fn the_manager_of_siv_answers_its_standard(rt: HostRuntime) -> Result<(), Fail> {
-    daead_rows(&rt, rt.alloc())
-}
-
-#[test]
-fn managers_of_macs_answer_their_standards(rt: HostRuntime) -> Result<(), Fail> {
-    mac_rows(&rt, rt.alloc())
-}
-
-#[test]
-fn managers_of_prfs_answer_their_standards(rt: HostRuntime) -> Result<(), Fail> {
-    prf_rows(&rt, rt.alloc())
-}
+const PLACES: [(Primitive, &str, Option<usize>); 8] = [
+    (Primitive::Aead, "a", Some(0)),
+    (Primitive::Aead, "b", Some(1)),
+    (Primitive::Aead, "", None),
+    (Primitive::Aead, "A", None),
+    (Primitive::Mac, "", Some(0)),
+    (Primitive::Mac, "a", None),
+    (Primitive::Prf, "a", None),
+    (Primitive::Stream, "a", None),
+];
 
 #[test]
 fn finds_the_place_in_the_list_of_the_primitive(rt: HostRuntime) -> Result<(), Fail> {
-    let cases = [
-        (Primitive::Aead, "a", Some(0)),
-        (Primitive::Aead, "b", Some(1)),
-        (Primitive::Aead, "", None),
-        (Primitive::Aead, "A", None),
-        (Primitive::Mac, "", Some(0)),
-        (Primitive::Mac, "a", None),
-        (Primitive::Prf, "a", None),
-        (Primitive::Stream, "a", None),
-    ];
-    for (primitive, wanted, at) in cases {
+    for (primitive, wanted, at) in PLACES {
         let found = place(rt.alloc(), ["a", "b", ""], primitive, wanted)?;
-        assert_eq!(rt; found, Some(at), "{wanted}");
+        assert_eq!(rt; found, Some(at), "{primitive:?} {wanted}");
     }
     Ok(())
 }
 
+const TABLES: [([&str; 3], bool); 5] = [
+    (["a", "b", "c"], false),
+    (["a", "aa", ""], false),
+    (["a", "a", "c"], true),
+    (["a", "b", "a"], true),
+    (["a", "", ""], true),
+];
+
 #[test]
 fn refuses_one_url_twice(rt: HostRuntime) -> Result<(), Fail> {
-    let cases = [
-        (["a", "b", "c"], false),
-        (["a", "aa", ""], false),
-        (["a", "a", "c"], true),
-        (["a", "b", "a"], true),
-        (["a", "", ""], true),
-    ];
-    for (urls, refused) in cases {
+    for (urls, refused) in TABLES {
         let found = place(rt.alloc(), urls, Primitive::Aead, "a")?;
-        assert_eq!(rt; found.is_none(), refused, "{}", urls[1]);
+        assert_eq!(rt;
+            found.is_none(),
+            refused,
+            "{} {} {}",
+            urls[0],
+            urls[1],
+            urls[2]
+        );
     }
     Ok(())
 }

@@ -4,8 +4,9 @@ ghost use Rattle.std.specs.Prelude.{◌≤◌, length, IfOk};
 ghost use Rattle.std.specs.List.{AllByRecursion};
 ghost use Rattle.keyset_model.specs.Keyset.{IsWithin};
 
-use crate::keysets::KEYSET;
-use keyset_model::{Keyset, ReadError, Record, read_binary, write_binary};
+use crate::keysets::{KEYSET, keyset_of, record_text};
+use crate::rows::{holds_text, holds_to};
+use keyset_model::{Keyset, ReadError, Record, write_binary};
 use std::alloc::Global;
 use std::test::Fail;
 use tink_base::{Bytes, DESTROYED, ENABLED, LEGACY, NoMemory, RAW, TINK, Text};
@@ -37,45 +38,43 @@ const IN_PART: &[u8] = b"\x08\x01\
 const EDGES: &[u8] = b"\x12\x0c\x0a\x06\x0a\x02\xc3\xa9\x18\x01\x10\x01\x20\x04\
     \x12\x14\x0a\x08\x0a\x01a\x12\x01\0\x18\x02\x10\x02\x18\xff\xff\xff\xff\x0f\x20\x02";
 
+// What a keyset shows, its bytes, and how many they are.
+const KEYSETS: [(&str, &[u8], usize); 5] = [
+    ("one key", KEYSET, 90),
+    ("a key and its successor", ROTATED, 175),
+    ("destroyed keys, bare and not", RETIRED, 48),
+    ("key data in part", IN_PART, 55),
+    ("the least and the greatest id", EDGES, 36),
+];
+
+fn assert_rewritten(alloc: Global, shows: &str, given: &[u8], want: &[u8]) -> Result<(), Fail> {
+    let written = write_binary(alloc, &keyset_of(alloc, given)?)?;
+    holds_to(alloc, shows, "the keyset", want, &written)
+}
+
 #[test]
 fn keysets_are_written_as_protoc_does(rt: HostRuntime) -> Result<(), Fail> {
-    let cases = [
-        ("one key", KEYSET, 90),
-        ("a key and its successor", ROTATED, 175),
-        ("destroyed keys, bare and not", RETIRED, 48),
-        ("key data in part", IN_PART, 55),
-        ("the least and the greatest id", EDGES, 36),
-    ];
-    for (shows, bytes, size) in cases {
+    for (shows, bytes, size) in KEYSETS {
         assert_eq!(rt; bytes.len(), size, "{shows}");
-        assert!(rt; bytes.len() < 200);
-        let keyset = read_binary(rt.alloc(), bytes)?;
-        assert_eq!(rt;
-            write_binary(rt.alloc(), &keyset)?.as_slice(),
-            bytes,
-            "{shows}"
-        );
+        assert_rewritten(rt.alloc(), shows, bytes, bytes)?;
     }
     Ok(())
 }
 
 // By hand: of two primary ids and of two statuses the last one counts, a field 9 is skipped, parts
 // of key data are joined, and key data that says nothing isn't written.
+const SPELLED: &[u8] = b"\x08\x07\x08\x05\
+    \x12\x15\x20\x03\x18\x05\x10\x02\x10\x01\x0a\x05\x0a\x01a\x18\x01\x0a\x02\x12\0\x0a\0\
+    \x48\x01\
+    \x12\x08\x0a\0\x20\x01\x18\x06\x10\x03";
+
+const SHORTEST: &[u8] = b"\x08\x05\
+    \x12\x0d\x0a\x05\x0a\x01a\x18\x01\x10\x01\x18\x05\x20\x03\
+    \x12\x06\x10\x03\x18\x06\x20\x01";
+
 #[test]
 fn other_spellings_are_written_as_the_shortest_one(rt: HostRuntime) -> Result<(), Fail> {
-    let long = b"\x08\x07\x08\x05\
-        \x12\x15\x20\x03\x18\x05\x10\x02\x10\x01\x0a\x05\x0a\x01a\x18\x01\x0a\x02\x12\0\x0a\0\
-        \x48\x01\
-        \x12\x08\x0a\0\x20\x01\x18\x06\x10\x03";
-    let short = b"\x08\x05\
-        \x12\x0d\x0a\x05\x0a\x01a\x18\x01\x10\x01\x18\x05\x20\x03\
-        \x12\x06\x10\x03\x18\x06\x20\x01";
-    let keyset = read_binary(rt.alloc(), long)?;
-    assert_eq!(rt;
-        write_binary(rt.alloc(), &keyset)?.as_slice(),
-        short.as_slice()
-    );
-    Ok(())
+    assert_rewritten(rt.alloc(), "another spelling", SPELLED, SHORTEST)
 }
 
 /// A record of these fields.
@@ -114,24 +113,24 @@ fn retired(alloc: Global) -> Result<Keyset, ReadError>
 
 #[test]
 fn a_keyset_made_of_records_is_written(rt: HostRuntime) -> Result<(), Fail> {
-    let keyset = retired(rt.alloc())?;
-    assert_eq!(rt; write_binary(rt.alloc(), &keyset)?.as_slice(), RETIRED);
-    Ok(())
+    let written = write_binary(rt.alloc(), &retired(rt.alloc())?)?;
+    holds_to(rt.alloc(), "three records", "the keyset", RETIRED, &written)
 }
 
 #[test]
 fn a_copy_is_the_same_keyset(rt: HostRuntime) -> Result<(), Fail> {
-    let keyset = read_binary(rt.alloc(), RETIRED)?;
+    let keyset = keyset_of(rt.alloc(), RETIRED)?;
     let copy = keyset.copy(rt.alloc())?;
     drop(keyset);
-    assert_eq!(rt; write_binary(rt.alloc(), &copy)?.as_slice(), RETIRED);
+    let written = write_binary(rt.alloc(), &copy)?;
+    holds_to(rt.alloc(), "a copy", "the keyset", RETIRED, &written)?;
     assert_eq!(rt; copy.len(), 3);
     let key = copy.record_at(2).copy(rt.alloc())?;
-    assert_eq!(rt;
-        (key.id, key.status, key.prefix, key.material),
-        (7, 3, 2, 1)
-    );
-    assert_eq!(rt; key.url.as_str(), "a");
-    assert_eq!(rt; key.value.as_slice(), b"old".as_slice());
-    Ok(())
+    let text = record_text(rt.alloc(), &key)?;
+    holds_text(
+        "a copy",
+        "the last record",
+        "7 3 2 a 6f6c64 1",
+        text.as_str(),
+    )
 }

@@ -14,7 +14,8 @@ use Rattle.tinkey_cmds.specs.declared.command.CmdFault.TheVariants.{KeyRefused, 
 use Rattle.tinkey_cmds.specs.Draws.{Drawn, Draw, answered, fill, unless_err, and_then}
 use Rattle.tinkey_cmds.specs.Edits.{Edit, Add, Rotate, Promote, Enable, Disable, Destroy, Delete, id_of, is_taken, new_id, record_of, with_key, new_record, grown, primitive_of, rule_of, primary_primitive, is_same, named, of_named, full_or_mixed, refusal_of, changed, without, with_status, destroyed, with_records, added, rotated, alone, effect_of, unless_refused, step, first}
 use Rattle.tinkey_cmds.specs.Laws.{IsFree}
-use Rattle.tinkey_cmds.proofs.Lists.{none≢some, some≢none, first_none, when-none, map-none, not-false'}
+use Rattle.keyset_model.proofs.WellFormedLemmas.{first_none, when-none, map-none, not-false'}
+use Rattle.tinkey_cmds.proofs.Lists.{none≢some, some≢none}
 
 -- ---- what a draw gives
 

@@ -6,8 +6,8 @@ use Rattle.std.proofs.lemmas.Option.{same_Some}
 use Rattle.keyset_model.specs.declared.record.Record.{Record}
 use Rattle.keyset_model.specs.Keyset.{has_id, is_in}
 use Rattle.tinkey_cmds.specs.Edits.{changed, without}
-use Rattle.tinkey_cmds.proofs.Lists.{none≢some, any-append}
-use Rattle.tinkey_cmds.proofs.WellFormed.{Distinct, eqb-flip}
+use Rattle.keyset_model.proofs.WellFormedLemmas.{Distinct, any-append, eqb-flip}
+use Rattle.tinkey_cmds.proofs.Lists.{none≢some}
 
 -- ---- the first record with an id changes
 

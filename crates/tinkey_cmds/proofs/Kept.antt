@@ -8,11 +8,13 @@ use Rattle.key_msgs.specs.KeyTypes.{url_of_type}
 use Rattle.key_msgs.specs.Templates.{Row, templates, random_of, type_made}
 use Rattle.keyset_model.specs.declared.record.Record.{Record}
 use Rattle.keyset_model.specs.Keyset.{Keys, HasSizes, IsShort, has_id, has_status, has_prefix, has_material, has_key_data, is_enabled, is_destroyed, is_primary}
+use Rattle.keyset_model.specs.Writing.{HasWireBounds}
 use Rattle.tinkey_cmds.specs.Edits.{Edit, named, changed, with_status, destroyed, with_records, added, rotated, alone, record_of, step, first}
-use Rattle.tinkey_cmds.specs.Laws.{IsTemplate, HasTemplate, IsHeld, IsFree, Comes, stayed, was_destroyed, is_new, Follows, HasPrimary, EditsKeepKeysets, FirstsAreKeysets, EditsKeepBounds, FirstsHaveBounds, EditsFollow, EditsKeepThePrimary}
+use Rattle.tinkey_cmds.specs.Laws.{IsTemplate, HasTemplate, IsFree, Comes, stayed, was_destroyed, is_new, Follows, HasPrimary, EditsKeepKeysets, FirstsAreKeysets, EditsKeepBounds, FirstsHaveBounds, EditsFollow, EditsKeepThePrimary}
 use Rattle.tinkey_cmds.proofs.Lists.{each-append, all_each}
 use Rattle.tinkey_cmds.proofs.Among.{among-all, all-among, among-any, find-among, contains-among, each-contains}
-use Rattle.tinkey_cmds.proofs.WellFormed.{Distinct, IsFine, IsGood, good-keyset, keyset-good}
+use Rattle.keyset_model.proofs.WellFormedLemmas.{Distinct}
+use Rattle.tinkey_cmds.proofs.WellFormed.{IsFine, IsGood, good-keyset, keyset-good}
 use Rattle.tinkey_cmds.proofs.Changes.{changed-each, changed-some, changed-distinct, length-changed, without-each, without-distinct, without-any, length-without, distinct-push, any-push_left, any-push_right, length-push, find-id}
 use Rattle.tinkey_cmds.proofs.Cases.{Yields, yielded, IsNew, Seven, edit_case, first_case}
 use Rattle.tinkey_cmds.proofs.Sizes.{length-made, length-url}
@@ -106,7 +108,7 @@ kept-short = record {
   new = λ row records r is new. let small = small_made row r.id new.random is new.size in subst IsShort (sym new.made) (omega (arith, small));
 }
 
-kept-held : IsKept IsHeld
+kept-held : IsKept HasWireBounds
 kept-held = record {
   status = λ status r h. record { id = h.id; utf8 = h.utf8; short = h.short };
   destroyed' = λ r h. record { id = h.id; utf8 = text_ascii [] refl; short = lit≤ tt };
@@ -118,10 +120,10 @@ kept-held = record {
 }
 
 pub edits_keep_bounds : EditsKeepBounds
-edits_keep_bounds old new edit random s is each e ok = yielded _ (step old edit) random s new (each-kept IsHeld kept-held old edit each) e ok is
+edits_keep_bounds old new edit random s is each e ok = yielded _ (step old edit) random s new (each-kept HasWireBounds kept-held old edit each) e ok is
 
 pub firsts_have_bounds : FirstsHaveBounds
-firsts_have_bounds new row random s is e ok = yielded _ (first row) random s new (each-first IsHeld kept-held row is) e ok
+firsts_have_bounds new row random s is e ok = yielded _ (first row) random s new (each-first HasWireBounds kept-held row is) e ok
 
 -- ---- keysets without a fault
 

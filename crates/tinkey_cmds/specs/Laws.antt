@@ -1,10 +1,10 @@
 -- The laws of edits, for every keyset and all random bytes.
-use Rattle.std.specs.Prelude.{◌≡◌, ◌≢◌, ℕ, ◌<◌, ◌≤◌, ◌^◌, List, [], ◌∷◌, ◌++◌, length, true, false, Some, None, Ok, Err, Contains}
+use Rattle.std.specs.Prelude.{◌≡◌, ◌≢◌, ℕ, ◌<◌, ◌≤◌, ◌^◌, List, [], ◌∷◌, ◌++◌, length, false, Some, None, Ok, Err, Contains}
 use Rattle.std.specs.List.{AllByRecursion}
-use Rattle.std.specs.Str.{is_utf8}
 use Rattle.key_msgs.specs.Templates.{Row, templates}
 use Rattle.keyset_model.specs.declared.record.Record.{Record}
-use Rattle.keyset_model.specs.Keyset.{Keys, IsShort, is_in, fault_of}
+use Rattle.keyset_model.specs.Keyset.{Keys, is_in, fault_of}
+use Rattle.keyset_model.specs.Writing.{HasWireBounds}
 use Rattle.tinkey_cmds.specs.declared.command.CmdFault.{CmdFault}
 use Rattle.tinkey_cmds.specs.declared.command.CmdFault.TheVariants.{IdsExhausted}
 use Rattle.tinkey_cmds.specs.Draws.{Draw, Drawn, answered}
@@ -19,13 +19,6 @@ abbrev pub HasTemplate : Edit → Type 0
 HasTemplate (Add row) = IsTemplate row
 HasTemplate (Rotate row) = IsTemplate row
 HasTemplate edit = Unit {0}
-
--- a record's numbers are of 32 bits where nothing else bounds them, its URL is text, and URL and
--- value are short
-pub record IsHeld (r : Record) : Type 0 where
-  pub id : r.id < 2 ^ 32
-  pub utf8 : is_utf8 r.url ≡ true
-  pub short : IsShort r
 
 -- An accepted edit of a keyset without a fault gives one without a fault.
 abbrev pub EditsKeepKeysets : Type 0
@@ -42,15 +35,15 @@ FirstsAreKeysets = (new : Keys) (row : Row) (random : List ℕ) (s : Stepped)
 -- An accepted edit keeps the bounds of records.
 abbrev pub EditsKeepBounds : Type 0
 EditsKeepBounds = (old new : Keys) (edit : Edit) (random : List ℕ) (s : Stepped)
-    → HasTemplate edit → AllByRecursion IsHeld old.records
+    → HasTemplate edit → AllByRecursion HasWireBounds old.records
     → step old edit random ≡ Some s → s.answer ≡ Ok new
-    → AllByRecursion IsHeld new.records
+    → AllByRecursion HasWireBounds new.records
 
 -- So has the record of the first keyset of a template.
 abbrev pub FirstsHaveBounds : Type 0
 FirstsHaveBounds = (new : Keys) (row : Row) (random : List ℕ) (s : Stepped)
     → IsTemplate row → first row random ≡ Some s → s.answer ≡ Ok new
-    → AllByRecursion IsHeld new.records
+    → AllByRecursion HasWireBounds new.records
 
 -- where a record comes from: it is an old one but for its status, an old one destroyed, or the
 -- new one

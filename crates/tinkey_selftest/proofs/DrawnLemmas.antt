@@ -15,7 +15,7 @@ use Rattle.tink_spec.specs.Outside.{Drew}
 use Rattle.tinkey_cmds.proofs.Kept.{firsts_are_keysets, firsts_have_bounds}
 use Rattle.tinkey_cmds.proofs.Lists.{each-append}
 use Rattle.tinkey_cmds.specs.Applying.{Draws, RanOut}
-use Rattle.tinkey_cmds.specs.Laws.{IsHeld}
+use Rattle.keyset_model.specs.Writing.{HasWireBounds}
 use Rattle.tinkey_cmds.specs.Edits.{first}
 use Rattle.tinkey_cmds.specs.declared.command.CmdFault.{CmdFault}
 use Rattle.tinkey_selftest.proofs.EntropyLemmas.{first_is_template}
@@ -64,7 +64,7 @@ never_unanswered table keys line old new k enough steady u =
 
 -- ---- the first keyset
 
-words_held : (rs : List Record) → AllByRecursion IsHeld rs → AllByRecursion HasWordId rs
+words_held : (rs : List Record) → AllByRecursion HasWireBounds rs → AllByRecursion HasWordId rs
 words_held [] all = tt
 words_held (r ∷ rs) all = (all.0.id, words_held rs all.1)
 

@@ -21,6 +21,7 @@ use Rattle.key_msgs.specs.declared.layout.Layout.{Layout}
 use Rattle.key_msgs.specs.declared.template.Recipe.{Recipe}
 use Rattle.key_msgs.specs.declared.template.Recipe.TheVariants.{Gcm, Eax, CtrHmac, Siv, Hmac, Cmac, HkdfPrf, HmacPrf, CmacPrf, GcmStream, CtrStream}
 use Rattle.keyset_model.specs.Keyset.{Keys, has_id}
+use Rattle.keyset_model.specs.Writing.{HasWireBounds}
 use Rattle.keyset_model.specs.declared.record.Record.{Record}
 use Rattle.managers.specs.Table.{Table}
 use Rattle.tinkey_cmds.proofs.Among.{among-all, find-among}
@@ -30,7 +31,7 @@ use Rattle.tinkey_cmds.proofs.Kept.{edits_keep_bounds, firsts_have_bounds, most_
 use Rattle.tinkey_cmds.proofs.Lists.{each-append}
 use Rattle.tinkey_cmds.specs.Draws.{Draw, Drawn, and_then, answered, fill, unless_err}
 use Rattle.tinkey_cmds.specs.Edits.{Edit, Add, Rotate, Promote, Enable, Disable, Destroy, Delete, Stepped, added, alone, destroyed, effect_of, first, full_or_mixed, grown, id_of, is_taken, new_id, named, new_record, record_of, refusal_of, rotated, step, unless_refused, with_key, with_status}
-use Rattle.tinkey_cmds.specs.Laws.{HasTemplate, IsHeld, IsTemplate}
+use Rattle.tinkey_cmds.specs.Laws.{HasTemplate, IsTemplate}
 use Rattle.tinkey_cmds.specs.declared.command.CmdFault.{CmdFault}
 use Rattle.tinkey_cmds.specs.declared.command.CmdFault.TheVariants.{IdsExhausted}
 use Rattle.tinkey_session.proofs.MadeLemmas.{made_are_numbers}
@@ -333,7 +334,7 @@ values_kept old new (Delete id) random s is h each e ok = values_still old new (
 
 -- ---- stored records
 
-each_held : (rs : List Record) → AllByRecursion IsStored rs → AllByRecursion IsHeld rs
+each_held : (rs : List Record) → AllByRecursion IsStored rs → AllByRecursion HasWireBounds rs
 each_held [] h = tt
 each_held (r ∷ rs) h = (h.0.held, each_held rs h.1)
 
@@ -341,7 +342,7 @@ each_value : (rs : List Record) → AllByRecursion IsStored rs → AllByRecursio
 each_value [] h = tt
 each_value (r ∷ rs) h = (h.0.bytes, each_value rs h.1)
 
-each_stored : (rs : List Record) → AllByRecursion IsHeld rs → AllByRecursion HasValue rs → AllByRecursion IsStored rs
+each_stored : (rs : List Record) → AllByRecursion HasWireBounds rs → AllByRecursion HasValue rs → AllByRecursion IsStored rs
 each_stored [] held values = tt
 each_stored (r ∷ rs) held values = (record { held = held.0; bytes = values.0 }, each_stored rs held.1 values.1)
 

@@ -6,10 +6,11 @@ use Rattle.std.specs.Prelude.{◌≡◌, ℕ, ◌<◌, List, Some, Ok}
 use Rattle.std.specs.List.{AllByRecursion}
 use Rattle.key_msgs.specs.Templates.{Row}
 use Rattle.keyset_model.specs.Keyset.{Keys}
+use Rattle.keyset_model.specs.Writing.{HasWireBounds}
 use Rattle.keyset_model.specs.declared.record.Record.{Record}
 use Rattle.managers.specs.Table.{Table}
 use Rattle.tinkey_cmds.specs.Edits.{Edit, Stepped, first, step}
-use Rattle.tinkey_cmds.specs.Laws.{HasTemplate, IsHeld, IsTemplate}
+use Rattle.tinkey_cmds.specs.Laws.{HasTemplate, IsTemplate}
 use Rattle.tinkey_session.specs.Lines.{Line}
 use Rattle.tinkey_session.specs.Session.{Remains, remains}
 
@@ -20,7 +21,7 @@ AreBytes bytes = AllByRecursion (λ b. b < 256) bytes
 -- what the types of a record hold it to: an id of 32 bits, a URL that is text, URL and value short
 -- enough to be written, and a value of bytes
 pub record IsStored (r : Record) : Type 0 where
-  pub held : IsHeld r
+  pub held : HasWireBounds r
   pub bytes : AreBytes r.value
 
 -- each record of the keyset is held to it
