@@ -18,6 +18,3 @@ pub use fault::{OpenPumpFault, SealPumpFault};
 pub use keys::{StreamKeys, StreamKeysFault};
 pub use opener::Opener;
 pub use sealer::{Sealer, SealerFault};
-
-#[cfg(test)]
-mod tests;

@@ -3,6 +3,7 @@
 #![tactic(auto)]
 
 use std::alloc::Global;
+use std::str::from_utf8;
 use std::test::Fail;
 use tink_base::Hash;
 
@@ -74,4 +75,43 @@ pub fn counting(alloc: Global, size: usize) -> Result<Vec<u8>, Fail> {
 /// The failure of a row, where this part of it isn't as expected.
 pub fn unlike(row: &str, part: &str, expected: &str, found: &str) -> Fail {
     Fail::new(format_args!("{row}: {part} is {found}, and not {expected}"))
+}
+
+/// Nothing where these bytes are as expected, and else the failure of the row: it tells how many
+/// there are, and a few from the first that differs.
+pub fn same_bytes(
+    alloc: Global,
+    row: &str,
+    part: &str,
+    expected: &[u8],
+    found: &[u8],
+) -> Result<(), Fail> {
+    if found == expected {
+        return Ok(());
+    }
+    let at = first_unlike(expected, found);
+    let expected = from_there(alloc, expected, at)?;
+    let found = from_there(alloc, found, at)?;
+    Err(unlike(row, part, &expected, &found))
+}
+
+/// The place of the first byte that differs, or the end of the shorter list.
+fn first_unlike(expected: &[u8], found: &[u8]) -> usize {
+    for (at, (one, other)) in expected.iter().zip(found).enumerate() {
+        if one != other {
+            return at;
+        }
+    }
+    expected.len().min(found.len())
+}
+
+/// How many bytes there are, and a few of them from this place on: as a text where they are one.
+fn from_there(alloc: Global, bytes: &[u8], at: usize) -> Result<String, Fail> {
+    let size = bytes.len();
+    let rest = bytes.get(at..).unwrap_or(b"");
+    let rest = rest.get(..24).unwrap_or(rest);
+    match from_utf8(rest) {
+        Ok(text) => Ok(format!(in alloc; "{size} bytes, from {at} on {text:?}")?),
+        Err(_) => Ok(format!(in alloc; "{size} bytes, from {at} on {}", digits_of(alloc, rest)?)?),
+    }
 }

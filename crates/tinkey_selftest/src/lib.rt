@@ -9,6 +9,3 @@ mod trial;
 
 pub use counts::{Counts, counts_text};
 pub use selftest::{SelfTestFault, self_test};
-
-#[cfg(test)]
-mod tests;

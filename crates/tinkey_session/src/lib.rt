@@ -14,10 +14,3 @@ pub use reply::{Refusal, Reply, refusal_text, reply_text};
 pub use session::{LineFault, Session};
 pub use short_text::ShortText;
 pub use talk::TalkFault;
-
-#[cfg(test)]
-mod session_tests;
-#[cfg(test)]
-mod talk_tests;
-#[cfg(test)]
-mod tests;

@@ -5,7 +5,6 @@ ghost use Rattle.std.specs.List.{AllByRecursion};
 ghost use Rattle.keyset_model.specs.Keyset.{IsShort};
 ghost use Rattle.tinkey_session.specs.Keeping.{IsKept};
 
-use crate::{LineFault, Reply, Session, read_line};
 use key_msgs::template_named;
 use managers::{
     AeadManager, DaeadManager, GcmManager, HmacManager, HmacPrfManager, KeyTable, MacManager,
@@ -16,6 +15,7 @@ use std::process::Abort;
 use std::test::Fail;
 use tink_base::MemEntropy;
 use tinkey_cmds::create;
+use tinkey_session::{LineFault, Reply, Session, read_line};
 
 // The longest line here.
 const MOST: usize = 1000;

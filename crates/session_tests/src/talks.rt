@@ -2,7 +2,6 @@
 
 ghost use Rattle.std.specs.Prelude.{◌<◌};
 
-use crate::talk::talk;
 use key_msgs::template_named;
 use managers::{AeadManager, GcmManager, Managers};
 use std::alloc::Global;
@@ -10,6 +9,7 @@ use std::str::from_utf8;
 use std::test::Fail;
 use tink_base::{MemEntropy, MemSink, MemSource};
 use tinkey_cmds::create;
+use tinkey_session::talk::talk;
 
 // The id 16909060, and a key of 16 zero bytes.
 const KEY: &str = "0102030400000000000000000000000000000000";

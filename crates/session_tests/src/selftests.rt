@@ -1,11 +1,11 @@
 //! Self-tests over managers of AEADs, and the lines that tell their counts.
 
-use crate::{Counts, SelfTestFault, counts_text, self_test};
 use key_msgs::KeyType;
 use managers::{AeadManager, CtrHmacManager, EaxManager, GcmManager, Managers};
 use std::alloc::Global;
 use std::str::from_utf8;
 use std::test::Fail;
+use tinkey_selftest::{Counts, SelfTestFault, counts_text, self_test};
 
 /// The counts of a self-test over the managers of three kinds of AEADs, or over none.
 fn counts_of(
