@@ -2,14 +2,14 @@
 use Rattle.std.proofs.Common.{◌≡◌, refl, subst, inl, inr, List, ℕ}
 use Rattle.managers.specs.Standard.{standard_table}
 use Rattle.managers.specs.Table.{Entry, Table}
-use Rattle.tinkey_run.specs.Commands.{plan_of}
-use Rattle.tinkey_run.specs.Ends.{World}
-use Rattle.tinkey_run.specs.Plan.{allocates}
-use Rattle.tinkey_run.specs.Promises.{Promised}
-use Rattle.tinkey_run.specs.declared.status.Status.{Status}
-use Rattle.tinkey_run.specs.declared.status.Status.TheVariants as status
-use Rattle.tinkey_run.proofs.PromiseLemmas.{promised}
-use Rattle.tinkey_run.specs.Readable.{IsReadable, SessionsAreReadable}
+use Rattle.tinkey_plans.specs.Commands.{plan_of}
+use Rattle.tinkey_plans.specs.Ends.{World}
+use Rattle.tinkey_plans.specs.Plan.{allocates}
+use Rattle.tinkey_plans.specs.Promises.{Promised}
+use Rattle.tinkey_plans.specs.declared.status.Status.{Status}
+use Rattle.tinkey_plans.specs.declared.status.Status.TheVariants as status
+use Rattle.tinkey_plans.proofs.PromiseLemmas.{promised}
+use Rattle.tinkey_readable.specs.Readable.{IsReadable, SessionsAreReadable}
 use Rattle.tinkey_host.specs.Program.{start_plan}
 
 -- managers with the entries of the program's table have that table

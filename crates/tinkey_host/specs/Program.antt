@@ -3,12 +3,12 @@ use Rattle.std.specs.Prelude.{◌≡◌, ℕ, List, Result, Ok, Err}
 use Rattle.managers.specs.Standard.{standard_table}
 use Rattle.tink_base.specs.declared.faults.NoMemory.{NoMemory}
 use Rattle.tink_spec.specs.Outside.{SinkState}
-use Rattle.tinkey_run.specs.Commands.{plan_of}
-use Rattle.tinkey_run.specs.Ends.{World}
-use Rattle.tinkey_run.specs.Plan.{Plan, allocates}
-use Rattle.tinkey_run.specs.Promises.{Promised}
-use Rattle.tinkey_run.specs.Status.{code_of, Reports}
-use Rattle.tinkey_run.specs.declared.status.Status.{Status}
+use Rattle.tinkey_plans.specs.Commands.{plan_of}
+use Rattle.tinkey_plans.specs.Ends.{World}
+use Rattle.tinkey_plans.specs.Plan.{Plan, allocates}
+use Rattle.tinkey_plans.specs.Promises.{Promised}
+use Rattle.tinkey_plans.specs.Status.{code_of, Reports}
+use Rattle.tinkey_plans.specs.declared.status.Status.{Status}
 
 -- the plan of the words over the table of the program's managers, for which memory may be wanting
 -- before all else

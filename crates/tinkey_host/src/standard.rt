@@ -2,10 +2,10 @@
 
 ghost use Rattle.std.specs.Prelude.{◌≡◌, map, string_bytes};
 ghost use Rattle.managers.specs.Standard.{standard_table};
-ghost use Rattle.tinkey_run.specs.Ends.{world};
-ghost use Rattle.tinkey_run.specs.Promises.{Promised};
-ghost use Rattle.tinkey_run.specs.Readable.{IsReadable};
-ghost use Rattle.tinkey_run.specs.Status.{Reports};
+ghost use Rattle.tinkey_plans.specs.Ends.{world};
+ghost use Rattle.tinkey_plans.specs.Promises.{Promised};
+ghost use Rattle.tinkey_readable.specs.Readable.{IsReadable};
+ghost use Rattle.tinkey_plans.specs.Status.{Reports};
 ghost use Rattle.tinkey_host.specs.Program.{start_plan, IsStarted};
 
 use key_msgs::KeyType;

@@ -2,7 +2,7 @@
 
 ghost use Rattle.std.specs.Prelude.{◌≡◌, map, string_bytes};
 ghost use Rattle.std.specs.Process.{exit_status};
-ghost use Rattle.tinkey_run.specs.Ends.{world};
+ghost use Rattle.tinkey_plans.specs.Ends.{world};
 ghost use Rattle.tinkey_host.specs.Program.{HasRun};
 
 use crate::args::{NoWords, words};

@@ -3,15 +3,15 @@ use Rattle.std.proofs.Common.{◌≡◌, refl, sym, subst, inl, inr, ℕ, List, 
 use Rattle.tinkey_cmds.specs.declared.command.CmdFault.{CmdFault}
 use Rattle.tinkey_selftest.specs.Telling.{counts_text}
 use Rattle.tinkey_selftest.specs.declared.counts.Counts.{Counts}
-use Rattle.tinkey_run.specs.declared.status.Status.{Status}
-use Rattle.tinkey_run.specs.declared.status.Status.TheVariants as status
-use Rattle.tinkey_run.specs.Ends.{World, Ends}
-use Rattle.tinkey_run.specs.SelfTesting.{self_test_refusal, tells_counts}
+use Rattle.tinkey_plans.specs.declared.status.Status.{Status}
+use Rattle.tinkey_plans.specs.declared.status.Status.TheVariants as status
+use Rattle.tinkey_plans.specs.Ends.{World, Ends}
+use Rattle.tinkey_plans.specs.SelfTesting.{self_test_refusal, tells_counts}
 use Rattle.tinkey_selftest.specs.Ready.{Tests}
 use Rattle.tinkey_selftest.specs.declared.selftest.SelfTestFault.{SelfTestFault}
 use Rattle.tinkey_selftest.specs.declared.selftest.SelfTestFault.TheVariants as faults
-use Rattle.tinkey_run.specs.Plan.{Plan}
-use Rattle.tinkey_run.specs.Steps.{Passes, with_made}
+use Rattle.tinkey_plans.specs.Plan.{Plan}
+use Rattle.tinkey_plans.specs.Steps.{Passes, with_made}
 use Rattle.std.specs.Prelude.{IfOk, IfErr}
 
 -- a first keyset is there, and the line of the counts, or memory was refused for that

@@ -25,13 +25,13 @@ use Rattle.segment_stream.proofs.OpeningLemmas.{decides_stays}
 use Rattle.segment_stream.proofs.SealAnswering.{seal-pass-answers}
 use Rattle.tink_spec.specs.Outside.{SourceState, SinkState, EntropyState, Stood}
 use Rattle.tinkey_cmds.specs.Draws.{Drawn, fill, answered}
-use Rattle.tinkey_run.specs.declared.status.Status.{Status}
-use Rattle.tinkey_run.specs.declared.words.rows.Format.{Format}
-use Rattle.tinkey_run.specs.Ends.{World, Ends, OnlyStreams, IsLasting, pump_status, settled}
-use Rattle.tinkey_run.specs.Plan.{Plan, allocates}
-use Rattle.tinkey_run.specs.Steps.{loads_keyset, Passes}
-use Rattle.tinkey_run.specs.Streaming.{unless_unfit, keys_for, with_keys, loads_stream_keys, seals_stream, opens_stream, stream_keys_refusal}
-use Rattle.tinkey_run.proofs.StepLemmas.{passes_then, ends_there}
+use Rattle.tinkey_plans.specs.declared.status.Status.{Status}
+use Rattle.tinkey_words.specs.declared.words.rows.Format.{Format}
+use Rattle.tinkey_plans.specs.Ends.{World, Ends, OnlyStreams, IsLasting, pump_status, settled}
+use Rattle.tinkey_plans.specs.Plan.{Plan, allocates}
+use Rattle.tinkey_plans.specs.Steps.{loads_keyset, Passes}
+use Rattle.tinkey_plans.specs.Streaming.{unless_unfit, keys_for, with_keys, loads_stream_keys, seals_stream, opens_stream, stream_keys_refusal}
+use Rattle.tinkey_plans.proofs.StepLemmas.{passes_then, ends_there}
 
 -- The keys.
 

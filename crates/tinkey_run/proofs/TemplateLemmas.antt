@@ -5,11 +5,11 @@ use Rattle.std.specs.List.{flat_map}
 use Rattle.tink_spec.specs.Outside.{SinkState, Took, TookPrefix}
 use Rattle.std.proofs.lemmas.List.{nil_from_length, length-drop}
 use Rattle.std.proofs.lemmas.Option.{slice_get_cases, slice_get_within, get_or_from_slice_get}
-use Rattle.tinkey_run.proofs.WordLemmas.{rest_of_words}
+use Rattle.tinkey_words.proofs.WordLemmas.{rest_of_words}
 use Rattle.tink_spec.proofs.Moves.{took_more, took_nothing}
 use Rattle.key_msgs.specs.Templates.{Row, templates, seen}
 use Rattle.key_msgs.specs.declared.template.Template.{Template}
-use Rattle.tinkey_run.specs.Commands.{template_names}
+use Rattle.tinkey_plans.specs.Commands.{template_names}
 
 -- the name of a template, with a newline
 abbrev pub name_line : Row → List ℕ

@@ -1,6 +1,6 @@
 -- Work by the keys of a keyset, as steps.
-use Rattle.std.proofs.Common.{◌≡◌, ◌∙◌, refl, sym, ap, subst, inl, inr, ℕ, ◌+◌, ◌*◌, ◌<◌, Bool, true, false, List, [], ◌∷◌, ◌++◌, length, length-append, Option, Some, None, Result, Ok, Err, arith}
-use Rattle.std.specs.Prelude.{IfSome, IsSome, find, nat_lt, take, drop, option_map, if◌then◌else◌}
+use Rattle.std.proofs.Common.{◌≡◌, ◌∙◌, refl, sym, ap, subst, inl, inr, ℕ, ◌*◌, ◌<◌, Bool, true, false, List, [], ◌++◌, length, length-append, Option, Some, None, Result, Ok, Err, arith}
+use Rattle.std.specs.Prelude.{IfSome, nat_lt, take, drop, option_map, if◌then◌else◌}
 use Rattle.std.specs.Option.{option_and_then}
 use Rattle.std.proofs.lemmas.Bool.Decides.{nat_tests}
 use Rattle.std.proofs.lemmas.List.{take_at, drop_at}
@@ -10,30 +10,27 @@ use Rattle.hex.specs.declared.error.FromHexError.TheVariants as hex_errors
 use Rattle.hex.proofs.HexLemmas.{decode_pairs-ok}
 use Rattle.key_msgs.specs.declared.key.KeyKind.{KeyKind}
 use Rattle.key_msgs.specs.declared.primitive.Primitive.{Primitive}
-use Rattle.key_msgs.specs.declared.primitive.Primitive.TheVariants.{Aead, Prf}
-use Rattle.keyset_model.specs.Keyset.{Keys, is_enabled, is_primary, primary_of}
+use Rattle.key_msgs.specs.declared.primitive.Primitive.TheVariants.{Aead}
+use Rattle.keyset_model.specs.Keyset.{Keys, primary_of}
 use Rattle.keyset_model.specs.declared.record.Record.{Record}
-use Rattle.keyset_model.proofs.PrimaryLemmas.{primary_enabled, primary_there}
 use Rattle.managers.specs.Table.{Table}
 use Rattle.managers.specs.Uses.{iv_size, seal_of}
 use Rattle.tink_spec.specs.Outside.{EntropyState, Drew, Stood}
-use Rattle.wrapped_prims.specs.Answers.{Sealed, primary_key, seal_behind, seal_under, seal_answer, made, made_by, derive_under}
+use Rattle.wrapped_prims.specs.Answers.{Sealed, primary_key, seal_behind, seal_under, seal_answer}
 use Rattle.wrapped_prims.specs.Candidates.{prefix_of, prefix_bytes}
-use Rattle.wrapped_prims.specs.Fitness.{fault_of_record, key_of_record, unfit_from}
+use Rattle.wrapped_prims.specs.Fitness.{key_of_record}
 use Rattle.wrapped_prims.specs.Sealing.{IsSealing, IsSealFault}
 use Rattle.wrapped_prims.specs.declared.sealing.SealFault.TheVariants as seal_faults
-use Rattle.wrapped_prims.proofs.OpenLemmas.{none_here, kept_as, KeptAs, off, on}
-use Rattle.tinkey_run.specs.declared.status.Status.{Status}
-use Rattle.tinkey_run.specs.declared.status.Status.TheVariants as status
-use Rattle.tinkey_run.specs.Ends.{World, Ends, settled, draw_failed}
-use Rattle.tinkey_run.specs.Laws.{IsFit, FitKeysetsAnswer}
-use Rattle.tinkey_run.specs.Plan.{Plan, allocates}
-use Rattle.tinkey_run.specs.Steps.{loads_keyset, reads_input, Passes}
-use Rattle.tinkey_run.specs.declared.words.rows.Format.{Format}
-use Rattle.tinkey_run.proofs.StepLemmas.{passes_then, ends_there}
+use Rattle.tinkey_plans.specs.declared.status.Status.{Status}
+use Rattle.tinkey_plans.specs.declared.status.Status.TheVariants as status
+use Rattle.tinkey_plans.specs.Ends.{World, Ends, settled, draw_failed}
+use Rattle.tinkey_plans.specs.Plan.{Plan, allocates}
+use Rattle.tinkey_plans.specs.Steps.{loads_keyset, reads_input, Passes}
+use Rattle.tinkey_words.specs.declared.words.rows.Format.{Format}
+use Rattle.tinkey_plans.proofs.StepLemmas.{passes_then, ends_there}
 use Rattle.std.specs.Result.{IsErrAnd}
-use Rattle.tinkey_run.specs.Using.{handles, as_drawn, with_opened, seals, works, use_output}
-use Rattle.tinkey_run.specs.Words.{AskedWork, to_seal, primitive_for}
+use Rattle.tinkey_plans.specs.Using.{handles, as_drawn, with_opened, seals, works, use_output}
+use Rattle.tinkey_words.specs.Words.{AskedWork, to_seal, primitive_for}
 
 -- a step behind which memory isn't wanting
 pub behind_memory : {A : Type 0} (step : (A → Plan) → Plan) (old new : World) (r : Result A Status) → Passes step old r new → Passes (λ next. allocates (step next)) old r new
@@ -167,61 +164,3 @@ even_test false digits bytes error is = is
 -- a datum has half as many bytes as digits
 pub decoded_length : (digits bytes : List ℕ) → decode_of digits ≡ Ok bytes → length digits ≡ 2 * length bytes
 decoded_length digits bytes is = (decode_pairs-ok 0 digits bytes (even_test _ digits bytes hex_errors.OddLength is)).1
-
--- A keyset that can serve has a primary key, and what that makes.
-
-found_fits : (b : Bool) (p : Record → Bool) (table : Table) (primitive : Primitive) (x r : Record) (rs : List Record) → p x ≡ b → fault_of_record table primitive x ≡ None → find p (x ∷ rs) ≡ Some r → (find p rs ≡ Some r → fault_of_record table primitive r ≡ None) → fault_of_record table primitive r ≡ None
-found_fits true p table primitive x r rs test fit found later =
-    let same : Some x ≡ Some r = rw test at found in
-    let is : x ≡ r = cc in
-    subst (λ (y : Record). fault_of_record table primitive y ≡ None) is fit
-found_fits false p table primitive x r rs test fit found later = later (rw test at found)
-
-primary_fits : (p : Record → Bool) (n : ℕ) (table : Table) (primitive : Primitive) (rs : List Record) (r : Record) → unfit_from n table primitive rs ≡ None → find p rs ≡ Some r → fault_of_record table primitive r ≡ None
-primary_fits p n table primitive [] r fit found = absurd (cc)
-primary_fits p n table primitive (x ∷ rs) r fit found =
-    let parts = none_here n (fault_of_record table primitive x) (unfit_from (n + 1) table primitive rs) fit in
-    found_fits (p x) p table primitive x r rs refl parts.0 found (λ later. primary_fits p (n + 1) table primitive rs r parts.1 later)
-
--- the primary record with its key
-record HasKey (table : Table) (primitive : Primitive) (keys : Keys) : Type 0 where
-  under : Record
-  key : KeyKind
-  primary : primary_of keys ≡ Some under
-  there : key_of_record table primitive under ≡ Some key
-
-enabled_clash : (r : Record) → r.status ≡ 1 → is_enabled r ≡ false → ⊥
-enabled_clash r status other = grind (arith, nat_tests)
-
-with_kept : (table : Table) (primitive : Primitive) (keys : Keys) (r : Record) → primary_of keys ≡ Some r → r.status ≡ 1 → KeptAs table primitive r → HasKey table primitive keys
-with_kept table primitive keys r primary enabled (off other none) = absurd (enabled_clash r enabled other)
-with_kept table primitive keys r primary enabled (on at key is there some) = record { under = r; key = key; primary = primary; there = there }
-
-has_key : (table : Table) (primitive : Primitive) (keys : Keys) → IsFit table primitive keys → HasKey table primitive keys
-has_key table primitive keys fit =
-    let primary = primary_there keys fit.faultless in
-    with_kept table primitive keys primary.0 primary.1 (primary_enabled keys primary.0 primary.1)
-    (kept_as table primitive primary.0 (primary_fits (is_primary keys.primary) 0 table primitive keys.records primary.0 fit.fit primary.1))
-
-key_there : (table : Table) (primitive : Primitive) (keys : Keys) (has : HasKey table primitive keys) → primary_key keys table primitive ≡ Some has.key
-key_there table primitive keys has = ap (option_and_then (key_of_record table primitive)) has.primary ∙ has.there
-
-made_there : (table : Table) (primitive : Primitive) (keys : Keys) (make : KeyKind → Record → List ℕ) → HasKey table primitive keys → IsSome (made keys table primitive make)
-made_there table primitive keys make has =
-    let is : made keys table primitive make ≡ Some (prefix_bytes (prefix_of has.under) ++ make has.key has.under) =
-    ap (option_and_then (made_by table primitive make)) has.primary ∙ ap (option_map (λ key. prefix_bytes (prefix_of has.under) ++ make key has.under)) has.there in
-    rw is refl
-
-some_key : (found : Option KeyKind) (key : KeyKind) → found ≡ Some key → IsSome found
-some_key found key is = rw is refl
-
-derived_there : (found : Option KeyKind) (key : KeyKind) (input : List ℕ) (size : ℕ) → found ≡ Some key → IsSome (option_map (derive_under input size) found)
-derived_there found key input size is = rw is refl
-
-pub fit_keysets_answer : FitKeysetsAnswer
-fit_keysets_answer = record {
-  primary = λ table primitive keys fit. let has = has_key table primitive keys fit in some_key (primary_key keys table primitive) has.key (key_there table primitive keys has);
-  dseal = λ table keys plain ad fit. made_there table _ keys _ (has_key table _ keys fit);
-  tag = λ table keys body fit. made_there table _ keys _ (has_key table _ keys fit);
-  derive = λ table keys input size fit. let has = has_key table _ keys fit in derived_there (primary_key keys table Prf) has.key input size (key_there table _ keys has);
-}

@@ -1,13 +1,13 @@
 //! list-keyset.
 
-ghost use Rattle.tinkey_run.specs.Ends.{World};
-ghost use Rattle.tinkey_run.specs.Steps.{Passes};
-ghost use Rattle.tinkey_run.specs.Commands.{list_keyset_output};
-ghost use Rattle.tinkey_run.specs.Words.{seen_place};
+ghost use Rattle.tinkey_plans.specs.Ends.{World};
+ghost use Rattle.tinkey_plans.specs.Steps.{Passes};
+ghost use Rattle.tinkey_plans.specs.Commands.{list_keyset_output};
+ghost use Rattle.tinkey_words.specs.Words.{seen_place};
 
-use crate::Status;
+use tinkey_plans::Status;
 use crate::steps::take_keyset;
-use crate::words::Place;
+use tinkey_words::Place;
 use keyset_model::info_text;
 use std::alloc::Global;
 use tink_base::{Bytes, Source, Store};

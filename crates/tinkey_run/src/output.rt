@@ -3,14 +3,14 @@
 ghost use Rattle.std.specs.Prelude.{◌≡◌, List, ℕ, IfOk};
 ghost use Rattle.std.specs.List.{AllByRecursion};
 ghost use Rattle.keyset_model.specs.Keyset.{Keys, IsShort};
-ghost use Rattle.tinkey_run.specs.Plan.{Plan, writes, creates};
-ghost use Rattle.tinkey_run.specs.Ends.{Ends, World};
-ghost use Rattle.tinkey_run.specs.Steps.{written_in, puts, puts_keyset, Passes};
-ghost use Rattle.tinkey_run.specs.Words.{seen_name, seen_place};
-ghost use Rattle.tinkey_run.specs.declared.status.Status.TheVariants as status;
+ghost use Rattle.tinkey_plans.specs.Plan.{Plan, writes, creates};
+ghost use Rattle.tinkey_plans.specs.Ends.{Ends, World};
+ghost use Rattle.tinkey_plans.specs.Steps.{written_in, puts, puts_keyset, Passes};
+ghost use Rattle.tinkey_words.specs.Words.{seen_name, seen_place};
+ghost use Rattle.tinkey_plans.specs.declared.status.Status.TheVariants as status;
 
-use crate::Status;
-use crate::words::{Format, Place};
+use tinkey_plans::Status;
+use tinkey_words::{Format, Place};
 use keyset_json::write_json;
 use keyset_model::{Keyset, write_binary};
 use std::alloc::Global;

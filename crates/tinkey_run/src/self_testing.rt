@@ -2,12 +2,12 @@
 
 ghost use Rattle.std.specs.Prelude.{◌≡◌, IfOk, IfErr};
 ghost use Rattle.tinkey_selftest.specs.Telling.{counts_text};
-ghost use Rattle.tinkey_run.specs.Ends.{World};
-ghost use Rattle.tinkey_run.specs.SelfTesting.{self_test_output, self_test_refusal};
-ghost use Rattle.tinkey_run.specs.Steps.{Passes};
-ghost use Rattle.tinkey_run.specs.declared.status.Status.TheVariants as status;
+ghost use Rattle.tinkey_plans.specs.Ends.{World};
+ghost use Rattle.tinkey_plans.specs.SelfTesting.{self_test_output, self_test_refusal};
+ghost use Rattle.tinkey_plans.specs.Steps.{Passes};
+ghost use Rattle.tinkey_plans.specs.declared.status.Status.TheVariants as status;
 
-use crate::Status;
+use tinkey_plans::Status;
 use managers::{KeyTable, Managers};
 use std::alloc::Global;
 use tink_base::Bytes;

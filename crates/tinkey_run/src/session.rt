@@ -3,15 +3,15 @@
 ghost use Rattle.std.specs.Prelude.{◌≡◌, Some, IfOk};
 ghost use Rattle.std.specs.List.{AllByRecursion};
 ghost use Rattle.keyset_model.specs.Keyset.{Keys, IsShort};
-ghost use Rattle.tinkey_run.specs.Ends.{Ends, World, talk_status, world};
-ghost use Rattle.tinkey_run.specs.Plan.{Plan};
-ghost use Rattle.tinkey_run.specs.Session.{holds_session, saves, saves_as};
-ghost use Rattle.tinkey_run.specs.Steps.{Passes};
-ghost use Rattle.tinkey_run.specs.Words.{seen_place};
+ghost use Rattle.tinkey_plans.specs.Ends.{Ends, World, talk_status, world};
+ghost use Rattle.tinkey_plans.specs.Plan.{Plan};
+ghost use Rattle.tinkey_plans.specs.Session.{holds_session, saves, saves_as};
+ghost use Rattle.tinkey_plans.specs.Steps.{Passes};
+ghost use Rattle.tinkey_words.specs.Words.{seen_place};
 
-use crate::Status;
+use tinkey_plans::Status;
 use crate::output::{create_file, written};
-use crate::words::{Format, Place};
+use tinkey_words::{Format, Place};
 use keyset_model::Keyset;
 use managers::{KeyTable, Managers};
 use std::alloc::Global;

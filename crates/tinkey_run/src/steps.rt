@@ -5,12 +5,12 @@ ghost use Rattle.std.specs.Prelude.{◌≡◌, ◌≤◌, ◌^◌, List, ℕ, le
 ghost use Rattle.std.specs.List.{AllByRecursion};
 ghost use Rattle.key_msgs.specs.Templates.{seen};
 ghost use Rattle.keyset_model.specs.Keyset.{IsShort};
-ghost use Rattle.tinkey_run.specs.Ends.{World};
-ghost use Rattle.tinkey_run.specs.Words.{seen_place};
-ghost use Rattle.tinkey_run.specs.Steps.{refusal_of, json_refusal_of, keyset_in, loads_keyset, reads_keyset, takes_keyset, reads_input, finds_template, Passes, PassesAs};
+ghost use Rattle.tinkey_plans.specs.Ends.{World};
+ghost use Rattle.tinkey_words.specs.Words.{seen_place};
+ghost use Rattle.tinkey_plans.specs.Steps.{refusal_of, json_refusal_of, keyset_in, loads_keyset, reads_keyset, takes_keyset, reads_input, finds_template, Passes, PassesAs};
 
-use crate::Status;
-use crate::words::{Format, Place};
+use tinkey_plans::Status;
+use tinkey_words::{Format, Place};
 use key_msgs::{Template, TemplateFault, template_named};
 use keyset_json::{JsonError, read_json};
 use keyset_model::{Keyset, ReadError, read_binary};

@@ -3,16 +3,16 @@
 ghost use Rattle.std.specs.Prelude.{◌≡◌, IfOk};
 ghost use Rattle.segment_stream.specs.KeysModel.{AreSound, KeysForStreams};
 ghost use Rattle.segment_stream.specs.PumpModels.{pump_result};
-ghost use Rattle.tinkey_run.specs.Ends.{Ends, World, pump_status};
-ghost use Rattle.tinkey_run.specs.Plan.{Plan};
-ghost use Rattle.tinkey_run.specs.Steps.{Passes};
-ghost use Rattle.tinkey_run.specs.Streaming.{loads_stream_keys, seals_stream, opens_stream, stream_keys_refusal};
-ghost use Rattle.tinkey_run.specs.Words.{seen_datum};
+ghost use Rattle.tinkey_plans.specs.Ends.{Ends, World, pump_status};
+ghost use Rattle.tinkey_plans.specs.Plan.{Plan};
+ghost use Rattle.tinkey_plans.specs.Steps.{Passes};
+ghost use Rattle.tinkey_plans.specs.Streaming.{loads_stream_keys, seals_stream, opens_stream, stream_keys_refusal};
+ghost use Rattle.tinkey_words.specs.Words.{seen_datum};
 
-use crate::Status;
+use tinkey_plans::Status;
 use crate::steps::load_keyset;
 use crate::using::datum;
-use crate::words::{Datum, Format};
+use tinkey_words::{Datum, Format};
 use segment_stream::{
     OpenPumpFault, Opener, SealPumpFault, Sealer, SealerFault, StreamKeys, StreamKeysFault,
 };

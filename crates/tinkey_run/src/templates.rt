@@ -2,11 +2,11 @@
 
 ghost use Rattle.std.specs.Prelude.{◌++◌, OnOk, OnErr, codes};
 ghost use Rattle.tink_spec.specs.Outside.{Took, TookPrefix, Stood, Rose};
-ghost use Rattle.tinkey_run.specs.Ends.{Ends, World};
-ghost use Rattle.tinkey_run.specs.Commands.{template_names};
-ghost use Rattle.tinkey_run.specs.Plan.{writes};
+ghost use Rattle.tinkey_plans.specs.Ends.{Ends, World};
+ghost use Rattle.tinkey_plans.specs.Commands.{template_names};
+ghost use Rattle.tinkey_plans.specs.Plan.{writes};
 
-use crate::Status;
+use tinkey_plans::Status;
 use key_msgs::template_at;
 use tink_base::{Failed, Sink, write_all};
 

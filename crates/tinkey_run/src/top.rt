@@ -1,26 +1,26 @@
 //! The top call.
 
 ghost use Rattle.std.specs.Prelude.{◌≡◌, map, string_bytes};
-ghost use Rattle.tinkey_run.specs.Ends.{Ends, world};
-ghost use Rattle.tinkey_run.specs.Commands.{plan_of, command_plan};
-ghost use Rattle.tinkey_run.specs.Promises.{Promised};
-ghost use Rattle.tinkey_run.specs.Readable.{IsReadable};
-ghost use Rattle.tinkey_run.specs.Status.{Reports};
-ghost use Rattle.tinkey_run.specs.Words.{seen_command};
+ghost use Rattle.tinkey_plans.specs.Ends.{Ends, world};
+ghost use Rattle.tinkey_plans.specs.Commands.{plan_of, command_plan};
+ghost use Rattle.tinkey_plans.specs.Promises.{Promised};
+ghost use Rattle.tinkey_readable.specs.Readable.{IsReadable};
+ghost use Rattle.tinkey_plans.specs.Status.{Reports};
+ghost use Rattle.tinkey_words.specs.Words.{seen_command};
 
-use crate::Status;
+use tinkey_plans::Status;
 use crate::edits::{create_keyset, edit_keyset};
-use crate::laws::sessions_are_readable;
+use tinkey_readable::laws::sessions_are_readable;
 use crate::list::list_keyset;
 use crate::output::{finish, finish_keyset};
-use crate::report::report;
+use tinkey_plans::report;
 use crate::self_testing::tell_self_test;
 use crate::session::answer_lines;
 use crate::steps::{load_keyset, take_keyset};
 use crate::streaming::{load_stream_keys, open_stream, seal_stream};
 use crate::templates::list_templates;
 use crate::using::use_keyset;
-use crate::words::{Command, parse};
+use tinkey_words::{Command, parse};
 use managers::{KeyTable, Managers};
 use std::alloc::Global;
 use tink_base::{Entropy, Sink, Source, Store};

@@ -3,14 +3,14 @@
 ghost use Rattle.std.specs.Prelude.{◌≡◌, ◌≢◌, ◌≤◌, ◌^◌, length, IfOk, option_map};
 ghost use Rattle.key_msgs.specs.declared.primitive.Primitive.TheVariants.{Aead, Daead, Mac, Prf, Stream};
 ghost use Rattle.wrapped_prims.specs.Making.{IsOver};
-ghost use Rattle.tinkey_run.specs.Ends.{World};
-ghost use Rattle.tinkey_run.specs.Steps.{Passes, PassesAs};
-ghost use Rattle.tinkey_run.specs.Using.{handles, handle_refusal, use_output, with_opened, IsServing, Works};
-ghost use Rattle.tinkey_run.specs.Words.{primitive_for, datum_as, datum_of_hex, seen_datum, seen_work, to_seal, to_open, to_dseal, to_dopen, to_tag, to_verify, to_derive};
+ghost use Rattle.tinkey_plans.specs.Ends.{World};
+ghost use Rattle.tinkey_plans.specs.Steps.{Passes, PassesAs};
+ghost use Rattle.tinkey_plans.specs.Using.{handles, handle_refusal, use_output, with_opened, IsServing, Works};
+ghost use Rattle.tinkey_words.specs.Words.{primitive_for, datum_as, datum_of_hex, seen_datum, seen_work, to_seal, to_open, to_dseal, to_dopen, to_tag, to_verify, to_derive};
 
-use crate::Status;
+use tinkey_plans::Status;
 use crate::steps::{load_keyset, read_input};
-use crate::words::{DATUM_LIMIT, Datum, Format, Work};
+use tinkey_words::{DATUM_LIMIT, Datum, Format, Work};
 use hex::FromHexError;
 use key_msgs::Primitive;
 use keyset_model::Keyset;

@@ -1,7 +1,7 @@
 use Rattle.key_msgs.specs.Templates.{seen}
 use Rattle.tinkey_cmds.specs.Edits.{first}
-use Rattle.tinkey_run.specs.Steps.{finds_template, makes_keyset}
-use Rattle.tinkey_run.proofs.StepLemmas.{passes_then_as}
+use Rattle.tinkey_plans.specs.Steps.{finds_template, makes_keyset}
+use Rattle.tinkey_plans.proofs.StepLemmas.{passes_then_as}
 use Rattle.tinkey_run.proofs.edits.create_keyset.Goals as goal
 
 pub returns-clause-passes : goal.returns-clause-passes

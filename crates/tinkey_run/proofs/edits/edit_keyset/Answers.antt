@@ -1,9 +1,9 @@
 use Rattle.keyset_model.specs.Keyset.{Keys}
 use Rattle.tinkey_cmds.specs.Edits.{Edit, step, seen_edit as seen_command}
-use Rattle.tinkey_run.specs.Plan.{Plan}
-use Rattle.tinkey_run.specs.Steps.{takes_keyset, finds_edit, makes_keyset}
-use Rattle.tinkey_run.specs.Words.{Place, seen_edit, seen_place}
-use Rattle.tinkey_run.proofs.StepLemmas.{passes_then, passes_then_as, ends_there}
+use Rattle.tinkey_plans.specs.Plan.{Plan}
+use Rattle.tinkey_plans.specs.Steps.{takes_keyset, finds_edit, makes_keyset}
+use Rattle.tinkey_words.specs.Words.{Place, seen_edit, seen_place}
+use Rattle.tinkey_plans.proofs.StepLemmas.{passes_then, passes_then_as, ends_there}
 use Rattle.tinkey_run.proofs.edits.edit_keyset.Goals as goal
 
 -- the plan from the edit on, and from the keyset on

@@ -1,4 +1,4 @@
-use Rattle.tinkey_run.proofs.StepLemmas.{made_passes, unmade_passes}
+use Rattle.tinkey_plans.proofs.StepLemmas.{made_passes, unmade_passes}
 use Rattle.tinkey_run.proofs.edits.edit_of.Goals as goal
 
 pub returns-in-Ok-clause-passes : goal.returns-in-Ok-clause-passes

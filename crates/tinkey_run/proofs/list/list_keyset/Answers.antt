@@ -1,8 +1,8 @@
 use Rattle.std.proofs.Common.{Ok, ◌∙◌}
-use Rattle.tinkey_run.specs.Words.{seen_place}
+use Rattle.tinkey_words.specs.Words.{seen_place}
 use Rattle.keyset_model.specs.Listing.{info_of}
-use Rattle.tinkey_run.specs.Steps.{takes_keyset, works_out}
-use Rattle.tinkey_run.proofs.StepLemmas.{passes_then, ends_there, worked_out, starved_there}
+use Rattle.tinkey_plans.specs.Steps.{takes_keyset, works_out}
+use Rattle.tinkey_plans.proofs.StepLemmas.{passes_then, ends_there, worked_out, starved_there}
 use Rattle.tinkey_run.proofs.list.list_keyset.Goals as goal
 
 pub returns-in_err-keyset : goal.returns-in_err-keyset

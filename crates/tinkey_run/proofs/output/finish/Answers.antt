@@ -1,4 +1,4 @@
-use Rattle.tinkey_run.specs.Plan.{writes}
+use Rattle.tinkey_plans.specs.Plan.{writes}
 use Rattle.tinkey_run.proofs.output.finish.Goals as goal
 
 pub returns-in-Ok : goal.returns-in-Ok

@@ -1,6 +1,6 @@
 use Rattle.std.proofs.Common.{refl}
 use Rattle.tinkey_session.proofs.TalkLemmas.{talks_are_steady}
-use Rattle.tinkey_run.specs.Ends.{world, exchanged, exchange_ended}
+use Rattle.tinkey_plans.specs.Ends.{world, exchanged, exchange_ended}
 use Rattle.tinkey_run.proofs.session.answer_over.Goals as goal
 
 pub returns-in-Ok : goal.returns-in-Ok

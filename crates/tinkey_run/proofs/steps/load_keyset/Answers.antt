@@ -1,4 +1,4 @@
-use Rattle.tinkey_run.proofs.StepLemmas.{loaded_passes}
+use Rattle.tinkey_plans.proofs.StepLemmas.{loaded_passes}
 use Rattle.tinkey_run.proofs.steps.load_keyset.Goals as goal
 
 pub returns-in-Bytes-clause-passes : goal.returns-in-Bytes-clause-passes

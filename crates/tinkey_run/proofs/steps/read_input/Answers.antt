@@ -1,4 +1,4 @@
-use Rattle.tinkey_run.specs.Ends.{read}
+use Rattle.tinkey_plans.specs.Ends.{read}
 use Rattle.tinkey_run.proofs.steps.read_input.Goals as goal
 
 pub returns-in-Ok-clause-passes : goal.returns-in-Ok-clause-passes

@@ -1,4 +1,4 @@
-use Rattle.tinkey_run.proofs.StepLemmas.{read_passes}
+use Rattle.tinkey_plans.proofs.StepLemmas.{read_passes}
 use Rattle.tinkey_run.proofs.steps.read_keyset.Goals as goal
 
 pub returns-in-Ok-clause-passes : goal.returns-in-Ok-clause-passes

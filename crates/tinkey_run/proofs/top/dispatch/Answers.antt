@@ -1,10 +1,10 @@
-use Rattle.tinkey_run.specs.Commands.{create_output, edit_output, list_keyset_output}
-use Rattle.tinkey_run.specs.Ends.{world}
-use Rattle.tinkey_run.specs.SelfTesting.{self_test_output}
-use Rattle.tinkey_run.specs.Steps.{loads_keyset, takes_keyset}
-use Rattle.tinkey_run.specs.Streaming.{loads_stream_keys}
-use Rattle.tinkey_run.specs.Using.{use_output}
-use Rattle.tinkey_run.specs.Words.{seen_edit, seen_place, seen_work}
+use Rattle.tinkey_plans.specs.Commands.{create_output, edit_output, list_keyset_output}
+use Rattle.tinkey_plans.specs.Ends.{world}
+use Rattle.tinkey_plans.specs.SelfTesting.{self_test_output}
+use Rattle.tinkey_plans.specs.Steps.{loads_keyset, takes_keyset}
+use Rattle.tinkey_plans.specs.Streaming.{loads_stream_keys}
+use Rattle.tinkey_plans.specs.Using.{use_output}
+use Rattle.tinkey_words.specs.Words.{seen_edit, seen_place, seen_work}
 use Rattle.tinkey_run.proofs.top.dispatch.Goals as goal
 
 pub returns-in-CreateKeyset : goal.returns-in-CreateKeyset

@@ -1,4 +1,4 @@
-use Rattle.tinkey_run.proofs.PromiseLemmas.{promised}
+use Rattle.tinkey_plans.proofs.PromiseLemmas.{promised}
 use Rattle.tinkey_run.proofs.top.run.Goals as goal
 
 pub returns-clause-promised : goal.returns-clause-promised

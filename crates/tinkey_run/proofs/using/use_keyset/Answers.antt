@@ -1,4 +1,4 @@
-use Rattle.tinkey_run.specs.Words.{seen_work}
+use Rattle.tinkey_words.specs.Words.{seen_work}
 use Rattle.tinkey_run.proofs.UseLemmas.{no_keyset, no_handle, with_handle, no_input, with_input}
 use Rattle.tinkey_run.proofs.using.use_keyset.Goals as goal
 

@@ -1,0 +1,301 @@
+-- The causes of faults, that none is hidden, and completeness, of every end of every plan.
+use Rattle.std.proofs.Common.{◌≡◌, ◌≢◌, inl, inr, ℕ, ◌≤◌, List, [], refl, sym, ◌∙◌, ap, subst, arith}
+use Rattle.std.specs.Prelude.{Result, Ok, Err, true, false}
+use Rattle.tink_spec.specs.Outside.{SourceState, SinkState, EntropyState, Rose, Stood}
+use Rattle.tink_spec.specs.Files.{StoreState}
+use Rattle.segment_stream.specs.Opening.{StreamRefusal, too_many, failed}
+use Rattle.segment_stream.specs.Pumping.{Part, Pumps, fault_of}
+use Rattle.segment_stream.specs.Pumping as pass
+use Rattle.segment_stream.specs.declared.fault.OpenPumpFault.{OpenPumpFault}
+use Rattle.segment_stream.specs.declared.fault.OpenPumpFault.TheVariants as faults
+use Rattle.keyset_model.specs.Keyset.{Keys}
+use Rattle.tinkey_session.specs.Talking.{Exchange, goes, Limit, long_line, many_lines}
+use Rattle.tinkey_session.specs.Talks.{Sides, Talks, HasTalked, NoneRose, IsSteady, limit_fault}
+use Rattle.tinkey_session.specs.Talks as talks
+use Rattle.tinkey_session.specs.declared.talk.TalkFault.{TalkFault}
+use Rattle.tinkey_session.specs.declared.talk.TalkFault.TheVariants as talk_faults
+use Rattle.tinkey_plans.specs.declared.status.Status.{Status}
+use Rattle.tinkey_plans.specs.declared.status.Status.TheVariants as status
+use Rattle.tinkey_plans.specs.Plan.{Plan, ends, writes, creates, allocates, loads, reads_all, draws, pumps, exchanges, stream_status, limit_status, IsStated}
+use Rattle.tinkey_plans.specs.Ends.{World, Ends, OnlyStreams, pump_status, OnlySource, OnlySink, OnlyStore, OnlyEntropy, loaded, load_absent, load_long, load_failed, load_starved, wrote, write_failed, made, name_taken, create_failed, create_starved, read, too_long, read_failed, read_starved, settled, draw_failed, talk_status, sides_of, exchanged, exchange_ended}
+use Rattle.tinkey_plans.specs.Promises.{HasCause, ShowsFaults, NoneFailed, Completes}
+
+-- a stated status is no fault, and no want of memory
+abbrev pub not_read_fault : (s : Status) → IsStated s → s ≡ status.ReadFault → ⊥
+not_read_fault s stated is = let h : IsStated status.ReadFault = rw is at stated in h
+
+abbrev pub not_write_fault : (s : Status) → IsStated s → s ≡ status.WriteFault → ⊥
+not_write_fault s stated is = let h : IsStated status.WriteFault = rw is at stated in h
+
+abbrev pub not_store_fault : (s : Status) → IsStated s → s ≡ status.StoreFault → ⊥
+not_store_fault s stated is = let h : IsStated status.StoreFault = rw is at stated in h
+
+abbrev pub not_entropy_fault : (s : Status) → IsStated s → s ≡ status.EntropyFault → ⊥
+not_entropy_fault s stated is = let h : IsStated status.EntropyFault = rw is at stated in h
+
+abbrev pub not_no_memory : (s : Status) → IsStated s → s ≡ status.NoMemory → ⊥
+not_no_memory s stated is = let h : IsStated status.NoMemory = rw is at stated in h
+
+rose_after : (a b c : ℕ) → a ≤ b → Rose b c → Rose a c
+rose_after a b c le (inl lt) = inl (omega arith)
+rose_after a b c le (inr last) = inr last
+
+-- the status of a refused pass
+refusal_status : (refusal : StreamRefusal) → pump_status (Err (fault_of refusal)) ≡ stream_status refusal
+refusal_status too_many = refl
+refusal_status (failed number) = refl
+
+refusal_stated : (refusal : StreamRefusal) → IsStated (stream_status refusal)
+refusal_stated too_many = tt
+refusal_stated (failed number) = tt
+
+-- the status of a pass with this result
+pub of_result : (s : Status) (result other : Result (Unit {0}) OpenPumpFault) → s ≡ pump_status result → result ≡ other → s ≡ pump_status other
+of_result s result other is same = is ∙ ap pump_status same
+
+pub of_refusal : (s : Status) (result : Result (Unit {0}) OpenPumpFault) (refusal : StreamRefusal) → s ≡ pump_status result → result ≡ Err (fault_of refusal) → s ≡ stream_status refusal
+of_refusal s result refusal is same = of_result s result (Err (fault_of refusal)) is same ∙ refusal_status refusal
+
+-- the status of a session that is past a limit
+past_status : (limit : Limit) → talk_status (limit_fault limit) ≡ limit_status limit
+past_status long_line = refl
+past_status many_lines = refl
+
+limit_stated : (limit : Limit) → IsStated (limit_status limit)
+limit_stated long_line = tt
+limit_stated many_lines = tt
+
+-- the status of a session that ended with this fault
+same_fault : (fault other : TalkFault) → ◌≡◌ {A = Result Keys TalkFault} (Err fault) (Err other) → fault ≡ other
+same_fault fault other same = cc
+
+pub of_fault : (s : Status) (fault other : TalkFault) → s ≡ talk_status fault → ◌≡◌ {A = Result Keys TalkFault} (Err fault) (Err other) → s ≡ talk_status other
+of_fault s fault other is same = is ∙ ap talk_status (same_fault fault other same)
+
+pub of_limit : (s : Status) (fault : TalkFault) (limit : Limit) → s ≡ talk_status fault → ◌≡◌ {A = Result Keys TalkFault} (Err fault) (Err (limit_fault limit)) → s ≡ limit_status limit
+of_limit s fault limit is same = of_fault s fault (limit_fault limit) is same ∙ past_status limit
+
+-- a session that came to the end of its input
+pub record Went (exchange : Exchange) (keys : Keys) (old new : Sides) : Type 0 where
+  pub taken : List ℕ
+  pub drawn : List ℕ
+  pub last : keys ≡ (exchange taken drawn true).keys
+  pub has : HasTalked exchange taken drawn true goes old new
+  pub none : NoneRose old new
+
+pub went : (exchange : Exchange) (keys : Keys) (old new : Sides) → Talks exchange (Ok keys) old new → Went exchange keys old new
+went exchange keys old new (talks.talked taken drawn r has none) = record { taken = taken; drawn = drawn; last = (let e : Ok keys ≡ Ok (exchange taken drawn true).keys = r in cc); has = has; none = none }
+went exchange keys old new (talks.passed taken drawn limit r has none) = absurd (cc)
+went exchange keys old new (talks.unread taken drawn r has rose sink entropy) = absurd (cc)
+went exchange keys old new (talks.undrawn taken drawn ended r has rose source sink) = absurd (cc)
+went exchange keys old new (talks.unwritten taken drawn ended r gave drew front end rose source entropy) = absurd (cc)
+went exchange keys old new (talks.starved taken more drawn part r gave drew took stop none) = absurd (cc)
+
+-- The causes.
+
+no_fault : (old new : World) (s : Status) → IsStated s → HasCause old s new
+no_fault old new s stated = record {
+  read = λ h. absurd (not_read_fault s stated h);
+  write = λ h. absurd (not_write_fault s stated h);
+  store = λ h. absurd (not_store_fault s stated h);
+  entropy = λ h. absurd (not_entropy_fault s stated h);
+}
+
+-- want of memory is no fault
+starved_cause : (old new : World) (s : Status) → s ≡ status.NoMemory → HasCause old s new
+starved_cause old new s is = record { read = λ h. absurd (cc); write = λ h. absurd (cc); store = λ h. absurd (cc); entropy = λ h. absurd (cc) }
+
+store_cause : (old new : World) (s : Status) → s ≡ status.StoreFault → Rose old.store.faults new.store.faults → HasCause old s new
+store_cause old new s is rose = record { read = λ h. absurd (cc); write = λ h. absurd (cc); store = λ h. rose; entropy = λ h. absurd (cc) }
+
+pump_cause : (part : Part) (result : Result (Unit {0}) OpenPumpFault) (old : World) (s : Status) (new : World) → s ≡ pump_status result → Pumps part [] [] false result old.source new.source old.sink new.sink → HasCause old s new
+pump_cause part result old s new is (pass.pumped more out r gave follows end took o d) = no_fault old new s (rw (of_result s result (Ok tt) is r) tt)
+pump_cause part result old s new is (pass.refused more out ended refusal r gave follows end took o d) = no_fault old new s (rw (of_refusal s result refusal is r) (refusal_stated refusal))
+pump_cause part result old s new is (pass.unread more out r rose gave follows took o d) = let fault : s ≡ status.ReadFault = of_result s result (Err faults.ReadFault) is r in record { read = λ h. rose; write = λ h. absurd (cc); store = λ h. absurd (cc); entropy = λ h. absurd (cc) }
+pump_cause part result old s new is (pass.unwritten more out rest ended r rose gave follows end took some o) = let fault : s ≡ status.WriteFault = of_result s result (Err faults.WriteFault) is r in record { read = λ h. absurd (cc); write = λ h. rose; store = λ h. absurd (cc); entropy = λ h. absurd (cc) }
+
+talk_cause : (exchange : Exchange) (fault : TalkFault) (old : World) (s : Status) (new : World) → s ≡ talk_status fault → Talks exchange (Err fault) (sides_of old) (sides_of new) → HasCause old s new
+talk_cause exchange fault old s new is (talks.talked taken drawn r has none) = absurd (cc)
+talk_cause exchange fault old s new is (talks.passed taken drawn limit r has none) = no_fault old new s (rw (of_limit s fault limit is r) (limit_stated limit))
+talk_cause exchange fault old s new is (talks.unread taken drawn r has rose sink entropy) = let e : s ≡ status.ReadFault = of_fault s fault talk_faults.ReadFault is r in record { read = λ h. rose; write = λ h. absurd (cc); store = λ h. absurd (cc); entropy = λ h. absurd (cc) }
+talk_cause exchange fault old s new is (talks.undrawn taken drawn ended r has rose source sink) = let e : s ≡ status.EntropyFault = of_fault s fault talk_faults.EntropyFault is r in record { read = λ h. absurd (cc); write = λ h. absurd (cc); store = λ h. absurd (cc); entropy = λ h. rose }
+talk_cause exchange fault old s new is (talks.unwritten taken drawn ended r gave drew front end rose source entropy) = let e : s ≡ status.WriteFault = of_fault s fault talk_faults.WriteFault is r in record { read = λ h. absurd (cc); write = λ h. rose; store = λ h. absurd (cc); entropy = λ h. absurd (cc) }
+talk_cause exchange fault old s new is (talks.starved taken more drawn part r gave drew took stop none) = starved_cause old new s (of_fault s fault talk_faults.NoMemory is r)
+
+pub has_cause : (p : Plan) (old : World) (s : Status) (new : World) → Ends p old s new → HasCause old s new
+has_cause (ends answered stated) old s new (is, same) = no_fault old new s (rw is stated)
+has_cause (writes output) old s new (wrote is only stood took) = no_fault old new s (rw is tt)
+has_cause (writes output) old s new (write_failed is only rose front) = record { read = λ h. absurd (cc); write = λ h. rose; store = λ h. absurd (cc); entropy = λ h. absurd (cc) }
+has_cause (creates name output taken stated) old s new (made is only stood added) = no_fault old new s (rw is tt)
+has_cause (creates name output taken stated) old s new (name_taken is only kept stood there) = no_fault old new s (rw is stated)
+has_cause (creates name output taken stated) old s new (create_failed is only rose may) = store_cause old new s is rose
+has_cause (creates name output taken stated) old s new (create_starved is only kept stood) = starved_cause old new s is
+has_cause (allocates next) old s new (inl run) = has_cause next old s new run
+has_cause (allocates next) old s new (inr (is, same)) = starved_cause old new s is
+has_cause (loads name limit absent long a l next) old s new (loaded bytes store kept stood within holds run) =
+    let later = has_cause (next bytes) (record old { store = store }) s new run in
+    record { read = later.read; write = later.write; store = λ h. rose_after _ _ _ kept.faults (later.store h); entropy = later.entropy }
+has_cause (loads name limit absent long a l next) old s new (load_absent is only kept stood holds) = no_fault old new s (rw is a)
+has_cause (loads name limit absent long a l next) old s new (load_long is only kept stood holds) = no_fault old new s (rw is l)
+has_cause (loads name limit absent long a l next) old s new (load_failed is only kept rose) = store_cause old new s is rose
+has_cause (loads name limit absent long a l next) old s new (load_starved is only kept stood) = starved_cause old new s is
+has_cause (reads_all limit long stated next) old s new (read all source gave stood within end run) =
+    let later = has_cause (next all) (record old { source = source }) s new run in
+    record { read = λ h. rose_after _ _ _ gave.faults (later.read h); write = later.write; store = later.store; entropy = later.entropy }
+has_cause (reads_all limit long stated next) old s new (too_long is only stood count) = no_fault old new s (rw is stated)
+has_cause (reads_all limit long stated next) old s new (read_failed is only rose upto) = record { read = λ h. rose; write = λ h. absurd (cc); store = λ h. absurd (cc); entropy = λ h. absurd (cc) }
+has_cause (reads_all limit long stated next) old s new (read_starved is only stood upto) = starved_cause old new s is
+has_cause (draws kind give next) old s new (settled drawn entropy given drew stood settles run) =
+    let later = has_cause (next given) (record old { entropy = entropy }) s new run in
+    record { read = later.read; write = later.write; store = later.store; entropy = λ h. rose_after _ _ _ drew.faults (later.entropy h) }
+has_cause (draws kind give next) old s new (draw_failed is only out) = record { read = λ h. absurd (cc); write = λ h. absurd (cc); store = λ h. absurd (cc); entropy = λ h. out.rose }
+has_cause (pumps part) old s new e = pump_cause part e.result old s new e.status e.pass
+has_cause (exchanges exchange next) old s new (exchanged keys mid talk store steady run) =
+    let later = has_cause (next keys) mid s new run in
+    let has = (went exchange keys (sides_of old) (sides_of mid) talk).has in
+    record {
+      read = λ h. rose_after _ _ _ has.gave.faults (later.read h);
+      write = λ h. rose_after _ _ _ has.took.faults (later.write h);
+      store = λ h. subst (λ (x : StoreState). Rose x.faults new.store.faults) (sym store) (later.store h);
+      entropy = λ h. rose_after _ _ _ has.drew.faults (later.entropy h);
+    }
+has_cause (exchanges exchange next) old s new (exchange_ended fault is talk store steady) = talk_cause exchange fault old s new is talk
+
+-- No fault is hidden.
+
+source_stood : (old new : World) → old.source ≡ new.source → Stood old.source.faults new.source.faults
+source_stood old new same = sym (ap (λ (x : SourceState). x.faults) same)
+
+sink_stood : (old new : World) → old.sink ≡ new.sink → Stood old.sink.faults new.sink.faults
+sink_stood old new same = sym (ap (λ (x : SinkState). x.faults) same)
+
+store_stood : (old new : World) → old.store ≡ new.store → Stood old.store.faults new.store.faults
+store_stood old new same = sym (ap (λ (x : StoreState). x.faults) same)
+
+entropy_stood : (old new : World) → old.entropy ≡ new.entropy → Stood old.entropy.faults new.entropy.faults
+entropy_stood old new same = sym (ap (λ (x : EntropyState). x.faults) same)
+
+-- no object has failed
+all_stood : (old new : World) (s : Status) → old ≡ new → ShowsFaults old s new
+all_stood old new s same = record {
+  read = λ other. source_stood old new (ap (λ (w : World). w.source) same);
+  write = λ other. sink_stood old new (ap (λ (w : World). w.sink) same);
+  store = λ other. store_stood old new (ap (λ (w : World). w.store) same);
+  entropy = λ other. entropy_stood old new (ap (λ (w : World). w.entropy) same);
+}
+
+-- the one object that was used hasn't failed, or the status says so
+sink_shown : (old new : World) (s : Status) → OnlySink old new → (s ≢ status.WriteFault → Stood old.sink.faults new.sink.faults) → ShowsFaults old s new
+sink_shown old new s only stood = record { read = λ other. source_stood old new only.source; write = stood; store = λ other. store_stood old new only.store; entropy = λ other. entropy_stood old new only.entropy }
+
+store_shown : (old new : World) (s : Status) → OnlyStore old new → (s ≢ status.StoreFault → Stood old.store.faults new.store.faults) → ShowsFaults old s new
+store_shown old new s only stood = record { read = λ other. source_stood old new only.source; write = λ other. sink_stood old new only.sink; store = stood; entropy = λ other. entropy_stood old new only.entropy }
+
+source_shown : (old new : World) (s : Status) → OnlySource old new → (s ≢ status.ReadFault → Stood old.source.faults new.source.faults) → ShowsFaults old s new
+source_shown old new s only stood = record { read = stood; write = λ other. sink_stood old new only.sink; store = λ other. store_stood old new only.store; entropy = λ other. entropy_stood old new only.entropy }
+
+entropy_shown : (old new : World) (s : Status) → OnlyEntropy old new → (s ≢ status.EntropyFault → Stood old.entropy.faults new.entropy.faults) → ShowsFaults old s new
+entropy_shown old new s only stood = record { read = λ other. source_stood old new only.source; write = λ other. sink_stood old new only.sink; store = λ other. store_stood old new only.store; entropy = stood }
+
+pump_shown : (result : Result (Unit {0}) OpenPumpFault) (old : World) (s : Status) (new : World) → s ≡ pump_status result → OnlyStreams old new → pass.ShowsFaults result old.source new.source old.sink new.sink → ShowsFaults old s new
+pump_shown (Ok done) old s new is only shown = record { read = λ other. shown.0; write = λ other. shown.1; store = λ other. store_stood old new only.store; entropy = λ other. entropy_stood old new only.entropy }
+pump_shown (Err faults.ReadFault) old s new is only shown = record { read = λ other. absurd (other is); write = λ other. shown.1; store = λ other. store_stood old new only.store; entropy = λ other. entropy_stood old new only.entropy }
+pump_shown (Err faults.WriteFault) old s new is only shown = record { read = λ other. shown.0; write = λ other. absurd (other is); store = λ other. store_stood old new only.store; entropy = λ other. entropy_stood old new only.entropy }
+pump_shown (Err faults.TooManySegments) old s new is only shown = record { read = λ other. shown.0; write = λ other. shown.1; store = λ other. store_stood old new only.store; entropy = λ other. entropy_stood old new only.entropy }
+pump_shown (Err (faults.StreamFailed number)) old s new is only shown = record { read = λ other. shown.0; write = λ other. shown.1; store = λ other. store_stood old new only.store; entropy = λ other. entropy_stood old new only.entropy }
+
+talk_shown : (exchange : Exchange) (fault : TalkFault) (old : World) (s : Status) (new : World) → s ≡ talk_status fault → Talks exchange (Err fault) (sides_of old) (sides_of new) → old.store ≡ new.store → ShowsFaults old s new
+talk_shown exchange fault old s new is (talks.talked taken drawn r has none) store = absurd (cc)
+talk_shown exchange fault old s new is (talks.passed taken drawn limit r has none) store = record { read = λ other. none.read; write = λ other. none.write; store = λ other. store_stood old new store; entropy = λ other. none.draw }
+talk_shown exchange fault old s new is (talks.unread taken drawn r has rose sink entropy) store = record { read = λ other. absurd (other (of_fault s fault talk_faults.ReadFault is r)); write = λ other. sink; store = λ other. store_stood old new store; entropy = λ other. entropy }
+talk_shown exchange fault old s new is (talks.undrawn taken drawn ended r has rose source sink) store = record { read = λ other. source; write = λ other. sink; store = λ other. store_stood old new store; entropy = λ other. absurd (other (of_fault s fault talk_faults.EntropyFault is r)) }
+talk_shown exchange fault old s new is (talks.unwritten taken drawn ended r gave drew front end rose source entropy) store = record { read = λ other. source; write = λ other. absurd (other (of_fault s fault talk_faults.WriteFault is r)); store = λ other. store_stood old new store; entropy = λ other. entropy }
+talk_shown exchange fault old s new is (talks.starved taken more drawn part r gave drew took stop none) store = record { read = λ other. none.read; write = λ other. none.write; store = λ other. store_stood old new store; entropy = λ other. none.draw }
+
+pub shows_faults : (p : Plan) (old : World) (s : Status) (new : World) → Ends p old s new → ShowsFaults old s new
+shows_faults (ends answered stated) old s new (is, same) = all_stood old new s same
+shows_faults (writes output) old s new (wrote is only stood took) = sink_shown old new s only (λ other. stood)
+shows_faults (writes output) old s new (write_failed is only rose front) = sink_shown old new s only (λ other. absurd (other is))
+shows_faults (creates name output taken stated) old s new (made is only stood added) = store_shown old new s only (λ other. stood)
+shows_faults (creates name output taken stated) old s new (name_taken is only kept stood there) = store_shown old new s only (λ other. stood)
+shows_faults (creates name output taken stated) old s new (create_failed is only rose may) = store_shown old new s only (λ other. absurd (other is))
+shows_faults (creates name output taken stated) old s new (create_starved is only kept stood) = store_shown old new s only (λ other. stood)
+shows_faults (allocates next) old s new (inl run) = shows_faults next old s new run
+shows_faults (allocates next) old s new (inr (is, same)) = all_stood old new s same
+shows_faults (loads name limit absent long a l next) old s new (loaded bytes store kept stood within holds run) =
+    let later = shows_faults (next bytes) (record old { store = store }) s new run in
+    record { read = later.read; write = later.write; store = λ other. later.store other ∙ stood; entropy = later.entropy }
+shows_faults (loads name limit absent long a l next) old s new (load_absent is only kept stood holds) = store_shown old new s only (λ other. stood)
+shows_faults (loads name limit absent long a l next) old s new (load_long is only kept stood holds) = store_shown old new s only (λ other. stood)
+shows_faults (loads name limit absent long a l next) old s new (load_failed is only kept rose) = store_shown old new s only (λ other. absurd (other is))
+shows_faults (loads name limit absent long a l next) old s new (load_starved is only kept stood) = store_shown old new s only (λ other. stood)
+shows_faults (reads_all limit long stated next) old s new (read all source gave stood within end run) =
+    let later = shows_faults (next all) (record old { source = source }) s new run in
+    record { read = λ other. later.read other ∙ stood; write = later.write; store = later.store; entropy = later.entropy }
+shows_faults (reads_all limit long stated next) old s new (too_long is only stood count) = source_shown old new s only (λ other. stood)
+shows_faults (reads_all limit long stated next) old s new (read_failed is only rose upto) = source_shown old new s only (λ other. absurd (other is))
+shows_faults (reads_all limit long stated next) old s new (read_starved is only stood upto) = source_shown old new s only (λ other. stood)
+shows_faults (draws kind give next) old s new (settled drawn entropy given drew stood settles run) =
+    let later = shows_faults (next given) (record old { entropy = entropy }) s new run in
+    record { read = later.read; write = later.write; store = later.store; entropy = λ other. later.entropy other ∙ stood }
+shows_faults (draws kind give next) old s new (draw_failed is only out) = entropy_shown old new s only (λ other. absurd (other is))
+shows_faults (pumps part) old s new e = pump_shown e.result old s new e.status e.only e.shown
+shows_faults (exchanges exchange next) old s new (exchanged keys mid talk store steady run) =
+    let later = shows_faults (next keys) mid s new run in
+    let none = (went exchange keys (sides_of old) (sides_of mid) talk).none in
+    record { read = λ other. later.read other ∙ none.read; write = λ other. later.write other ∙ none.write; store = λ other. later.store other ∙ store_stood old mid store; entropy = λ other. later.entropy other ∙ none.draw }
+shows_faults (exchanges exchange next) old s new (exchange_ended fault is talk store steady) = talk_shown exchange fault old s new is talk store
+
+-- Completeness.
+
+pump_stated : (part : Part) (result : Result (Unit {0}) OpenPumpFault) (old : World) (s : Status) (new : World) → s ≡ pump_status result → Pumps part [] [] false result old.source new.source old.sink new.sink → NoneFailed old new → IsStated s
+pump_stated part result old s new is (pass.pumped more out r gave follows end took o d) none = rw (of_result s result (Ok tt) is r) tt
+pump_stated part result old s new is (pass.refused more out ended refusal r gave follows end took o d) none = rw (of_refusal s result refusal is r) (refusal_stated refusal)
+pump_stated part result old s new is (pass.unread more out r rose gave follows took o d) none = absurd (none.read rose)
+pump_stated part result old s new is (pass.unwritten more out rest ended r rose gave follows end took some o) none = absurd (none.write rose)
+
+talk_stated : (exchange : Exchange) (fault : TalkFault) (old : World) (s : Status) (new : World) → s ≡ talk_status fault → Talks exchange (Err fault) (sides_of old) (sides_of new) → NoneFailed old new → s ≢ status.NoMemory → IsStated s
+talk_stated exchange fault old s new is (talks.talked taken drawn r has none) quiet memory = absurd (cc)
+talk_stated exchange fault old s new is (talks.passed taken drawn limit r has none) quiet memory = rw (of_limit s fault limit is r) (limit_stated limit)
+talk_stated exchange fault old s new is (talks.unread taken drawn r has rose sink entropy) quiet memory = absurd (quiet.read rose)
+talk_stated exchange fault old s new is (talks.undrawn taken drawn ended r has rose source sink) quiet memory = absurd (quiet.entropy rose)
+talk_stated exchange fault old s new is (talks.unwritten taken drawn ended r gave drew front end rose source entropy) quiet memory = absurd (quiet.write rose)
+talk_stated exchange fault old s new is (talks.starved taken more drawn part r gave drew took stop none) quiet memory = absurd (memory (of_fault s fault talk_faults.NoMemory is r))
+
+completes_from : (p : Plan) (old : World) (s : Status) (new : World) → Ends p old s new → NoneFailed old new → s ≢ status.NoMemory → IsStated s
+completes_from (ends answered stated) old s new (is, same) none memory = rw is stated
+completes_from (writes output) old s new (wrote is only stood took) none memory = rw is tt
+completes_from (writes output) old s new (write_failed is only rose front) none memory = absurd (none.write rose)
+completes_from (creates name output taken stated) old s new (made is only stood added) none memory = rw is tt
+completes_from (creates name output taken stated) old s new (name_taken is only kept stood there) none memory = rw is stated
+completes_from (creates name output taken stated) old s new (create_failed is only rose may) none memory = absurd (none.store rose)
+completes_from (creates name output taken stated) old s new (create_starved is only kept stood) none memory = absurd (memory is)
+completes_from (allocates next) old s new (inl run) none memory = completes_from next old s new run none memory
+completes_from (allocates next) old s new (inr (is, same)) none memory = absurd (memory is)
+completes_from (loads name limit absent long a l next) old s new (loaded bytes store kept stood within holds run) none memory =
+    completes_from (next bytes) (record old { store = store }) s new run (record { read = none.read; write = none.write; store = λ rose. none.store (rose_after _ _ _ kept.faults rose); entropy = none.entropy }) memory
+completes_from (loads name limit absent long a l next) old s new (load_absent is only kept stood holds) none memory = rw is a
+completes_from (loads name limit absent long a l next) old s new (load_long is only kept stood holds) none memory = rw is l
+completes_from (loads name limit absent long a l next) old s new (load_failed is only kept rose) none memory = absurd (none.store rose)
+completes_from (loads name limit absent long a l next) old s new (load_starved is only kept stood) none memory = absurd (memory is)
+completes_from (reads_all limit long stated next) old s new (read all source gave stood within end run) none memory =
+    completes_from (next all) (record old { source = source }) s new run (record { read = λ rose. none.read (rose_after _ _ _ gave.faults rose); write = none.write; store = none.store; entropy = none.entropy }) memory
+completes_from (reads_all limit long stated next) old s new (too_long is only stood count) none memory = rw is stated
+completes_from (reads_all limit long stated next) old s new (read_failed is only rose upto) none memory = absurd (none.read rose)
+completes_from (reads_all limit long stated next) old s new (read_starved is only stood upto) none memory = absurd (memory is)
+completes_from (draws kind give next) old s new (settled drawn entropy given drew stood settles run) none memory =
+    completes_from (next given) (record old { entropy = entropy }) s new run (record { read = none.read; write = none.write; store = none.store; entropy = λ rose. none.entropy (rose_after _ _ _ drew.faults rose) }) memory
+completes_from (draws kind give next) old s new (draw_failed is only out) none memory = absurd (none.entropy out.rose)
+completes_from (pumps part) old s new e none memory = pump_stated part e.result old s new e.status e.pass none
+completes_from (exchanges exchange next) old s new (exchanged keys mid talk store steady run) none memory =
+    let has = (went exchange keys (sides_of old) (sides_of mid) talk).has in
+    completes_from (next keys) mid s new run (record {
+      read = λ rose. none.read (rose_after _ _ _ has.gave.faults rose);
+      write = λ rose. none.write (rose_after _ _ _ has.took.faults rose);
+      store = λ rose. none.store (subst (λ (x : StoreState). Rose x.faults new.store.faults) (sym store) rose);
+      entropy = λ rose. none.entropy (rose_after _ _ _ has.drew.faults rose);
+    }) memory
+completes_from (exchanges exchange next) old s new (exchange_ended fault is talk store steady) none memory = talk_stated exchange fault old s new is talk none memory
+
+pub completes : (p : Plan) (old : World) (s : Status) (new : World) → Ends p old s new → Completes old s new
+completes p old s new run = record { stated = completes_from p old s new run }

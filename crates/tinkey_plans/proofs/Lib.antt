@@ -1,0 +1,6 @@
+pub mod AnswerLemmas
+pub mod FaultLemmas
+pub mod PromiseLemmas
+pub mod ReportLemmas
+pub mod StepLemmas
+pub mod WholeLemmas

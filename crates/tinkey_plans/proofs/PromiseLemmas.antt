@@ -1,0 +1,553 @@
+-- Each promise, proved once for every end of every plan.
+use Rattle.std.proofs.Common.{◌≡◌, ◌⊎◌, inl, inr, ℕ, ◌+◌, ◌<◌, ◌≤◌, List, [], ◌++◌, length, drop, refl, sym, ◌∙◌, ap, subst, arith, append-nil, length-append}
+use Rattle.std.specs.Prelude.{Option, Some, None, option_map, IfSome, Result, Ok, Err, nat_le, Bool, true, false}
+use Rattle.std.proofs.lemmas.List.{drop_at}
+use Rattle.std.proofs.lemmas.Bool.Decides.{nat_tests}
+use Rattle.tink_spec.specs.Outside.{SourceState, SinkState, EntropyState, Gave, GaveCount, Took, TookPrefix, Drew, IsAtEnd}
+use Rattle.tink_spec.specs.Files.{Files, StoreState, KeptFiles, Holds, HoldsSome, HoldsLonger, Added, AddedFront, MayAdd}
+use Rattle.std.specs.FinMap as map
+use Rattle.tink_spec.proofs.Moves.{gave_same, gave_more, took_same, took_more, drew_nothing, drew_more}
+use Rattle.segment_stream.specs.Opening.{StreamRefusal}
+use Rattle.segment_stream.specs.Pumping.{Part, Pumps, fault_of}
+use Rattle.segment_stream.specs.Pumping as pass
+use Rattle.segment_stream.specs.declared.fault.OpenPumpFault.{OpenPumpFault}
+use Rattle.segment_stream.specs.declared.fault.OpenPumpFault.TheVariants as faults
+use Rattle.tinkey_cmds.specs.Draws.{Draw, Drawn}
+use Rattle.tinkey_cmds.specs.declared.command.CmdFault.{CmdFault}
+use Rattle.keyset_model.specs.Keyset.{Keys}
+use Rattle.tinkey_session.specs.Talking.{Exchange, Talk, Stop, goes, wants, passes, Limit}
+use Rattle.tinkey_session.specs.Talks.{Sides, Talks, HasTalked, NoneRose, IsSteady, limit_fault}
+use Rattle.tinkey_session.specs.Talks as talks
+use Rattle.tinkey_session.specs.declared.talk.TalkFault.{TalkFault}
+use Rattle.tinkey_session.specs.declared.talk.TalkFault.TheVariants as talk_faults
+use Rattle.tinkey_plans.specs.declared.status.Status.{Status}
+use Rattle.tinkey_plans.specs.declared.status.Status.TheVariants as status
+use Rattle.tinkey_plans.specs.Plan.{Plan, ends, writes, creates, allocates, loads, reads_all, draws, pumps, exchanges, Told, Answer, answer, refused, stream_status, limit_status, talk_answer, load_answer, create_answer, draw_answer, IsStated}
+use Rattle.tinkey_plans.specs.Ends.{World, Ends, Settles, IsLasting, OnlyStreams, pump_status, OnlySource, OnlySink, OnlyStore, loaded, load_absent, load_long, load_failed, load_starved, wrote, write_failed, made, name_taken, create_failed, create_starved, read, too_long, read_failed, read_starved, settled, draw_failed, talk_status, sides_of, exchanged, exchange_ended}
+use Rattle.tinkey_plans.specs.Promises.{Tells, IsAnswer, Answers, IsFront, Moved, nothing, IsPassLeft, pass_done, pass_refused, pass_unread, pass_unwritten, HasReplied, IsTalkLeft, talk_passed, talk_unread, talk_undrawn, talk_unwritten, talk_starved, then_moved, IsWhole, IsLeft, Leaves, IsTorn, Stands, Promised}
+use Rattle.tinkey_plans.proofs.FaultLemmas.{not_read_fault, not_write_fault, not_store_fault, not_entropy_fault, not_no_memory, of_result, of_refusal, of_fault, of_limit, went, Went, has_cause, shows_faults, completes}
+
+-- The stated answer.
+
+-- what is left after some bytes were given
+split_told : (left before : Option (List ℕ)) (input piece : List ℕ) → before ≡ Some input → before ≡ option_map (λ rest. piece ++ rest) left → (rest : List ℕ) × (left ≡ Some rest) × (input ≡ piece ++ rest)
+split_told None before input piece told is = absurd (cc)
+split_told (Some rest) before input piece told is = (rest, refl, cc)
+
+at_end : (left : Option (List ℕ)) (rest : List ℕ) → left ≡ Some rest → IfSome left (λ r. r ≡ []) → rest ≡ []
+at_end left rest is end = let h : IfSome (Some rest) (λ r. r ≡ []) = rw is at end in h
+
+-- a whole input that is told is what was given
+whole_input : (old source : SourceState) (input all : List ℕ) → old.left ≡ Some input → Gave old source all → IsAtEnd source → (source.left ≡ Some []) × (input ≡ all)
+whole_input old source input all told gave end =
+    let split = split_told source.left old.left input all told gave.left in
+    let none = at_end source.left split.0 split.1 end in
+    (split.1 ∙ ap (λ (r : List ℕ). Some r) none, split.2 ∙ ap (λ (r : List ℕ). all ++ r) none ∙ append-nil all)
+
+after_count : (old new : SourceState) (input : List ℕ) (n : ℕ) → old.left ≡ Some input → GaveCount old new n → (n ≤ length input) × (new.left ≡ Some (drop n input))
+after_count old new input n told count =
+    let split = split_told new.left old.left input count.piece told count.gave.left in (
+      omega (arith, count.exact, ap length split.2, length-append count.piece split.0),
+      split.1 ∙ ap (λ (l : List ℕ). Some l) (sym (ap (λ (l : List ℕ). drop n l) split.2 ∙ drop_at count.piece split.0 n count.exact)),
+    )
+
+input_told : (old new : World) (told : Told) → Tells old told → old.source ≡ new.source → new.source.left ≡ Some told.input
+input_told old new told tells source = sym (ap (λ (x : SourceState). x.left) source) ∙ tells.input
+
+files_told : (old new : World) (told : Told) → Tells old told → old.store ≡ new.store → new.store.files ≡ Some told.files
+files_told old new told tells store = sym (ap (λ (x : StoreState). x.files) store) ∙ tells.files
+
+random_told : (old new : World) (told : Told) → Tells old told → old.entropy ≡ new.entropy → new.entropy.left ≡ Some told.random
+random_told old new told tells entropy = sym (ap (λ (x : EntropyState). x.left) entropy) ∙ tells.random
+
+same_files : (old new : StoreState) → old ≡ new → KeptFiles old new
+same_files old new same = record { files = ap (λ (t : StoreState). t.files) same; faults = omega (arith, ap (λ (t : StoreState). t.faults) same) }
+
+kept_twice : (old mid new : StoreState) → KeptFiles old mid → KeptFiles mid new → KeptFiles old new
+kept_twice old mid new first second = record { files = first.files ∙ second.files; faults = omega (arith, first.faults, second.faults) }
+
+drew_same : (old new : EntropyState) → old ≡ new → Drew old new []
+drew_same old new same = subst (λ (x : EntropyState). Drew old x []) same (drew_nothing old)
+
+-- what a load found, told
+file_told : (store : StoreState) (files : Files) (name : List ℕ) (found : Option (List ℕ)) → store.files ≡ Some files → Holds store name found → map.get files name ≡ found
+file_told store files name found told holds = let h : IfSome (Some files) (λ f. map.get f name ≡ found) = rw told at holds in h
+
+some_told : (store : StoreState) (files : Files) (name : List ℕ) → store.files ≡ Some files → HoldsSome store name → (bytes : List ℕ) × (map.get files name ≡ Some bytes)
+some_told store files name told holds = let h : IfSome (Some files) (λ f. (bytes : List ℕ) × (map.get f name ≡ Some bytes)) = rw told at holds in h
+
+longer_told : (store : StoreState) (files : Files) (name : List ℕ) (limit : ℕ) → store.files ≡ Some files → HoldsLonger store name limit → (bytes : List ℕ) × (map.get files name ≡ Some bytes) × (limit < length bytes)
+longer_told store files name limit told holds = let h : IfSome (Some files) (λ f. (bytes : List ℕ) × (map.get f name ≡ Some bytes) × (limit < length bytes)) = rw told at holds in h
+
+fits_test : (n limit : ℕ) → n ≤ limit → nat_le n limit ≡ true
+fits_test n limit le = grind (arith, nat_tests)
+
+past_test : (n limit : ℕ) → limit < n → nat_le n limit ≡ false
+past_test n limit lt = grind (arith, nat_tests)
+
+-- the answer goes on behind a load
+loaded_answer : (found : Option (List ℕ)) (bytes : List ℕ) (limit : ℕ) (absent long : Answer) (next : List ℕ → Answer) → found ≡ Some bytes → length bytes ≤ limit → load_answer found limit absent long next ≡ next bytes
+loaded_answer found bytes limit absent long next is le = rw (is, fits_test (length bytes) limit le) refl
+
+long_loaded : (found : Option (List ℕ)) (bytes : List ℕ) (limit : ℕ) (absent long : Answer) (next : List ℕ → Answer) → found ≡ Some bytes → limit < length bytes → load_answer found limit absent long next ≡ long
+long_loaded found bytes limit absent long next is lt = rw (is, past_test (length bytes) limit lt) refl
+
+absent_answer : (found : Option (List ℕ)) (limit : ℕ) (absent long : Answer) (next : List ℕ → Answer) → found ≡ None → load_answer found limit absent long next ≡ absent
+absent_answer found limit absent long next is = rw is refl
+
+-- the answer where a file may be made
+made_answer : (found : Option (List ℕ)) (told : Told) (name output : List ℕ) (taken : Answer) → found ≡ None → create_answer found told name output taken ≡ record (refused told status.Done) { files = map.insert told.files name output }
+made_answer found told name output taken is = rw is refl
+
+taken_answer : (found : Option (List ℕ)) (bytes : List ℕ) (told : Told) (name output : List ℕ) (taken : Answer) → found ≡ Some bytes → create_answer found told name output taken ≡ taken
+taken_answer found bytes told name output taken is = rw is refl
+
+-- the answer goes on behind bytes that were drawn
+settled_answer : {A : Type 0} (give : Draw A) (drawn rest random : List ℕ) (given : Result A CmdFault) (short : Answer) (next : Drawn A → Answer) → Settles give drawn given → random ≡ drawn ++ rest → draw_answer (give random) short next ≡ next (record { answer = given; left = rest })
+settled_answer give drawn rest random given short next settles is = rw (is, settles rest) refl
+
+-- nothing of the objects was used
+used_none : (told : Told) (s t : Status) (old new : World) → t ≡ s → Tells old told → old ≡ new → IsAnswer (refused told s) old t new
+used_none told s t old new is tells same = record {
+  status = is;
+  input = input_told old new told tells (ap (λ (w : World). w.source) same);
+  output = took_same old.sink new.sink (ap (λ (w : World). w.sink) same);
+  files = files_told old new told tells (ap (λ (w : World). w.store) same);
+  random = random_told old new told tells (ap (λ (w : World). w.entropy) same);
+}
+
+refused_is : (told : Told) (s t : Status) (old new : World) → t ≡ s → Tells old told → OnlyStore old new → KeptFiles old.store new.store → IsAnswer (refused told s) old t new
+refused_is told s t old new is tells only kept = record {
+  status = is;
+  input = input_told old new told tells only.source;
+  output = took_same old.sink new.sink only.sink;
+  files = sym kept.files ∙ tells.files;
+  random = random_told old new told tells only.entropy;
+}
+
+-- the file that was added, told
+added_told : (old new : StoreState) (files : Files) (name bytes : List ℕ) → old.files ≡ Some files → Added old new name bytes → new.files ≡ Some (map.insert files name bytes)
+added_told old new files name bytes told added = added.files ∙ ap (λ (o : Option Files). option_map (λ f. map.insert f name bytes) o) told
+
+-- the answer goes on behind a whole input
+read_answer : (limit : ℕ) (long : Status) (stated : IsStated long) (next : List ℕ → Plan) (told : Told) (all : List ℕ) → told.input ≡ all → length all ≤ limit → answer (reads_all limit long stated next) told ≡ answer (next all) (record told { input = [] })
+read_answer limit long stated next told all is le = rw (is, fits_test (length all) limit le) refl
+
+long_answer : (limit : ℕ) (long : Status) (stated : IsStated long) (next : List ℕ → Plan) (told : Told) → limit < length told.input → answer (reads_all limit long stated next) told ≡ record (refused told long) { input = Some (drop (limit + 1) told.input) }
+long_answer limit long stated next told lt = rw (past_test (length told.input) limit lt) refl
+
+-- the answer of a pass that comes to its end, and of one that is refused
+done_answer : (part : Part) (told : Told) → part.refusal told.input true ≡ None → answer (pumps part) told ≡ record (refused told status.Done) { input = Some []; output = part.output told.input true }
+done_answer part told is = rw is refl
+
+refused_answer : (part : Part) (told : Told) (refusal : StreamRefusal) → part.refusal told.input true ≡ Some refusal → answer (pumps part) told ≡ record (refused told (stream_status refusal)) { input = None; output = part.output told.input true }
+refused_answer part told refusal is = rw is refl
+
+-- a pass that was refused, by what the whole input decides
+refused_pass : (part : Part) (told : Told) (refusal : StreamRefusal) (out : List ℕ) (old : World) (s : Status) (new : World) → s ≡ stream_status refusal → OnlyStreams old new → Tells old told → Took old.sink new.sink out → part.refusal told.input true ≡ Some refusal → out ≡ part.output told.input true → IsAnswer (answer (pumps part) told) old s new
+refused_pass part told refusal out old s new is only tells took decided same =
+    subst (λ (a : Answer). IsAnswer a old s new) (sym (refused_answer part told refusal decided)) (record {
+      status = is;
+      input = tt;
+      output = subst (λ (o : List ℕ). Took old.sink new.sink o) same took;
+      files = files_told old new told tells only.store;
+      random = random_told old new told tells only.entropy;
+    })
+
+pump_answers : (part : Part) (result : Result (Unit {0}) OpenPumpFault) (old : World) (s : Status) (new : World) → IsLasting part → s ≡ pump_status result → OnlyStreams old new → Pumps part [] [] false result old.source new.source old.sink new.sink → (told : Told) → Tells old told → IsStated s → IsAnswer (answer (pumps part) told) old s new
+pump_answers part result old s new lasting is only (pass.pumped more out r gave follows end took o d) told tells ok =
+    let whole = whole_input old.source new.source told.input more tells.input gave end in
+    subst (λ (a : Answer). IsAnswer a old s new) (sym (done_answer part told (ap (λ (l : List ℕ). part.refusal l true) whole.1 ∙ d))) (record {
+      status = of_result s result (Ok tt) is r;
+      input = whole.0;
+      output = subst (λ (x : List ℕ). Took old.sink new.sink x) (o ∙ ap (λ (l : List ℕ). part.output l true) (sym whole.1)) took;
+      files = files_told old new told tells only.store;
+      random = random_told old new told tells only.entropy;
+    })
+pump_answers part result old s new lasting is only (pass.refused more out true refusal r gave follows end took o d) told tells ok =
+    let whole = whole_input old.source new.source told.input more tells.input gave (end refl) in
+    refused_pass part told refusal out old s new (of_refusal s result refusal is r) only tells took (ap (λ (l : List ℕ). part.refusal l true) whole.1 ∙ d) (o ∙ ap (λ (l : List ℕ). part.output l true) (sym whole.1))
+pump_answers part result old s new lasting is only (pass.refused more out false refusal r gave follows end took o d) told tells ok =
+    let split = split_told new.source.left old.source.left told.input more tells.input gave.left in
+    let stays = lasting.stays more split.0 refusal d in
+    refused_pass part told refusal out old s new (of_refusal s result refusal is r) only tells took (ap (λ (l : List ℕ). part.refusal l true) split.2 ∙ stays.0) (o ∙ sym stays.1 ∙ ap (λ (l : List ℕ). part.output l true) (sym split.2))
+pump_answers part result old s new lasting is only (pass.unread more out r rose gave follows took o d) told tells ok = absurd (not_read_fault s ok (of_result s result (Err faults.ReadFault) is r))
+pump_answers part result old s new lasting is only (pass.unwritten more out rest ended r rose gave follows end took some o) told tells ok = absurd (not_write_fault s ok (of_result s result (Err faults.WriteFault) is r))
+
+-- the answer from a session on
+abbrev talk_on : (next : Keys → Plan) → Told → Talk → Answer
+talk_on next told x = talk_answer x.stop x told (answer (next x.keys) (record told { input = []; random = x.random }))
+
+-- a session that is told random bytes behind those it uses
+with_more : (exchange : Exchange) (taken drawn rest : List ℕ) (ended : Bool) (stop : Stop) → IsSteady exchange → (exchange taken drawn ended).stop ≡ stop → (stop ≡ wants → ⊥) → (exchange taken drawn ended).random ≡ [] → exchange taken (drawn ++ rest) ended ≡ record (exchange taken drawn ended) { random = rest }
+with_more exchange taken drawn rest ended stop steady stands never used =
+    steady.random taken drawn rest ended (λ h. never (sym stands ∙ h)) ∙ ap (λ (r : List ℕ). record (exchange taken drawn ended) { random = r ++ rest }) used
+
+-- the whole input and these random bytes are told
+exchange_told : (exchange : Exchange) (told : Told) (input random : List ℕ) (x : Talk) → told.input ≡ input → told.random ≡ random → exchange input random true ≡ x → exchange told.input told.random true ≡ x
+exchange_told exchange told input random x one two is = ap (λ (l : List ℕ). exchange l told.random true) one ∙ ap (λ (l : List ℕ). exchange input l true) two ∙ is
+
+-- behind a session that came to the end of its input, over what is told
+record IsTold (exchange : Exchange) (next : Keys → Plan) (keys : Keys) (out : List ℕ) (mid : World) (told : Told) : Type 0 where
+  rest : List ℕ
+  tells : Tells mid (record told { input = []; random = rest })
+  is : answer (exchanges exchange next) told ≡ (let later = answer (next keys) (record told { input = []; random = rest }) in record later { output = out ++ later.output })
+
+is_told : (exchange : Exchange) (next : Keys → Plan) (keys : Keys) (old mid : World) (told : Told) (w : Went exchange keys (sides_of old) (sides_of mid)) → old.store ≡ mid.store → IsSteady exchange → Tells old told → IsTold exchange next keys (exchange w.taken w.drawn true).output mid told
+is_told exchange next keys old mid told w store steady tells =
+    let x = exchange w.taken w.drawn true in
+    let whole = whole_input old.source mid.source told.input w.taken tells.input w.has.gave (w.has.end refl) in
+    let split = split_told mid.entropy.left old.entropy.left told.random w.drawn tells.random w.has.drew.left in
+    let same : exchange told.input told.random true ≡ record x { random = split.0 } = exchange_told exchange told w.taken (w.drawn ++ split.0) _ whole.1 split.2 (with_more exchange w.taken w.drawn split.0 true goes steady w.has.stands (λ h. absurd (cc)) w.has.used) in
+    record {
+      rest = split.0;
+      tells = record { input = whole.0; files = files_told old mid told tells store; random = split.1 };
+      is = ap (λ (y : Talk). talk_on next told y) same
+          ∙ ap (λ (stop : Stop). talk_answer stop (record x { random = split.0 }) told (answer (next x.keys) (record told { input = []; random = split.0 }))) w.has.stands
+          ∙ ap (λ (k : Keys). let later = answer (next k) (record told { input = []; random = split.0 }) in record later { output = x.output ++ later.output }) (sym w.last);
+    }
+
+-- a session past a limit, over what is told
+passed_talk : (exchange : Exchange) (next : Keys → Plan) (limit : Limit) (taken drawn : List ℕ) (told : Told) (old : World) (s : Status) (new : World) → s ≡ limit_status limit → HasTalked exchange taken drawn false (passes limit) (sides_of old) (sides_of new) → old.store ≡ new.store → IsSteady exchange → Tells old told → IsAnswer (answer (exchanges exchange next) told) old s new
+passed_talk exchange next limit taken drawn told old s new is has store steady tells =
+    let x = exchange taken drawn false in
+    let input = split_told new.source.left old.source.left told.input taken tells.input has.gave.left in
+    let random = split_told new.entropy.left old.entropy.left told.random drawn tells.random has.drew.left in
+    let more = with_more exchange taken drawn random.0 false (passes limit) steady has.stands (λ h. absurd (cc)) has.used in
+    let lasts = steady.lasts taken input.0 (drawn ++ random.0) limit (ap (λ (y : Talk). y.stop) more ∙ has.stands) in
+    let same : exchange told.input told.random true ≡ record x { random = random.0 } = exchange_told exchange told (taken ++ input.0) (drawn ++ random.0) _ input.2 random.2 (lasts ∙ more) in
+    let e : answer (exchanges exchange next) told ≡ record (refused told (limit_status limit)) { input = None; output = x.output; random = random.0 } =
+    ap (λ (y : Talk). talk_on next told y) same
+    ∙ ap (λ (stop : Stop). talk_answer stop (record x { random = random.0 }) told (answer (next x.keys) (record told { input = []; random = random.0 }))) has.stands in
+    subst (λ (a : Answer). IsAnswer a old s new) (sym e) (record { status = is; input = tt; output = has.took; files = files_told old new told tells store; random = random.1 })
+
+talk_answers : (exchange : Exchange) (next : Keys → Plan) (fault : TalkFault) (told : Told) (old : World) (s : Status) (new : World) → s ≡ talk_status fault → Talks exchange (Err fault) (sides_of old) (sides_of new) → old.store ≡ new.store → IsSteady exchange → Tells old told → IsStated s → IsAnswer (answer (exchanges exchange next) told) old s new
+talk_answers exchange next fault told old s new is (talks.talked taken drawn r has none) store steady tells ok = absurd (cc)
+talk_answers exchange next fault told old s new is (talks.passed taken drawn limit r has none) store steady tells ok = passed_talk exchange next limit taken drawn told old s new (of_limit s fault limit is r) has store steady tells
+talk_answers exchange next fault told old s new is (talks.unread taken drawn r has rose sink entropy) store steady tells ok = absurd (not_read_fault s ok (of_fault s fault talk_faults.ReadFault is r))
+talk_answers exchange next fault told old s new is (talks.undrawn taken drawn ended r has rose source sink) store steady tells ok = absurd (not_entropy_fault s ok (of_fault s fault talk_faults.EntropyFault is r))
+talk_answers exchange next fault told old s new is (talks.unwritten taken drawn ended r gave drew front end rose source entropy) store steady tells ok = absurd (not_write_fault s ok (of_fault s fault talk_faults.WriteFault is r))
+talk_answers exchange next fault told old s new is (talks.starved taken more drawn part r gave drew took stop none) store steady tells ok = absurd (not_no_memory s ok (of_fault s fault talk_faults.NoMemory is r))
+
+answers_over : (p : Plan) (old : World) (s : Status) (new : World) → Ends p old s new → (told : Told) → Tells old told → IsStated s → IsAnswer (answer p told) old s new
+answers_over (ends answered stated) old s new (is, same) told tells ok = used_none told answered s old new is tells same
+answers_over (writes output) old s new (wrote is only stood took) told tells ok = record {
+  status = is;
+  input = input_told old new told tells only.source;
+  output = took;
+  files = files_told old new told tells only.store;
+  random = random_told old new told tells only.entropy;
+}
+answers_over (writes output) old s new (write_failed is only rose front) told tells ok = absurd (not_write_fault s ok is)
+answers_over (creates name output taken stated) old s new (made is only stood added) told tells ok =
+    subst (λ (a : Answer). IsAnswer a old s new) (sym (made_answer _ told name output _ (file_told old.store told.files name None tells.files added.absent))) (record {
+      status = is;
+      input = input_told old new told tells only.source;
+      output = took_same old.sink new.sink only.sink;
+      files = added_told old.store new.store told.files name output tells.files added;
+      random = random_told old new told tells only.entropy;
+    })
+answers_over (creates name output taken stated) old s new (name_taken is only kept stood there) told tells ok =
+    let found = some_told old.store told.files name tells.files there in
+    subst (λ (a : Answer). IsAnswer a old s new) (sym (taken_answer _ found.0 told name output _ found.1)) (refused_is told taken s old new is tells only kept)
+answers_over (creates name output taken stated) old s new (create_failed is only rose may) told tells ok = absurd (not_store_fault s ok is)
+answers_over (creates name output taken stated) old s new (create_starved is only kept stood) told tells ok = absurd (not_no_memory s ok is)
+answers_over (allocates next) old s new (inl run) told tells ok = answers_over next old s new run told tells ok
+answers_over (allocates next) old s new (inr (is, same)) told tells ok = absurd (not_no_memory s ok is)
+answers_over (loads name limit absent long a l next) old s new (loaded bytes store kept stood within holds run) told tells ok =
+    let later = answers_over (next bytes) (record old { store = store }) s new run told (record { input = tells.input; files = sym kept.files ∙ tells.files; random = tells.random }) ok in
+    subst (λ (a : Answer). IsAnswer a old s new) (sym (loaded_answer _ bytes limit _ _ _ (file_told old.store told.files name (Some bytes) tells.files holds) within))
+    (record { status = later.status; input = later.input; output = later.output; files = later.files; random = later.random })
+answers_over (loads name limit absent long a l next) old s new (load_absent is only kept stood holds) told tells ok =
+    subst (λ (a : Answer). IsAnswer a old s new) (sym (absent_answer _ limit _ _ _ (file_told old.store told.files name None tells.files holds))) (refused_is told absent s old new is tells only kept)
+answers_over (loads name limit absent long a l next) old s new (load_long is only kept stood holds) told tells ok =
+    let longer = longer_told old.store told.files name limit tells.files holds in
+    subst (λ (a : Answer). IsAnswer a old s new) (sym (long_loaded _ longer.0 limit _ _ _ longer.1 longer.2)) (refused_is told long s old new is tells only kept)
+answers_over (loads name limit absent long a l next) old s new (load_failed is only kept rose) told tells ok = absurd (not_store_fault s ok is)
+answers_over (loads name limit absent long a l next) old s new (load_starved is only kept stood) told tells ok = absurd (not_no_memory s ok is)
+answers_over (reads_all limit long stated next) old s new (read all source gave stood within end run) told tells ok =
+    let whole = whole_input old.source source told.input all tells.input gave end in
+    let later = answers_over (next all) (record old { source = source }) s new run (record told { input = [] }) (record { input = whole.0; files = tells.files; random = tells.random }) ok in
+    subst (λ (a : Answer). IsAnswer a old s new) (sym (read_answer limit long stated next told all whole.1 within))
+    (record { status = later.status; input = later.input; output = later.output; files = later.files; random = later.random })
+answers_over (reads_all limit long stated next) old s new (too_long is only stood count) told tells ok =
+    let after = after_count old.source new.source told.input (limit + 1) tells.input count in
+    subst (λ (a : Answer). IsAnswer a old s new) (sym (long_answer limit long stated next told (omega (arith, after.0)))) (record {
+      status = is;
+      input = after.1;
+      output = took_same old.sink new.sink only.sink;
+      files = files_told old new told tells only.store;
+      random = random_told old new told tells only.entropy;
+    })
+answers_over (reads_all limit long stated next) old s new (read_failed is only rose upto) told tells ok = absurd (not_read_fault s ok is)
+answers_over (reads_all limit long stated next) old s new (read_starved is only stood upto) told tells ok = absurd (not_no_memory s ok is)
+answers_over (draws kind give next) old s new (settled drawn entropy given drew stood settles run) told tells ok =
+    let split = split_told entropy.left old.entropy.left told.random drawn tells.random drew.left in
+    let later = answers_over (next given) (record old { entropy = entropy }) s new run (record told { random = split.0 }) (record { input = tells.input; files = tells.files; random = split.1 }) ok in
+    subst (λ (a : Answer). IsAnswer a old s new) (sym (settled_answer give drawn split.0 told.random given _ (λ x. answer (next x.answer) (record told { random = x.left })) settles split.2))
+    (record { status = later.status; input = later.input; output = later.output; files = later.files; random = later.random })
+answers_over (draws kind give next) old s new (draw_failed is only out) told tells ok = absurd (not_entropy_fault s ok is)
+answers_over (pumps part) old s new e told tells ok = pump_answers part e.result old s new e.lasting e.status e.only e.pass told tells ok
+answers_over (exchanges exchange next) old s new (exchanged keys mid talk store steady run) told tells ok =
+    let w = went exchange keys (sides_of old) (sides_of mid) talk in
+    let after = is_told exchange next keys old mid told w store steady tells in
+    let later = answers_over (next keys) mid s new run (record told { input = []; random = after.rest }) after.tells ok in
+    subst (λ (a : Answer). IsAnswer a old s new) (sym after.is)
+    (record { status = later.status; input = later.input; output = took_more _ _ _ _ _ w.has.took later.output; files = later.files; random = later.random })
+answers_over (exchanges exchange next) old s new (exchange_ended fault is talk store steady) told tells ok = talk_answers exchange next fault told old s new is talk store steady tells ok
+
+pub answers : (p : Plan) (old : World) (s : Status) (new : World) → Ends p old s new → Answers p old s new
+answers p old s new run = record { over = answers_over p old s new run }
+
+-- What stands.
+
+-- a sink and files that are as before, at a status that isn't the write fault
+untouched : (p : Plan) (old : World) (s : Status) (new : World) → (s ≡ status.WriteFault → ⊥) → old.sink ≡ new.sink → KeptFiles old.store new.store → Stands p old s new
+untouched p old s new other same files = record { files = λ done fault. files; torn = λ h. inl files; kept = λ whole done fault. took_same old.sink new.sink same; front = λ whole h. absurd (other h); last = λ whole h. absurd (other h) }
+
+-- a file that is new after a step that kept all files
+added_later : (old mid new : StoreState) (name bytes : List ℕ) → KeptFiles old mid → AddedFront mid new name bytes → AddedFront old new name bytes
+added_later old mid new name bytes kept front = record {
+  front = front.front;
+  rest = front.rest;
+  whole = front.whole;
+  added = record {
+    absent = subst (λ (f : Option Files). IfSome f (λ files. map.get files name ≡ None)) (sym kept.files) front.added.absent;
+    files = front.added.files ∙ ap (λ (f : Option Files). option_map (λ files. map.insert files name front.front) f) (sym kept.files);
+    faults = omega (arith, kept.faults, front.added.faults);
+  };
+}
+
+-- the answer goes on so, with the same status and files
+record GoesOn (p rest : Plan) (mid : World) (told : Told) : Type 0 where
+  later : Told
+  tells : Tells mid later
+  same : later.files ≡ told.files
+  status : (answer p told).status ≡ (answer rest later).status
+  files : (answer p told).files ≡ (answer rest later).files
+
+-- a file that may be there, where the store failed behind a step that kept all files
+torn_behind : (p rest : Plan) (old mid new : World) → KeptFiles old.store mid.store → ((told : Told) → Tells old told → GoesOn p rest mid told) → KeptFiles mid.store new.store ⊎ IsTorn rest mid new → KeptFiles old.store new.store ⊎ IsTorn p old new
+torn_behind p rest old mid new kept ahead (inl files) = inl (kept_twice _ _ _ kept files)
+torn_behind p rest old mid new kept ahead (inr t) = inr (record {
+  name = t.name;
+  bytes = t.bytes;
+  added = added_later _ _ _ t.name t.bytes kept t.added;
+  answered = λ told tells. let a = ahead told tells in a.status ∙ t.answered a.later a.tells;
+  files = λ told tells. let a = ahead told tells in a.files ∙ t.files a.later a.tells ∙ ap (λ (f : Files). map.insert f t.name t.bytes) a.same;
+})
+
+-- what stands behind a step that has used this object alone, where the answer goes on so
+goes_on : (p rest : Plan) (old mid : World) (s : Status) (new : World) → (IsWhole p → IsWhole rest) → KeptFiles old.store mid.store → old.sink ≡ mid.sink → ((told : Told) → Tells old told → (later : Told) × Tells mid later × (later.files ≡ told.files) × (answer p told ≡ answer rest later)) → Stands rest mid s new → Stands p old s new
+goes_on p rest old mid s new still kept sink ahead later = record {
+  files = λ done fault. kept_twice _ _ _ kept (later.files done fault);
+  torn = λ h. torn_behind p rest old mid new kept (λ told tells. let a = ahead told tells in record { later = a.0; tells = a.1; same = a.2; status = ap (λ (r : Answer). r.status) a.3; files = ap (λ (r : Answer). r.files) a.3 }) (later.torn h);
+  kept = λ whole done fault. subst (λ (x : SinkState). Took x new.sink []) (sym sink) (later.kept (still whole) done fault);
+  front = λ whole h told tells. let a = ahead told tells in
+      subst (λ (x : SinkState). TookPrefix x new.sink (answer p told).output) (sym sink)
+      (subst (λ (r : Answer). TookPrefix mid.sink new.sink r.output) (sym a.3) (later.front (still whole) h a.0 a.1));
+  last = λ whole h told tells. let a = ahead told tells in ap (λ (r : Answer). r.status) a.3 ∙ later.last (still whole) h a.0 a.1;
+}
+
+-- the file may be there, where the store failed
+torn_file : (name output : List ℕ) (taken : Status) (stated : IsStated taken) (old new : World) → MayAdd old.store new.store name output → KeptFiles old.store new.store ⊎ IsTorn (creates name output taken stated) old new
+torn_file name output taken stated old new (inl files) = inl files
+torn_file name output taken stated old new (inr front) = inr (record {
+  name = name;
+  bytes = output;
+  added = front;
+  answered = λ told tells. ap (λ (a : Answer). a.status) (is told tells);
+  files = λ told tells. ap (λ (a : Answer). a.files) (is told tells);
+})
+  where
+    is : (told : Told) → Tells old told → answer (creates name output taken stated) told ≡ record (refused told status.Done) { files = map.insert told.files name output }
+    is told tells = made_answer _ told name output _ (file_told old.store told.files name None tells.files front.added.absent)
+
+pub stands : (p : Plan) (old : World) (s : Status) (new : World) → Ends p old s new → Stands p old s new
+stands (ends answered stated) old s new (is, same) = untouched (ends answered stated) old s new (λ h. not_write_fault answered stated (sym is ∙ h)) (ap (λ (w : World). w.sink) same) (same_files _ _ (ap (λ (w : World). w.store) same))
+stands (writes output) old s new (wrote is only stood took) = record { files = λ done fault. same_files _ _ only.store; torn = λ h. inl (same_files _ _ only.store); kept = λ whole done fault. absurd (done is); front = λ whole h. absurd (cc); last = λ whole h. absurd (cc) }
+stands (writes output) old s new (write_failed is only rose front) = record { files = λ done fault. same_files _ _ only.store; torn = λ h. inl (same_files _ _ only.store); kept = λ whole done fault. absurd (fault is); front = λ whole h told tells. front; last = λ whole h told tells. refl }
+stands (creates name output taken stated) old s new (made is only stood added) = record { files = λ done fault. absurd (done is); torn = λ h. absurd (cc); kept = λ whole done fault. absurd (done is); front = λ whole h. absurd (cc); last = λ whole h. absurd (cc) }
+stands (creates name output taken stated) old s new (name_taken is only kept stood there) = untouched (creates name output taken stated) old s new (λ h. not_write_fault taken stated (sym is ∙ h)) only.sink kept
+stands (creates name output taken stated) old s new (create_failed is only rose may) = record {
+  files = λ done fault. absurd (fault is);
+  torn = λ h. torn_file name output taken stated old new may;
+  kept = λ whole done fault. took_same old.sink new.sink only.sink;
+  front = λ whole h. absurd (cc);
+  last = λ whole h. absurd (cc);
+}
+stands (creates name output taken stated) old s new (create_starved is only kept stood) = untouched (creates name output taken stated) old s new (λ h. absurd (cc)) only.sink kept
+stands (allocates next) old s new (inl run) = let later = stands next old s new run in record { files = later.files; torn = λ h. torn_later (later.torn h); kept = later.kept; front = later.front; last = later.last }
+  where
+    torn_later : KeptFiles old.store new.store ⊎ IsTorn next old new → KeptFiles old.store new.store ⊎ IsTorn (allocates next) old new
+    torn_later (inl files) = inl files
+    torn_later (inr t) = inr (record { name = t.name; bytes = t.bytes; added = t.added; answered = t.answered; files = t.files })
+stands (allocates next) old s new (inr (is, same)) = untouched (allocates next) old s new (λ h. absurd (cc)) (ap (λ (w : World). w.sink) same) (same_files _ _ (ap (λ (w : World). w.store) same))
+stands (loads name limit absent long a l next) old s new (loaded bytes store kept stood within holds run) =
+    goes_on (loads name limit absent long a l next) (next bytes) old (record old { store = store }) s new (λ whole. whole bytes) kept refl
+    (λ told tells. (told, record { input = tells.input; files = sym kept.files ∙ tells.files; random = tells.random }, refl, loaded_answer _ bytes limit _ _ _ (file_told old.store told.files name (Some bytes) tells.files holds) within))
+    (stands (next bytes) (record old { store = store }) s new run)
+stands (loads name limit absent long a l next) old s new (load_absent is only kept stood holds) = untouched (loads name limit absent long a l next) old s new (λ h. not_write_fault absent a (sym is ∙ h)) only.sink kept
+stands (loads name limit absent long a l next) old s new (load_long is only kept stood holds) = untouched (loads name limit absent long a l next) old s new (λ h. not_write_fault long l (sym is ∙ h)) only.sink kept
+stands (loads name limit absent long a l next) old s new (load_failed is only kept rose) = untouched (loads name limit absent long a l next) old s new (λ h. absurd (cc)) only.sink kept
+stands (loads name limit absent long a l next) old s new (load_starved is only kept stood) = untouched (loads name limit absent long a l next) old s new (λ h. absurd (cc)) only.sink kept
+stands (reads_all limit long stated next) old s new (read all source gave stood within end run) =
+    goes_on (reads_all limit long stated next) (next all) old (record old { source = source }) s new (λ whole. whole all) (same_files old.store old.store refl) refl
+    (λ told tells. let whole = whole_input old.source source told.input all tells.input gave end in
+    (record told { input = [] }, record { input = whole.0; files = tells.files; random = tells.random }, refl, read_answer limit long stated next told all whole.1 within))
+    (stands (next all) (record old { source = source }) s new run)
+stands (reads_all limit long stated next) old s new (too_long is only stood count) = untouched (reads_all limit long stated next) old s new (λ h. not_write_fault long stated (sym is ∙ h)) only.sink (same_files _ _ only.store)
+stands (reads_all limit long stated next) old s new (read_failed is only rose upto) = untouched (reads_all limit long stated next) old s new (λ h. absurd (cc)) only.sink (same_files _ _ only.store)
+stands (reads_all limit long stated next) old s new (read_starved is only stood upto) = untouched (reads_all limit long stated next) old s new (λ h. absurd (cc)) only.sink (same_files _ _ only.store)
+stands (draws kind give next) old s new (settled drawn entropy given drew stood settles run) =
+    goes_on (draws kind give next) (next given) old (record old { entropy = entropy }) s new (λ whole. whole given) (same_files old.store old.store refl) refl
+    (λ told tells. let split = split_told entropy.left old.entropy.left told.random drawn tells.random drew.left in
+    (record told { random = split.0 }, record { input = tells.input; files = tells.files; random = split.1 }, refl, settled_answer give drawn split.0 told.random given _ (λ x. answer (next x.answer) (record told { random = x.left })) settles split.2))
+    (stands (next given) (record old { entropy = entropy }) s new run)
+stands (draws kind give next) old s new (draw_failed is only out) = untouched (draws kind give next) old s new (λ h. absurd (cc)) only.sink (same_files _ _ only.store)
+stands (exchanges exchange next) old s new (exchanged keys mid talk store steady run) =
+    let w = went exchange keys (sides_of old) (sides_of mid) talk in
+    let kept = same_files old.store mid.store store in
+    let later = stands (next keys) mid s new run in
+    record {
+      files = λ done fault. kept_twice _ _ _ kept (later.files done fault);
+      torn = λ h. torn_behind (exchanges exchange next) (next keys) old mid new kept (λ told tells. let after = is_told exchange next keys old mid told w store steady tells in record { later = record told { input = []; random = after.rest }; tells = after.tells; same = refl; status = ap (λ (a : Answer). a.status) after.is; files = ap (λ (a : Answer). a.files) after.is }) (later.torn h);
+      kept = λ whole. absurd whole;
+      front = λ whole. absurd whole;
+      last = λ whole. absurd whole;
+    }
+stands (exchanges exchange next) old s new (exchange_ended fault is talk store steady) = record { files = λ done fault. same_files _ _ store; torn = λ h. inl (same_files _ _ store); kept = λ whole. absurd whole; front = λ whole. absurd whole; last = λ whole. absurd whole }
+stands (pumps part) old s new e = record { files = λ done fault. same_files _ _ e.only.store; torn = λ h. inl (same_files _ _ e.only.store); kept = λ whole. absurd whole; front = λ whole. absurd whole; last = λ whole. absurd whole }
+
+-- What was taken, drawn and written.
+
+front_of : (old new : SinkState) (bytes : List ℕ) (front : TookPrefix old new bytes) → IsFront front.front bytes
+front_of old new bytes front = record { rest = front.rest; some = front.some; is = front.whole }
+
+-- nothing was moved
+none_moved : (p : Plan) (old : World) (s : Status) (new : World) → old ≡ new → IsLeft p old.store.files s nothing → Leaves p old s new
+none_moved p old s new same is = record {
+  moved = nothing;
+  gave = gave_same _ _ (ap (λ (w : World). w.source) same);
+  drew = drew_same _ _ (ap (λ (w : World). w.entropy) same);
+  took = took_same _ _ (ap (λ (w : World). w.sink) same);
+  is = is;
+}
+
+-- the store alone was used
+store_used : (p : Plan) (old : World) (s : Status) (new : World) → OnlyStore old new → IsLeft p old.store.files s nothing → Leaves p old s new
+store_used p old s new only is = record { moved = nothing; gave = gave_same _ _ only.source; drew = drew_same _ _ only.entropy; took = took_same _ _ only.sink; is = is }
+
+-- bytes were written alone
+some_written : (p : Plan) (old : World) (s : Status) (new : World) (written : List ℕ) → Took old.sink new.sink written → OnlySink old new → IsLeft p old.store.files s (record nothing { written = written }) → Leaves p old s new
+some_written p old s new written took only is = record { moved = record nothing { written = written }; gave = gave_same _ _ only.source; drew = drew_same _ _ only.entropy; took = took; is = is }
+
+-- bytes were taken alone
+some_taken : (p : Plan) (old : World) (s : Status) (new : World) (taken : List ℕ) → Gave old.source new.source taken → OnlySource old new → IsLeft p old.store.files s (record nothing { taken = taken }) → Leaves p old s new
+some_taken p old s new taken gave only is = record { moved = record nothing { taken = taken }; gave = gave; drew = drew_same _ _ only.entropy; took = took_same _ _ only.sink; is = is }
+
+-- what a pass took and wrote
+passed : (part : Part) (old : World) (s : Status) (new : World) (taken written : List ℕ) → OnlyStreams old new → Gave old.source new.source taken → Took old.sink new.sink written → IsPassLeft part s taken written → Leaves (pumps part) old s new
+passed part old s new taken written only gave took is = record {
+  moved = record nothing { taken = taken; written = written };
+  gave = gave;
+  drew = drew_same _ _ only.entropy;
+  took = took;
+  is = (refl, is);
+}
+
+pump_leaves : (part : Part) (result : Result (Unit {0}) OpenPumpFault) (old : World) (s : Status) (new : World) → s ≡ pump_status result → OnlyStreams old new → Pumps part [] [] false result old.source new.source old.sink new.sink → Leaves (pumps part) old s new
+pump_leaves part result old s new is only (pass.pumped more out r gave follows end took o d) = passed part old s new more out only gave took (pass_done (of_result s result (Ok tt) is r) d o)
+pump_leaves part result old s new is only (pass.refused more out ended refusal r gave follows end took o d) = passed part old s new more out only gave took (pass_refused ended refusal (of_refusal s result refusal is r) d o)
+pump_leaves part result old s new is only (pass.unread more out r rose gave follows took o d) = passed part old s new more out only gave took (pass_unread (of_result s result (Err faults.ReadFault) is r) d o)
+pump_leaves part result old s new is only (pass.unwritten more out rest ended r rose gave follows end took some o) = passed part old s new more out only gave took (pass_unwritten ended (of_result s result (Err faults.WriteFault) is r) (record { rest = rest; some = some; is = o }))
+
+-- what a session took, drew and wrote
+talk_left : (exchange : Exchange) (next : Keys → Plan) (old : World) (s : Status) (new : World) (taken drawn : List ℕ) (ended : Bool) (stop : Stop) → HasTalked exchange taken drawn ended stop (sides_of old) (sides_of new) → (HasReplied exchange (record { taken = taken; drawn = drawn; written = (exchange taken drawn ended).output }) ended stop → IsTalkLeft exchange s (record { taken = taken; drawn = drawn; written = (exchange taken drawn ended).output })) → Leaves (exchanges exchange next) old s new
+talk_left exchange next old s new taken drawn ended stop has is = record {
+  moved = record { taken = taken; drawn = drawn; written = (exchange taken drawn ended).output };
+  gave = has.gave;
+  drew = has.drew;
+  took = has.took;
+  is = inl (is (record { stands = has.stands; used = has.used; written = refl }));
+}
+
+talk_leaves : (exchange : Exchange) (next : Keys → Plan) (fault : TalkFault) (old : World) (s : Status) (new : World) → s ≡ talk_status fault → Talks exchange (Err fault) (sides_of old) (sides_of new) → Leaves (exchanges exchange next) old s new
+talk_leaves exchange next fault old s new is (talks.talked taken drawn r has none) = absurd (cc)
+talk_leaves exchange next fault old s new is (talks.passed taken drawn limit r has none) = talk_left exchange next old s new taken drawn false (passes limit) has (λ h. talk_passed limit (of_limit s fault limit is r) h)
+talk_leaves exchange next fault old s new is (talks.unread taken drawn r has rose sink entropy) = talk_left exchange next old s new taken drawn false goes has (λ h. talk_unread (of_fault s fault talk_faults.ReadFault is r) h)
+talk_leaves exchange next fault old s new is (talks.undrawn taken drawn ended r has rose source sink) = talk_left exchange next old s new taken drawn ended wants has (λ h. talk_undrawn ended (of_fault s fault talk_faults.EntropyFault is r) h)
+talk_leaves exchange next fault old s new is (talks.unwritten taken drawn ended r gave drew front end rose source entropy) = record {
+  moved = record { taken = taken; drawn = drawn; written = front.front };
+  gave = gave;
+  drew = drew;
+  took = front.took;
+  is = inl (talk_unwritten ended (of_fault s fault talk_faults.WriteFault is r) (front_of _ _ _ front));
+}
+talk_leaves exchange next fault old s new is (talks.starved taken more drawn part r gave drew took stop none) = record {
+  moved = record { taken = taken ++ more; drawn = drawn ++ part; written = (exchange taken drawn false).output };
+  gave = gave;
+  drew = drew;
+  took = took;
+  is = inl (talk_starved taken more drawn part (of_fault s fault talk_faults.NoMemory is r) refl refl stop refl);
+}
+
+pub leaves : (p : Plan) (old : World) (s : Status) (new : World) → Ends p old s new → Leaves p old s new
+leaves (ends answered stated) old s new (is, same) = none_moved _ old s new same (is, refl)
+leaves (writes output) old s new (wrote is only stood took) = some_written _ old s new output took only (inl (is, refl))
+leaves (writes output) old s new (write_failed is only rose front) = some_written _ old s new front.front front.took only (inr (is, front_of _ _ _ front, refl))
+leaves (creates name output taken stated) old s new (made is only stood added) = store_used _ old s new only (refl, inl (is, added.absent))
+leaves (creates name output taken stated) old s new (name_taken is only kept stood there) = store_used _ old s new only (refl, inr (inl (is, there)))
+leaves (creates name output taken stated) old s new (create_failed is only rose may) = store_used _ old s new only (refl, inr (inr (inl is)))
+leaves (creates name output taken stated) old s new (create_starved is only kept stood) = store_used _ old s new only (refl, inr (inr (inr is)))
+leaves (allocates next) old s new (inl run) = let later = leaves next old s new run in record { moved = later.moved; gave = later.gave; drew = later.drew; took = later.took; is = inr later.is }
+leaves (allocates next) old s new (inr (is, same)) = none_moved _ old s new same (inl (is, refl))
+leaves (loads name limit absent long a l next) old s new (loaded bytes store kept stood within holds run) =
+    let later = leaves (next bytes) (record old { store = store }) s new run in
+    record { moved = later.moved; gave = later.gave; drew = later.drew; took = later.took; is = inr (bytes, holds, within, subst (λ (f : Option Files). IsLeft (next bytes) f s later.moved) (sym kept.files) later.is) }
+leaves (loads name limit absent long a l next) old s new (load_absent is only kept stood holds) = store_used _ old s new only (inl (refl, inl (is, holds)))
+leaves (loads name limit absent long a l next) old s new (load_long is only kept stood holds) = store_used _ old s new only (inl (refl, inr (inl (is, holds))))
+leaves (loads name limit absent long a l next) old s new (load_failed is only kept rose) = store_used _ old s new only (inl (refl, inr (inr (inl is))))
+leaves (loads name limit absent long a l next) old s new (load_starved is only kept stood) = store_used _ old s new only (inl (refl, inr (inr (inr is))))
+leaves (reads_all limit long stated next) old s new (read all source gave stood within end run) =
+    let later = leaves (next all) (record old { source = source }) s new run in
+    record { moved = record later.moved { taken = all ++ later.moved.taken }; gave = gave_more _ _ _ _ _ gave later.gave; drew = later.drew; took = later.took; is = inr (all, later.moved.taken, refl, within, later.is) }
+leaves (reads_all limit long stated next) old s new (too_long is only stood count) = some_taken _ old s new count.piece count.gave only (inl (refl, inl (is, count.exact)))
+leaves (reads_all limit long stated next) old s new (read_failed is only rose upto) = some_taken _ old s new upto.piece upto.gave only (inl (refl, inr (inl is, upto.within)))
+leaves (reads_all limit long stated next) old s new (read_starved is only stood upto) = some_taken _ old s new upto.piece upto.gave only (inl (refl, inr (inr is, upto.within)))
+leaves (draws kind give next) old s new (settled drawn entropy given drew stood settles run) =
+    let later = leaves (next given) (record old { entropy = entropy }) s new run in
+    record { moved = record later.moved { drawn = drawn ++ later.moved.drawn }; gave = later.gave; drew = drew_more _ _ _ _ _ drew later.drew; took = later.took; is = inr (drawn, later.moved.drawn, given, refl, settles, later.is) }
+leaves (draws kind give next) old s new (draw_failed is only out) = record { moved = record nothing { drawn = out.drawn }; gave = gave_same _ _ only.source; drew = out.drew; took = took_same _ _ only.sink; is = inl (is, out.undecided, refl) }
+leaves (pumps part) old s new e = pump_leaves part e.result old s new e.status e.only e.pass
+leaves (exchanges exchange next) old s new (exchanged keys mid talk store steady run) =
+    let w = went exchange keys (sides_of old) (sides_of mid) talk in
+    let x = exchange w.taken w.drawn true in
+    let later = leaves (next keys) mid s new run in
+    let first : Moved = record { taken = w.taken; drawn = w.drawn; written = x.output } in
+    record {
+      moved = then_moved first later.moved;
+      gave = gave_more _ _ _ _ _ w.has.gave later.gave;
+      drew = drew_more _ _ _ _ _ w.has.drew later.drew;
+      took = took_more _ _ _ _ _ w.has.took later.took;
+      is = inr (
+        first,
+        later.moved,
+        refl,
+        record { stands = w.has.stands; used = w.has.used; written = refl },
+        subst (λ (k : Keys). IsLeft (next k) old.store.files s later.moved) w.last
+            (subst (λ (x : StoreState). IsLeft (next keys) x.files s later.moved) (sym store) later.is),
+      );
+    }
+leaves (exchanges exchange next) old s new (exchange_ended fault is talk store steady) = talk_leaves exchange next fault old s new is talk
+
+pub promised : (p : Plan) (old : World) (s : Status) (new : World) → Ends p old s new → Promised p old s new
+promised p old s new run = record {
+  answer = answers p old s new run;
+  cause = has_cause p old s new run;
+  shown = shows_faults p old s new run;
+  leaves = leaves p old s new run;
+  stands = stands p old s new run;
+  complete = completes p old s new run;
+  ends = run;
+}

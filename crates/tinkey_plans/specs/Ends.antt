@@ -1,0 +1,204 @@
+-- How a run of a plan may end, whatever fails.
+use Rattle.std.specs.Prelude.{◌≡◌, ◌⊎◌, ℕ, ◌+◌, ◌≤◌, List, [], ◌++◌, length, true, false, Some, None, Result, Ok, Err}
+use Rattle.tink_spec.specs.Files.{StoreState, KeptFiles, Holds, HoldsSome, HoldsLonger, Added, MayAdd}
+use Rattle.tink_spec.specs.Outside.{SourceState, SinkState, EntropyState, Rose, Stood, Gave, GaveUpTo, GaveCount, Took, TookPrefix, Drew, IsAtEnd}
+use Rattle.segment_stream.specs.Opening.{StreamRefusal}
+use Rattle.segment_stream.specs.Pumping.{Part, Pumps, ShowsFaults}
+use Rattle.segment_stream.specs.declared.fault.OpenPumpFault.{OpenPumpFault}
+use Rattle.segment_stream.specs.declared.fault.OpenPumpFault.TheVariants as faults
+use Rattle.tinkey_cmds.specs.Draws.{Draw, answered}
+use Rattle.tinkey_cmds.specs.Applying.{RanOut}
+use Rattle.tinkey_cmds.specs.declared.command.CmdFault.{CmdFault}
+use Rattle.keyset_model.specs.Keyset.{Keys}
+use Rattle.tinkey_session.specs.Talking.{Exchange}
+use Rattle.tinkey_session.specs.Talks.{Sides, sides, Talks, IsSteady}
+use Rattle.tinkey_session.specs.declared.talk.TalkFault.{TalkFault}
+use Rattle.tinkey_session.specs.declared.talk.TalkFault.TheVariants as talk_faults
+use Rattle.tinkey_plans.specs.declared.status.Status.{Status}
+use Rattle.tinkey_plans.specs.declared.status.Status.TheVariants as status
+use Rattle.tinkey_plans.specs.Plan.{Plan, ends, writes, creates, allocates, loads, reads_all, draws, pumps, exchanges}
+
+-- the outside objects at one moment
+pub record World : Type 0 where
+  pub source : SourceState
+  pub sink : SinkState
+  pub store : StoreState
+  pub entropy : EntropyState
+
+-- the objects as they are seen
+abbrev pub world : SourceState → SinkState → StoreState → EntropyState → World
+world source sink store entropy = record {
+  source = source;
+  sink = sink;
+  store = store;
+  entropy = entropy;
+}
+
+-- all objects but the source are as before
+pub record OnlySource (old new : World) : Type 0 where
+  pub sink : old.sink ≡ new.sink
+  pub store : old.store ≡ new.store
+  pub entropy : old.entropy ≡ new.entropy
+
+-- all objects but the sink are as before
+pub record OnlySink (old new : World) : Type 0 where
+  pub source : old.source ≡ new.source
+  pub store : old.store ≡ new.store
+  pub entropy : old.entropy ≡ new.entropy
+
+-- all objects but the store are as before
+pub record OnlyStore (old new : World) : Type 0 where
+  pub source : old.source ≡ new.source
+  pub sink : old.sink ≡ new.sink
+  pub entropy : old.entropy ≡ new.entropy
+
+-- all objects but the entropy are as before
+pub record OnlyEntropy (old new : World) : Type 0 where
+  pub source : old.source ≡ new.source
+  pub sink : old.sink ≡ new.sink
+  pub store : old.store ≡ new.store
+
+-- Where an object failed, its count of faults rose; with each other end that count stood, so that
+-- no fault is passed over or told as something else.
+
+-- all of the output was written, or the first bytes of it where the sink failed
+pub data EndsWriting (output : List ℕ) (old : World) (s : Status) (new : World) : Type 0 where
+  wrote : s ≡ status.Done → OnlySink old new → Stood old.sink.faults new.sink.faults →
+      Took old.sink new.sink output → EndsWriting output old s new
+  write_failed : s ≡ status.WriteFault → OnlySink old new → Rose old.sink.faults new.sink.faults →
+      TookPrefix old.sink new.sink output → EndsWriting output old s new
+
+-- the file was made, or one was there; or the store failed, and may have made it with the first of
+-- the bytes; or memory was wanting
+pub data EndsCreating (name output : List ℕ) (taken : Status)
+    (old : World) (s : Status) (new : World) : Type 0 where
+  made : s ≡ status.Done → OnlyStore old new → Stood old.store.faults new.store.faults →
+      Added old.store new.store name output → EndsCreating name output taken old s new
+  name_taken : s ≡ taken → OnlyStore old new → KeptFiles old.store new.store →
+      Stood old.store.faults new.store.faults → HoldsSome old.store name →
+      EndsCreating name output taken old s new
+  create_failed : s ≡ status.StoreFault → OnlyStore old new →
+      Rose old.store.faults new.store.faults → MayAdd old.store new.store name output →
+      EndsCreating name output taken old s new
+  create_starved : s ≡ status.NoMemory → OnlyStore old new → KeptFiles old.store new.store →
+      Stood old.store.faults new.store.faults → EndsCreating name output taken old s new
+
+-- the file was loaded, and then it went on; or it is missing, or longer than the limit; or the store
+-- failed, or memory was wanting
+pub data EndsLoading (name : List ℕ) (limit : ℕ) (absent long : Status)
+    (Then : List ℕ → World → Status → World → Type 0)
+    (old : World) (s : Status) (new : World) : Type 0 where
+  loaded : (bytes : List ℕ) (store : StoreState) → KeptFiles old.store store →
+      Stood old.store.faults store.faults → length bytes ≤ limit →
+      Holds old.store name (Some bytes) → Then bytes (record old { store = store }) s new →
+      EndsLoading name limit absent long Then old s new
+  load_absent : s ≡ absent → OnlyStore old new → KeptFiles old.store new.store →
+      Stood old.store.faults new.store.faults → Holds old.store name None →
+      EndsLoading name limit absent long Then old s new
+  load_long : s ≡ long → OnlyStore old new → KeptFiles old.store new.store →
+      Stood old.store.faults new.store.faults → HoldsLonger old.store name limit →
+      EndsLoading name limit absent long Then old s new
+  load_failed : s ≡ status.StoreFault → OnlyStore old new → KeptFiles old.store new.store →
+      Rose old.store.faults new.store.faults → EndsLoading name limit absent long Then old s new
+  load_starved : s ≡ status.NoMemory → OnlyStore old new → KeptFiles old.store new.store →
+      Stood old.store.faults new.store.faults → EndsLoading name limit absent long Then old s new
+
+-- all bytes were read, and then it went on; or one byte more than the limit was taken; or the source
+-- failed, or memory was wanting, within the limit
+pub data EndsReading (limit : ℕ) (long : Status) (Then : List ℕ → World → Status → World → Type 0)
+    (old : World) (s : Status) (new : World) : Type 0 where
+  read : (all : List ℕ) (source : SourceState) → Gave old.source source all →
+      Stood old.source.faults source.faults → length all ≤ limit → IsAtEnd source →
+      Then all (record old { source = source }) s new → EndsReading limit long Then old s new
+  too_long : s ≡ long → OnlySource old new → Stood old.source.faults new.source.faults →
+      GaveCount old.source new.source (limit + 1) → EndsReading limit long Then old s new
+  read_failed : s ≡ status.ReadFault → OnlySource old new →
+      Rose old.source.faults new.source.faults → GaveUpTo old.source new.source limit →
+      EndsReading limit long Then old s new
+  read_starved : s ≡ status.NoMemory → OnlySource old new →
+      Stood old.source.faults new.source.faults → GaveUpTo old.source new.source limit →
+      EndsReading limit long Then old s new
+
+-- these bytes are all that is drawn, whatever stands behind them, and they give this
+abbrev pub Settles : {A : Type 0} → Draw A → (drawn : List ℕ) → Result A CmdFault → Type 0
+Settles give drawn given = (more : List ℕ) → give (drawn ++ more) ≡ answered given more
+
+-- the bytes were drawn that settle what is made or its refusal, and then it went on; or the entropy
+-- failed before they were there
+pub data EndsDrawing {A : Type 0} (give : Draw A)
+    (Then : Result A CmdFault → World → Status → World → Type 0)
+    (old : World) (s : Status) (new : World) : Type 0 where
+  settled : (drawn : List ℕ) (entropy : EntropyState) (given : Result A CmdFault) →
+      Drew old.entropy entropy drawn → Stood old.entropy.faults entropy.faults →
+      Settles give drawn given → Then given (record old { entropy = entropy }) s new →
+      EndsDrawing give Then old s new
+  draw_failed : s ≡ status.EntropyFault → OnlyEntropy old new →
+      RanOut give old.entropy new.entropy → EndsDrawing give Then old s new
+
+-- what is decided before the end, the whole input decides too, with what was given out by then
+pub record IsLasting (part : Part) : Type 0 where
+  pub stays : (taken more : List ℕ) (refusal : StreamRefusal)
+      → part.refusal taken false ≡ Some refusal
+      → (part.refusal (taken ++ more) true ≡ Some refusal)
+      × (part.output (taken ++ more) true ≡ part.output taken false)
+
+-- the status of a pass
+abbrev pub pump_status : Result (Unit {0}) OpenPumpFault → Status
+pump_status (Ok done) = status.Done
+pump_status (Err faults.ReadFault) = status.ReadFault
+pump_status (Err faults.WriteFault) = status.WriteFault
+pump_status (Err faults.TooManySegments) = status.TooManySegments
+pump_status (Err (faults.StreamFailed number)) = status.StreamFailed number
+
+-- all objects but source and sink are as before
+pub record OnlyStreams (old new : World) : Type 0 where
+  pub store : old.store ≡ new.store
+  pub entropy : old.entropy ≡ new.entropy
+
+-- the pass came to its end, or was refused, or the source or the sink failed in it
+pub record EndsPumping (part : Part) (old : World) (s : Status) (new : World) : Type 0 where
+  pub result : Result (Unit {0}) OpenPumpFault
+  pub status : s ≡ pump_status result
+  pub only : OnlyStreams old new
+  pub pass : Pumps part [] [] false result old.source new.source old.sink new.sink
+  pub shown : ShowsFaults result old.source new.source old.sink new.sink
+  pub lasting : IsLasting part
+
+-- the status of a session that ended before its input did
+abbrev pub talk_status : TalkFault → Status
+talk_status talk_faults.LineTooLong = status.LineTooLong
+talk_status talk_faults.TooManyLines = status.TooManyLines
+talk_status talk_faults.ReadFault = status.ReadFault
+talk_status talk_faults.WriteFault = status.WriteFault
+talk_status talk_faults.EntropyFault = status.EntropyFault
+talk_status talk_faults.NoMemory = status.NoMemory
+
+-- the objects of a session
+abbrev pub sides_of : World → Sides
+sides_of w = sides w.source w.sink w.entropy
+
+-- the session came to the end of its input, and then it went on with the last keyset; or it ended
+-- before that
+pub data EndsExchanging (exchange : Exchange) (Then : Keys → World → Status → World → Type 0)
+    (old : World) (s : Status) (new : World) : Type 0 where
+  exchanged : (keys : Keys) (mid : World) → Talks exchange (Ok keys) (sides_of old) (sides_of mid) →
+      old.store ≡ mid.store → IsSteady exchange → Then keys mid s new →
+      EndsExchanging exchange Then old s new
+  exchange_ended : (fault : TalkFault) → s ≡ talk_status fault →
+      Talks exchange (Err fault) (sides_of old) (sides_of new) → old.store ≡ new.store →
+      IsSteady exchange → EndsExchanging exchange Then old s new
+
+-- how a run of the plan may end, step by step
+abbrev pub Ends : Plan → World → Status → World → Type 0
+Ends (ends stated_status stated) old s new = (s ≡ stated_status) × (old ≡ new)
+Ends (writes output) old s new = EndsWriting output old s new
+Ends (creates name output taken stated) old s new = EndsCreating name output taken old s new
+Ends (allocates next) old s new = Ends next old s new ⊎ ((s ≡ status.NoMemory) × (old ≡ new))
+Ends (loads name limit absent long a l next) old s new =
+    EndsLoading name limit absent long (λ bytes. Ends (next bytes)) old s new
+Ends (reads_all limit long stated next) old s new =
+    EndsReading limit long (λ all. Ends (next all)) old s new
+Ends (draws kind give next) old s new = EndsDrawing give (λ given. Ends (next given)) old s new
+Ends (pumps part) old s new = EndsPumping part old s new
+Ends (exchanges exchange next) old s new =
+    EndsExchanging exchange (λ keys. Ends (next keys)) old s new

@@ -1,0 +1,11 @@
+pub mod Commands
+pub mod Ends
+pub mod Laws
+pub mod Plan
+pub mod Promises
+pub mod SelfTesting
+pub mod Session
+pub mod Status
+pub mod Steps
+pub mod Streaming
+pub mod Using

@@ -1,0 +1,24 @@
+-- The session of a command, as steps of plans. What its lines are answered is said apart from
+-- plans, in Serving and Talking of tinkey_session.
+use Rattle.std.specs.Prelude.{ℕ, List, Option, Some, None}
+use Rattle.keyset_model.specs.Keyset.{Keys}
+use Rattle.managers.specs.Table.{Table}
+use Rattle.tinkey_session.specs.Talking.{talk}
+use Rattle.tinkey_plans.specs.declared.status.Status.TheVariants as status
+use Rattle.tinkey_words.specs.declared.words.rows.Format.{Format}
+use Rattle.tinkey_plans.specs.Plan.{Plan, ends, creates, exchanges}
+use Rattle.tinkey_plans.specs.Steps.{works_out, written_in}
+use Rattle.tinkey_words.specs.Words.{Place}
+
+-- the keyset becomes a new file of this name, in this form; where none is named, it goes nowhere
+abbrev pub saves_as : Option (List ℕ) → Format → Keys → Plan
+saves_as None form keys = ends status.Done tt
+saves_as (Some name) form keys =
+    works_out (written_in form keys) (λ output. creates name output status.OutExists tt)
+
+abbrev pub saves : Place → Keys → Plan
+saves place keys = saves_as place.file place.form keys
+
+-- the lines of the input are answered over this keyset, and then the last one is saved
+abbrev pub holds_session : Table → (out : Place) → Keys → Plan
+holds_session table out keys = exchanges (talk table keys) (saves out)

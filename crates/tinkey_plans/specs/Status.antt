@@ -1,0 +1,105 @@
+-- The exit code and the diagnostic line of each status.
+use Rattle.std.specs.Prelude.{ℕ, List, [], ◌++◌, Option, Some, None, codes}
+use Rattle.std.specs.Fmt.{decimal}
+use Rattle.keyset_json.specs.Members.{name_of}
+use Rattle.keyset_model.specs.declared.keyset.KeysetFault.{KeysetFault}
+use Rattle.keyset_model.specs.declared.keyset.KeysetFault.TheVariants as faults
+use Rattle.tink_spec.specs.Outside.{SinkState, Rose, Took, TookPrefix}
+use Rattle.tinkey_session.specs.declared.reply.Refusal.TheVariants as refused
+use Rattle.tinkey_session.specs.Texts.{refusal_text}
+use Rattle.tinkey_plans.specs.declared.status.Status.{Status}
+use Rattle.tinkey_plans.specs.declared.status.Status.TheVariants as status
+
+-- the exit code
+abbrev pub code_of : Status → ℕ
+code_of status.Done = 0
+code_of status.OpenFailed = 1
+code_of status.VerifyFailed = 1
+code_of (status.StreamFailed number) = 1
+code_of (status.Usage word) = 2
+code_of status.UnknownTemplate = 2
+code_of status.AsymmetricTemplate = 2
+code_of (status.OutputTooLong asked greatest) = 2
+code_of (status.BadProto at) = 3
+code_of status.NotJson = 3
+code_of (status.Shape path) = 3
+code_of (status.Keyset fault) = 3
+code_of (status.NoManager i) = 3
+code_of (status.BadKey i rule) = 3
+code_of (status.NotRaw i) = 3
+code_of status.InMissing = 4
+code_of (status.Command fault) = 4
+code_of status.OutExists = 4
+code_of status.ReadFault = 5
+code_of status.WriteFault = 5
+code_of status.EntropyFault = 5
+code_of status.StoreFault = 5
+code_of status.KeysetTooLong = 6
+code_of status.InputTooLong = 6
+code_of status.TooManySegments = 6
+code_of status.LineTooLong = 6
+code_of status.TooManyLines = 6
+code_of status.NoMemory = 7
+
+-- the text of a keyset's fault
+unfoldable pub fault_text : KeysetFault → List ℕ
+fault_text faults.Empty = codes "keyset has no key"
+fault_text faults.TooMany = codes "keyset has too many keys"
+fault_text (faults.UnknownStatus i) = codes "key " ++ decimal i ++ codes " has an unknown status"
+fault_text (faults.UnknownPrefix i) =
+    codes "key " ++ decimal i ++ codes " has an unknown output prefix type"
+fault_text (faults.UnknownMaterial i) =
+    codes "key " ++ decimal i ++ codes " has an unknown key material type"
+fault_text (faults.MissingKeyData i) = codes "key " ++ decimal i ++ codes " has no key data"
+fault_text (faults.DuplicateId i j) =
+    codes "keys " ++ decimal i ++ codes " and " ++ decimal j ++ codes " have the same id"
+fault_text faults.NoPrimary = codes "no key has the primary id"
+fault_text faults.PrimaryNotEnabled = codes "the primary key is not enabled"
+
+-- the place of a key, where there is one
+abbrev pub key_text : Option ℕ → List ℕ
+key_text None = []
+key_text (Some i) = codes " of key " ++ decimal i
+
+-- What the line says, behind the program's name. What lines of a session are refused for too is
+-- told by the same texts.
+unfoldable pub text_of : Status → List ℕ
+text_of status.Done = []
+text_of status.OpenFailed = refusal_text refused.OpenFailed
+text_of status.VerifyFailed = refusal_text refused.VerifyFailed
+text_of (status.StreamFailed number) = codes "stream failed at segment " ++ decimal number
+text_of (status.Usage word) = codes "usage: word " ++ decimal word
+text_of (status.BadProto at) = codes "bad protobuf at byte " ++ decimal at
+text_of status.NotJson = codes "not JSON"
+text_of (status.Shape path) = codes "bad JSON member " ++ name_of path.member ++ key_text path.key
+text_of (status.Keyset fault) = fault_text fault
+text_of status.KeysetTooLong = codes "keyset too long"
+text_of (status.NoManager i) = refusal_text (refused.NoManager i)
+text_of (status.BadKey i rule) = refusal_text (refused.BadKey i rule)
+text_of (status.NotRaw i) = refusal_text (refused.NotRaw i)
+text_of status.InMissing = codes "input file missing"
+text_of status.InputTooLong = codes "input too long"
+text_of status.TooManySegments = codes "too many segments"
+text_of status.LineTooLong = codes "line too long"
+text_of status.TooManyLines = codes "too many lines"
+text_of status.UnknownTemplate = refusal_text refused.UnknownTemplate
+text_of status.AsymmetricTemplate = refusal_text refused.AsymmetricTemplate
+text_of (status.OutputTooLong asked greatest) =
+    refusal_text (refused.OutputTooLong asked greatest)
+text_of (status.Command fault) = refusal_text (refused.EditRefused fault)
+text_of status.OutExists = codes "output file exists"
+text_of status.EntropyFault = codes "entropy fault"
+text_of status.ReadFault = codes "read fault"
+text_of status.WriteFault = codes "write fault"
+text_of status.StoreFault = codes "store fault"
+text_of status.NoMemory = codes "out of memory"
+
+-- Done writes nothing; any other status is told by one line
+unfoldable pub line_of : Status → List ℕ
+line_of status.Done = []
+line_of other = codes "tinkey: " ++ text_of other ++ codes "\n"
+
+-- the line was written, or the first bytes of it where the count of faults rose
+pub data Reports (s : Status) (old new : SinkState) : Type 0 where
+  reported : Took old new (line_of s) → Reports s old new
+  report_failed : Rose old.faults new.faults → TookPrefix old new (line_of s) → Reports s old new

@@ -1,0 +1,148 @@
+-- The steps that commands share. Each is a word with the rest of the plan behind it, which takes
+-- what the step gives; the refusals of a step are its own.
+use Rattle.std.specs.Prelude.{ℕ, List, Option, Some, None, Result, Ok, Err, if◌then◌else◌}
+use Rattle.key_msgs.specs.Templates.{Row, row_named, is_asymmetric}
+use Rattle.keyset_model.specs.Keyset.{Keys}
+use Rattle.keyset_model.specs.Reading.{Refusal, Wire, Fault, reads_binary}
+use Rattle.keyset_model.specs.Writing.{binary_of}
+use Rattle.keyset_json.specs.Reading.{reads_json}
+use Rattle.keyset_json.specs.Reading as Json
+use Rattle.keyset_json.specs.Writing.{json_of}
+use Rattle.keyset_json.specs.declared.reading.JsonError.{JsonError}
+use Rattle.keyset_json.specs.declared.reading.JsonError.TheVariants as json_errors
+use Rattle.keyset_model.specs.declared.reading.ReadError.{ReadError}
+use Rattle.keyset_model.specs.declared.reading.ReadError.TheVariants as errors
+use Rattle.tinkey_cmds.specs.Draws.{Draw}
+use Rattle.tinkey_cmds.specs.Edits.{Edit, edit_then}
+use Rattle.tinkey_cmds.specs.declared.command.CmdError.{CmdError}
+use Rattle.tinkey_cmds.specs.declared.command.CmdError.TheVariants as given
+use Rattle.tinkey_cmds.specs.declared.command.CmdFault.{CmdFault}
+use Rattle.tinkey_plans.specs.declared.status.Status.{Status}
+use Rattle.tinkey_plans.specs.declared.status.Status.TheVariants as status
+use Rattle.tinkey_plans.specs.Ends.{World, Ends}
+use Rattle.tinkey_plans.specs.Plan.{Plan, ends, writes, creates, allocates, loads, reads_all, draws, keysets}
+use Rattle.tinkey_words.specs.declared.words.rows.Format.{Format}
+use Rattle.tinkey_words.specs.declared.words.rows.Format.TheVariants as formats
+use Rattle.tinkey_words.specs.Words.{Place, AskedEdit}
+
+-- a keyset of more bytes is too long
+abbrev pub keyset_limit : ℕ
+keyset_limit = 1048576
+
+-- a whole input of more bytes is too long
+abbrev pub input_limit : ℕ
+input_limit = 16777216
+
+-- the status of a keyset that can't be read, and of want of memory
+abbrev pub refusal_of : ReadError → Status
+refusal_of (errors.Wire wire) = status.BadProto wire.at
+refusal_of (errors.Fault fault) = status.Keyset fault
+refusal_of errors.NoMemory = status.NoMemory
+
+-- the keyset goes on, or its refusal is the answer
+abbrev pub with_keyset : Result Keys Refusal → (Keys → Plan) → Plan
+with_keyset (Err (Wire at)) next = ends (status.BadProto at) tt
+with_keyset (Err (Fault fault)) next = ends (status.Keyset fault) tt
+with_keyset (Ok keys) next = next keys
+
+-- the same of JSON
+abbrev pub json_refusal_of : JsonError → Status
+json_refusal_of json_errors.NotJson = status.NotJson
+json_refusal_of (json_errors.Shape path) = status.Shape path
+json_refusal_of (json_errors.Fault fault) = status.Keyset fault
+json_refusal_of json_errors.NoMemory = status.NoMemory
+
+abbrev pub with_json : Result Keys Json.Refusal → (Keys → Plan) → Plan
+with_json (Err Json.NotJson) next = ends status.NotJson tt
+with_json (Err (Json.Shape path)) next = ends (status.Shape path) tt
+with_json (Err (Json.Fault fault)) next = ends (status.Keyset fault) tt
+with_json (Ok keys) next = next keys
+
+-- the keyset of these bytes, in this form
+abbrev pub keyset_in : Format → List ℕ → (Keys → Plan) → Plan
+keyset_in formats.Json bytes next = allocates (with_json (reads_json bytes) next)
+keyset_in formats.Binary bytes next = allocates (with_keyset (reads_binary bytes) next)
+
+-- the keyset in the file of this name
+abbrev pub loads_keyset : List ℕ → Format → (Keys → Plan) → Plan
+loads_keyset name form next =
+    loads name keyset_limit status.InMissing status.KeysetTooLong tt tt
+    (λ bytes. keyset_in form bytes next)
+
+-- the keyset that the whole input is
+abbrev pub reads_keyset : Format → (Keys → Plan) → Plan
+reads_keyset form next =
+    reads_all keyset_limit status.KeysetTooLong tt (λ bytes. keyset_in form bytes next)
+
+-- the keyset in a file, or where none is named, the one that the whole input is
+abbrev pub keyset_at : Option (List ℕ) → Format → (Keys → Plan) → Plan
+keyset_at (Some name) form next = loads_keyset name form next
+keyset_at None form next = reads_keyset form next
+
+abbrev pub takes_keyset : Place → (Keys → Plan) → Plan
+takes_keyset place next = keyset_at place.file place.form next
+
+-- the whole input
+abbrev pub reads_input : (List ℕ → Plan) → Plan
+reads_input next = reads_all input_limit status.InputTooLong tt next
+
+-- a value that is worked out in memory
+abbrev pub works_out : {A : Type 0} → A → (A → Plan) → Plan
+works_out value next = allocates (next value)
+
+-- the row goes on, or the name is refused
+abbrev pub with_row : Option Row → List ℕ → (Row → Plan) → Plan
+with_row (Some row) name next = next row
+with_row None name next =
+    if is_asymmetric name then ends status.AsymmetricTemplate tt
+    else ends status.UnknownTemplate tt
+
+-- the template of this name
+abbrev pub finds_template : List ℕ → (Row → Plan) → Plan
+finds_template name next = with_row (row_named name) name next
+
+-- the edit that is asked for, of the template of its name where it has one
+abbrev pub finds_edit : AskedEdit → (Edit → Plan) → Plan
+finds_edit asked next = edit_then finds_template asked next
+
+-- the status of an edit that gives no keyset
+abbrev pub edit_refusal : CmdError → Status
+edit_refusal (given.Refused fault) = status.Command fault
+edit_refusal given.EntropyFault = status.EntropyFault
+edit_refusal given.NoMemory = status.NoMemory
+
+-- what was made goes on, or the refusal of the edit is the answer
+abbrev pub with_made : {A : Type 0} → Result A CmdFault → (A → Plan) → Plan
+with_made (Ok value) next = next value
+with_made (Err fault) next = ends (status.Command fault) tt
+
+-- the keyset that random bytes give
+abbrev pub makes_keyset : Draw Keys → (Keys → Plan) → Plan
+makes_keyset give next = draws keysets give (λ given. allocates (with_made given next))
+
+-- these bytes become a new file of this name, or where there is none, go to the sink
+abbrev pub puts : Option (List ℕ) → List ℕ → Plan
+puts (Some name) output = creates name output status.OutExists tt
+puts None output = writes output
+
+-- a keyset written in this form
+abbrev pub written_in : Format → Keys → List ℕ
+written_in formats.Json keys = json_of keys
+written_in formats.Binary keys = binary_of keys
+
+-- the keyset in its written form becomes a new file, or where none is named, goes to the sink
+abbrev pub puts_keyset : Place → Keys → Plan
+puts_keyset place keys = works_out (written_in place.form keys) (puts place.file)
+
+-- What a step leaves to the rest of the plan, which takes values as they are seen. Where it gives a
+-- value, each end of the rest is an end of the whole, for any rest; where it gives a status, the
+-- whole has ended with that.
+abbrev pub PassesAs : {A B : Type 0} → (A → B) → ((B → Plan) → Plan) →
+    World → Result A Status → World → Type 0
+PassesAs {B = B} view step old (Ok value) new = (next : B → Plan) (s : Status) (last : World) →
+    Ends (next (view value)) new s last → Ends (step next) old s last
+PassesAs {B = B} view step old (Err s) new = (next : B → Plan) → Ends (step next) old s new
+
+-- the same of values that the rest takes as they are
+abbrev pub Passes : {A : Type 0} → ((A → Plan) → Plan) → World → Result A Status → World → Type 0
+Passes step old result new = PassesAs (λ value. value) step old result new

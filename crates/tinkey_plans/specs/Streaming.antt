@@ -1,0 +1,57 @@
+-- Streams sealed and opened by the keys of a keyset, as steps of plans. What a stream is sealed and opened
+-- to is said apart from plans, in Sealing and Opening of segment_stream.
+use Rattle.std.specs.Prelude.{ℕ, ◌+◌, List, Option, Some, None}
+use Rattle.std.specs.Option.{option_map}
+use Rattle.keyset_model.specs.Keyset.{Keys}
+use Rattle.keyset_model.specs.declared.keyset.KeysetFault.TheVariants as faults
+use Rattle.segment_stream.specs.KeysModel.{KeysForStreams}
+use Rattle.segment_stream.specs.Pumping.{sealing, opening_any}
+use Rattle.segment_stream.specs.Sealing.{header_of}
+use Rattle.segment_stream.specs.Segments.{cipher_of, ciphers_of}
+use Rattle.segment_stream.specs.StreamKeys.{Unfit, not_stream, bad_key, unfit, primary_key, stream_keys}
+use Rattle.segment_stream.specs.declared.keys.StreamKeysFault.{StreamKeysFault}
+use Rattle.segment_stream.specs.declared.keys.StreamKeysFault.TheVariants as key_faults
+use Rattle.tinkey_cmds.specs.Draws.{fill}
+use Rattle.tinkey_plans.specs.declared.status.Status.{Status}
+use Rattle.tinkey_plans.specs.declared.status.Status.TheVariants as status
+use Rattle.tinkey_words.specs.declared.words.rows.Format.{Format}
+use Rattle.tinkey_plans.specs.Plan.{Plan, ends, allocates, draws, sealings, pumps}
+use Rattle.tinkey_plans.specs.Steps.{loads_keyset, with_made}
+
+-- the rest goes on, or the record that gives no key for streams is refused
+abbrev pub unless_unfit : Option (ℕ × Unfit) → Plan → Plan
+unless_unfit None next = next
+unless_unfit (Some (i, not_stream)) next = ends (status.NoManager i) tt
+unless_unfit (Some (i, bad_key rule)) next = ends (status.BadKey i rule) tt
+
+-- the keys for streams of a keyset
+abbrev pub keys_for : Keys → Option KeysForStreams
+keys_for keys =
+    option_map (λ primary. record { primary = primary; keys = stream_keys keys }) (primary_key keys)
+
+-- They go on. A keyset whose records all give one has a primary one.
+abbrev pub with_keys : Option KeysForStreams → (KeysForStreams → Plan) → Plan
+with_keys None next = ends (status.Keyset faults.NoPrimary) tt
+with_keys (Some keys) next = next keys
+
+-- the keys for streams of the keyset in a file
+abbrev pub loads_stream_keys : List ℕ → Format → (KeysForStreams → Plan) → Plan
+loads_stream_keys name form next =
+    loads_keyset name form (λ keys. allocates (unless_unfit (unfit keys) (with_keys (keys_for keys) next)))
+
+-- the input sealed under the primary key, behind a header of random bytes: salt and nonce prefix
+abbrev pub seals_stream : KeysForStreams → (ad : List ℕ) → Plan
+seals_stream keys ad =
+    let cipher = cipher_of ad keys.primary in
+    allocates (draws sealings (fill (keys.primary.derived + 7))
+    (λ made. with_made made (λ random. pumps (sealing cipher (header_of cipher random)))))
+
+-- the input opened under the first key whose first segment opens
+abbrev pub opens_stream : KeysForStreams → (ad : List ℕ) → Plan
+opens_stream keys ad = allocates (pumps (opening_any (ciphers_of ad keys.keys)))
+
+-- the status of a keyset that gives no keys for streams, and of want of memory
+abbrev pub stream_keys_refusal : StreamKeysFault → Status
+stream_keys_refusal (key_faults.NotStream i) = status.NoManager i
+stream_keys_refusal (key_faults.BadKey i rule) = status.BadKey i rule
+stream_keys_refusal key_faults.NoMemory = status.NoMemory

@@ -1,0 +1,102 @@
+-- Work by the keys of a keyset, as steps of plans. What the keys answer is said apart from plans, in
+-- Fitness and Answers of wrapped_prims.
+use Rattle.std.specs.Prelude.{ℕ, Bool, true, false, List, [], Option, Some, None, Result, Ok, Err}
+use Rattle.std.specs.Option.{option_map}
+use Rattle.key_msgs.specs.declared.primitive.Primitive.{Primitive}
+use Rattle.keyset_model.specs.Keyset.{Keys}
+use Rattle.managers.specs.Table.{Table}
+use Rattle.tinkey_cmds.specs.Draws.{Draw, Drawn}
+use Rattle.wrapped_prims.specs.Answers.{Sealed, seal_answer, open_answer, dseal_answer, dopen_answer, tag_answer, verify_answer, derive_answer}
+use Rattle.wrapped_prims.specs.Making.{IsOver}
+use Rattle.wrapped_prims.specs.declared.held.Held.{Held}
+use Rattle.wrapped_prims.specs.declared.handle.HandleFault.{HandleFault}
+use Rattle.wrapped_prims.specs.declared.handle.HandleFault.TheVariants as faults
+use Rattle.wrapped_prims.specs.Fitness.{Unfit, NoManager, BadKey, NotRaw, unfit}
+use Rattle.tinkey_plans.specs.declared.status.Status.{Status}
+use Rattle.tinkey_plans.specs.declared.status.Status.TheVariants as status
+use Rattle.tinkey_words.specs.declared.words.rows.Format.{Format}
+use Rattle.tinkey_plans.specs.Plan.{Plan, ends, allocates, draws, sealings}
+use Rattle.tinkey_plans.specs.Ends.{World}
+use Rattle.tinkey_plans.specs.Steps.{loads_keyset, reads_input, works_out, with_made, Passes}
+use Rattle.tinkey_words.specs.Words.{AskedWork, to_seal, to_open, to_dseal, to_dopen, to_tag, to_verify, to_derive, primitive_for}
+
+-- the rest goes on, or the record that can't serve is refused
+abbrev pub unless_unfit : Option (ℕ × Unfit) → Plan → Plan
+unless_unfit None next = next
+unless_unfit (Some (i, NoManager)) next = ends (status.NoManager i) tt
+unless_unfit (Some (i, BadKey rule)) next = ends (status.BadKey i rule) tt
+unless_unfit (Some (i, NotRaw)) next = ends (status.NotRaw i) tt
+
+-- the records of the keyset can serve for the primitive, under the table
+abbrev pub handles : Table → Primitive → Keys → (Unit {0} → Plan) → Plan
+handles table primitive keys next = allocates (unless_unfit (unfit keys primitive table) (next tt))
+
+-- a sealing, and the random bytes that it leaves
+abbrev pub as_drawn : Sealed → Drawn (List ℕ)
+as_drawn sealed = record { answer = Ok sealed.bytes; left = sealed.left }
+
+-- the sealing of a plaintext, of random bytes
+abbrev pub seals : Keys → Table → (plain ad : List ℕ) → Draw (List ℕ)
+seals keys table plain ad random = option_map as_drawn (seal_answer keys table plain ad random)
+
+-- the plaintext goes on, or nothing opened
+abbrev pub with_opened : Option (List ℕ) → (List ℕ → Plan) → Plan
+with_opened None next = ends status.OpenFailed tt
+with_opened (Some plain) next = next plain
+
+-- the tag is one of the keyset's, and nothing is put out; or it isn't
+abbrev pub with_verified : Bool → (List ℕ → Plan) → Plan
+with_verified true next = next []
+with_verified false next = ends status.VerifyFailed tt
+
+-- what the primary key makes; each keyset whose records can serve has one (laws::fit_keysets_answer)
+abbrev pub made_bytes : Option (List ℕ) → List ℕ
+made_bytes None = []
+made_bytes (Some bytes) = bytes
+
+-- the derived bytes go on, or there are fewer than were asked for
+abbrev pub with_derived : ℕ → Option (Result (List ℕ) ℕ) → (List ℕ → Plan) → Plan
+with_derived asked None next = next []
+with_derived asked (Some (Ok bytes)) next = next bytes
+with_derived asked (Some (Err greatest)) next = ends (status.OutputTooLong asked greatest) tt
+
+-- what is put out for the whole input
+abbrev pub works : Table → Keys → AskedWork → List ℕ → (List ℕ → Plan) → Plan
+works table keys (to_seal ad) input next =
+    allocates (draws sealings (seals keys table input ad) (λ made. allocates (with_made made next)))
+works table keys (to_open ad) input next =
+    allocates (with_opened (open_answer keys table input ad) next)
+works table keys (to_dseal ad) input next =
+    works_out (made_bytes (dseal_answer keys table input ad)) next
+works table keys (to_dopen ad) input next =
+    allocates (with_opened (dopen_answer keys table input ad) next)
+works table keys to_tag input next = works_out (made_bytes (tag_answer keys table input)) next
+works table keys (to_verify tag) input next =
+    allocates (with_verified (verify_answer keys table tag input) next)
+works table keys (to_derive size) input next =
+    allocates (with_derived size (derive_answer keys table input size) next)
+
+-- work on the whole input, by the keys of the keyset in a file
+abbrev pub use_output : Table → List ℕ → Format → AskedWork → (List ℕ → Plan) → Plan
+use_output table name form work next =
+    loads_keyset name form (λ keys.
+    handles table (primitive_for work) keys (λ fit.
+    reads_input (λ input.
+    works table keys work input next)))
+
+-- the status of a keyset that can't serve, and of want of memory
+abbrev pub handle_refusal : HandleFault → Status
+handle_refusal (faults.NoManager i) = status.NoManager i
+handle_refusal (faults.BadKey i rule) = status.BadKey i rule
+handle_refusal (faults.NotRaw i) = status.NotRaw i
+handle_refusal faults.NoMemory = status.NoMemory
+
+-- what is held is some keyset whose records can serve
+abbrev pub IsServing : Table → Primitive → Held → Type 0
+IsServing table primitive held = (keys : Keys) × IsOver table primitive keys held
+
+-- the work is done by the keys of the keyset that is held
+abbrev pub Works : Table → Held → AskedWork → List ℕ → World → Result (List ℕ) Status → World → Type 0
+Works table held work input old result new =
+    (keys : Keys) → IsOver table (primitive_for work) keys held
+    → Passes (works table keys work input) old result new

@@ -1,0 +1,180 @@
+//! The diagnostic line of a status, told without memory.
+
+ghost use Rattle.std.specs.Prelude.{◌≡◌, ◌+◌, ◌≤◌, ◌++◌, length, codes, decimal};
+ghost use Rattle.keyset_json.specs.Members.{name_of};
+ghost use Rattle.tinkey_session.specs.Texts.{refusal_text};
+ghost use Rattle.tinkey_plans.specs.Status.{key_text, line_of, text_of, fault_text, Reports};
+
+use crate::Status;
+use keyset_json::{Member, Path};
+use keyset_model::KeysetFault;
+use tink_base::{Sink, write_all};
+use tinkey_session::{Refusal, ShortText, refusal_text};
+
+/// Writes the line of a status. A fault of `diag` changes no status.
+pub fn report<G: Sink>(diag: &mut G, status: Status)
+    ensures { Reports status (G.state diag.old) (G.state diag.new) }
+{
+    match write_all(diag, line(status).as_slice()) {
+        Ok(()) => {}
+        Err(_) => {}
+    }
+}
+
+/// Tells on `diag` that memory was refused, where it was before a run. The answer is that status.
+pub fn starve<G: Sink>(diag: &mut G) -> Status
+    ensures status { result ≡ Status.NoMemory }
+    ensures line { Reports result (G.state diag.old) (G.state diag.new) }
+{
+    report(diag, Status::NoMemory);
+    Status::NoMemory
+}
+
+/// The line of a status.
+#[tactic(auto, unfolding(crate::specs::Status::line_of))]
+fn line(status: Status) -> ShortText
+    ensures { result ≡ line_of status }
+{
+    let mut line = ShortText::new();
+    if status != Status::Done {
+        line.push("tinkey: ");
+        push_text(&mut line, status);
+        line.push("\n");
+    }
+    line
+}
+
+/// Adds the text of a status, for which there is room.
+#[tactic(auto, unfolding(crate::specs::Status::text_of))]
+fn push_text(line: &mut ShortText, status: Status)
+    requires room { length line.old ≤ 16 }
+    ensures text { line.new ≡ line.old ++ text_of status }
+    ensures short { length line.new ≤ 127 }
+{
+    match status {
+        Status::Done => {}
+        Status::OpenFailed => push_refusal(line, Refusal::OpenFailed),
+        Status::VerifyFailed => push_refusal(line, Refusal::VerifyFailed),
+        Status::StreamFailed(number) => push_segment(line, number),
+        Status::Usage(word) => {
+            line.push("usage: word ");
+            line.push_number(word);
+        }
+        Status::BadProto(at) => {
+            line.push("bad protobuf at byte ");
+            line.push_number(at);
+        }
+        Status::NotJson => line.push("not JSON"),
+        Status::Shape(path) => push_path(line, path),
+        Status::Keyset(fault) => push_fault(line, fault),
+        Status::KeysetTooLong => line.push("keyset too long"),
+        Status::InMissing => line.push("input file missing"),
+        Status::NoManager(i) => push_refusal(line, Refusal::NoManager(i)),
+        Status::BadKey(i, rule) => push_refusal(line, Refusal::BadKey(i, rule)),
+        Status::NotRaw(i) => push_refusal(line, Refusal::NotRaw(i)),
+        Status::InputTooLong => line.push("input too long"),
+        Status::TooManySegments => line.push("too many segments"),
+        Status::LineTooLong => line.push("line too long"),
+        Status::TooManyLines => line.push("too many lines"),
+        Status::UnknownTemplate => push_refusal(line, Refusal::UnknownTemplate),
+        Status::AsymmetricTemplate => push_refusal(line, Refusal::AsymmetricTemplate),
+        Status::OutputTooLong(asked, greatest) => {
+            push_refusal(line, Refusal::OutputTooLong(asked, greatest));
+        }
+        Status::Command(fault) => push_refusal(line, Refusal::EditRefused(fault)),
+        Status::OutExists => line.push("output file exists"),
+        Status::EntropyFault => line.push("entropy fault"),
+        Status::StoreFault => line.push("store fault"),
+        Status::ReadFault => line.push("read fault"),
+        Status::WriteFault => line.push("write fault"),
+        Status::NoMemory => line.push("out of memory"),
+    }
+}
+
+/// Adds that a stream failed at this segment, for which there is room.
+fn push_segment(line: &mut ShortText, number: u64)
+    requires room { length line.old ≤ 16 }
+    ensures text { line.new ≡ line.old ++ (codes "stream failed at segment " ++ decimal number) }
+    ensures short { length line.new ≤ 127 }
+{
+    line.push("stream failed at segment ");
+    line.push_number(number as usize);
+}
+
+/// Adds that the member of this path isn't of its form, for which there is room.
+fn push_path(line: &mut ShortText, path: Path)
+    requires room { length line.old ≤ 16 }
+    ensures text { line.new ≡ line.old ++
+        (codes "bad JSON member " ++ name_of path.member ++ key_text path.key) }
+    ensures short { length line.new ≤ 127 }
+{
+    line.push("bad JSON member ");
+    line.push(member_name(path.member));
+    if let Some(i) = path.key {
+        line.push(" of key ");
+        line.push_number(i);
+    }
+}
+
+/// The name of a member of a keyset.
+fn member_name(member: Member) -> &'static str
+    ensures text { result.now ≡ name_of member }
+    ensures short { length result.now ≤ 16 }
+{
+    member.name()
+}
+
+/// Adds the text of a keyset's fault, for which there is room.
+#[tactic(auto, unfolding(crate::specs::Status::fault_text))]
+fn push_fault(line: &mut ShortText, fault: KeysetFault)
+    requires room { length line.old ≤ 16 }
+    ensures text { line.new ≡ line.old ++ fault_text fault }
+    ensures short { length line.new ≤ 127 }
+{
+    match fault {
+        KeysetFault::Empty => line.push("keyset has no key"),
+        KeysetFault::TooMany => line.push("keyset has too many keys"),
+        KeysetFault::UnknownStatus(i) => push_key(line, i, " has an unknown status"),
+        KeysetFault::UnknownPrefix(i) => push_key(line, i, " has an unknown output prefix type"),
+        KeysetFault::UnknownMaterial(i) => push_key(line, i, " has an unknown key material type"),
+        KeysetFault::MissingKeyData(i) => push_key(line, i, " has no key data"),
+        KeysetFault::DuplicateId(i, j) => push_keys(line, i, j),
+        KeysetFault::NoPrimary => line.push("no key has the primary id"),
+        KeysetFault::PrimaryNotEnabled => line.push("the primary key is not enabled"),
+    }
+}
+
+/// Adds the text of a refusal, as a line of a session is told it too, for which there is room.
+fn push_refusal(line: &mut ShortText, refusal: Refusal)
+    requires room { length line.old ≤ 16 }
+    ensures text { line.new ≡ line.old ++ refusal_text refusal }
+    ensures short { length line.new ≤ 127 }
+{
+    line.push_bytes(refusal_text(refusal).as_slice());
+}
+
+/// Adds what is said of the key of this place.
+fn push_key(line: &mut ShortText, i: usize, says: &str)
+    requires room { length line.old ≤ 16 }
+    requires says_bound { length says.now ≤ 40 }
+    ensures text { line.new ≡ line.old ++ (codes "key " ++ decimal i ++ says.now) }
+    ensures short { length line.new ≤ 127 }
+{
+    line.push("key ");
+    line.push_number(i);
+    line.push(says);
+}
+
+/// Adds that the keys of these places have the same id.
+fn push_keys(line: &mut ShortText, i: usize, j: usize)
+    requires room { length line.old ≤ 16 }
+    ensures text { line.new ≡ line.old ++
+        (codes "keys " ++ decimal i ++ codes " and " ++ decimal j ++ codes " have the same id") }
+    ensures short { length line.new ≤ 127 }
+{
+    line.push("keys ");
+    line.push_number(i);
+    line.push(" and ");
+    line.push_number(j);
+    line.push(" have the same id");
+}

@@ -1,0 +1,16 @@
+//! What each command answers: plans, how a run may end, and the promises that follow for every plan.
+//!
+//! A command has a plan, the list of its steps in the order of refusals (`specs/Plan.antt`,
+//! `specs/Commands.antt`). Two meanings of a plan are defined once: the stated answer, and how a run
+//! may end whatever fails (`specs/Ends.antt`). Steps that commands share are one word of plans each
+//! (`specs/Steps.antt`, `specs/Using.antt`), and what a keyset answers is said apart from plans, in
+//! `wrapped_prims`. Each promise of a run follows for every plan (`specs/Promises.antt`,
+//! `proofs/PromiseLemmas.antt`).
+#![tactic(auto)]
+
+mod diagnostic;
+pub mod laws;
+mod status;
+
+pub use diagnostic::{report, starve};
+pub use status::Status;

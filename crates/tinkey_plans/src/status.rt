@@ -1,0 +1,116 @@
+//! How a run ends.
+
+ghost use Rattle.std.specs.Prelude.{◌≡◌};
+
+use key_msgs::Rule;
+use keyset_json::Path;
+use keyset_model::KeysetFault;
+use tink_base::NoMemory;
+use tinkey_cmds::CmdFault;
+
+/// How a run ends, with the place where it was refused.
+///
+/// Places of words and bytes count from 0. The texts and the exit codes stand in
+/// `specs/Status.antt` and in docs/SPECIFICATION.md.
+#[derive(Clone, Copy, Debug, PartialEq, Eq)]
+pub enum Status {
+    /// The command was done.
+    Done,
+    /// No key of the keyset opens the input.
+    OpenFailed,
+    /// The tag is none of the keyset's keys.
+    VerifyFailed,
+    /// This segment of the stream, counted from 0, is the first that doesn't authenticate in its place.
+    StreamFailed(u64),
+    /// The word of this place is at fault, or missing where it is the number of words.
+    Usage(usize),
+    /// The field whose tag has this place can't be cut or read.
+    BadProto(usize),
+    /// The keyset isn't JSON.
+    NotJson,
+    /// This member of the keyset is the first that isn't of its form.
+    Shape(Path),
+    /// The keyset has this fault.
+    Keyset(KeysetFault),
+    /// The keyset has more than 1,048,576 bytes.
+    KeysetTooLong,
+    /// The keyset's file is missing.
+    InMissing,
+    /// The record of this place has a type URL that no manager of the command has.
+    NoManager(usize),
+    /// The record of this place breaks this rule of its key message, the first one.
+    BadKey(usize, Rule),
+    /// The record of this place has an output prefix, where the command has no place for one.
+    NotRaw(usize),
+    /// The input has more than 16,777,216 bytes.
+    InputTooLong,
+    /// A byte follows 2^32 segments of the stream.
+    TooManySegments,
+    /// A line of the session has more than 65,536 bytes.
+    LineTooLong,
+    /// The session has more than 100,000 lines.
+    TooManyLines,
+    /// No template is known by the name.
+    UnknownTemplate,
+    /// The template is one of Tink for asymmetric keys.
+    AsymmetricTemplate,
+    /// So many bytes were asked for, and the primary key gives at most so many.
+    OutputTooLong(usize, usize),
+    /// The edit is refused so.
+    Command(CmdFault),
+    /// A file of the output's name is there.
+    OutExists,
+    /// The source failed.
+    ReadFault,
+    /// The sink failed.
+    WriteFault,
+    /// The entropy failed.
+    EntropyFault,
+    /// The store failed.
+    StoreFault,
+    /// Memory was refused.
+    NoMemory,
+}
+
+impl Status {
+    ghost use Rattle.tinkey_plans.specs.Status.{code_of};
+
+    /// The exit code, which tells the kind of the status.
+    pub fn code(&self) -> u8
+        ensures { result ≡ code_of self.now }
+    {
+        match self {
+            Status::Done => 0,
+            Status::OpenFailed | Status::VerifyFailed | Status::StreamFailed(_) => 1,
+            Status::Usage(_)
+            | Status::UnknownTemplate
+            | Status::AsymmetricTemplate
+            | Status::OutputTooLong(_, _) => 2,
+            Status::BadProto(_)
+            | Status::NotJson
+            | Status::Shape(_)
+            | Status::Keyset(_)
+            | Status::NoManager(_)
+            | Status::BadKey(_, _)
+            | Status::NotRaw(_) => 3,
+            Status::InMissing | Status::Command(_) | Status::OutExists => 4,
+            Status::ReadFault | Status::WriteFault | Status::EntropyFault | Status::StoreFault => 5,
+            Status::KeysetTooLong
+            | Status::InputTooLong
+            | Status::TooManySegments
+            | Status::LineTooLong
+            | Status::TooManyLines => 6,
+            Status::NoMemory => 7,
+        }
+    }
+}
+
+impl From<NoMemory> for Status {
+    ghost use Rattle.tinkey_plans.specs.declared.status.Status.TheVariants as status;
+
+    ghost from_gives = { λ _ s. s ≡ status.NoMemory };
+
+    fn from(_error: NoMemory) -> Status {
+        Status::NoMemory
+    }
+}

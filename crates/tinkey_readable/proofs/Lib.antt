@@ -1,0 +1,4 @@
+pub mod ReachLemmas
+pub mod ReadIdLemmas
+pub mod ReadableLemmas
+pub mod RunLemmas

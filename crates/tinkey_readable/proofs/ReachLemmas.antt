@@ -1,0 +1,213 @@
+-- What an answer that is Done says of its steps, and that it comes where they go on.
+use Rattle.std.proofs.Common.{arith, ◌≡◌, ◌∙◌, sym, refl, ap, ℕ, ◌+◌, ◌≤◌, Bool, true, false, cond, List, [], length, nat_le, Option, Some, None, Result, Ok, Err}
+use Rattle.std.specs.Prelude.{drop, if◌then◌else◌}
+use Rattle.std.specs.FinMap as map
+use Rattle.std.specs.Option.{option_and_then}
+use Rattle.std.specs.Result.{result_ok}
+use Rattle.std.proofs.lemmas.Bool.Decides.{nat_tests}
+use Rattle.std.proofs.lemmas.Cmp.{eq_by_cmp_equiv, nat_list_cmp_total}
+use Rattle.key_msgs.specs.Templates.{Row, is_asymmetric, row_named}
+use Rattle.keyset_json.specs.Reading.{reads_json}
+use Rattle.keyset_model.specs.Keyset.{Keys}
+use Rattle.keyset_model.specs.Reading.{reads_binary}
+use Rattle.managers.specs.Table.{Table}
+use Rattle.tink_spec.specs.Files.{Files}
+use Rattle.tinkey_cmds.specs.Draws.{Draw, Drawn}
+use Rattle.tinkey_cmds.specs.Edits.{Edit, Stepped}
+use Rattle.tinkey_cmds.specs.Edits as edits
+use Rattle.tinkey_cmds.specs.declared.command.CmdFault.{CmdFault}
+use Rattle.tinkey_session.proofs.Options.{clash}
+use Rattle.wrapped_prims.specs.Fitness.{Unfit, NoManager, BadKey, NotRaw, unfit}
+use Rattle.tinkey_plans.specs.declared.status.Status.{Status}
+use Rattle.tinkey_plans.specs.declared.status.Status.TheVariants as status
+use Rattle.tinkey_words.specs.declared.words.rows.Format.{Format}
+use Rattle.tinkey_words.specs.declared.words.rows.Format.TheVariants as formats
+use Rattle.tinkey_plans.specs.Plan.{Plan, Told, Answer, answer, refused, load_answer, create_answer, draw_answer, ends, writes}
+use Rattle.tinkey_readable.specs.Runs.{read_in, bytes_at, edit_of}
+use Rattle.tinkey_plans.specs.Steps.{keyset_limit, input_limit, keyset_in, with_keyset, with_json, loads_keyset, reads_keyset, takes_keyset, keyset_at, reads_input, finds_edit, with_row, makes_keyset, with_made, puts, puts_keyset, written_in}
+use Rattle.tinkey_plans.specs.Using.{handles, unless_unfit, use_output, works}
+use Rattle.tinkey_words.specs.Words.{AskedEdit, AskedWork, Place, primitive_for}
+
+-- what was told, with these bytes left of the input and of the random ones
+abbrev pub left_of : Told → (input random : List ℕ) → Told
+left_of told input random = record { input = input; files = told.files; random = random }
+
+abbrev pub IsDoneAnswer : Answer → Type 0
+IsDoneAnswer a = a.status ≡ status.Done
+
+-- an answer that is Done is no refusal
+not_done : {P : Type 0} (s : Status) → (s ≡ status.Done → ⊥) → s ≡ status.Done → P
+not_done s other is = absurd (other is)
+
+-- where the other answer isn't Done, it went on
+went_done : (b : Bool) (went long : Answer) → (long.status ≡ status.Done → ⊥) → (if b then went else long).status ≡ status.Done → (if b then went else long) ≡ went
+went_done true went long other done = refl
+went_done false went long other done = absurd (other done)
+
+went_on : (b : Bool) (went long : Answer) → b ≡ true → (if b then went else long) ≡ went
+went_on b went long is = ap (λ (x : Bool). if x then went else long) is
+
+-- ---- a keyset
+
+same_ok : {A E : Type 0} (r : Result A E) (x : A) → result_ok r ≡ Some x → r ≡ Ok x
+same_ok (Ok y) x e = let h : y ≡ x = cc in ap Ok h
+same_ok (Err y) x e = clash e
+
+pub keyset_reached : (form : Format) (bytes : List ℕ) (keys : Keys) (next : Keys → Plan) (told : Told) → read_in form bytes ≡ Some keys → answer (keyset_in form bytes next) told ≡ answer (next keys) told
+keyset_reached formats.Json bytes keys next told e = ap (λ r. answer (with_json r next) told) (same_ok (reads_json bytes) keys e)
+keyset_reached formats.Binary bytes keys next told e = ap (λ r. answer (with_keyset r next) told) (same_ok (reads_binary bytes) keys e)
+
+-- within its limit a file is loaded
+loaded : (found : Option (List ℕ)) (bytes : List ℕ) (limit : ℕ) (absent long : Answer) (next : List ℕ → Answer) → found ≡ Some bytes → length bytes ≤ limit → load_answer found limit absent long next ≡ next bytes
+loaded found bytes limit absent long next is within = ap (λ f. load_answer f limit absent long next) is ∙ went_on (nat_le (length bytes) limit) (next bytes) long (grind (arith, nat_tests, within))
+
+loaded_done : (found : Option (List ℕ)) (bytes : List ℕ) (limit : ℕ) (absent long : Answer) (next : List ℕ → Answer) → found ≡ Some bytes → (long.status ≡ status.Done → ⊥) → (load_answer found limit absent long next).status ≡ status.Done
+    → load_answer found limit absent long next ≡ next bytes
+loaded_done found bytes limit absent long next is other done =
+    let e = ap (λ f. load_answer f limit absent long next) is in
+    e ∙ went_done (nat_le (length bytes) limit) (next bytes) long other (ap (λ (a : Answer). a.status) (sym e) ∙ done)
+
+pub load_reached : (name : List ℕ) (form : Format) (bytes : List ℕ) (keys : Keys) (next : Keys → Plan) (told : Told) → map.get told.files name ≡ Some bytes → read_in form bytes ≡ Some keys → length bytes ≤ keyset_limit
+    → answer (loads_keyset name form next) told ≡ answer (next keys) told
+load_reached name form bytes keys next told there e within =
+    loaded (map.get told.files name) bytes keyset_limit (refused told status.InMissing) (refused told status.KeysetTooLong) (λ b. answer (keyset_in form b next) told) there within
+    ∙ keyset_reached form bytes keys next told e
+
+pub load_done : (name : List ℕ) (form : Format) (bytes : List ℕ) (keys : Keys) (next : Keys → Plan) (told : Told) → map.get told.files name ≡ Some bytes → read_in form bytes ≡ Some keys → IsDoneAnswer (answer (loads_keyset name form next) told)
+    → answer (loads_keyset name form next) told ≡ answer (next keys) told
+load_done name form bytes keys next told there e done =
+    loaded_done (map.get told.files name) bytes keyset_limit (refused told status.InMissing) (refused told status.KeysetTooLong) (λ b. answer (keyset_in form b next) told) there (λ h. absurd (cc)) done
+    ∙ keyset_reached form bytes keys next told e
+
+-- the told that is left behind a keyset: the input is gone where that was the keyset
+abbrev pub behind : Option (List ℕ) → Told → Told
+behind (Some name) told = told
+behind None told = record told { input = [] }
+
+read_done : (form : Format) (keys : Keys) (next : Keys → Plan) (told : Told) → read_in form told.input ≡ Some keys → IsDoneAnswer (answer (reads_keyset form next) told)
+    → answer (reads_keyset form next) told ≡ answer (next keys) (record told { input = [] })
+read_done form keys next told e done =
+    went_done (nat_le (length told.input) keyset_limit) (answer (keyset_in form told.input next) (record told { input = [] })) (record (refused told status.KeysetTooLong) { input = Some (drop (keyset_limit + 1) told.input) }) (λ h. absurd (cc)) done
+    ∙ keyset_reached form told.input keys next (record told { input = [] }) e
+
+pub taken_done : (place : Place) (bytes : List ℕ) (keys : Keys) (next : Keys → Plan) (told : Told) → bytes_at place.file told.files told.input ≡ Some bytes → read_in place.form bytes ≡ Some keys → IsDoneAnswer (answer (takes_keyset place next) told)
+    → answer (takes_keyset place next) told ≡ answer (next keys) (behind place.file told)
+taken_done place bytes keys next told there e done = by_file place.file there done
+  where
+    by_file : (file : Option (List ℕ)) → bytes_at file told.files told.input ≡ Some bytes → IsDoneAnswer (answer (keyset_at file place.form next) told) → answer (keyset_at file place.form next) told ≡ answer (next keys) (behind file told)
+    by_file (Some name) there done = load_done name place.form bytes keys next told there e done
+    by_file None there done = let same : told.input ≡ bytes = cc in read_done place.form keys next told (ap (read_in place.form) same ∙ e) done
+
+-- ---- an edit
+
+pub record FoundEdit (asked : AskedEdit) (next : Edit → Plan) (told : Told) : Type 0 where
+  pub edit : Edit
+  pub is : edit_of asked ≡ Some edit
+  pub goes_on : answer (finds_edit asked next) told ≡ answer (next edit) told
+
+found_row : (row : Option Row) (name : List ℕ) (next : Row → Plan) (told : Told) → IsDoneAnswer (answer (with_row row name next) told) → (r : Row) × (row ≡ Some r) × (answer (with_row row name next) told ≡ answer (next r) told)
+found_row (Some r) name next told done = (r, refl, refl)
+found_row None name next told done = by_test (is_asymmetric name) done
+  where
+    by_test : (b : Bool) → IsDoneAnswer (answer (if b then ends status.AsymmetricTemplate tt else ends status.UnknownTemplate tt) told) → (r : Row) × (None ≡ Some r) × (answer (if b then ends status.AsymmetricTemplate tt else ends status.UnknownTemplate tt) told ≡ answer (next r) told)
+    by_test true done = absurd (cc)
+    by_test false done = absurd (cc)
+
+pub found_edit : (asked : AskedEdit) (next : Edit → Plan) (told : Told) → IsDoneAnswer (answer (finds_edit asked next) told) → FoundEdit asked next told
+found_edit (edits.Add name) next told done = let f = found_row (row_named name) name (λ row. next (edits.Add row)) told done in record { edit = edits.Add f.0; is = ap (option_and_then (λ row. Some (edits.Add row))) f.1; goes_on = f.2 }
+found_edit (edits.Rotate name) next told done = let f = found_row (row_named name) name (λ row. next (edits.Rotate row)) told done in record { edit = edits.Rotate f.0; is = ap (option_and_then (λ row. Some (edits.Rotate row))) f.1; goes_on = f.2 }
+found_edit (edits.Promote id) next told done = record { edit = edits.Promote id; is = refl; goes_on = refl }
+found_edit (edits.Enable id) next told done = record { edit = edits.Enable id; is = refl; goes_on = refl }
+found_edit (edits.Disable id) next told done = record { edit = edits.Disable id; is = refl; goes_on = refl }
+found_edit (edits.Destroy id) next told done = record { edit = edits.Destroy id; is = refl; goes_on = refl }
+found_edit (edits.Delete id) next told done = record { edit = edits.Delete id; is = refl; goes_on = refl }
+
+pub record MadeKeyset (give : Draw Keys) (next : Keys → Plan) (told : Told) : Type 0 where
+  pub drawn : Drawn Keys
+  pub gave : give told.random ≡ Some drawn
+  pub new : Keys
+  pub made : drawn.answer ≡ Ok new
+  pub goes_on : answer (makes_keyset give next) told ≡ answer (next new) (record told { random = drawn.left })
+
+pub made_done : (give : Draw Keys) (next : Keys → Plan) (told : Told) → IsDoneAnswer (answer (makes_keyset give next) told) → MadeKeyset give next told
+made_done give next told done = by_draw (give told.random) refl done
+  where
+    by_answer : (drawn : Drawn Keys) (r : Result Keys CmdFault) → give told.random ≡ Some drawn → drawn.answer ≡ r → IsDoneAnswer (answer (with_made r next) (record told { random = drawn.left })) → MadeKeyset give next told
+    by_answer drawn (Ok new) gave is done = record {
+      drawn = drawn;
+      gave = gave;
+      new = new;
+      made = is;
+      goes_on = ap (λ o. draw_answer o (refused told status.EntropyFault) (λ (x : Drawn Keys). answer (with_made x.answer next) (record told { random = x.left }))) gave ∙ ap (λ r. answer (with_made r next) (record told { random = drawn.left })) is;
+    }
+    by_answer drawn (Err fault) gave is done = absurd (cc)
+
+    by_draw : (o : Option (Drawn Keys)) → give told.random ≡ o → IsDoneAnswer (draw_answer o (refused told status.EntropyFault) (λ x. answer (with_made x.answer next) (record told { random = x.left }))) → MadeKeyset give next told
+    by_draw None gave done = absurd (cc)
+    by_draw (Some drawn) gave done = by_answer drawn drawn.answer gave refl done
+
+-- ---- the file or the output
+
+pub put_done : (out : Place) (keys : Keys) (told : Told) → IsDoneAnswer (answer (puts_keyset out keys) told)
+    → bytes_at out.file (answer (puts_keyset out keys) told).files (answer (puts_keyset out keys) told).output ≡ Some (written_in out.form keys)
+put_done out keys told done = by_file out.file done
+  where
+    bytes : List ℕ
+    bytes = written_in out.form keys
+
+    there : (name : List ℕ) (files : Files) → map.get (map.insert files name bytes) name ≡ Some bytes
+    there name files = map.get-insert nat_list_cmp_total files name bytes name ∙ ap (λ (b : Bool). cond b (Some bytes) (map.get files name)) ((eq_by_cmp_equiv nat_list_cmp_total).refl name)
+
+    by_free : (name : List ℕ) (found : Option (List ℕ)) → IsDoneAnswer (create_answer found told name bytes (refused told status.OutExists)) → map.get (create_answer found told name bytes (refused told status.OutExists)).files name ≡ Some bytes
+    by_free name (Some x) done = absurd (cc)
+    by_free name None done = there name told.files
+
+    by_file : (file : Option (List ℕ)) → IsDoneAnswer (answer (puts file bytes) told) → bytes_at file (answer (puts file bytes) told).files (answer (puts file bytes) told).output ≡ Some bytes
+    by_file (Some name) done = by_free name (map.get told.files name) done
+    by_file None done = refl
+
+-- ---- the keys of a keyset
+
+unfit_done : (u : Option (ℕ × Unfit)) (next : Plan) (told : Told) → IsDoneAnswer (answer (unless_unfit u next) told) → u ≡ None
+unfit_done None next told done = refl
+unfit_done (Some (i, NoManager)) next told done = absurd (cc)
+unfit_done (Some (i, BadKey rule)) next told done = absurd (cc)
+unfit_done (Some (i, NotRaw)) next told done = absurd (cc)
+
+-- work behind the keyset and its fitness
+abbrev work_behind : Table → Keys → AskedWork → Plan
+work_behind table keys work = reads_input (λ input. works table keys work input writes)
+
+input_done : (table : Table) (keys : Keys) (work : AskedWork) (told : Told) → IsDoneAnswer (answer (work_behind table keys work) told)
+    → answer (work_behind table keys work) told ≡ answer (works table keys work told.input writes) (record told { input = [] })
+input_done table keys work told done =
+    went_done (nat_le (length told.input) input_limit) (answer (works table keys work told.input writes) (record told { input = [] })) (record (refused told status.InputTooLong) { input = Some (drop (input_limit + 1) told.input) }) (λ h. absurd (cc)) done
+
+input_reached : (table : Table) (keys : Keys) (work : AskedWork) (told : Told) → length told.input ≤ input_limit
+    → answer (work_behind table keys work) told ≡ answer (works table keys work told.input writes) (record told { input = [] })
+input_reached table keys work told within =
+    went_on (nat_le (length told.input) input_limit) (answer (works table keys work told.input writes) (record told { input = [] })) (record (refused told status.InputTooLong) { input = Some (drop (input_limit + 1) told.input) }) (grind (arith, nat_tests, within))
+
+pub record UsedKeys (table : Table) (keys : Keys) (work : AskedWork) (told : Told) (a : Answer) : Type 0 where
+  pub fit : unfit keys (primitive_for work) table ≡ None
+  pub goes_on : a ≡ answer (works table keys work told.input writes) (record told { input = [] })
+
+pub used_done : (table : Table) (name : List ℕ) (form : Format) (work : AskedWork) (bytes : List ℕ) (keys : Keys) (told : Told) → map.get told.files name ≡ Some bytes → read_in form bytes ≡ Some keys → IsDoneAnswer (answer (use_output table name form work writes) told)
+    → UsedKeys table keys work told (answer (use_output table name form work writes) told)
+used_done table name form work bytes keys told there e done =
+    let l = load_done name form bytes keys (λ k. handles table (primitive_for work) k (λ fit. work_behind table k work)) told there e done in
+    let d : IsDoneAnswer (answer (unless_unfit (unfit keys (primitive_for work) table) (work_behind table keys work)) told) = ap (λ (a : Answer). a.status) (sym l) ∙ done in
+    let fit = unfit_done (unfit keys (primitive_for work) table) (work_behind table keys work) told d in
+    let f : answer (unless_unfit (unfit keys (primitive_for work) table) (work_behind table keys work)) told ≡ answer (work_behind table keys work) told = ap (λ u. answer (unless_unfit u (work_behind table keys work)) told) fit in
+    record {
+      fit = fit;
+      goes_on = l ∙ f ∙ input_done table keys work told (ap (λ (a : Answer). a.status) (sym f) ∙ d);
+    }
+
+pub used_reached : (table : Table) (name : List ℕ) (form : Format) (work : AskedWork) (bytes : List ℕ) (keys : Keys) (told : Told) → map.get told.files name ≡ Some bytes → read_in form bytes ≡ Some keys → length bytes ≤ keyset_limit
+    → unfit keys (primitive_for work) table ≡ None → length told.input ≤ input_limit
+    → answer (use_output table name form work writes) told ≡ answer (works table keys work told.input writes) (record told { input = [] })
+used_reached table name form work bytes keys told there e within fit fits =
+    load_reached name form bytes keys (λ k. handles table (primitive_for work) k (λ x. work_behind table k work)) told there e within
+    ∙ ap (λ u. answer (unless_unfit u (work_behind table keys work)) told) fit
+    ∙ input_reached table keys work told fits

@@ -1,0 +1,145 @@
+-- What a run of a session wrote, and what of it is readable.
+use Rattle.std.proofs.Common.{◌≡◌, ◌∙◌, sym, refl, ap, subst, ℕ, ◌≤◌, Bool, true, false, List, [], ◌++◌, length, nat_le, append-nil, Option, Some, None, arith}
+use Rattle.std.specs.Prelude.{if◌then◌else◌, map as each}
+use Rattle.std.specs.FinMap as map
+use Rattle.std.specs.List.{AllByRecursion}
+use Rattle.std.proofs.lemmas.Bool.Decides.{nat_tests}
+use Rattle.keyset_json.specs.Reading.{reads_json}
+use Rattle.keyset_model.specs.Keyset.{Keys}
+use Rattle.keyset_model.specs.Reading.{reads_binary}
+use Rattle.keyset_model.specs.Writing.{ReadKeysFit}
+use Rattle.managers.specs.Standard.{standard_table}
+use Rattle.managers.specs.Table.{Table}
+use Rattle.tink_spec.specs.Outside.{Took}
+use Rattle.tinkey_session.specs.Lines.{Line, line_of}
+use Rattle.tinkey_session.specs.Session.{Turn, lines_of, turns}
+use Rattle.tinkey_session.specs.SessionLaws.{HasTurns, SessionDopens, SessionDopensRaw, SessionOpens, SessionOpensRaw, SessionVerifies}
+use Rattle.tinkey_session.specs.TalkLaws.{TalkIsTurns}
+use Rattle.tinkey_session.specs.Talking.{Stop, goes, wants, passes, long_line, many_lines, Talk, talk}
+use Rattle.wrapped_prims.specs.Laws.{IsKeyset}
+use Rattle.wrapped_prims.specs.Making.{HasWordId}
+use Rattle.tinkey_plans.specs.declared.status.Status.{Status}
+use Rattle.tinkey_plans.specs.declared.status.Status.TheVariants as status
+use Rattle.tinkey_words.specs.declared.words.rows.Format.{Format}
+use Rattle.tinkey_words.specs.declared.words.rows.Format.TheVariants as formats
+use Rattle.tinkey_plans.specs.Commands.{asked_plan, plan_of}
+use Rattle.tinkey_plans.specs.Ends.{World}
+use Rattle.tinkey_plans.specs.Plan.{Told, Answer, answer, create_answer, IsStated, refused, talk_answer}
+use Rattle.tinkey_plans.specs.Promises.{Answers, IsAnswer}
+use Rattle.tinkey_readable.specs.Readable.{AreAmong, AreReadable, HasReplies, IsReadable, turns_of}
+use Rattle.tinkey_readable.specs.Runs.{read_in}
+use Rattle.tinkey_plans.specs.Session.{holds_session, saves, saves_as}
+use Rattle.tinkey_plans.specs.Steps.{keyset_limit, keyset_in, loads_keyset, written_in}
+use Rattle.tinkey_words.specs.Words.{Place}
+use Rattle.tinkey_readable.proofs.ReachLemmas.{keyset_reached}
+use Rattle.tinkey_readable.proofs.ReadIdLemmas.{json_words}
+use Rattle.tinkey_readable.proofs.RunLemmas.{each_of, ok_of, read_faultless}
+
+not_fault : (s : Status) → IsStated s → s ≡ status.EntropyFault → ⊥
+not_fault s stated is = let h : IsStated status.EntropyFault = rw is at stated in h
+
+-- ---- turns
+
+has_turns : (keys : Keys) (lines : List Line) (random : List ℕ) (s t : Turn) → AreAmong (turns standard_table keys lines random) s t → HasTurns keys lines random s t
+has_turns keys lines random s t x = record { i = x.i; j = x.j; later = x.later; first = x.first; second = x.second }
+
+are_readable : SessionOpens → SessionDopens → SessionOpensRaw → SessionDopensRaw → SessionVerifies → (keys : Keys) (lines : List Line) (random : List ℕ) → IsKeyset keys → AreReadable (turns standard_table keys lines random)
+are_readable opens dopens opens_raw dopens_raw verifies keys lines random is = record {
+  opens = λ s t r prefix plain ad sealed x. opens keys lines random prefix plain ad sealed s t r is (has_turns keys lines random s t x);
+  dopens = λ s t r prefix plain ad sealed x. dopens keys lines random prefix plain ad sealed s t r is (has_turns keys lines random s t x);
+  opens_raw = λ s t r plain ad sealed x. opens_raw keys lines random plain ad sealed s t r is (has_turns keys lines random s t x);
+  dopens_raw = λ s t r plain ad sealed x. dopens_raw keys lines random plain ad sealed s t r is (has_turns keys lines random s t x);
+  verifies = λ s t r tag body x. verifies keys lines random body tag s t r is (has_turns keys lines random s t x);
+}
+
+-- no turn is readable
+none_among : {P : Type 0} (s t : Turn) → AreAmong [] s t → P
+none_among s t x = absurd (cc)
+
+none_readable : AreReadable []
+none_readable = record {
+  opens = λ s t r prefix plain ad sealed x. none_among s t x;
+  dopens = λ s t r prefix plain ad sealed x. none_among s t x;
+  opens_raw = λ s t r plain ad sealed x. none_among s t x;
+  dopens_raw = λ s t r plain ad sealed x. none_among s t x;
+  verifies = λ s t r tag body x. none_among s t x;
+}
+
+-- ---- the keyset that was read
+
+read_words : ReadKeysFit → (form : Format) (bytes : List ℕ) (keys : Keys) → length bytes ≤ keyset_limit → read_in form bytes ≡ Some keys → AllByRecursion HasWordId keys.records
+read_words fit formats.Json bytes keys within e = json_words bytes keys (ok_of (reads_json bytes) keys e)
+read_words fit formats.Binary bytes keys within e = each_of keys.records (λ r b. b.id) (fit bytes keys (omega (arith, within)) (ok_of (reads_binary bytes) keys e)).1
+
+read_keyset : ReadKeysFit → (form : Format) (bytes : List ℕ) (keys : Keys) → length bytes ≤ keyset_limit → read_in form bytes ≡ Some keys → IsKeyset keys
+read_keyset fit form bytes keys within e = record { faultless = read_faultless (record { bytes = bytes; form = form }) keys e; words = read_words fit form bytes keys within e }
+
+-- ---- the answer of a session
+
+-- saving writes nothing
+saves_nothing : (file : Option (List ℕ)) (form : Format) (keys : Keys) (told : Told) → (answer (saves_as file form keys) told).output ≡ []
+saves_nothing None form keys told = refl
+saves_nothing (Some name) form keys told = by (map.get told.files name)
+  where
+    by : (found : Option (List ℕ)) → (create_answer found told name (written_in form keys) (refused told status.OutExists)).output ≡ []
+    by None = refl
+    by (Some bytes) = refl
+
+-- what the answer of the session itself says of the run
+replied : SessionOpens → SessionDopens → SessionOpensRaw → SessionDopensRaw → SessionVerifies → TalkIsTurns → (table : Table) (out : Place) (keys : Keys) (told : Told) (old : World) (s : Status) (new : World)
+    → IsKeyset keys → IsStated s → IsAnswer (answer (holds_session table out keys) told) old s new → HasReplies table keys told old s new
+replied opens dopens opens_raw dopens_raw verifies law table out keys told old s new is stated a = by_stop x.stop refl a
+  where
+    x : Talk
+    x = talk table keys told.input told.random true
+
+    next : Answer
+    next = answer (saves out x.keys) (record told { input = []; random = x.random })
+
+    told_so : (s ≡ status.Done → x.stop ≡ goes) → (output : List ℕ) → output ≡ x.output → Took old.sink new.sink output → HasReplies table keys told old s new
+    told_so done output same took =
+        let t = law table keys told.input told.random true in
+        record {
+          answered = t.answered;
+          later = t.later;
+          cut = t.cut;
+          all = λ h. t.all (done h);
+          whole = t.whole;
+          took = subst (λ bytes. Took old.sink new.sink bytes) (same ∙ t.output) took;
+          readable = λ standard. subst (λ (tb : Table). AreReadable (turns_of tb keys t.answered told.random)) (sym standard) (are_readable opens dopens opens_raw dopens_raw verifies keys (each line_of t.answered) told.random is);
+        }
+
+    by_stop : (stop : Stop) → x.stop ≡ stop → IsAnswer (talk_answer stop x told next) old s new → HasReplies table keys told old s new
+    by_stop goes is a = told_so (λ h. is) (x.output ++ next.output) (ap (λ l. x.output ++ l) (saves_nothing out.file out.form x.keys (record told { input = []; random = x.random })) ∙ append-nil x.output) a.output
+    by_stop wants is a = absurd (not_fault s stated a.status)
+    by_stop (passes long_line) is a = told_so (λ h. let clash : status.Done ≡ status.LineTooLong = sym h ∙ a.status in absurd (cc)) x.output refl a.output
+    by_stop (passes many_lines) is a = told_so (λ h. let clash : status.Done ≡ status.TooManyLines = sym h ∙ a.status in absurd (cc)) x.output refl a.output
+
+-- a keyset that is too long has no lines answered
+too_long : (table : Table) (keys : Keys) (told : Told) (old : World) (s : Status) (new : World) → s ≡ status.KeysetTooLong → Took old.sink new.sink [] → HasReplies table keys told old s new
+unfolding turns
+too_long table keys told old s new is took = record {
+  answered = [];
+  later = lines_of told.input;
+  cut = refl;
+  all = λ h. let clash : status.Done ≡ status.KeysetTooLong = sym h ∙ is in absurd (cc);
+  whole = refl;
+  took = took;
+  readable = λ standard. none_readable;
+}
+
+pub readable : SessionOpens → SessionDopens → SessionOpensRaw → SessionDopensRaw → SessionVerifies → TalkIsTurns → ReadKeysFit → (table : Table) (words : List (List ℕ)) (old : World) (s : Status) (new : World)
+    → Answers (plan_of table words) old s new → IsReadable table words old s new
+readable opens dopens opens_raw dopens_raw verifies law fit table words old s new answers = record {
+  replies = λ told name bytes form out keys tells stated is there read.
+      let a : IsAnswer (answer (loads_keyset name form (holds_session table out)) told) old s new = subst (λ p. IsAnswer (answer p told) old s new) (ap (asked_plan table) is) (answers.over told tells stated) in
+      let b : IsAnswer (if nat_le (length bytes) keyset_limit then answer (keyset_in form bytes (holds_session table out)) told else refused told status.KeysetTooLong) old s new = rw there at a in
+      by_length told bytes form out keys stated read (nat_le (length bytes) keyset_limit) refl b;
+}
+  where
+    by_length : (told : Told) (bytes : List ℕ) (form : Format) (out : Place) (keys : Keys) → IsStated s → read_in form bytes ≡ Some keys → (t : Bool) → nat_le (length bytes) keyset_limit ≡ t
+        → IsAnswer (if t then answer (keyset_in form bytes (holds_session table out)) told else refused told status.KeysetTooLong) old s new → HasReplies table keys told old s new
+    by_length told bytes form out keys stated read true is a =
+        replied opens dopens opens_raw dopens_raw verifies law table out keys told old s new (read_keyset fit form bytes keys (grind (arith, nat_tests, is)) read) stated
+        (subst (λ x. IsAnswer x old s new) (keyset_reached form bytes keys (holds_session table out) told read) a)
+    by_length told bytes form out keys stated read false is a = too_long table keys told old s new a.status a.output

@@ -1,0 +1,462 @@
+-- Runs that hand a keyset on: what one does, and what is readable after many.
+use Rattle.std.proofs.Common.{◌≡◌, ◌∙◌, sym, refl, ap, subst, ℕ, ◌<◌, ◌≤◌, ◌^◌, Bool, true, false, cond, List, [], ◌∷◌, ◌++◌, length, map as each, append-nil, Option, Some, None, option_map, Result, Ok, Err}
+use Rattle.std.specs.Prelude.{find, IsSome}
+use Rattle.std.specs.FinMap as map
+use Rattle.std.specs.List.{AllByRecursion}
+use Rattle.std.specs.Result.{result_ok}
+use Rattle.std.proofs.lemmas.Option.{same_Some}
+use Rattle.key_msgs.specs.Templates.{Row, is_asymmetric, row_named}
+use Rattle.key_msgs.specs.declared.primitive.Primitive.{Primitive}
+use Rattle.key_msgs.specs.declared.primitive.Primitive.TheVariants.{Aead, Daead, Mac}
+use Rattle.keyset_json.specs.Reading.{reads_json}
+use Rattle.keyset_json.specs.Reading as json
+use Rattle.keyset_json.specs.Writing.{JsonBack}
+use Rattle.keyset_model.specs.Keyset.{Keys, built, fault_of, is_primary, primary_of, unless_fault}
+use Rattle.keyset_model.specs.Reading.{reads_binary}
+use Rattle.keyset_model.specs.Reading as binary
+use Rattle.keyset_model.specs.WellFormed.{FaultlessKeysets}
+use Rattle.keyset_model.specs.Writing.{BinaryBack}
+use Rattle.keyset_model.specs.declared.keyset.KeysetFault.{KeysetFault}
+use Rattle.keyset_model.specs.declared.record.Record.{Record}
+use Rattle.managers.specs.Standard.{standard_table}
+use Rattle.managers.specs.Table.{Table}
+use Rattle.tinkey_cmds.specs.Draws.{Drawn}
+use Rattle.tinkey_cmds.specs.Edits.{Edit, Stepped, step}
+use Rattle.tinkey_cmds.specs.Edits as edits
+use Rattle.tinkey_cmds.specs.Laws.{EditsKeepKeysets, HasTemplate, IsTemplate}
+use Rattle.tinkey_session.proofs.Options.{clash, no_truth, then_some}
+use Rattle.tinkey_session.proofs.StoredLemmas.{byte_there}
+use Rattle.tinkey_session.proofs.TurnLemmas.{edited_on, template_there}
+use Rattle.tinkey_session.specs.Serving.{template_or}
+use Rattle.tinkey_session.specs.HeldLaws.{AreStored, EditsKeepStored, IsStored, SessionsKeepStored}
+use Rattle.tinkey_session.specs.Laws.{EditedIsKeyset, EditedIsSound, IsEdited, KeptDopen, KeptDopenRaw, KeptOpen, KeptOpenRaw, KeptTag, SoundIsUsable, after}
+use Rattle.tinkey_session.specs.Lines.{line_of}
+use Rattle.tinkey_session.specs.Session.{Remains, asked_in, lines_of, remains}
+use Rattle.tinkey_session.specs.Talking.{Stop, goes, wants, passes, long_line, many_lines, Talk, talk}
+use Rattle.tinkey_session.specs.SessionLaws.{SessionIsEdits}
+use Rattle.tinkey_session.specs.TalkLaws.{TalkIsTurns}
+use Rattle.wrapped_prims.specs.Answers.{Sealed, dopen_answer, dseal_answer, open_answer, seal_answer, tag_answer, verify_answer}
+use Rattle.wrapped_prims.specs.Laws.{HasSameKey, IsKeyset}
+use Rattle.wrapped_prims.specs.Fitness.{unfit}
+use Rattle.tinkey_plans.specs.declared.status.Status.TheVariants as status
+use Rattle.tinkey_words.specs.declared.words.rows.Format.{Format}
+use Rattle.tinkey_words.specs.declared.words.rows.Format.TheVariants as formats
+use Rattle.tinkey_plans.specs.Commands.{command_plan}
+use Rattle.tinkey_plans.specs.Plan.{Told, Answer, answer, writes, draw_answer, refused, talk_answer}
+use Rattle.tinkey_plans.specs.Session.{holds_session, saves, saves_as}
+use Rattle.tinkey_readable.specs.Runs.{Handing, hands_on, session_handing, AreRuns, DrawsBytes, Does, Gives, IsDone, LeadOn, Run, RunStep, RunsDopen, RunsDopenRaw, RunsOpen, RunsOpenRaw, RunsVerify, WasDone, Written, bytes_at, edit_of, keyset_of, read_in}
+use Rattle.tinkey_plans.specs.Laws.{FitKeysetsAnswer}
+use Rattle.tinkey_plans.specs.Steps.{input_limit, takes_keyset, makes_keyset, puts_keyset, with_made, written_in}
+use Rattle.tinkey_plans.specs.Using.{as_drawn, made_bytes, with_opened, with_verified, works}
+use Rattle.tinkey_words.specs.Words.{Asked, AskedEdit, AskedWork, Place, create_keyset, edit_keyset, list_keyset, convert_keyset, list_key_templates, use_keyset, seal_stream, open_stream, self_test, session, to_seal, to_open, to_dseal, to_dopen, to_tag, to_verify, primitive_for}
+use Rattle.tinkey_readable.proofs.ReachLemmas.{load_done, IsDoneAnswer, behind, found_edit, made_done, put_done, taken_done, used_done, used_reached}
+
+-- ---- what is read is a keyset
+
+of_built : (keys got : Keys) (o : Option KeysetFault) → fault_of got ≡ o → unless_fault o got ≡ Ok keys → fault_of keys ≡ None
+of_built keys got None is e = let same : got ≡ keys = cc in ap fault_of (sym same) ∙ is
+of_built keys got (Some fault) is e = absurd (cc)
+
+read_binary_keyset : (bytes : List ℕ) (keys : Keys) → reads_binary bytes ≡ Ok keys → fault_of keys ≡ None
+unfolding reads_binary
+read_binary_keyset bytes keys e = of_read _ e
+  where
+    of_checked : (got : Keys) (r : Result Keys KeysetFault) → built got ≡ r → binary.without_fault r ≡ Ok keys → fault_of keys ≡ None
+    of_checked got (Ok k) is e = let same : k ≡ keys = cc in of_built keys got (fault_of got) refl (is ∙ ap Ok same)
+    of_checked got (Err fault) is e = absurd (cc)
+
+    of_read : (r : Result Keys ℕ) → binary.well_formed r ≡ Ok keys → fault_of keys ≡ None
+    of_read (Ok got) e = of_checked got (built got) refl e
+    of_read (Err at) e = absurd (cc)
+
+read_json_keyset : (bytes : List ℕ) (keys : Keys) → reads_json bytes ≡ Ok keys → fault_of keys ≡ None
+unfolding reads_json
+read_json_keyset bytes keys e = of_read _ e
+  where
+    of_checked : (got : Keys) (r : Result Keys KeysetFault) → built got ≡ r → json.without_fault r ≡ Ok keys → fault_of keys ≡ None
+    of_checked got (Ok k) is e = let same : k ≡ keys = cc in of_built keys got (fault_of got) refl (is ∙ ap Ok same)
+    of_checked got (Err fault) is e = absurd (cc)
+
+    of_keys : (r : Result Keys _) → json.well_formed r ≡ Ok keys → fault_of keys ≡ None
+    of_keys (Ok got) e = of_checked got (built got) refl e
+    of_keys (Err path) e = absurd (cc)
+
+    of_read : (d : Option _) → json.of_value d ≡ Ok keys → fault_of keys ≡ None
+    of_read None e = absurd (cc)
+    of_read (Some d) e = of_keys _ e
+
+pub ok_of : {A E : Type 0} (r : Result A E) (x : A) → result_ok r ≡ Some x → r ≡ Ok x
+ok_of (Ok y) x e = ap Ok (same_Some _ _ e)
+ok_of (Err y) x e = clash e
+
+pub read_faultless : (written : Written) (keys : Keys) → keyset_of written ≡ Some keys → fault_of keys ≡ None
+read_faultless written keys e = by_form written.form e
+  where
+    by_form : (form : Format) → read_in form written.bytes ≡ Some keys → fault_of keys ≡ None
+    by_form formats.Json e = read_json_keyset written.bytes keys (ok_of (reads_json written.bytes) keys e)
+    by_form formats.Binary e = read_binary_keyset written.bytes keys (ok_of (reads_binary written.bytes) keys e)
+
+-- ---- what is written is read back
+
+pub each_of : {A : Type 0} {P Q : A → Type 0} (xs : List A) → ((x : A) → P x → Q x) → AllByRecursion P xs → AllByRecursion Q xs
+each_of [] f all = tt
+each_of (x ∷ xs) f all = (f x all.0, each_of xs f all.1)
+
+found_each : (P : Record → Type 0) (test : Record → Bool) (xs : List Record) (x : Record) → find test xs ≡ Some x → AllByRecursion P xs → P x
+found_each P test [] x e all = clash e
+found_each P test (y ∷ xs) x e all = (elim (test y) as (λ (b : Bool). cond b (Some y) (find test xs) ≡ Some x → P x) [
+  | true ↦ λ h. subst P (same_Some _ _ h) all.0
+  | false ↦ λ h. found_each P test xs x h all.1
+]) e
+
+primary_word : FaultlessKeysets → (keys : Keys) → fault_of keys ≡ None → AreStored keys → keys.primary < 2 ^ 32
+primary_word law keys faultless stored =
+    let there = ((law keys).0 faultless).primary in
+    let r = found_each IsStored (is_primary keys.primary) keys.records there.0 there.1 stored in
+    subst (λ n. n < 2 ^ 32) there.2 r.held.id
+
+pub written_back : FaultlessKeysets → BinaryBack → JsonBack → (form : Format) (keys : Keys) → fault_of keys ≡ None → AreStored keys → read_in form (written_in form keys) ≡ Some keys
+written_back law binary json formats.Json keys faultless stored = ap result_ok (json keys faultless (primary_word law keys faultless stored) (each_of keys.records (λ r s. record { id = s.held.id; utf8 = s.held.utf8; bytes = byte_there r.value s.bytes }) stored))
+written_back law binary json formats.Binary keys faultless stored = ap result_ok (binary keys faultless (each_of keys.records (λ r s. record { id = s.held.id; utf8 = s.held.utf8; short = s.held.short }) stored))
+
+-- ---- one run
+
+template_row : (name : List ℕ) (row : Row) → row_named name ≡ Some row → IsTemplate row
+template_row name row e = template_there name row (ap (λ (o : Option Row). template_or o (is_asymmetric name)) e)
+
+-- the edit of a name has its template
+edit_template : (asked : AskedEdit) (edit : Edit) → edit_of asked ≡ Some edit → HasTemplate edit
+edit_template (edits.Add name) edit e = let m = then_some (λ row. Some (edits.Add row)) (row_named name) edit e in subst HasTemplate (same_Some _ _ m.2) (template_row name m.0 m.1)
+edit_template (edits.Rotate name) edit e = let m = then_some (λ row. Some (edits.Rotate row)) (row_named name) edit e in subst HasTemplate (same_Some _ _ m.2) (template_row name m.0 m.1)
+edit_template (edits.Promote id) edit e = subst HasTemplate (same_Some _ _ e) tt
+edit_template (edits.Enable id) edit e = subst HasTemplate (same_Some _ _ e) tt
+edit_template (edits.Disable id) edit e = subst HasTemplate (same_Some _ _ e) tt
+edit_template (edits.Destroy id) edit e = subst HasTemplate (same_Some _ _ e) tt
+edit_template (edits.Delete id) edit e = subst HasTemplate (same_Some _ _ e) tt
+
+-- what a run did, and so what keyset was written
+given : FaultlessKeysets → BinaryBack → JsonBack → (table : Table) (run : Run) (old new : Keys) (out : Place) (after : Written) → out.form ≡ after.form
+    → bytes_at out.file (answer (command_plan table run.asked) run.told).files (answer (command_plan table run.asked) run.told).output ≡ Some after.bytes
+    → bytes_at out.file (answer (command_plan table run.asked) run.told).files (answer (command_plan table run.asked) run.told).output ≡ Some (written_in out.form new)
+    → fault_of new ≡ None → AreStored new → Does table run.told old new run.asked → Gives table run old after
+given law binary json table run old new out after form put is faultless stored does = record {
+  new = new;
+  read = subst (λ f. read_in f after.bytes ≡ Some new) form (ap (read_in out.form) (same_Some _ _ (sym put ∙ is)) ∙ written_back law binary json out.form new faultless stored);
+  does = does;
+  stored = stored;
+}
+
+behind_random : (file : Option (List ℕ)) (told : Told) → (behind file told).random ≡ told.random
+behind_random (Some name) told = refl
+behind_random None told = refl
+
+edit_step : FaultlessKeysets → BinaryBack → JsonBack → EditsKeepKeysets → EditsKeepStored → (table : Table) (edit : AskedEdit) (in' out : Place) (told : Told) (before after : Written) (old : Keys)
+    → IsDoneAnswer (answer (command_plan table (edit_keyset edit in' out)) told)
+    → in'.form ≡ before.form → bytes_at in'.file told.files told.input ≡ Some before.bytes → out.form ≡ after.form
+    → bytes_at out.file (answer (command_plan table (edit_keyset edit in' out)) told).files (answer (command_plan table (edit_keyset edit in' out)) told).output ≡ Some after.bytes
+    → AllByRecursion (λ b. b < 256) told.random → keyset_of before ≡ Some old → AreStored old
+    → Gives table (record { asked = edit_keyset edit in' out; told = told }) old after
+edit_step law binary json keeps keeps_stored table edit in' out told before after old done form read put_form put random is stored =
+    let f = found_edit edit (λ e. takes_keyset in' (λ keys. makes_keyset (step keys e) (puts_keyset out))) told done in
+    let d : IsDoneAnswer (answer (takes_keyset in' (λ keys. makes_keyset (step keys f.edit) (puts_keyset out))) told) = ap (λ (a : Answer). a.status) (sym f.goes_on) ∙ done in
+    let t = taken_done in' before.bytes old (λ keys. makes_keyset (step keys f.edit) (puts_keyset out)) told read (ap (λ x. read_in x before.bytes) form ∙ is) d in
+    let behind' = behind in'.file told in
+    let m = made_done (step old f.edit) (puts_keyset out) behind' (ap (λ (a : Answer). a.status) (sym t) ∙ d) in
+    let left = record behind' { random = m.drawn.left } in
+    let whole = f.goes_on ∙ t ∙ m.goes_on in
+    let p = put_done out m.new left (ap (λ (a : Answer). a.status) (sym whole) ∙ done) in
+    let gave : step old f.edit told.random ≡ Some m.drawn = ap (step old f.edit) (sym (behind_random in'.file told)) ∙ m.gave in
+    let template = edit_template edit f.edit f.is in
+    let faultless = read_faultless before old is in
+    given law binary json table (record { asked = edit_keyset edit in' out; told = told }) old m.new out after put_form put
+    (ap (λ (a : Answer). bytes_at out.file a.files a.output) whole ∙ p)
+    (keeps old m.new f.edit told.random m.drawn template faultless gave m.made)
+    (keeps_stored old m.new f.edit told.random m.drawn template random stored gave m.made)
+    (record { edit = f.edit; is = f.is; stepped = m.drawn; steps = gave; accepted = m.made })
+
+convert_step : FaultlessKeysets → BinaryBack → JsonBack → (table : Table) (in' out : Place) (told : Told) (before after : Written) (old : Keys)
+    → IsDoneAnswer (answer (command_plan table (convert_keyset in' out)) told)
+    → in'.form ≡ before.form → bytes_at in'.file told.files told.input ≡ Some before.bytes → out.form ≡ after.form
+    → bytes_at out.file (answer (command_plan table (convert_keyset in' out)) told).files (answer (command_plan table (convert_keyset in' out)) told).output ≡ Some after.bytes
+    → keyset_of before ≡ Some old → AreStored old
+    → Gives table (record { asked = convert_keyset in' out; told = told }) old after
+convert_step law binary json table in' out told before after old done form read put_form put is stored =
+    let t = taken_done in' before.bytes old (puts_keyset out) told read (ap (λ x. read_in x before.bytes) form ∙ is) done in
+    let p = put_done out old (behind in'.file told) (ap (λ (a : Answer). a.status) (sym t) ∙ done) in
+    given law binary json table (record { asked = convert_keyset in' out; told = told }) old old out after put_form put
+    (ap (λ (a : Answer). bytes_at out.file a.files a.output) t ∙ p)
+    (read_faultless before old is) stored refl
+
+-- the answer of a session over its whole input that is Done, and what goes on
+record SessionDone (table : Table) (out : Place) (old : Keys) (told : Told) : Type 0 where
+  last : Remains
+  is : remains table old (asked_in told.input) told.random ≡ Some last
+  left : Told
+  goes_on : (answer (holds_session table out old) told).files ≡ (answer (saves out last.keys) left).files
+  done : IsDoneAnswer (answer (saves out last.keys) left)
+
+session_done : TalkIsTurns → (table : Table) (out : Place) (old : Keys) (told : Told) → IsDoneAnswer (answer (holds_session table out old) told) → SessionDone table out old told
+session_done law table out old told done = by_stop x.stop refl done
+  where
+    x : Talk
+    x = talk table old told.input told.random true
+
+    left : Told
+    left = record told { input = []; random = x.random }
+
+    next : Answer
+    next = answer (saves out x.keys) left
+
+    by_stop : (s : Stop) → x.stop ≡ s → IsDoneAnswer (talk_answer s x told next) → SessionDone table out old told
+    by_stop goes is done =
+        let t = law table old told.input told.random true in
+        let all : lines_of told.input ≡ t.answered = t.cut ∙ ap (λ l. t.answered ++ l) (t.all is) ∙ append-nil t.answered in
+        record {
+          last = t.last;
+          is = ap (λ l. remains table old (each line_of l) told.random) all ∙ t.remains';
+          left = left;
+          goes_on = ap (λ (a : Answer). a.files) (ap (λ s. talk_answer s x told next) is) ∙ ap (λ k. (answer (saves out k) left).files) (sym t.keys');
+          done = ap (λ k. (answer (saves out k) left).status) t.keys' ∙ done;
+        }
+    by_stop wants is done = absurd (cc)
+    by_stop (passes long_line) is done = absurd (cc)
+    by_stop (passes many_lines) is done = absurd (cc)
+
+saved : (out : Place) (keys : Keys) (told : Told) (file : List ℕ) → out.file ≡ Some file → IsDoneAnswer (answer (saves out keys) told) → map.get (answer (saves out keys) told).files file ≡ Some (written_in out.form keys)
+saved out keys told file is done = by out.file is done
+  where
+    by : (f : Option (List ℕ)) → f ≡ Some file → IsDoneAnswer (answer (saves_as f out.form keys) told) → map.get (answer (saves_as f out.form keys) told).files file ≡ Some (written_in out.form keys)
+    by None is done = clash is
+    by (Some other) is done = subst (λ n. map.get (answer (saves_as (Some other) out.form keys) told).files n ≡ Some (written_in out.form keys)) (same_Some _ _ is)
+        (put_done (record { file = Some other; form = out.form }) keys told done)
+
+session_step : FaultlessKeysets → BinaryBack → JsonBack → TalkIsTurns → SessionIsEdits → EditedIsKeyset → SessionsKeepStored → (table : Table) (name : List ℕ) (form : Format) (out : Place) (file : List ℕ) (told : Told) (before after : Written) (old : Keys)
+    → out.file ≡ Some file → IsDoneAnswer (answer (command_plan table (session name form out)) told)
+    → form ≡ before.form → map.get told.files name ≡ Some before.bytes → out.form ≡ after.form
+    → bytes_at out.file (answer (command_plan table (session name form out)) told).files (answer (command_plan table (session name form out)) told).output ≡ Some after.bytes
+    → AllByRecursion (λ b. b < 256) told.random → keyset_of before ≡ Some old → AreStored old
+    → Gives table (record { asked = session name form out; told = told }) old after
+session_step law binary json turns sessions edited keeps table name form out file told before after old named done form_is read put_form put random is stored =
+    let l = load_done name form before.bytes old (holds_session table out) told read (ap (λ x. read_in x before.bytes) form_is ∙ is) done in
+    let d = session_done turns table out old told (ap (λ (a : Answer). a.status) (sym l) ∙ done) in
+    let p = saved out d.last.keys d.left file named d.done in
+    let faultless = read_faultless before old is in
+    let keyset : IsKeyset old = record { faultless = faultless; words = each_of old.records (λ r s. s.held.id) stored } in
+    let files = ap (λ (a : Answer). a.files) l ∙ d.goes_on in
+    given law binary json table (record { asked = session name form out; told = told }) old d.last.keys out after put_form put
+    (ap (λ f. bytes_at f (answer (command_plan table (session name form out)) told).files (answer (command_plan table (session name form out)) told).output) named ∙ ap (λ f. map.get f file) files ∙ p)
+    (edited old d.last.keys (sessions table old (asked_in told.input) told.random d.last d.is) keyset).faultless
+    (keeps table old (asked_in told.input) told.random d.last random stored d.is)
+    (d.last, d.is, refl)
+
+by_asked : FaultlessKeysets → BinaryBack → JsonBack → EditsKeepKeysets → EditsKeepStored → TalkIsTurns → SessionIsEdits → EditedIsKeyset → SessionsKeepStored → (table : Table) (asked : Asked) (told : Told) (before after : Written) (old : Keys) (h : Handing)
+    → hands_on asked ≡ Some h → IsDoneAnswer (answer (command_plan table asked) told)
+    → h.taken.form ≡ before.form → bytes_at h.taken.file told.files told.input ≡ Some before.bytes → h.put.form ≡ after.form
+    → bytes_at h.put.file (answer (command_plan table asked) told).files (answer (command_plan table asked) told).output ≡ Some after.bytes
+    → AllByRecursion (λ b. b < 256) told.random → keyset_of before ≡ Some old → AreStored old
+    → Gives table (record { asked = asked; told = told }) old after
+by_asked law binary json keeps keeps_stored turns sessions edited keep_sessions table (edit_keyset edit in' out) told before after old h e done form read put_form put random is stored =
+    let same = same_Some _ _ e in
+    edit_step law binary json keeps keeps_stored table edit in' out told before after old done
+    (ap (λ (x : Handing). x.taken.form) same ∙ form) (ap (λ (x : Handing). bytes_at x.taken.file told.files told.input) same ∙ read) (ap (λ (x : Handing). x.put.form) same ∙ put_form)
+    (ap (λ (x : Handing). bytes_at x.put.file (answer (command_plan table (edit_keyset edit in' out)) told).files (answer (command_plan table (edit_keyset edit in' out)) told).output) same ∙ put)
+    random is stored
+by_asked law binary json keeps keeps_stored turns sessions edited keep_sessions table (convert_keyset in' out) told before after old h e done form read put_form put random is stored =
+    let same = same_Some _ _ e in
+    convert_step law binary json table in' out told before after old done
+    (ap (λ (x : Handing). x.taken.form) same ∙ form) (ap (λ (x : Handing). bytes_at x.taken.file told.files told.input) same ∙ read) (ap (λ (x : Handing). x.put.form) same ∙ put_form)
+    (ap (λ (x : Handing). bytes_at x.put.file (answer (command_plan table (convert_keyset in' out)) told).files (answer (command_plan table (convert_keyset in' out)) told).output) same ∙ put)
+    is stored
+by_asked law binary json keeps keeps_stored turns sessions edited keep_sessions table (session name form out) told before after old h e done form_is read put_form put random is stored = by_file out.file refl e
+  where
+    by_file : (f : Option (List ℕ)) → out.file ≡ f → session_handing name form out f ≡ Some h → Gives table (record { asked = session name form out; told = told }) old after
+    by_file None named e = clash e
+    by_file (Some file) named e =
+        let same = same_Some _ _ e in
+        session_step law binary json turns sessions edited keep_sessions table name form out file told before after old named done
+        (ap (λ (x : Handing). x.taken.form) same ∙ form_is) (ap (λ (x : Handing). bytes_at x.taken.file told.files told.input) same ∙ read) (ap (λ (x : Handing). x.put.form) same ∙ put_form)
+        (ap (λ (x : Handing). bytes_at x.put.file (answer (command_plan table (session name form out)) told).files (answer (command_plan table (session name form out)) told).output) same ∙ put)
+        random is stored
+by_asked law binary json keeps keeps_stored turns sessions edited keep_sessions table (create_keyset template out) told before after old h e done form read put_form put random is stored = clash e
+by_asked law binary json keeps keeps_stored turns sessions edited keep_sessions table (list_keyset in') told before after old h e done form read put_form put random is stored = clash e
+by_asked law binary json keeps keeps_stored turns sessions edited keep_sessions table list_key_templates told before after old h e done form read put_form put random is stored = clash e
+by_asked law binary json keeps keeps_stored turns sessions edited keep_sessions table (use_keyset name form' work) told before after old h e done form read put_form put random is stored = clash e
+by_asked law binary json keeps keeps_stored turns sessions edited keep_sessions table (seal_stream name form' ad) told before after old h e done form read put_form put random is stored = clash e
+by_asked law binary json keeps keeps_stored turns sessions edited keep_sessions table (open_stream name form' ad) told before after old h e done form read put_form put random is stored = clash e
+by_asked law binary json keeps keeps_stored turns sessions edited keep_sessions table (self_test seed lines) told before after old h e done form read put_form put random is stored = clash e
+
+pub run_step : FaultlessKeysets → BinaryBack → JsonBack → EditsKeepKeysets → EditsKeepStored → TalkIsTurns → SessionIsEdits → EditedIsKeyset → SessionsKeepStored → RunStep
+run_step law binary json keeps keeps_stored turns sessions edited keep_sessions table run before after old h random is stored =
+    by_asked law binary json keeps keeps_stored turns sessions edited keep_sessions table run.asked run.told before after old h.handing h.hands h.done h.read_form h.read h.put_form h.put random is stored
+
+-- ---- many runs
+
+-- what a run does is some edits
+done_edits : SessionIsEdits → (table : Table) (told : Told) (asked : Asked) (old new : Keys) → Does table told old new asked → IsEdited old new
+unfolding after
+done_edits sessions table told (edit_keyset edit in' out) old new does = record {
+  edits = record { edit = does.edit; random = told.random } ∷ [];
+  asked = (edit_template edit does.edit does.is, tt);
+  last = rw does.steps (rw does.accepted refl);
+}
+done_edits sessions table told (convert_keyset in' out) old new does = record { edits = []; asked = tt; last = ap Some does }
+done_edits sessions table told (session name form out) old new does = subst (λ k. IsEdited old k) does.2 (sessions table old (asked_in told.input) told.random does.0 does.1)
+done_edits sessions table told (create_keyset template out) old new does = absurd does
+done_edits sessions table told (list_keyset in') old new does = absurd does
+done_edits sessions table told list_key_templates old new does = absurd does
+done_edits sessions table told (use_keyset name form work) old new does = absurd does
+done_edits sessions table told (seal_stream name form ad) old new does = absurd does
+done_edits sessions table told (open_stream name form ad) old new does = absurd does
+done_edits sessions table told (self_test seed lines) old new does = absurd does
+
+record Led (old : Keys) (after : Written) : Type 0 where
+  new : Keys
+  read : keyset_of after ≡ Some new
+  edited : IsEdited old new
+
+no_edits : (old : Keys) → IsEdited old old
+unfolding after
+no_edits old = record { edits = []; asked = tt; last = refl }
+
+led : RunStep → SessionIsEdits → (table : Table) (runs : List Run) (before after : Written) (old : Keys) → AreRuns table runs before after → AllByRecursion DrawsBytes runs → keyset_of before ≡ Some old → AreStored old → Led old after
+led law sessions table [] before after old are bytes is stored = record { new = old; read = ap keyset_of (sym are) ∙ is; edited = no_edits old }
+led law sessions table (run ∷ later) before after old (between, hands, are) bytes is stored =
+    let step' = law table run before between old hands bytes.0 is stored in
+    let rest = led law sessions table later between after step'.new are bytes.1 step'.read step'.stored in
+    record {
+      new = rest.new;
+      read = rest.read;
+      edited = edited_on old step'.new rest.new (done_edits sessions table run.told run.asked old step'.new step'.does) rest.edited;
+    }
+
+-- the two keysets that runs lead from and to
+record Ends (runs : List Run) (before after : Written) (r : Record) (old new : Keys) : Type 0 where
+  edited : IsEdited old new
+  keyset : IsKeyset old
+  primary : primary_of old ≡ Some r
+  same : HasSameKey r new
+  read : keyset_of before ≡ Some old
+  read_again : keyset_of after ≡ Some new
+
+lead_ends : RunStep → SessionIsEdits → (runs : List Run) (before after : Written) (r : Record) (x : LeadOn runs before after r) → Ends runs before after r x.old x.new
+lead_ends law sessions runs before after r x =
+    let l = led law sessions standard_table runs before after x.old x.are x.bytes x.read x.stored in
+    record {
+      edited = subst (λ k. IsEdited x.old k) (same_Some _ _ (sym l.read ∙ x.read_again)) l.edited;
+      keyset = record { faultless = read_faultless before x.old x.read; words = each_of x.old.records (λ r s. s.held.id) x.stored };
+      primary = x.primary;
+      same = x.same;
+      read = x.read;
+      read_again = x.read_again;
+    }
+
+-- each record of the last keyset serves where each of the first one does
+still_fit : (p : Primitive) → SoundIsUsable p → EditedIsSound → EditedIsKeyset → (old new : Keys) → IsKeyset old → IsEdited old new → unfit old p standard_table ≡ None → unfit new p standard_table ≡ None
+still_fit p usable sound keyset old new is edited fit =
+    (usable new (keyset old new edited is)).1 (sound p old new edited ((usable old is).0 fit))
+
+-- ---- work before and after
+
+-- work over the first keyset was done
+record Started (work : AskedWork) (old : Keys) (told : Told) (output : List ℕ) : Type 0 where
+  fit : unfit old (primitive_for work) standard_table ≡ None
+  status' : IsDoneAnswer (answer (works standard_table old work told.input writes) (record told { input = [] }))
+  gave : (answer (works standard_table old work told.input writes) (record told { input = [] })).output ≡ output
+
+started : (work : AskedWork) (written : Written) (old : Keys) (told : Told) (output : List ℕ) → keyset_of written ≡ Some old → WasDone work written told output → Started work old told output
+started work written old told output is was =
+    let u = used_done standard_table was.name written.form work written.bytes old told was.lies is was.done in
+    record {
+      fit = u.fit;
+      status' = ap (λ (a : Answer). a.status) (sym u.goes_on) ∙ was.done;
+      gave = ap (λ (a : Answer). a.output) (sym u.goes_on) ∙ was.gave;
+    }
+
+-- work over the last one is done, where its keys answer so
+finished : (work : AskedWork) (written : Written) (new : Keys) (input output : List ℕ) → keyset_of written ≡ Some new → unfit new (primitive_for work) standard_table ≡ None
+    → ((told : Told) → (IsDoneAnswer (answer (works standard_table new work input writes) told)) × ((answer (works standard_table new work input writes) told).output ≡ output))
+    → IsDone work written input output
+finished work written new input output is fit gives told name lies same within fits =
+    let r = used_reached standard_table name written.form work written.bytes new told lies is within fit (subst (λ i. length i ≤ input_limit) (sym same) fits) ∙ ap (λ i. answer (works standard_table new work i writes) (record told { input = [] })) same in
+    let g = gives (record told { input = [] }) in
+    (ap (λ (a : Answer). a.status) r ∙ g.0, ap (λ (a : Answer). a.output) r ∙ g.1)
+
+-- what was sealed, by the answer of its work
+sealed_by : (old : Keys) (ad : List ℕ) (told : Told) (output : List ℕ) → Started (to_seal ad) old told output → (s : Sealed) × (seal_answer old standard_table told.input ad told.random ≡ Some s) × (s.bytes ≡ output)
+sealed_by old ad told output x = by (seal_answer old standard_table told.input ad told.random) refl x.status' x.gave
+  where
+    a : Option Sealed → Answer
+    a o = draw_answer (option_map as_drawn o) (refused (record told { input = [] }) status.EntropyFault) (λ (d : Drawn (List ℕ)). answer (with_made d.answer writes) (record { input = []; files = told.files; random = d.left }))
+
+    by : (o : Option Sealed) → seal_answer old standard_table told.input ad told.random ≡ o → IsDoneAnswer (a o) → (a o).output ≡ output → (s : Sealed) × (seal_answer old standard_table told.input ad told.random ≡ Some s) × (s.bytes ≡ output)
+    by None is done gave = absurd (cc)
+    by (Some s) is done gave = (s, is, gave)
+
+made_some : (o : Option (List ℕ)) → IsSome o → (bytes : List ℕ) × (o ≡ Some bytes)
+made_some (Some bytes) some = (bytes, refl)
+made_some None some = no_truth some
+
+-- opening gives that plaintext
+opens_so : (o : Option (List ℕ)) (plain : List ℕ) (told : Told) → o ≡ Some plain → (IsDoneAnswer (answer (with_opened o writes) told)) × ((answer (with_opened o writes) told).output ≡ plain)
+opens_so o plain told is = rw is (refl, refl)
+
+pub runs_open : RunStep → SessionIsEdits → SoundIsUsable Aead → EditedIsSound → EditedIsKeyset → KeptOpen → RunsOpen
+runs_open law sessions usable sound keyset kept runs before after r prefix ad sealed told x is was =
+    let e = lead_ends law sessions runs before after r x in
+    let b = started (to_seal ad) before x.old told sealed e.read was in
+    let s = sealed_by x.old ad told sealed b in
+    let opened = kept x.old x.new r prefix told.input ad told.random s.0 e.keyset e.edited e.same e.primary is s.1 in
+    finished (to_open ad) after x.new sealed told.input e.read_again (still_fit Aead usable sound keyset x.old x.new e.keyset e.edited b.fit)
+    (λ t. opens_so (open_answer x.new standard_table sealed ad) told.input t (ap (λ c. open_answer x.new standard_table c ad) (sym s.2) ∙ opened))
+
+pub runs_open_raw : RunStep → SessionIsEdits → SoundIsUsable Aead → EditedIsSound → EditedIsKeyset → KeptOpenRaw → RunsOpenRaw
+runs_open_raw law sessions usable sound keyset kept runs before after r ad sealed told x is was =
+    let e = lead_ends law sessions runs before after r x in
+    let b = started (to_seal ad) before x.old told sealed e.read was in
+    let s = sealed_by x.old ad told sealed b in
+    let opened = kept x.old x.new r told.input ad told.random s.0 e.same e.primary is s.1 in (
+      opened.0,
+      finished (to_open ad) after x.new sealed opened.0 e.read_again (still_fit Aead usable sound keyset x.old x.new e.keyset e.edited b.fit)
+          (λ t. opens_so (open_answer x.new standard_table sealed ad) opened.0 t (ap (λ c. open_answer x.new standard_table c ad) (sym s.2) ∙ opened.1)),
+    )
+
+-- what was made without a draw
+dsealed_by : FitKeysetsAnswer → (old : Keys) (ad : List ℕ) (told : Told) (output : List ℕ) → IsKeyset old → Started (to_dseal ad) old told output → dseal_answer old standard_table told.input ad ≡ Some output
+dsealed_by fit old ad told output is x =
+    let m = made_some (dseal_answer old standard_table told.input ad) (fit.dseal standard_table old told.input ad (record { faultless = is.faultless; fit = x.fit })) in
+    m.1 ∙ ap Some (sym (ap made_bytes m.1) ∙ x.gave)
+
+tagged_by : FitKeysetsAnswer → (old : Keys) (told : Told) (output : List ℕ) → IsKeyset old → Started to_tag old told output → tag_answer old standard_table told.input ≡ Some output
+tagged_by fit old told output is x =
+    let m = made_some (tag_answer old standard_table told.input) (fit.tag standard_table old told.input (record { faultless = is.faultless; fit = x.fit })) in
+    m.1 ∙ ap Some (sym (ap made_bytes m.1) ∙ x.gave)
+
+pub runs_dopen : FitKeysetsAnswer → RunStep → SessionIsEdits → SoundIsUsable Daead → EditedIsSound → EditedIsKeyset → KeptDopen → RunsDopen
+runs_dopen fits law sessions usable sound keyset kept runs before after r prefix ad sealed told x is was =
+    let e = lead_ends law sessions runs before after r x in
+    let b = started (to_dseal ad) before x.old told sealed e.read was in
+    let opened = kept x.old x.new r prefix told.input ad sealed e.keyset e.edited e.same e.primary is (dsealed_by fits x.old ad told sealed e.keyset b) in
+    finished (to_dopen ad) after x.new sealed told.input e.read_again (still_fit Daead usable sound keyset x.old x.new e.keyset e.edited b.fit)
+    (λ t. opens_so (dopen_answer x.new standard_table sealed ad) told.input t opened)
+
+pub runs_dopen_raw : FitKeysetsAnswer → RunStep → SessionIsEdits → SoundIsUsable Daead → EditedIsSound → EditedIsKeyset → KeptDopenRaw → RunsDopenRaw
+runs_dopen_raw fits law sessions usable sound keyset kept runs before after r ad sealed told x is was =
+    let e = lead_ends law sessions runs before after r x in
+    let b = started (to_dseal ad) before x.old told sealed e.read was in
+    let opened = kept x.old x.new r told.input ad sealed e.same e.primary is (dsealed_by fits x.old ad told sealed e.keyset b) in (
+      opened.0,
+      finished (to_dopen ad) after x.new sealed opened.0 e.read_again (still_fit Daead usable sound keyset x.old x.new e.keyset e.edited b.fit)
+          (λ t. opens_so (dopen_answer x.new standard_table sealed ad) opened.0 t opened.1),
+    )
+
+-- verifying is done, with no output
+verifies_so : (b : Bool) (told : Told) → b ≡ true → (IsDoneAnswer (answer (with_verified b writes) told)) × ((answer (with_verified b writes) told).output ≡ [])
+verifies_so b told is = rw is (refl, refl)
+
+pub runs_verify : FitKeysetsAnswer → RunStep → SessionIsEdits → SoundIsUsable Mac → EditedIsSound → EditedIsKeyset → KeptTag → RunsVerify
+runs_verify fits law sessions usable sound keyset kept runs before after r tag told x was =
+    let e = lead_ends law sessions runs before after r x in
+    let b = started to_tag before x.old told tag e.read was in
+    let verified = kept x.old x.new r tag told.input e.edited e.same e.primary (tagged_by fits x.old told tag e.keyset b) in
+    finished (to_verify tag) after x.new told.input [] e.read_again (still_fit Mac usable sound keyset x.old x.new e.keyset e.edited b.fit)
+    (λ t. verifies_so (verify_answer x.new standard_table tag told.input) t verified)

@@ -1,0 +1,92 @@
+-- What a session leaves readable.
+--
+--   AreReadable   of turns: what one sealed or tagged, a later one opens or verifies
+--   IsReadable    of a run: where it is that of a session, what it wrote are the replies of such turns
+use Rattle.std.specs.Prelude.{◌≡◌, ℕ, ◌<◌, List, [], ◌++◌, length, map, Some, None, Ok, slice_get}
+use Rattle.std.specs.FinMap as map
+use Rattle.keyset_model.specs.Keyset.{Keys, primary_of}
+use Rattle.keyset_model.specs.declared.record.Record.{Record}
+use Rattle.managers.specs.Standard.{standard_table}
+use Rattle.managers.specs.Table.{Table}
+use Rattle.tink_spec.specs.Outside.{Took}
+use Rattle.tinkey_session.specs.Lines.{line_of, Seal, Open, Dseal, Dopen, Tag, Verify}
+use Rattle.tinkey_session.specs.declared.reply.Reply.TheVariants.{Done, Gives}
+use Rattle.tinkey_session.specs.Session.{Turn, lines_of, turns}
+use Rattle.tinkey_session.specs.TalkLaws.{replies_text}
+use Rattle.wrapped_prims.specs.Candidates.{prefix_of}
+use Rattle.wrapped_prims.specs.Laws.{HasSameKey}
+use Rattle.tinkey_plans.specs.declared.status.Status.{Status}
+use Rattle.tinkey_plans.specs.declared.status.Status.TheVariants as status
+use Rattle.tinkey_words.specs.declared.words.rows.Format.{Format}
+use Rattle.tinkey_plans.specs.Ends.{World}
+use Rattle.tinkey_plans.specs.Plan.{Told, IsStated}
+use Rattle.tinkey_plans.specs.Commands.{plan_of}
+use Rattle.tinkey_plans.specs.Promises.{Answers, Tells}
+use Rattle.tinkey_readable.specs.Runs.{read_in}
+use Rattle.tinkey_words.specs.Words.{Place, session, words_of}
+
+-- two of these turns, the second one later
+pub record AreAmong (ts : List Turn) (s t : Turn) : Type 0 where
+  pub i : ℕ
+  pub j : ℕ
+  pub later : i < j
+  pub first : slice_get ts i ≡ Some s
+  pub second : slice_get ts j ≡ Some t
+
+-- What a line `seal` or `dseal` gave, a later line `open` or `dopen` with the same associated data
+-- answers with its plaintext, while the keyset before that line has the record that sealed, ENABLED,
+-- with its id, output prefix type and key. Where that record is RAW it is some plaintext. And what a
+-- line `tag` gave, a later line `verify` accepts, whatever the output prefix type.
+pub record AreReadable (ts : List Turn) : Type 0 where
+  pub opens : (s t : Turn) (r : Record) (prefix plain ad sealed : List ℕ) → AreAmong ts s t
+      → s.line ≡ Seal plain ad → s.reply ≡ Gives sealed
+      → primary_of s.before ≡ Some r → prefix_of r ≡ Some prefix
+      → t.line ≡ Open sealed ad → HasSameKey r t.before → t.reply ≡ Gives plain
+  pub dopens : (s t : Turn) (r : Record) (prefix plain ad sealed : List ℕ) → AreAmong ts s t
+      → s.line ≡ Dseal plain ad → s.reply ≡ Gives sealed
+      → primary_of s.before ≡ Some r → prefix_of r ≡ Some prefix
+      → t.line ≡ Dopen sealed ad → HasSameKey r t.before → t.reply ≡ Gives plain
+  pub opens_raw : (s t : Turn) (r : Record) (plain ad sealed : List ℕ) → AreAmong ts s t
+      → s.line ≡ Seal plain ad → s.reply ≡ Gives sealed
+      → primary_of s.before ≡ Some r → prefix_of r ≡ None
+      → t.line ≡ Open sealed ad → HasSameKey r t.before
+      → (other : List ℕ) × (t.reply ≡ Gives other)
+  pub dopens_raw : (s t : Turn) (r : Record) (plain ad sealed : List ℕ) → AreAmong ts s t
+      → s.line ≡ Dseal plain ad → s.reply ≡ Gives sealed
+      → primary_of s.before ≡ Some r → prefix_of r ≡ None
+      → t.line ≡ Dopen sealed ad → HasSameKey r t.before
+      → (other : List ℕ) × (t.reply ≡ Gives other)
+  pub verifies : (s t : Turn) (r : Record) (tag body : List ℕ) → AreAmong ts s t
+      → s.line ≡ Tag body → s.reply ≡ Gives tag → primary_of s.before ≡ Some r
+      → t.line ≡ Verify tag body → HasSameKey r t.before → t.reply ≡ Done
+
+-- the turns of the lines that were answered
+abbrev pub turns_of : Table → Keys → (answered : List (List ℕ)) → (random : List ℕ) → List Turn
+turns_of table keys answered random = turns table keys (map line_of answered) random
+
+-- The first lines of the input were answered, and all of them where the session was done; what was
+-- written are the replies of their turns, over the keyset of the file and one after another; and over
+-- the program's table these are readable.
+pub record HasReplies (table : Table) (keys : Keys) (told : Told) (old : World) (s : Status)
+    (new : World) : Type 0 where
+  pub answered : List (List ℕ)
+  pub later : List (List ℕ)
+  pub cut : lines_of told.input ≡ answered ++ later
+  pub all : s ≡ status.Done → later ≡ []
+  pub whole : length (turns_of table keys answered told.random) ≡ length answered
+  pub took : Took old.sink new.sink (replies_text (turns_of table keys answered told.random))
+  pub readable : table ≡ standard_table → AreReadable (turns_of table keys answered told.random)
+
+-- a run of `session` over objects that tell, whose status is no fault and no want of memory, over a
+-- file that is a keyset
+pub record IsReadable (table : Table) (words : List (List ℕ)) (old : World) (s : Status)
+    (new : World) : Type 0 where
+  pub replies : (told : Told) (name bytes : List ℕ) (form : Format) (out : Place) (keys : Keys)
+      → Tells old told → IsStated s → words_of words ≡ Ok (session name form out)
+      → map.get told.files name ≡ Some bytes → read_in form bytes ≡ Some keys
+      → HasReplies table keys told old s new
+
+-- Whatever a run answers as the stated answer says, is readable.
+abbrev pub SessionsAreReadable : Type 0
+SessionsAreReadable = (table : Table) (words : List (List ℕ)) (old : World) (s : Status)
+    (new : World) → Answers (plan_of table words) old s new → IsReadable table words old s new

@@ -1,0 +1,207 @@
+-- Runs of the program, one after another, that hand a keyset on.
+--
+--   hands_on     where a command takes a keyset, and where it puts one
+--   AreRuns      each run reads what the one before put out, and is answered Done
+--   RunStep      what one of them does to the keyset
+--   RunsOpen ..  what was sealed or tagged before them opens or verifies after them
+use Rattle.std.specs.Prelude.{◌≡◌, ℕ, ◌<◌, ◌≤◌, List, [], ◌∷◌, length, Option, Some, None, Ok}
+use Rattle.std.specs.FinMap as map
+use Rattle.std.specs.List.{AllByRecursion}
+use Rattle.std.specs.Option.{option_and_then}
+use Rattle.std.specs.Result.{result_ok}
+use Rattle.key_msgs.specs.Templates.{row_named}
+use Rattle.keyset_json.specs.Reading.{reads_json}
+use Rattle.keyset_model.specs.Keyset.{Keys, primary_of}
+use Rattle.keyset_model.specs.Reading.{reads_binary}
+use Rattle.keyset_model.specs.declared.record.Record.{Record}
+use Rattle.managers.specs.Standard.{standard_table}
+use Rattle.managers.specs.Table.{Table}
+use Rattle.tink_spec.specs.Files.{Files}
+use Rattle.tinkey_cmds.specs.Edits.{Edit, Stepped, edit_then, step}
+use Rattle.tinkey_session.specs.HeldLaws.{AreStored}
+use Rattle.tinkey_session.specs.Session.{Remains, asked_in, remains}
+use Rattle.wrapped_prims.specs.Candidates.{prefix_of}
+use Rattle.wrapped_prims.specs.Laws.{HasSameKey}
+use Rattle.tinkey_plans.specs.declared.status.Status.TheVariants as status
+use Rattle.tinkey_words.specs.declared.words.rows.Format.{Format}
+use Rattle.tinkey_words.specs.declared.words.rows.Format.TheVariants as formats
+use Rattle.tinkey_plans.specs.Commands.{command_plan}
+use Rattle.tinkey_plans.specs.Plan.{Answer, Told, answer}
+use Rattle.tinkey_plans.specs.Steps.{input_limit, keyset_limit}
+use Rattle.tinkey_words.specs.Words.{Asked, AskedEdit, AskedWork, Place, convert_keyset, edit_keyset, session, use_keyset, to_seal, to_open, to_dseal, to_dopen, to_tag, to_verify}
+
+-- the keyset that these bytes are, in this form
+abbrev pub read_in : Format → List ℕ → Option Keys
+read_in formats.Json bytes = result_ok (reads_json bytes)
+read_in formats.Binary bytes = result_ok (reads_binary bytes)
+
+-- a keyset as it lies outside: its bytes, and their form
+pub record Written : Type 0 where
+  pub bytes : List ℕ
+  pub form : Format
+
+abbrev pub keyset_of : Written → Option Keys
+keyset_of written = read_in written.form written.bytes
+
+-- the bytes of the file of this name, or where none is named, these
+abbrev pub bytes_at : Option (List ℕ) → Files → (stream : List ℕ) → Option (List ℕ)
+bytes_at (Some name) files stream = map.get files name
+bytes_at None files stream = Some stream
+
+-- where a keyset is taken from, and where one is put
+pub record Handing : Type 0 where
+  pub taken : Place
+  pub put : Place
+
+-- a session puts a keyset where a file is named for it
+abbrev pub session_handing : (name : List ℕ) → Format → Place → (file : Option (List ℕ))
+    → Option Handing
+session_handing name form out None = None
+session_handing name form out (Some file) =
+    Some (record { taken = record { file = Some name; form = form }; put = out })
+
+-- the commands that edit a keyset, the one that converts it, and a session
+abbrev pub hands_on : Asked → Option Handing
+hands_on (edit_keyset edit in' out) = Some (record { taken = in'; put = out })
+hands_on (convert_keyset in' out) = Some (record { taken = in'; put = out })
+hands_on (session name form out) = session_handing name form out out.file
+hands_on _ = None
+
+-- a run: what is asked, and what the outside objects told
+pub record Run : Type 0 where
+  pub asked : Asked
+  pub told : Told
+
+abbrev pub answer_of : Table → Run → Answer
+answer_of table run = answer (command_plan table run.asked) run.told
+
+-- the run is answered Done, reads the keyset that lies there, and puts out one that lies here
+pub record HandsOn (table : Table) (run : Run) (before after : Written) : Type 0 where
+  pub handing : Handing
+  pub hands : hands_on run.asked ≡ Some handing
+  pub done : (answer_of table run).status ≡ status.Done
+  pub read_form : handing.taken.form ≡ before.form
+  pub read : bytes_at handing.taken.file run.told.files run.told.input ≡ Some before.bytes
+  pub put_form : handing.put.form ≡ after.form
+  pub put : bytes_at handing.put.file (answer_of table run).files (answer_of table run).output
+      ≡ Some after.bytes
+
+-- runs, of which each reads what the one before put out
+abbrev pub AreRuns : Table → List Run → (before after : Written) → Type 0
+AreRuns table [] before after = before ≡ after
+AreRuns table (run ∷ later) before after =
+    (between : Written) × HandsOn table run before between × AreRuns table later between after
+
+-- what is drawn are bytes
+abbrev pub DrawsBytes : Run → Type 0
+DrawsBytes run = AllByRecursion (λ b. b < 256) run.told.random
+
+-- ---- one run
+
+-- the edit that is asked for, where there is a template of its name
+abbrev pub edit_of : AskedEdit → Option Edit
+edit_of asked = edit_then (λ name next. option_and_then next (row_named name)) asked Some
+
+-- an edit was accepted
+pub record IsEdit (asked : AskedEdit) (random : List ℕ) (old new : Keys) : Type 0 where
+  pub edit : Edit
+  pub is : edit_of asked ≡ Some edit
+  pub stepped : Stepped
+  pub steps : step old edit random ≡ Some stepped
+  pub accepted : stepped.answer ≡ Ok new
+
+-- what is asked does this to the keyset: its edit; nothing; or what its lines do, one after another
+abbrev pub Does : Table → Told → (old new : Keys) → Asked → Type 0
+Does table told old new (edit_keyset edit in' out) = IsEdit edit told.random old new
+Does table told old new (convert_keyset in' out) = old ≡ new
+Does table told old new (session name form out) =
+    (m : Remains) × (remains table old (asked_in told.input) told.random ≡ Some m) × (m.keys ≡ new)
+Does table told old new _ = ⊥
+
+-- a run gave this keyset of that one, and what the types of records hold was kept
+pub record Gives (table : Table) (run : Run) (old : Keys) (after : Written) : Type 0 where
+  pub new : Keys
+  pub read : keyset_of after ≡ Some new
+  pub does : Does table run.told old new run.asked
+  pub stored : AreStored new
+
+-- What such a run puts out is read back, in its own form: it is the keyset that the run read, after
+-- the run's accepted edits.
+abbrev pub RunStep : Type 0
+RunStep = (table : Table) (run : Run) (before after : Written) (old : Keys)
+    → HandsOn table run before after → DrawsBytes run
+    → keyset_of before ≡ Some old → AreStored old
+    → Gives table run old after
+
+-- ---- many runs
+
+-- runs lead from one keyset to another, which has the key of the first one's primary record, ENABLED
+pub record LeadOn (runs : List Run) (before after : Written) (r : Record) : Type 0 where
+  pub are : AreRuns standard_table runs before after
+  pub bytes : AllByRecursion DrawsBytes runs
+  pub old : Keys
+  pub read : keyset_of before ≡ Some old
+  pub stored : AreStored old
+  pub primary : primary_of old ≡ Some r
+  pub new : Keys
+  pub read_again : keyset_of after ≡ Some new
+  pub same : HasSameKey r new
+
+-- a keyset lies in the file of this name
+abbrev pub LiesIn : Written → Told → (name : List ℕ) → Type 0
+LiesIn written told name = map.get told.files name ≡ Some written.bytes
+
+-- the answer of work by the keys of the keyset that lies in the file of this name
+abbrev pub work_answer : AskedWork → Written → (name : List ℕ) → Told → Answer
+work_answer work written name told =
+    answer (command_plan standard_table (use_keyset name written.form work)) told
+
+-- work over a keyset was answered Done, with this output
+pub record WasDone (work : AskedWork) (written : Written) (told : Told) (output : List ℕ)
+    : Type 0 where
+  pub name : List ℕ
+  pub lies : LiesIn written told name
+  pub done : (work_answer work written name told).status ≡ status.Done
+  pub gave : (work_answer work written name told).output ≡ output
+
+-- Work over a keyset is answered Done, with this output, in whichever file the keyset lies. Its bytes
+-- and the input are within their limits.
+abbrev pub IsDone : AskedWork → Written → (input output : List ℕ) → Type 0
+IsDone work written input output = (told : Told) (name : List ℕ)
+    → LiesIn written told name → told.input ≡ input
+    → length written.bytes ≤ keyset_limit → length input ≤ input_limit
+    → ((work_answer work written name told).status ≡ status.Done)
+    × ((work_answer work written name told).output ≡ output)
+
+-- what was sealed under a key with a prefix opens to its plaintext, with its associated data
+abbrev pub RunsOpen : Type 0
+RunsOpen = (runs : List Run) (before after : Written) (r : Record) (prefix ad sealed : List ℕ)
+    (told : Told) → LeadOn runs before after r → prefix_of r ≡ Some prefix
+    → WasDone (to_seal ad) before told sealed
+    → IsDone (to_open ad) after sealed told.input
+
+-- the same without an IV
+abbrev pub RunsDopen : Type 0
+RunsDopen = (runs : List Run) (before after : Written) (r : Record) (prefix ad sealed : List ℕ)
+    (told : Told) → LeadOn runs before after r → prefix_of r ≡ Some prefix
+    → WasDone (to_dseal ad) before told sealed
+    → IsDone (to_dopen ad) after sealed told.input
+
+-- under a RAW key it opens to some plaintext
+abbrev pub RunsOpenRaw : Type 0
+RunsOpenRaw = (runs : List Run) (before after : Written) (r : Record) (ad sealed : List ℕ)
+    (told : Told) → LeadOn runs before after r → prefix_of r ≡ None
+    → WasDone (to_seal ad) before told sealed
+    → (other : List ℕ) × IsDone (to_open ad) after sealed other
+
+abbrev pub RunsDopenRaw : Type 0
+RunsDopenRaw = (runs : List Run) (before after : Written) (r : Record) (ad sealed : List ℕ)
+    (told : Told) → LeadOn runs before after r → prefix_of r ≡ None
+    → WasDone (to_dseal ad) before told sealed
+    → (other : List ℕ) × IsDone (to_dopen ad) after sealed other
+
+-- a tag verifies, whatever the output prefix type
+abbrev pub RunsVerify : Type 0
+RunsVerify = (runs : List Run) (before after : Written) (r : Record) (tag : List ℕ) (told : Told)
+    → LeadOn runs before after r → WasDone to_tag before told tag
+    → IsDone (to_verify tag) after told.input []

@@ -1,0 +1,76 @@
+//! Laws of runs. These functions do nothing: their contracts are the laws.
+
+ghost use Rattle.keyset_json.specs.Writing.{JsonBack};
+ghost use Rattle.keyset_model.specs.Writing.{BinaryBack};
+ghost use Rattle.tinkey_readable.specs.Readable.{SessionsAreReadable};
+ghost use Rattle.tinkey_readable.specs.Runs.{RunStep, RunsDopen, RunsDopenRaw, RunsOpen, RunsOpenRaw, RunsVerify};
+
+use keyset_json::laws::json_back;
+use keyset_model::laws::{binary_back, faultless_keysets, read_keysets_fit};
+use tinkey_cmds::laws::edits_keep_keysets;
+use tinkey_plans::laws::fit_keysets_answer;
+use tinkey_session::laws::{
+    edited_kept, kept_dopen, kept_dopen_raw, kept_open, kept_open_raw, kept_tag, session_dopens,
+    session_dopens_raw, session_is_edits, session_opens, session_opens_raw, session_verifies,
+    sound_usable, stored_kept, talk_is_turns,
+};
+
+/// What is written of a keyset without a fault, in either form, reads back to it.
+pub fn forms_back()
+    ensures binary { BinaryBack }
+    ensures json { JsonBack }
+{
+    binary_back();
+    json_back();
+}
+
+/// What a run that hands a keyset on puts out is read back in its own form: it is the keyset that
+/// the run read, after the run's accepted edits. Such runs edit a keyset, convert it, or are a session
+/// with a file for the last keyset.
+pub fn run_step()
+    ensures { RunStep }
+{
+    faultless_keysets();
+    forms_back();
+    edits_keep_keysets();
+    stored_kept();
+    talk_is_turns();
+    session_is_edits();
+    edited_kept();
+}
+
+/// What was sealed over a keyset opens after any runs that hand the keyset on, with its associated
+/// data, to its plaintext, while the last keyset has the key that sealed, ENABLED; under a RAW key to
+/// some plaintext. And a tag verifies so.
+pub fn kept_runs()
+    ensures open { RunsOpen }
+    ensures dopen { RunsDopen }
+    ensures open_raw { RunsOpenRaw }
+    ensures dopen_raw { RunsDopenRaw }
+    ensures verify { RunsVerify }
+{
+    run_step();
+    fit_keysets_answer();
+    session_is_edits();
+    sound_usable();
+    edited_kept();
+    kept_open();
+    kept_dopen();
+    kept_open_raw();
+    kept_dopen_raw();
+    kept_tag();
+}
+
+/// What a run of a session wrote are the replies of turns, which are readable over the standard
+/// table.
+pub fn sessions_are_readable()
+    ensures { SessionsAreReadable }
+{
+    session_opens();
+    session_dopens();
+    session_opens_raw();
+    session_dopens_raw();
+    session_verifies();
+    talk_is_turns();
+    read_keysets_fit();
+}

@@ -1,5 +1,0 @@
-use Rattle.tinkey_run.proofs.WholeLemmas.{commands_are_whole}
-use Rattle.tinkey_run.proofs.laws.commands_are_whole.Goals as goal
-
-pub returns : goal.returns
-returns c = commands_are_whole

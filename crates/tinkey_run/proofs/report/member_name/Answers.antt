@@ -1,6 +1,0 @@
-use Rattle.std.proofs.Common.{◌≤◌, List, ℕ, length, subst, sym}
-use Rattle.tinkey_run.proofs.ReportLemmas.{name_short}
-use Rattle.tinkey_run.proofs.report.member_name.Goals as goal
-
-pub returns-clause-short : goal.returns-clause-short
-returns-clause-short c = subst (λ (name : List ℕ). length name ≤ 16) (sym c.name.ensures) (name_short c.args.member)

@@ -1,7 +1,0 @@
-use Rattle.std.proofs.Common.{append_assoc}
-use Rattle.tinkey_run.proofs.report.push_keys.Goals as goal
-
-pub returns-clause-text : goal.returns-clause-text
-returns-clause-text c =
-    rw (c.push-3.ensures, c.push_number-2.ensures.text, c.push-2.ensures, c.push_number.ensures.text, c.push.ensures)
-    (simp append_assoc)

@@ -1,0 +1,266 @@
+-- The options of a run fit their command, and options that fit are a run; so words are accepted exactly
+-- where they spell a command and options that fit it.
+use Rattle.std.proofs.Common.{◌≡◌, ◌∙◌, sym, refl, ap, subst, inl, inr, ℕ, ◌+◌, Bool, true, false, List, [], ◌∷◌, ◌++◌, length, Option, Some, None, Ok, Err, Result}
+use Rattle.std.specs.Prelude.{◌&&◌, ◌||◌, is_some, if◌then◌else◌}
+use Rattle.std.specs.List.{AllByRecursion, flat_map, list_all}
+use Rattle.std.proofs.Math.Path.{fun_ext}
+use Rattle.tink_spec.specs.Messages.{◌>>=◌}
+use Rattle.tinkey_words.specs.declared.words.rows.CommandName.{CommandName}
+use Rattle.tinkey_words.specs.declared.words.rows.OptionName.{OptionName}
+use Rattle.tinkey_words.specs.Rows.{row_of, command_of, option_row, rival, same, is_one_of}
+use Rattle.tinkey_words.specs.Words.{Asked, Values, asked_with, Options, is_given, is_excluded, is_barred, put, options_of, no_options, given_in, has_required, complete, asked_of, words_of}
+use Rattle.tinkey_words.specs.Grammar.{IsValue, Spelling, spelled, IsGiven, IsOnce, AreApart, IsOneOf, Fits, values_of, Spells, WordsAreSpelled}
+use Rattle.tinkey_words.proofs.RowLemmas.{same_self, same_is, are_rivals, command_found, command_named}
+use Rattle.tinkey_words.proofs.SpellingLemmas.{Runs, all_put, run_taken, run_read}
+
+-- One option more.
+
+put_test : (b : Bool) (value : List ℕ) (before : Option (List ℕ)) → is_some (if b then Some value else before) ≡ (b || is_some before)
+put_test true value before = refl
+put_test false value before = refl
+
+or_true : (b : Bool) → (b || true) ≡ true
+or_true true = refl
+or_true false = refl
+
+put_there : (name : OptionName) (value : List ℕ) (given : Options) → is_given name (put name value given) ≡ true
+put_there name value given = rw (same_self name) refl
+
+-- what was given stays so
+put_keeps : (name other : OptionName) (value : List ℕ) (given : Options) → is_given name given ≡ true → is_given name (put other value given) ≡ true
+put_keeps name other value given is = put_test (same other name) value (given.values name) ∙ rw is (or_true (same other name))
+
+-- and another one isn't given by it
+put_other : (b : Bool) (name other : OptionName) (value : List ℕ) (given : Options) → same other name ≡ b → (other ≡ name → ⊥) → is_given name given ≡ false → is_given name (put other value given) ≡ false
+put_other true name other value given test differs is = absurd (differs (same_is other name test))
+put_other false name other value given test differs is = rw test is
+
+put_same : (b : Bool) (name other : OptionName) (value : List ℕ) (given : Options) → same other name ≡ b → is_given name given ≡ false → is_given name (put other value given) ≡ true → other ≡ name
+put_same true name other value given test was is = same_is other name test
+put_same false name other value given test was is = let now = rw test at is in let clash : false ≡ true = sym was ∙ now in absurd (cc)
+
+-- One of these options.
+
+one_is : (name : OptionName) (names : List OptionName) → IsOneOf name names → is_one_of name names ≡ true
+one_is name [] one = absurd one
+one_is name (other ∷ names) (inl here) = rw (← here, same_self name) refl
+one_is name (other ∷ names) (inr later) = rw (one_is name names later) (or_true (same name other))
+
+one_at : (b : Bool) (name other : OptionName) (names : List OptionName) → same name other ≡ b → (b || is_one_of name names) ≡ true → (is_one_of name names ≡ true → IsOneOf name names) → IsOneOf name (other ∷ names)
+one_at true name other names test is later = inl (same_is name other test)
+one_at false name other names test is later = inr (later is)
+
+is_one : (name : OptionName) (names : List OptionName) → is_one_of name names ≡ true → IsOneOf name names
+is_one name [] is = absurd (cc)
+is_one name (other ∷ names) is = one_at (same name other) name other names refl is (is_one name names)
+
+-- From options that fit to a run.
+
+abbrev New : Options → Spelling → Type 0
+New given s = is_barred s.name given ≡ false
+
+neither : (a b : Bool) → (a || b) ≡ false → (a ≡ false) × (b ≡ false)
+neither true b is = absurd (cc)
+neither false b is = (refl, is)
+
+-- it wasn't given, and none that excludes it
+not_barred : (name : OptionName) (given : Options) → is_barred name given ≡ false → (is_given name given ≡ false) × (is_excluded (rival name) given ≡ false)
+not_barred name given is = neither (is_given name given) (is_excluded (rival name) given) is
+
+is_free : (name : OptionName) (given : Options) → is_given name given ≡ false → is_excluded (rival name) given ≡ false → is_barred name given ≡ false
+is_free name given new apart = rw (new, apart) refl
+
+none_excluded : (other : Option OptionName) → is_excluded other no_options ≡ false
+none_excluded None = refl
+none_excluded (Some other) = refl
+
+-- an option more excludes none but its rival
+excluded_put : (other : Option OptionName) (name : OptionName) (value : List ℕ) (given : Options) → (other ≡ Some name → ⊥) → is_excluded other given ≡ false → is_excluded other (put name value given) ≡ false
+excluded_put None name value given differs is = refl
+excluded_put (Some other) name value given differs is = put_other (same name other) other name value given refl (λ same. differs (ap Some (sym same))) is
+
+-- the options behind one that isn't there again are still new
+still_new : (name : OptionName) (value : List ℕ) (given : Options) (run : List Spelling) → (IsGiven name run → ⊥) → ((other : OptionName) → rival other ≡ Some name → IsGiven other run → ⊥) → AllByRecursion (New given) run → AllByRecursion (New (put name value given)) run
+still_new name value given [] once apart new = tt
+still_new name value given (s ∷ run) once apart new =
+    let parts = not_barred s.name given new.0 in (
+      is_free s.name (put name value given)
+          (put_other (same name s.name) s.name name value given refl (λ same. once (inl (sym same))) parts.0)
+          (excluded_put (rival s.name) name value given (λ excludes. apart s.name excludes (inl refl)) parts.1),
+      still_new name value given run (λ again. once (inr again)) (λ other excludes there. apart other excludes (inr there)) new.1,
+    )
+
+runs_of : (command : CommandName) (given : Options) (run : List Spelling) → AllByRecursion (New given) run → IsOnce run → AreApart run → AllByRecursion (λ s. IsOneOf s.name ((row_of command).required ++ (row_of command).optional)) run → AllByRecursion (λ s. IsValue (option_row s.name).form s.value) run → Runs command given run
+runs_of command given [] new once apart taken formed = tt
+runs_of command given (s ∷ run) new once apart taken formed = (
+  one_is s.name ((row_of command).required ++ (row_of command).optional) taken.0,
+  new.0,
+  formed.0,
+  runs_of command (put s.name s.value given) run (still_new s.name s.value given run once.0 (λ other excludes there. apart other s.name excludes (inr there) (inl refl)) new.1) once.1 (λ a b excludes first second. apart a b excludes (inr first) (inr second)) taken.1 formed.1,
+)
+
+all_new : (run : List Spelling) → AllByRecursion (New no_options) run
+all_new [] = tt
+all_new (s ∷ run) = (none_excluded (rival s.name), all_new run)
+
+-- what is given stays so
+given_stays : (name : OptionName) (given : Options) (run : List Spelling) → is_given name given ≡ true → is_given name (all_put given run) ≡ true
+given_stays name given [] is = is
+given_stays name given (s ∷ run) is = given_stays name (put s.name s.value given) run (put_keeps name s.name s.value given is)
+
+given_there : (name : OptionName) (given : Options) (run : List Spelling) → IsGiven name run → is_given name (all_put given run) ≡ true
+given_there name given [] there = absurd there
+given_there name given (s ∷ run) (inl same) = given_stays name (put s.name s.value given) run (subst (λ (n : OptionName). is_given n (put s.name s.value given) ≡ true) same (put_there s.name s.value given))
+given_there name given (s ∷ run) (inr later) = given_there name (put s.name s.value given) run later
+
+all_there : (names : List OptionName) (run : List Spelling) → AllByRecursion (λ name. IsGiven name run) names → list_all (λ name. is_given name (all_put no_options run)) names ≡ true
+all_there [] run there = refl
+all_there (name ∷ names) run there = rw (given_there name no_options run there.0) (all_there names run there.1)
+
+-- The values of a run are those that were given first, as none is there twice.
+
+abbrev or_else : Option (List ℕ) → Option (List ℕ) → Option (List ℕ)
+or_else None later = later
+or_else (Some value) later = Some value
+
+or_none : (value : Option (List ℕ)) → value ≡ or_else value None
+or_none None = refl
+or_none (Some value) = refl
+
+new_none : (value : Option (List ℕ)) → is_some value ≡ false → value ≡ None
+new_none None new = refl
+new_none (Some value) new = absurd (cc)
+
+-- the value behind one option more, which was new
+value_put : (b : Bool) (name : OptionName) (s : Spelling) (given : Options) (later : Option (List ℕ)) → same s.name name ≡ b → is_given s.name given ≡ false → or_else (if b then Some s.value else given.values name) later ≡ or_else (given.values name) (if b then Some s.value else later)
+value_put true name s given later test new =
+    let none : given.values name ≡ None = new_none (given.values name) (subst (λ (n : OptionName). is_given n given ≡ false) (same_is s.name name test) new) in
+    rw none refl
+value_put false name s given later test new = refl
+
+value_run : (command : CommandName) (given : Options) (run : List Spelling) (name : OptionName) → Runs command given run → (all_put given run).values name ≡ or_else (given.values name) (values_of run name)
+value_run command given [] name runs = or_none (given.values name)
+value_run command given (s ∷ run) name runs =
+    value_run command (put s.name s.value given) run name runs.3 ∙ value_put (same s.name name) name s given (values_of run name) refl (not_barred s.name given runs.1).0
+
+values_run : (command : CommandName) (run : List Spelling) → Runs command no_options run → (all_put no_options run).values ≡ values_of run
+values_run command run runs = fun_ext (λ name. value_run command no_options run name runs)
+
+-- a command that has all that it requires is complete
+completed : (command : CommandName) (count : ℕ) (run : List Spelling) (asked : Asked) → Fits (row_of command) run → Runs command no_options run → asked ≡ asked_with command (values_of run) → complete command count (all_put no_options run) ≡ Ok asked
+completed command count run asked fits runs asks =
+    let there = all_there (row_of command).required run fits.complete in
+    rw there (ap (λ (values : Values). Ok (asked_with command values)) (values_run command run runs) ∙ ap Ok (sym asks))
+
+spelled_accepted : (words : List (List ℕ)) (asked : Asked) → Spells words asked → words_of words ≡ Ok asked
+unfolding words_of given_in
+spelled_accepted words asked spells =
+    let command = spells.command in
+    let runs = runs_of command no_options spells.given (all_new spells.given) spells.fits.once spells.fits.apart spells.fits.taken spells.fits.formed in
+    let taken = run_taken command 1 no_options spells.given refl runs in
+    let done = completed command (1 + length (flat_map spelled spells.given)) spells.given asked spells.fits runs spells.asks in
+    ap words_of spells.are
+    ∙ ap (λ (found : Option CommandName). asked_of found (flat_map spelled spells.given)) (command_found command)
+    ∙ ap (λ (r : Result Options ℕ). r >>= complete command (1 + length (flat_map spelled spells.given))) taken
+    ∙ done
+
+-- From a run to options that fit.
+
+not_again : (command : CommandName) (name : OptionName) (given : Options) (run : List Spelling) → Runs command given run → is_given name given ≡ true → IsGiven name run → ⊥
+not_again command name given [] runs is again = again
+not_again command name given (s ∷ run) runs is (inl same) = let clash : true ≡ false = sym is ∙ subst (λ (n : OptionName). is_given n given ≡ false) same (not_barred s.name given runs.1).0 in cc
+not_again command name given (s ∷ run) runs is (inr later) = not_again command name (put s.name s.value given) run runs.3 (put_keeps name s.name s.value given is) later
+
+once_of : (command : CommandName) (given : Options) (run : List Spelling) → Runs command given run → IsOnce run
+once_of command given [] runs = tt
+once_of command given (s ∷ run) runs = (not_again command s.name (put s.name s.value given) run runs.3 (put_there s.name s.value given), once_of command (put s.name s.value given) run runs.3)
+
+-- an option that is given excludes its rival
+not_beside : (command : CommandName) (name other : OptionName) (given : Options) (run : List Spelling) → Runs command given run → is_given name given ≡ true → rival other ≡ Some name → IsGiven other run → ⊥
+not_beside command name other given [] runs is excludes there = there
+not_beside command name other given (s ∷ run) runs is excludes (inl same) =
+    let free = subst (λ (n : OptionName). is_excluded (rival n) given ≡ false) same (not_barred s.name given runs.1).1 in
+    let new : is_given name given ≡ false = subst (λ (o : Option OptionName). is_excluded o given ≡ false) excludes free in
+    let clash : true ≡ false = sym is ∙ new in cc
+not_beside command name other given (s ∷ run) runs is excludes (inr later) = not_beside command name other (put s.name s.value given) run runs.3 (put_keeps name s.name s.value given is) excludes later
+
+apart_of : (command : CommandName) (given : Options) (run : List Spelling) → Runs command given run → AreApart run
+apart_of command given [] runs a b excludes first second = first
+apart_of command given (s ∷ run) runs a b excludes (inl here) (inl there) = (are_rivals a b excludes).1 (sym here ∙ there)
+apart_of command given (s ∷ run) runs a b excludes (inl here) (inr there) = not_beside command a b (put s.name s.value given) run runs.3 (subst (λ (n : OptionName). is_given n (put s.name s.value given) ≡ true) here (put_there s.name s.value given)) (are_rivals a b excludes).0 there
+apart_of command given (s ∷ run) runs a b excludes (inr here) (inl there) = not_beside command b a (put s.name s.value given) run runs.3 (subst (λ (n : OptionName). is_given n (put s.name s.value given) ≡ true) there (put_there s.name s.value given)) excludes here
+apart_of command given (s ∷ run) runs a b excludes (inr here) (inr there) = apart_of command (put s.name s.value given) run runs.3 a b excludes here there
+
+taken_of : (command : CommandName) (given : Options) (run : List Spelling) → Runs command given run → AllByRecursion (λ s. IsOneOf s.name ((row_of command).required ++ (row_of command).optional)) run
+taken_of command given [] runs = tt
+taken_of command given (s ∷ run) runs = (is_one s.name ((row_of command).required ++ (row_of command).optional) runs.0, taken_of command (put s.name s.value given) run runs.3)
+
+formed_of : (command : CommandName) (given : Options) (run : List Spelling) → Runs command given run → AllByRecursion (λ s. IsValue (option_row s.name).form s.value) run
+formed_of command given [] runs = tt
+formed_of command given (s ∷ run) runs = (runs.2, formed_of command (put s.name s.value given) run runs.3)
+
+-- what is given in the end, and wasn't before, is there
+there_at : (name : OptionName) (given : Options) (s : Spelling) (run : List Spelling) (b : Bool) → is_given name (put s.name s.value given) ≡ b → is_given name given ≡ false → (b ≡ false → IsGiven name run) → IsGiven name (s ∷ run)
+there_at name given s run true now was later = inl (put_same (same s.name name) name s.name s.value given refl was now)
+there_at name given s run false now was later = inr (later refl)
+
+there_of : (name : OptionName) (given : Options) (run : List Spelling) → is_given name given ≡ false → is_given name (all_put given run) ≡ true → IsGiven name run
+there_of name given [] was is = let clash : false ≡ true = sym was ∙ is in absurd (cc)
+there_of name given (s ∷ run) was is = there_at name given s run _ refl was (λ now. there_of name (put s.name s.value given) run now is)
+
+both : (a b : Bool) → (a && b) ≡ true → (a ≡ true) × (b ≡ true)
+both true true is = (refl, refl)
+both true false is = absurd (cc)
+both false b is = absurd (cc)
+
+all_of : (names : List OptionName) (run : List Spelling) → list_all (λ name. is_given name (all_put no_options run)) names ≡ true → AllByRecursion (λ name. IsGiven name run) names
+all_of [] run is = tt
+all_of (name ∷ names) run is =
+    let here = both (is_given name (all_put no_options run)) (list_all (λ name. is_given name (all_put no_options run)) names) is in
+    (there_of name no_options run refl here.0, all_of names run here.1)
+
+complete_test : (b : Bool) (asks asked : Asked) (count : ℕ) → (if b then Ok asks else Err count) ≡ Ok asked → (b ≡ true) × (asked ≡ asks)
+complete_test true asks asked count is = (refl, let same : Ok asks ≡ Ok asked = is in cc)
+complete_test false asks asked count is = let clash : Err count ≡ Ok asked = is in absurd (cc)
+
+-- a run of a complete command fits
+fits_of : (command : CommandName) (count : ℕ) (run : List Spelling) (asked : Asked) → Runs command no_options run → complete command count (all_put no_options run) ≡ Ok asked → Fits (row_of command) run × (asked ≡ asked_with command (values_of run))
+fits_of command count run asked runs is =
+    let done = complete_test (has_required command (all_put no_options run)) (asked_with command (all_put no_options run).values) asked count is in (
+      record {
+        once = once_of command no_options run runs;
+        apart = apart_of command no_options run runs;
+        taken = taken_of command no_options run runs;
+        formed = formed_of command no_options run runs;
+        complete = all_of (row_of command).required run done.0;
+      },
+      done.1 ∙ ap (asked_with command) (values_run command run runs),
+    )
+
+accepted_options : (command : CommandName) (words : List (List ℕ)) (asked : Asked) (r : Result Options ℕ) → options_of command 1 no_options words ≡ r → (r >>= complete command (1 + length words)) ≡ Ok asked → (run : List Spelling) × (words ≡ flat_map spelled run) × Fits (row_of command) run × (asked ≡ asked_with command (values_of run))
+accepted_options command words asked (Err at) taken is = let clash : Err at ≡ Ok asked = is in absurd (cc)
+accepted_options command words asked (Ok last) taken is =
+    let found = run_read command 1 no_options words last taken in
+    let fits = fits_of command (1 + length words) found.0 asked found.2 (ap (complete command (1 + length words)) (sym found.3) ∙ is) in
+    (found.0, found.1, fits.0, fits.1)
+
+accepted_named : (found : Option CommandName) (name : List ℕ) (words : List (List ℕ)) (asked : Asked) → command_of name ≡ found → asked_of found words ≡ Ok asked → Spells (name ∷ words) asked
+unfolding given_in
+accepted_named None name words asked named is = let clash : Err 0 ≡ Ok asked = is in absurd (cc)
+accepted_named (Some command) name words asked named is =
+    let run = accepted_options command words asked _ refl is in
+    record {
+      command = command;
+      given = run.0;
+      are = ap (λ (w : List ℕ). w ∷ words) (command_named name command named) ∙ ap (λ (ws : List (List ℕ)). (row_of command).word ∷ ws) run.1;
+      fits = run.2;
+      asks = run.3;
+    }
+
+accepted_spelled : (words : List (List ℕ)) (asked : Asked) → words_of words ≡ Ok asked → Spells words asked
+unfolding words_of
+accepted_spelled [] asked is = let clash : Err 0 ≡ Ok asked = is in absurd (cc)
+accepted_spelled (name ∷ words) asked is = accepted_named (command_of name) name words asked refl is
+
+pub words_are_spelled : WordsAreSpelled
+words_are_spelled words asked = (accepted_spelled words asked, spelled_accepted words asked)

@@ -1,0 +1,5 @@
+pub mod FitLemmas
+pub mod GrammarLemmas
+pub mod RowLemmas
+pub mod SpellingLemmas
+pub mod WordLemmas

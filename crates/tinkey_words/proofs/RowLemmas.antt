@@ -1,0 +1,357 @@
+-- The tables of the words: an entry is found by its word and by its place, and a value is of its form.
+-- A further command or option is a line of `command_found` or of `is_found`.
+use Rattle.std.proofs.Common.{◌≡◌, ◌≢◌, ◌⊎◌, inl, inr, ◌∙◌, sym, refl, ap, subst, ℕ, ◌+◌, ◌*◌, ◌%◌, ◌<◌, ◌≤◌, Bool, true, false, List, [], ◌∷◌, ◌++◌, length, get_or, cond, arith, rules, length-append, Option, Some, None, Ok, Err, Result}
+use Rattle.std.specs.Prelude.{◌==◌, ◌&&◌, nat_lt, nat_le, is_some, option_map, if◌then◌else◌, codes}
+use Rattle.std.specs.List.{find, list_all, position_or_len, before_first, after_first}
+use Rattle.std.specs.Result.{OkIff, result_ok}
+use Rattle.std.specs.Str.{bytes_eq, all_ascii_digits, str_eq_ignore_ascii_case, str_to_ascii_lowercase}
+use Rattle.std.specs.Str.Parse.{ParsesUnsigned}
+use Rattle.std.specs.Char.{is_ascii_digit}
+use Rattle.std.proofs.Math.Seq.{get_or-append_seam, take-append_seam, drop-append-add}
+use Rattle.std.proofs.lemmas.Bool.Decides.{nat_tests}
+use Rattle.std.proofs.lemmas.List.{get_or_append_left}
+use Rattle.std.proofs.lemmas.List.Sums.{position_or_len_is, fails_before_first}
+use Rattle.std.proofs.lemmas.Slice.Eq.{bytes_eq-Decides}
+use Rattle.std.proofs.lemmas.Str.Parse.{IsNumeralModel, numerals_by_fold, parse_digits}
+use Rattle.tinkey_words.specs.declared.words.rows.CommandName.{CommandName}
+use Rattle.tinkey_words.specs.declared.words.rows.CommandName.TheVariants as commands
+use Rattle.tinkey_words.specs.declared.words.rows.Format.TheVariants as formats
+use Rattle.tinkey_words.specs.declared.words.rows.Form.{Form}
+use Rattle.tinkey_words.specs.declared.words.rows.Form.TheVariants as forms
+use Rattle.tinkey_words.specs.declared.words.rows.OptionName.{OptionName}
+use Rattle.tinkey_words.specs.declared.words.rows.OptionName.TheVariants as options
+use Rattle.hex.specs.Hex.{is_hex_digit}
+use Rattle.tinkey_words.specs.Rows.{row_of, all_commands, command_of, option_row, all_options, option_of, rival, same, datum_limit, digits_after, is_number, is_line_count, most_lines, number_of, format_of, is_hex, is_value}
+use Rattle.tinkey_words.specs.Words.{is_equals, own_value}
+use Rattle.tinkey_words.specs.Grammar.{IsHex, IsLineCount, IsNumber, IsValue}
+
+pub same_option : {A : Type 0} (o : Option A) → option_map (λ x. x) o ≡ o
+same_option None = refl
+same_option (Some x) = refl
+
+-- Entries by their words.
+
+same_text : (a b : List ℕ) → bytes_eq a b ≡ true → a ≡ b
+same_text a b same = (bytes_eq-Decides a b).0 same
+
+find_step : {X : Type 0} (test : X → Bool) (y x : X) (ys : List X) (b : Bool) → test y ≡ b → cond b (Some y) (find test ys) ≡ Some x → (find test ys ≡ Some x → test x ≡ true) → test x ≡ true
+find_step test y x ys true is found later = let one : Some y ≡ Some x = found in let e : y ≡ x = cc in subst (λ z. test z ≡ true) e is
+find_step test y x ys false is found later = later found
+
+-- what is found passes the test
+found_passes : {X : Type 0} (test : X → Bool) (xs : List X) (x : X) → find test xs ≡ Some x → test x ≡ true
+found_passes test [] x found = absurd (cc)
+found_passes test (y ∷ ys) x found = find_step test y x ys (test y) refl found (found_passes test ys x)
+
+pub command_found : (command : CommandName) → command_of (row_of command).word ≡ Some command
+unfolding command_of
+command_found commands.CreateKeyset = refl
+command_found commands.AddKey = refl
+command_found commands.RotateKeyset = refl
+command_found commands.PromoteKey = refl
+command_found commands.EnableKey = refl
+command_found commands.DisableKey = refl
+command_found commands.DestroyKey = refl
+command_found commands.DeleteKey = refl
+command_found commands.ListKeyset = refl
+command_found commands.ConvertKeyset = refl
+command_found commands.ListKeyTemplates = refl
+command_found commands.Seal = refl
+command_found commands.Open = refl
+command_found commands.Dseal = refl
+command_found commands.Dopen = refl
+command_found commands.Sseal = refl
+command_found commands.Sopen = refl
+command_found commands.Tag = refl
+command_found commands.Verify = refl
+command_found commands.Derive = refl
+command_found commands.Session = refl
+command_found commands.Selftest = refl
+
+pub command_named : (text : List ℕ) (command : CommandName) → command_of text ≡ Some command → text ≡ (row_of command).word
+unfolding command_of
+command_named text command is = sym (same_text (row_of command).word text (found_passes (λ (c : CommandName). bytes_eq (row_of c).word text) all_commands command is))
+
+-- an option is found by its word, which has no equals sign, and by its place
+record IsFound (name : OptionName) : Type 0 where
+  word : option_of (option_row name).word ≡ Some name
+  plain : position_or_len is_equals (option_row name).word ≡ length (option_row name).word
+  place : get_or all_options (option_row name).place options.In ≡ name
+
+is_found : (name : OptionName) → IsFound name
+unfolding option_of
+is_found options.KeyTemplate = record { word = refl; plain = refl; place = refl }
+is_found options.KeyId = record { word = refl; plain = refl; place = refl }
+is_found options.In = record { word = refl; plain = refl; place = refl }
+is_found options.InFormat = record { word = refl; plain = refl; place = refl }
+is_found options.Out = record { word = refl; plain = refl; place = refl }
+is_found options.OutFormat = record { word = refl; plain = refl; place = refl }
+is_found options.Keyset = record { word = refl; plain = refl; place = refl }
+is_found options.KeysetFormat = record { word = refl; plain = refl; place = refl }
+is_found options.Ad = record { word = refl; plain = refl; place = refl }
+is_found options.AdHex = record { word = refl; plain = refl; place = refl }
+is_found options.TagHex = record { word = refl; plain = refl; place = refl }
+is_found options.Length = record { word = refl; plain = refl; place = refl }
+is_found options.Seed = record { word = refl; plain = refl; place = refl }
+is_found options.Lines = record { word = refl; plain = refl; place = refl }
+
+pub option_found : (name : OptionName) → option_of (option_row name).word ≡ Some name
+option_found name = (is_found name).word
+
+pub option_named : (text : List ℕ) (name : OptionName) → option_of text ≡ Some name → text ≡ (option_row name).word
+unfolding option_of
+option_named text name is = sym (same_text (option_row name).word text (found_passes (λ (o : OptionName). bytes_eq (option_row o).word text) all_options name is))
+
+-- Options by their places.
+
+pub same_self : (name : OptionName) → same name name ≡ true
+same_self name = grind (arith, nat_tests)
+
+same_places : (a b : OptionName) → same a b ≡ true → (option_row a).place ≡ (option_row b).place
+same_places a b is = grind (arith, nat_tests)
+
+pub same_is : (a b : OptionName) → same a b ≡ true → a ≡ b
+same_is a b is = sym (is_found a).place ∙ ap (λ (i : ℕ). get_or all_options i options.In) (same_places a b is) ∙ (is_found b).place
+
+-- options that exclude each other do so both ways, and are two
+abbrev AreRivals : OptionName → OptionName → Type 0
+AreRivals a b = (rival b ≡ Some a) × (a ≡ b → ⊥)
+
+pub are_rivals : (a b : OptionName) → rival a ≡ Some b → AreRivals a b
+are_rivals options.KeyTemplate b is = absurd (cc)
+are_rivals options.KeyId b is = absurd (cc)
+are_rivals options.In b is = absurd (cc)
+are_rivals options.InFormat b is = absurd (cc)
+are_rivals options.Out b is = absurd (cc)
+are_rivals options.OutFormat b is = absurd (cc)
+are_rivals options.Keyset b is = absurd (cc)
+are_rivals options.KeysetFormat b is = absurd (cc)
+are_rivals options.Ad b is = subst (λ (x : OptionName). AreRivals options.Ad x) (let other : options.AdHex ≡ b = cc in other) (refl, λ same. cc)
+are_rivals options.AdHex b is = subst (λ (x : OptionName). AreRivals options.AdHex x) (let other : options.Ad ≡ b = cc in other) (refl, λ same. cc)
+are_rivals options.TagHex b is = absurd (cc)
+are_rivals options.Length b is = absurd (cc)
+are_rivals options.Seed b is = absurd (cc)
+are_rivals options.Lines b is = absurd (cc)
+
+-- Words that are cut at their equals sign.
+
+pub own_plain : (name : OptionName) → own_value (option_row name).word ≡ None
+unfolding own_value
+own_plain name =
+    let word = (option_row name).word in
+    let e : nat_lt (position_or_len is_equals word) (length word) ≡ false = rw (is_found name).plain (let f : nat_lt (length word) (length word) ≡ false = grind (arith, nat_tests) in f) in
+    rw e refl
+
+-- a word with no equals sign, and one behind it, are cut there
+cut_seam : (word value : List ℕ) → position_or_len is_equals word ≡ length word → position_or_len is_equals (word ++ (61 ∷ value)) ≡ length word
+cut_seam word value plain = position_or_len_is is_equals (word ++ (61 ∷ value)) (length word) 0 (omega (arith, length-append word (61 ∷ value)))
+    (λ k within. ap is_equals (get_or_append_left word (61 ∷ value) 0 k within) ∙ fails_before_first is_equals word k 0 (omega (arith, plain)))
+    (λ within. ap is_equals (get_or-append_seam word 61 value 0))
+
+pub own_joined : (name : OptionName) (value : List ℕ) → own_value ((option_row name).word ++ (61 ∷ value)) ≡ Some ((option_row name).word, value)
+unfolding own_value
+own_joined name value =
+    let word = (option_row name).word in
+    let at = cut_seam word value (is_found name).plain in
+    let e : nat_lt (position_or_len is_equals (word ++ (61 ∷ value))) (length (word ++ (61 ∷ value))) ≡ true = rw (at, length-append word (61 ∷ value)) (let f : nat_lt (length word) (length word + length (61 ∷ value)) ≡ true = grind (arith, nat_tests) in f) in
+    let front : before_first is_equals (word ++ (61 ∷ value)) ≡ word = rw at (take-append_seam word (61 ∷ value)) in
+    let back : after_first is_equals (word ++ (61 ∷ value)) ≡ value = rw at (drop-append-add word (61 ∷ value) 1) in
+    rw (e, front, back) refl
+
+-- Numbers.
+
+numerals : IsNumeralModel (λ ds. all_ascii_digits ds ≡ true) (digits_after 0)
+numerals = numerals_by_fold _ (search rules) digits_after (search rules)
+
+pub digits_all : (text : List ℕ) → list_all is_ascii_digit text ≡ all_ascii_digits text
+digits_all [] = refl
+digits_all (digit ∷ digits) = ap (λ (b : Bool). is_ascii_digit digit && b) (digits_all digits)
+
+-- a text that fails one of the tests is no number
+short_fails : {A : Type 0} (a b c d : Bool) (x : A) → b ≡ false → (if a && b && c && d then Some x else None) ≡ None
+short_fails false b c d x is = refl
+short_fails true false c d x is = refl
+short_fails true true c d x is = absurd (cc)
+
+digits_fail : {A : Type 0} (a b c d : Bool) (x : A) → c ≡ false → (if a && b && c && d then Some x else None) ≡ None
+digits_fail false b c d x is = refl
+digits_fail true false c d x is = refl
+digits_fail true true false d x is = refl
+digits_fail true true true d x is = absurd (cc)
+
+ends_fail : {A : Type 0} (a b c d : Bool) (x : A) → (a ≡ true → d ≡ true → ⊥) → (if a && b && c && d then Some x else None) ≡ None
+ends_fail false b c d x fails = refl
+ends_fail true false c d x fails = refl
+ends_fail true true false d x fails = refl
+ends_fail true true true false x fails = refl
+ends_fail true true true true x fails = absurd (fails refl refl)
+
+pub long_number : (text : List ℕ) → 10 < length text → number_of text ≡ None
+unfolding number_of
+long_number text long = short_fails (nat_lt 0 (length text)) (nat_le (length text) 10) (all_ascii_digits text) (nat_le (digits_after 0 text) 4294967295) (digits_after 0 text) (grind (arith, nat_tests))
+
+pub other_number : (text : List ℕ) → all_ascii_digits text ≡ false → number_of text ≡ None
+unfolding number_of
+other_number text other = digits_fail (nat_lt 0 (length text)) (nat_le (length text) 10) (all_ascii_digits text) (nat_le (digits_after 0 text) 4294967295) (digits_after 0 text) other
+
+-- a parsed text is the number that it is
+number_ok : {E : Type 0} (text : List ℕ) (r : Result ℕ E) → OkIff r ((0 < length text) × (digits_after 0 text < 4294967296)) (digits_after 0 text) → length text ≤ 10 → all_ascii_digits text ≡ true → result_ok r ≡ number_of text
+unfolding number_of
+number_ok text (Ok x) is short digits =
+    let a : nat_lt 0 (length text) ≡ true = grind (arith, nat_tests, is.0) in
+    let b : nat_le (length text) 10 ≡ true = grind (arith, nat_tests) in
+    let d : nat_le (digits_after 0 text) 4294967295 ≡ true = grind (arith, nat_tests, is.0) in
+    rw (a, b, digits, d, is.1) refl
+number_ok text (Err e) is short digits =
+    sym (ends_fail (nat_lt 0 (length text)) (nat_le (length text) 10) (all_ascii_digits text) (nat_le (digits_after 0 text) 4294967295) (digits_after 0 text) (λ a d. is (
+      (let some : 0 < length text = grind (arith, nat_tests) in some),
+      (let within : digits_after 0 text < 4294967296 = grind (arith, nat_tests) in within),
+    )))
+
+pub number_parsed : {E : Type 0} (text : List ℕ) (r : Result ℕ E) → ParsesUnsigned 32 10 text r → length text ≤ 10 → all_ascii_digits text ≡ true → result_ok r ≡ number_of text
+number_parsed text r parsed short digits = number_ok text r (parse_digits numerals 32 text r parsed digits) short digits
+
+-- Values of their forms.
+
+number_test : (text : List ℕ) (b : Bool) → is_number text ≡ b → is_some (if b then Some (digits_after 0 text) else None) ≡ b
+number_test text true is = refl
+number_test text false is = refl
+
+four_pass : (a b c d : Bool) → (a && b && c && d) ≡ true → (a ≡ true) × (b ≡ true) × (c ≡ true) × (d ≡ true)
+four_pass true true true true is = (refl, refl, refl, refl)
+four_pass true true true false is = absurd (cc)
+four_pass true true false d is = absurd (cc)
+four_pass true false c d is = absurd (cc)
+four_pass false b c d is = absurd (cc)
+
+number_formed : (text : List ℕ) → is_some (number_of text) ≡ true → IsNumber text
+unfolding number_of
+number_formed text is =
+    let tests = four_pass (nat_lt 0 (length text)) (nat_le (length text) 10) (all_ascii_digits text) (nat_le (digits_after 0 text) 4294967295) (sym (number_test text (is_number text) refl) ∙ is) in
+    record {
+      digits = tests.2;
+      some = (let e = tests.0 in grind (arith, nat_tests));
+      short = (let e = tests.1 in grind (arith, nat_tests));
+      within = (let e = tests.3 in grind (arith, nat_tests));
+    }
+
+number_taken : (text : List ℕ) → IsNumber text → is_some (number_of text) ≡ true
+unfolding number_of
+number_taken text formed =
+    let a : nat_lt 0 (length text) ≡ true = grind (arith, nat_tests, formed.some) in
+    let b : nat_le (length text) 10 ≡ true = grind (arith, nat_tests, formed.short) in
+    let d : nat_le (digits_after 0 text) 4294967295 ≡ true = grind (arith, nat_tests, formed.within) in
+    rw (a, b, formed.digits, d) refl
+
+count_taken : (text : List ℕ) → IsLineCount text → is_line_count (number_of text) ≡ true
+unfolding number_of
+count_taken text formed =
+    let a : nat_lt 0 (length text) ≡ true = grind (arith, nat_tests, formed.number.some) in
+    let b : nat_le (length text) 10 ≡ true = grind (arith, nat_tests, formed.number.short) in
+    let d : nat_le (digits_after 0 text) 4294967295 ≡ true = grind (arith, nat_tests, formed.number.within) in
+    let e : nat_le 1 (digits_after 0 text) ≡ true = grind (arith, nat_tests, formed.some') in
+    let f : nat_le (digits_after 0 text) most_lines ≡ true = grind (arith, nat_tests, formed.most) in
+    rw (a, b, formed.number.digits, d, e, f) refl
+
+two_pass : (a b : Bool) → (a && b) ≡ true → (a ≡ true) × (b ≡ true)
+two_pass true true is = (refl, refl)
+two_pass true false is = absurd (cc)
+two_pass false b is = absurd (cc)
+
+count_formed : (text : List ℕ) → is_line_count (number_of text) ≡ true → IsLineCount text
+unfolding number_of
+count_formed text is = by (is_number text) refl is
+  where
+    by : (b : Bool) → is_number text ≡ b → is_line_count (if b then Some (digits_after 0 text) else None) ≡ true → IsLineCount text
+    by true test is =
+        let tests = two_pass (nat_le 1 (digits_after 0 text)) (nat_le (digits_after 0 text) most_lines) is in
+        record {
+          number = number_formed text (rw test refl);
+          some' = (let e = tests.0 in grind (arith, nat_tests));
+          most = (let e = tests.1 in grind (arith, nat_tests));
+        }
+    by false test is = absurd (cc)
+
+not_empty : (value : List ℕ) → value ≢ [] → nat_lt 0 (length value) ≡ true
+not_empty [] some = absurd (some refl)
+not_empty (b ∷ bs) some = grind (arith, nat_tests)
+
+some_byte : (value : List ℕ) → nat_lt 0 (length value) ≡ true → value ≢ []
+some_byte value is none = let zero : nat_lt 0 (length value) ≡ false = rw none refl in let clash : true ≡ false = sym is ∙ zero in absurd (cc)
+
+-- one of two names
+one_of_both : (a b : Bool) → (a ≡ true) ⊎ (b ≡ true) → is_some (if a then Some formats.Json else (if b then Some formats.Binary else None)) ≡ true
+one_of_both true b one = refl
+one_of_both false true one = refl
+one_of_both false false (inl is) = absurd (cc)
+one_of_both false false (inr is) = absurd (cc)
+
+which_one : (a b : Bool) → is_some (if a then Some formats.Json else (if b then Some formats.Binary else None)) ≡ true → (a ≡ true) ⊎ (b ≡ true)
+which_one true b is = inl refl
+which_one false true is = inr refl
+which_one false false is = absurd (cc)
+
+lowered_is : (value name : List ℕ) → str_to_ascii_lowercase name ≡ name → str_to_ascii_lowercase value ≡ name → str_eq_ignore_ascii_case value name ≡ true
+lowered_is value name low is = (bytes_eq-Decides (str_to_ascii_lowercase value) (str_to_ascii_lowercase name)).1 (is ∙ sym low)
+
+is_lowered : (value name : List ℕ) → str_to_ascii_lowercase name ≡ name → str_eq_ignore_ascii_case value name ≡ true → str_to_ascii_lowercase value ≡ name
+is_lowered value name low test = same_text (str_to_ascii_lowercase value) (str_to_ascii_lowercase name) test ∙ low
+
+format_taken : (value : List ℕ) → IsValue forms.Format value → is_some (format_of value) ≡ true
+unfolding format_of
+format_taken value (inl json) = one_of_both (str_eq_ignore_ascii_case value (codes "json")) (str_eq_ignore_ascii_case value (codes "binary")) (inl (lowered_is value (codes "json") refl json))
+format_taken value (inr binary) = one_of_both (str_eq_ignore_ascii_case value (codes "json")) (str_eq_ignore_ascii_case value (codes "binary")) (inr (lowered_is value (codes "binary") refl binary))
+
+format_formed : (value : List ℕ) → is_some (format_of value) ≡ true → IsValue forms.Format value
+unfolding format_of
+format_formed value is = elim (which_one (str_eq_ignore_ascii_case value (codes "json")) (str_eq_ignore_ascii_case value (codes "binary")) is) [
+  | inl json ↦ inl (is_lowered value (codes "json") refl json)
+  | inr binary ↦ inr (is_lowered value (codes "binary") refl binary)
+]
+
+three_pass : (a b c : Bool) → (a && b && c) ≡ true → (a ≡ true) × (b ≡ true) × (c ≡ true)
+three_pass true true true is = (refl, refl, refl)
+three_pass true true false is = absurd (cc)
+three_pass true false c is = absurd (cc)
+three_pass false b c is = absurd (cc)
+
+hex_taken : (value : List ℕ) → IsHex value → is_hex value ≡ true
+hex_taken value formed =
+    let a : nat_le (length value) (2 * datum_limit) ≡ true = grind (arith, nat_tests, formed.short) in
+    let b : (length value % 2 == 0) ≡ true = grind (arith, nat_tests, formed.even) in
+    rw (a, b, formed.digits) refl
+
+hex_formed : (value : List ℕ) → is_hex value ≡ true → IsHex value
+hex_formed value is =
+    let tests = three_pass (nat_le (length value) (2 * datum_limit)) (length value % 2 == 0) (list_all is_hex_digit value) is in
+    record {
+      digits = tests.2;
+      even = (let e = tests.1 in grind (arith, nat_tests));
+      short = (let e = tests.0 in grind (arith, nat_tests));
+    }
+
+datum_taken : (value : List ℕ) → length value ≤ datum_limit → nat_le (length value) datum_limit ≡ true
+datum_taken value within = grind (arith, nat_tests)
+
+datum_formed : (value : List ℕ) → nat_le (length value) datum_limit ≡ true → length value ≤ datum_limit
+datum_formed value is = grind (arith, nat_tests)
+
+pub value_taken : (form : Form) (value : List ℕ) → IsValue form value → is_value form value ≡ true
+unfolding is_value
+value_taken forms.Text value formed = refl
+value_taken forms.FileName value formed = not_empty value formed
+value_taken forms.Number value formed = number_taken value formed
+value_taken forms.LineCount value formed = count_taken value formed
+value_taken forms.Format value formed = format_taken value formed
+value_taken forms.Datum value formed = datum_taken value formed
+value_taken forms.Hex value formed = hex_taken value formed
+
+pub value_formed : (form : Form) (value : List ℕ) → is_value form value ≡ true → IsValue form value
+unfolding is_value
+value_formed forms.Text value is = tt
+value_formed forms.FileName value is = some_byte value is
+value_formed forms.Number value is = number_formed value is
+value_formed forms.LineCount value is = count_formed value is
+value_formed forms.Format value is = format_formed value is
+value_formed forms.Datum value is = datum_formed value is
+value_formed forms.Hex value is = hex_formed value is

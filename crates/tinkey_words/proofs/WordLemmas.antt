@@ -1,0 +1,67 @@
+-- Words, one after another.
+use Rattle.std.proofs.Common.{◌≡◌, ◌≢◌, ℕ, suc, ◌+◌, ◌<◌, List, ◌∷◌, length, get_or, set, drop, map, refl, sym, ◌∙◌, ap, subst, arith, add-one, drop-cons}
+use Rattle.std.specs.Prelude.{Bool, Option, Some, None, MatchOption, option_map, Result, Ok, Err, nat_lt, true, false, if◌then◌else◌}
+use Rattle.std.specs.List.{position_or_len, before_first, after_first}
+use Rattle.std.specs.Borrow.{Bor}
+use Rattle.std.proofs.Math.Path.{fun_ext}
+use Rattle.std.proofs.lemmas.Bool.Decides.{nat_tests}
+use Rattle.std.proofs.lemmas.Grind.{get_or-set_at}
+use Rattle.std.proofs.lemmas.List.{get_or-set_other}
+use Rattle.tink_spec.specs.Messages.{◌>>=◌}
+use Rattle.tinkey_words.specs.declared.words.Command.{Command}
+use Rattle.tinkey_words.specs.declared.words.rows.CommandName.{CommandName}
+use Rattle.tinkey_words.specs.declared.words.rows.OptionName.{OptionName}
+use Rattle.tinkey_words.specs.Rows.{command_of, option_row, same, is_value}
+use Rattle.tinkey_words.specs.Words.{Asked, Values, Options, is_equals, own_value, with_value, next_word, options_of, given_in, complete, asked_of, words_of, seen_command, seen_values, Reads}
+
+-- a word, and those behind it
+pub rest_of_words : {A : Type 0} (words : List A) (i : ℕ) (word : A) → i < length words → word ≡ get_or words i word → drop i words ≡ word ∷ drop (i + 1) words
+rest_of_words {A} words i word lt is = rw add-one (drop-cons words i word lt ∙ ap (λ (w : A). w ∷ drop (suc i) words) (sym is))
+
+-- a word at fault is where the options are at fault
+pub fails_at : {A : Type 0} (view : A → List ℕ) (command : CommandName) (words : List A) (i : ℕ) (word : A) (given : Options) (place : ℕ) (whole : Result Options ℕ) → i < length words → word ≡ get_or words i word → options_of command (i + 1) given (map view (drop i words)) ≡ whole → next_word command (view word) (i + 1) given ≡ Err place → whole ≡ Err place
+fails_at view command words i word given place whole lt is all fault =
+    let front = rw (rest_of_words words i word lt is) at all in
+    sym (rw fault at front)
+
+-- behind a word, the options of the rest are still those of all
+pub goes_on : {A : Type 0} (view : A → List ℕ) (command : CommandName) (words : List A) (i : ℕ) (word : A) (given more : Options) (whole : Result Options ℕ) → i < length words → word ≡ get_or words i word → options_of command (i + 1) given (map view (drop i words)) ≡ whole → next_word command (view word) (i + 1) given ≡ Ok more → options_of command (i + 1 + 1) more (map view (drop (i + 1) words)) ≡ whole
+goes_on view command words i word given more whole lt is all step =
+    let front = rw (rest_of_words words i word lt is) at all in
+    rw step at front
+
+-- where a word is cut at its first equals sign
+pub own_split : (word : List ℕ) (cut : Option (Bor (List ℕ) × Bor (List ℕ))) → MatchOption cut (position_or_len is_equals word ≡ length word) (λ x. (position_or_len is_equals word < length word) × (x.0.now ≡ before_first is_equals word) × (x.1.now ≡ after_first is_equals word)) → option_map (λ own. (own.0.now, own.1.now)) cut ≡ own_value word
+unfolding own_value
+own_split word None whole = let e : nat_lt (position_or_len is_equals word) (length word) ≡ false = grind (arith, nat_tests) in rw e refl
+own_split word (Some x) parts = let e : nat_lt (position_or_len is_equals word) (length word) ≡ true = grind (arith, nat_tests, parts.0) in rw (e, parts.1, parts.2) refl
+
+-- what is kept at the place of an option, behind a write at one
+value_set : (b : Bool) (name other : OptionName) (values : List (Option (Bor (List ℕ)))) (value : Bor (List ℕ)) → same name other ≡ b → (option_row name).place < length values → (if b then Some value.now else seen_values values other) ≡ seen_values (set values (option_row name).place (Some value)) other
+value_set true name other values value test within =
+    let at : (option_row other).place ≡ (option_row name).place = grind (arith, nat_tests) in
+    rw (get_or-set_at values (option_row name).place (option_row other).place (Some value) None at within) refl
+value_set false name other values value test within =
+    let at : (option_row other).place ≢ (option_row name).place = grind (arith, nat_tests) in
+    rw (get_or-set_other values (option_row name).place (option_row other).place (Some value) None at) refl
+
+abbrev with_values : Values → Result Options ℕ
+with_values values = Ok (record { values = values; waiting = None })
+
+-- an option that is written at its place is put
+pub value_put : (name : OptionName) (values : List (Option (Bor (List ℕ)))) (waiting : Option OptionName) (value : Bor (List ℕ)) (place at : ℕ) → at ≡ (option_row name).place → at < length values → is_value (option_row name).form value.now ≡ true → with_value name value.now place (record { values = seen_values values; waiting = waiting }) ≡ Ok (record { values = seen_values (set values at (Some value)); waiting = None })
+value_put name values waiting value place at is within formed =
+    let same_values = fun_ext (λ other. value_set (same name other) name other values value refl (omega (arith, is))) in
+    rw (formed, is) (ap with_values same_values)
+
+-- the command with its options is what all words ask for
+pub reads_complete : (result : Result Command ℕ) (words : List (List ℕ)) (name : List ℕ) (rest : List (List ℕ)) (command : CommandName) (count : ℕ) (given : Options) → words ≡ name ∷ rest → command_of name ≡ Some command → given_in command rest ≡ Ok given → count ≡ length words → Reads seen_command result (complete command count given) → Reads seen_command result (words_of words)
+unfolding words_of
+reads_complete result words name rest command count given are named is size reads =
+    let counted : count ≡ 1 + length rest = omega (arith, ap length are) in
+    let e : words_of words ≡ complete command count given =
+    ap words_of are
+    ∙ ap (λ (found : Option CommandName). asked_of found rest) named
+    ∙ ap (λ (r : Result Options ℕ). r >>= complete command (1 + length rest)) is
+    ∙ ap (λ (n : ℕ). complete command n given) (sym counted) in
+    subst (λ (r : Result Asked ℕ). Reads seen_command result r) (sym e) reads

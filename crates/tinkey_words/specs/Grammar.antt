@@ -1,0 +1,114 @@
+-- What the grammar of the command's words comes to, said of the words as a whole.
+--
+--   PlacesAreDecided   the place of a word at fault depends on the words up to it alone
+--   WordsAreSpelled    words are accepted exactly where they spell a command's word and then
+--                      options that fit its row, in any order
+--
+-- The commands and options are those of the tables of Rows.
+use Rattle.std.specs.Prelude.{◌≡◌, ◌≢◌, ◌⊎◌, ◌↔◌, ℕ, ◌+◌, ◌*◌, ◌%◌, ◌<◌, ◌≤◌, List, [], ◌∷◌, ◌++◌, length, Bool, true, None, Some, if◌then◌else◌, Ok, Err, codes}
+use Rattle.std.specs.List.{AllByRecursion, flat_map, list_all}
+use Rattle.std.specs.Str.{all_ascii_digits, str_to_ascii_lowercase}
+use Rattle.tinkey_words.specs.declared.words.rows.CommandName.{CommandName}
+use Rattle.tinkey_words.specs.declared.words.rows.Form.{Form}
+use Rattle.tinkey_words.specs.declared.words.rows.Form.TheVariants as forms
+use Rattle.tinkey_words.specs.declared.words.rows.OptionName.{OptionName}
+use Rattle.hex.specs.Hex.{is_hex_digit}
+use Rattle.tinkey_words.specs.Rows.{Row, row_of, option_row, rival, same, datum_limit, digits_after, most_lines}
+use Rattle.tinkey_words.specs.Words.{Asked, Values, asked_with, words_of}
+
+-- where the word of a place is at fault, it is so whatever words stand behind it
+abbrev pub PlacesAreDecided : Type 0
+PlacesAreDecided = (front rest others : List (List ℕ)) (place : ℕ) →
+    length front ≡ place + 1 → words_of (front ++ rest) ≡ Err place →
+    words_of (front ++ others) ≡ Err place
+
+-- a text of 1 to 10 decimal digits, of a number up to 4,294,967,295
+pub record IsNumber (text : List ℕ) : Type 0 where
+  pub digits : all_ascii_digits text ≡ true
+  pub some : 0 < length text
+  pub short : length text ≤ 10
+  pub within : digits_after 0 text ≤ 4294967295
+
+-- a number of lines
+pub record IsLineCount (text : List ℕ) : Type 0 where
+  pub number : IsNumber text
+  pub some' : 1 ≤ digits_after 0 text
+  pub most : digits_after 0 text ≤ most_lines
+
+-- a text of hexadecimal digits, two for each of at most 1,048,576 bytes
+pub record IsHex (text : List ℕ) : Type 0 where
+  pub digits : list_all is_hex_digit text ≡ true
+  pub even : length text % 2 ≡ 0
+  pub short : length text ≤ 2 * datum_limit
+
+-- the value is of the form
+abbrev pub IsValue : Form → List ℕ → Type 0
+IsValue forms.Text value = Unit {0}
+IsValue forms.FileName value = value ≢ []
+IsValue forms.Number value = IsNumber value
+IsValue forms.LineCount value = IsLineCount value
+IsValue forms.Format value =
+    (str_to_ascii_lowercase value ≡ codes "json")
+    ⊎ (str_to_ascii_lowercase value ≡ codes "binary")
+IsValue forms.Datum value = length value ≤ datum_limit
+IsValue forms.Hex value = IsHex value
+
+-- an option with its value, and whether they stand in one word
+pub record Spelling : Type 0 where
+  pub name : OptionName
+  pub value : List ℕ
+  pub joined : Bool
+
+-- the words of an option: `--name=value`, or `--name` and the value
+abbrev pub spelled_as : Bool → List ℕ → List ℕ → List (List ℕ)
+spelled_as joined name value = if joined then (name ++ (61 ∷ value)) ∷ [] else name ∷ value ∷ []
+
+-- the words of an option as it is spelled
+abbrev pub spelled : Spelling → List (List ℕ)
+spelled s = spelled_as s.joined (option_row s.name).word s.value
+
+-- one of them is this option
+abbrev pub IsGiven : OptionName → List Spelling → Type 0
+IsGiven name [] = ⊥
+IsGiven name (s ∷ given) = (s.name ≡ name) ⊎ IsGiven name given
+
+-- no option is there twice
+abbrev pub IsOnce : List Spelling → Type 0
+IsOnce [] = Unit {0}
+IsOnce (s ∷ given) = (IsGiven s.name given → ⊥) × IsOnce given
+
+-- no two of them exclude each other
+abbrev pub AreApart : List Spelling → Type 0
+AreApart given = (a b : OptionName) → rival a ≡ Some b → IsGiven a given → IsGiven b given → ⊥
+
+-- the option is one of these
+abbrev pub IsOneOf : OptionName → List OptionName → Type 0
+IsOneOf name [] = ⊥
+IsOneOf name (other ∷ names) = (name ≡ other) ⊎ IsOneOf name names
+
+-- the options fit a command: each is in its row, once and with a value of its form, no two exclude
+-- each other, and all that it requires are there
+pub record Fits (row : Row) (given : List Spelling) : Type 0 where
+  pub once : IsOnce given
+  pub apart : AreApart given
+  pub taken : AllByRecursion (λ s. IsOneOf s.name (row.required ++ row.optional)) given
+  pub formed : AllByRecursion (λ s. IsValue (option_row s.name).form s.value) given
+  pub complete : AllByRecursion (λ name. IsGiven name given) row.required
+
+-- the value that each option has, the first one of it
+abbrev pub values_of : List Spelling → Values
+values_of [] name = None
+values_of (s ∷ given) name = if same s.name name then Some s.value else values_of given name
+
+-- the words spell a command that asks so
+pub record Spells (words : List (List ℕ)) (asked : Asked) : Type 0 where
+  pub command : CommandName
+  pub given : List Spelling
+  pub are : words ≡ (row_of command).word ∷ flat_map spelled given
+  pub fits : Fits (row_of command) given
+  pub asks : asked ≡ asked_with command (values_of given)
+
+-- the words are accepted as what they ask exactly where they spell it
+abbrev pub WordsAreSpelled : Type 0
+WordsAreSpelled =
+    (words : List (List ℕ)) (asked : Asked) → (words_of words ≡ Ok asked) ↔ Spells words asked

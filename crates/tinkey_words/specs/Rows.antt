@@ -1,0 +1,211 @@
+-- The tables of the command's words: the commands with the options that each requires and may have,
+-- and the options with the form of the value of each. A further command or option is a row.
+use Rattle.std.specs.Prelude.{ℕ, ◌+◌, ◌-◌, ◌*◌, ◌%◌, List, [], ◌∷◌, ◌++◌, length, Bool, true, false, Option, Some, None, is_some, ◌==◌, ◌&&◌, nat_lt, nat_le, if◌then◌else◌, codes}
+use Rattle.std.specs.List.{find, list_any, list_all}
+use Rattle.std.specs.Str.{bytes_eq, all_ascii_digits, str_eq_ignore_ascii_case}
+use Rattle.hex.specs.Hex.{is_hex_digit}
+use Rattle.tinkey_words.specs.declared.words.rows.CommandRow.{CommandRow as CodeRow}
+use Rattle.tinkey_words.specs.declared.words.rows.CommandName.{CommandName}
+use Rattle.tinkey_words.specs.declared.words.rows.CommandName.TheVariants as commands
+use Rattle.tinkey_words.specs.declared.words.rows.Format.{Format}
+use Rattle.tinkey_words.specs.declared.words.rows.Format.TheVariants as formats
+use Rattle.tinkey_words.specs.declared.words.rows.Form.{Form}
+use Rattle.tinkey_words.specs.declared.words.rows.Form.TheVariants as forms
+use Rattle.tinkey_words.specs.declared.words.rows.OptionName.{OptionName}
+use Rattle.tinkey_words.specs.declared.words.rows.OptionName.TheVariants as options
+
+-- The commands.
+
+-- a command's word, the options that it requires, and those that it may have
+pub record Row : Type 0 where
+  pub word : List ℕ
+  pub required : List OptionName
+  pub optional : List OptionName
+
+abbrev pub row : List ℕ → List OptionName → List OptionName → Row
+row word required optional = record { word = word; required = required; optional = optional }
+
+-- where a keyset is taken from, and where one is put
+abbrev pub taken : List OptionName
+taken = options.In ∷ options.InFormat ∷ []
+
+abbrev pub put_out : List OptionName
+put_out = options.Out ∷ options.OutFormat ∷ []
+
+abbrev pub in_and_out : List OptionName
+in_and_out = taken ++ put_out
+
+-- what a command requires that changes a keyset by a template, and one that changes one of its keys
+abbrev pub by_template : List OptionName
+by_template = options.KeyTemplate ∷ []
+
+abbrev pub by_key : List OptionName
+by_key = options.KeyId ∷ []
+
+-- what a command requires that uses the keys of a keyset, and what one may have that takes
+-- associated data
+abbrev pub by_keyset : List OptionName
+by_keyset = options.Keyset ∷ []
+
+abbrev pub with_ad : List OptionName
+with_ad = options.KeysetFormat ∷ options.Ad ∷ options.AdHex ∷ []
+
+-- the row of each command
+abbrev pub row_of : CommandName → Row
+row_of commands.CreateKeyset = row (codes "create-keyset") by_template put_out
+row_of commands.AddKey = row (codes "add-key") by_template in_and_out
+row_of commands.RotateKeyset = row (codes "rotate-keyset") by_template in_and_out
+row_of commands.PromoteKey = row (codes "promote-key") by_key in_and_out
+row_of commands.EnableKey = row (codes "enable-key") by_key in_and_out
+row_of commands.DisableKey = row (codes "disable-key") by_key in_and_out
+row_of commands.DestroyKey = row (codes "destroy-key") by_key in_and_out
+row_of commands.DeleteKey = row (codes "delete-key") by_key in_and_out
+row_of commands.ListKeyset = row (codes "list-keyset") [] taken
+row_of commands.ConvertKeyset = row (codes "convert-keyset") [] in_and_out
+row_of commands.ListKeyTemplates = row (codes "list-key-templates") [] []
+row_of commands.Seal = row (codes "seal") by_keyset with_ad
+row_of commands.Open = row (codes "open") by_keyset with_ad
+row_of commands.Dseal = row (codes "dseal") by_keyset with_ad
+row_of commands.Dopen = row (codes "dopen") by_keyset with_ad
+row_of commands.Sseal = row (codes "sseal") by_keyset with_ad
+row_of commands.Sopen = row (codes "sopen") by_keyset with_ad
+row_of commands.Tag = row (codes "tag") by_keyset (options.KeysetFormat ∷ [])
+row_of commands.Verify =
+    row (codes "verify") (options.Keyset ∷ options.TagHex ∷ []) (options.KeysetFormat ∷ [])
+row_of commands.Derive =
+    row (codes "derive") (options.Keyset ∷ options.Length ∷ []) (options.KeysetFormat ∷ [])
+row_of commands.Selftest =
+    row (codes "selftest") (options.Seed ∷ []) (options.Lines ∷ [])
+row_of commands.Session = row (codes "session") by_keyset (options.KeysetFormat ∷ put_out)
+
+-- all commands
+abbrev pub all_commands : List CommandName
+all_commands =
+    commands.CreateKeyset ∷ commands.AddKey ∷ commands.RotateKeyset ∷ commands.PromoteKey
+    ∷ commands.EnableKey ∷ commands.DisableKey ∷ commands.DestroyKey ∷ commands.DeleteKey
+    ∷ commands.ListKeyset ∷ commands.ConvertKeyset ∷ commands.ListKeyTemplates ∷ commands.Seal
+    ∷ commands.Open ∷ commands.Dseal ∷ commands.Dopen ∷ commands.Sseal ∷ commands.Sopen
+    ∷ commands.Tag ∷ commands.Verify ∷ commands.Derive ∷ commands.Session ∷ commands.Selftest ∷ []
+
+-- the command of this name
+unfoldable pub command_of : List ℕ → Option CommandName
+command_of name = find (λ command. bytes_eq (row_of command).word name) all_commands
+
+-- The options.
+
+-- an option's place among them, its word, and the form of its value
+pub record OptionRow : Type 0 where
+  pub place : ℕ
+  pub word : List ℕ
+  pub form : Form
+
+abbrev pub option : ℕ → List ℕ → Form → OptionRow
+option place word form = record { place = place; word = word; form = form }
+
+-- the row of each option
+abbrev pub option_row : OptionName → OptionRow
+option_row options.KeyTemplate = option 0 (codes "--key-template") forms.Text
+option_row options.KeyId = option 1 (codes "--key-id") forms.Number
+option_row options.In = option 2 (codes "--in") forms.FileName
+option_row options.InFormat = option 3 (codes "--in-format") forms.Format
+option_row options.Out = option 4 (codes "--out") forms.FileName
+option_row options.OutFormat = option 5 (codes "--out-format") forms.Format
+option_row options.Keyset = option 6 (codes "--keyset") forms.FileName
+option_row options.KeysetFormat = option 7 (codes "--keyset-format") forms.Format
+option_row options.Ad = option 8 (codes "--ad") forms.Datum
+option_row options.AdHex = option 9 (codes "--ad-hex") forms.Hex
+option_row options.TagHex = option 10 (codes "--tag-hex") forms.Hex
+option_row options.Length = option 11 (codes "--length") forms.Number
+option_row options.Seed = option 12 (codes "--seed") forms.Number
+option_row options.Lines = option 13 (codes "--lines") forms.LineCount
+
+-- all options, in the order of their places
+abbrev pub all_options : List OptionName
+all_options =
+    options.KeyTemplate ∷ options.KeyId ∷ options.In ∷ options.InFormat ∷ options.Out
+    ∷ options.OutFormat ∷ options.Keyset ∷ options.KeysetFormat ∷ options.Ad ∷ options.AdHex
+    ∷ options.TagHex ∷ options.Length ∷ options.Seed ∷ options.Lines ∷ []
+
+-- the option of this name
+unfoldable pub option_of : List ℕ → Option OptionName
+option_of name = find (λ option. bytes_eq (option_row option).word name) all_options
+
+-- the two are one option
+abbrev pub same : OptionName → OptionName → Bool
+same a b = (option_row a).place == (option_row b).place
+
+-- the option that must not stand beside this one, which gives the same thing
+abbrev pub rival : OptionName → Option OptionName
+rival options.Ad = Some options.AdHex
+rival options.AdHex = Some options.Ad
+rival _ = None
+
+-- the option is one of these
+abbrev pub is_one_of : OptionName → List OptionName → Bool
+is_one_of name names = list_any (same name) names
+
+-- the command has the option
+abbrev pub takes : CommandName → OptionName → Bool
+takes command name = is_one_of name ((row_of command).required ++ (row_of command).optional)
+
+-- The values.
+
+-- the number that decimal digits write behind those of n
+abbrev pub digits_after : ℕ → List ℕ → ℕ
+digits_after n [] = n
+digits_after n (digit ∷ digits) = digits_after (10 * n + (digit - 48)) digits
+
+-- the text is 1 to 10 decimal digits, of a number up to 4,294,967,295
+abbrev pub is_number : List ℕ → Bool
+is_number text =
+    nat_lt 0 (length text) && nat_le (length text) 10 && all_ascii_digits text
+    && nat_le (digits_after 0 text) 4294967295
+
+-- the number that the text is
+unfoldable pub number_of : List ℕ → Option ℕ
+number_of text = if is_number text then Some (digits_after 0 text) else None
+
+-- a self-test of more lines isn't made
+abbrev pub most_lines : ℕ
+most_lines = 100000
+
+-- a number is there, and may be a count of lines
+abbrev pub is_line_count : Option ℕ → Bool
+is_line_count None = false
+is_line_count (Some n) = nat_le 1 n && nat_le n most_lines
+
+-- the form of a keyset of this name, in letters of either case
+unfoldable pub format_of : List ℕ → Option Format
+format_of text =
+    if str_eq_ignore_ascii_case text (codes "json") then Some formats.Json
+    else (if str_eq_ignore_ascii_case text (codes "binary") then Some formats.Binary
+    else None)
+
+-- a datum of more bytes is too long
+abbrev pub datum_limit : ℕ
+datum_limit = 1048576
+
+-- the text isn't too long for a datum
+abbrev pub is_datum : List ℕ → Bool
+is_datum text = nat_le (length text) datum_limit
+
+-- hexadecimal digits of either case, two for each byte of a datum
+abbrev pub is_hex : List ℕ → Bool
+is_hex text =
+    nat_le (length text) (2 * datum_limit) && (length text % 2 == 0) && list_all is_hex_digit text
+
+-- the text is a value of this form: any text, the name of a file, which isn't empty, a number, a count
+-- of lines, the name of a keyset's form, or a datum as it stands or in hexadecimal
+unfoldable pub is_value : Form → List ℕ → Bool
+is_value forms.Text text = true
+is_value forms.FileName text = nat_lt 0 (length text)
+is_value forms.Number text = is_some (number_of text)
+is_value forms.LineCount text = is_line_count (number_of text)
+is_value forms.Format text = is_some (format_of text)
+is_value forms.Datum text = is_datum text
+is_value forms.Hex text = is_hex text
+
+-- What the code's rows stand for.
+
+abbrev pub seen_row : CodeRow → Row
+seen_row r = row r.word.now r.required.now r.optional.now

@@ -1,0 +1,359 @@
+-- The grammar of the command's words: a command, and then options in any order, each at most once,
+-- as `--name value` in two words or `--name=value` in one. Rows has the tables of commands and
+-- options.
+--
+-- The answer is a command, or the place of the first word at fault: an unknown command or option,
+-- one that the command doesn't have, a repeat, the second of two that exclude each other, or one that
+-- holds a value that isn't of its form.
+-- Where a value or a required option is missing at the end, the place is the number of words.
+-- Places count from 0.
+use Rattle.std.specs.Prelude.{◌≡◌, ℕ, ◌+◌, ◌*◌, List, [], ◌∷◌, length, Bool, false, ◌||◌, Option, Some, None, is_some, option_map, Result, Ok, Err, ◌==◌, nat_lt, nat_le, if◌then◌else◌, slice_index_or}
+use Rattle.std.specs.List.{list_all, position_or_len, before_first, after_first}
+use Rattle.std.specs.Borrow.{Bor}
+use Rattle.hex.specs.Hex.{decode_of}
+use Rattle.hex.specs.declared.error.FromHexError.{FromHexError}
+use Rattle.key_msgs.specs.declared.primitive.Primitive.{Primitive}
+use Rattle.key_msgs.specs.declared.primitive.Primitive.TheVariants.{Aead, Daead, Mac, Prf}
+use Rattle.tink_spec.specs.Messages.{◌>>=◌}
+use Rattle.tinkey_cmds.specs.Edits.{EditOf, seen_by}
+use Rattle.tinkey_cmds.specs.Edits as edits
+use Rattle.tinkey_cmds.specs.declared.command.Command.{Command as Command'}
+use Rattle.tinkey_words.specs.declared.words.Command.{Command}
+use Rattle.tinkey_words.specs.declared.words.Command.TheVariants as asks
+use Rattle.tinkey_words.specs.declared.words.Options.{Options as CodeOptions}
+use Rattle.tinkey_words.specs.declared.words.Place.{Place as CodePlace}
+use Rattle.tinkey_words.specs.declared.words.Datum.{Datum}
+use Rattle.tinkey_words.specs.declared.words.Datum.TheVariants as data'
+use Rattle.tinkey_words.specs.declared.words.Work.{Work}
+use Rattle.tinkey_words.specs.declared.words.Work.TheVariants as works
+use Rattle.tinkey_words.specs.declared.words.rows.Format.{Format}
+use Rattle.tinkey_words.specs.declared.words.rows.Format.TheVariants as formats
+use Rattle.tinkey_words.specs.declared.words.rows.CommandName.{CommandName}
+use Rattle.tinkey_words.specs.declared.words.rows.CommandName.TheVariants as commands
+use Rattle.tinkey_words.specs.declared.words.rows.OptionName.{OptionName}
+use Rattle.tinkey_words.specs.declared.words.rows.OptionName.TheVariants as options
+use Rattle.tinkey_words.specs.Rows.{row_of, command_of, option_row, option_of, rival, same, takes, datum_limit, number_of, format_of, is_value}
+
+-- What is asked.
+
+-- the change of a keyset that the words ask for, by the name of a template
+abbrev pub AskedEdit : Type 0
+AskedEdit = EditOf (List ℕ)
+
+-- what is done with the whole input by the keys of a keyset
+pub data AskedWork : Type 0 where
+  -- it is sealed, or opened, with this associated data
+  to_seal : (ad : List ℕ) → AskedWork
+  to_open : (ad : List ℕ) → AskedWork
+  -- the same, deterministic
+  to_dseal : (ad : List ℕ) → AskedWork
+  to_dopen : (ad : List ℕ) → AskedWork
+  -- its tag is made, or this one is compared with it
+  to_tag : AskedWork
+  to_verify : (tag : List ℕ) → AskedWork
+  -- so many bytes are derived from it
+  to_derive : (size : ℕ) → AskedWork
+
+-- the primitive of the keys that do it
+abbrev pub primitive_for : AskedWork → Primitive
+primitive_for (to_seal ad) = Aead
+primitive_for (to_open ad) = Aead
+primitive_for (to_dseal ad) = Daead
+primitive_for (to_dopen ad) = Daead
+primitive_for to_tag = Mac
+primitive_for (to_verify tag) = Mac
+primitive_for (to_derive size) = Prf
+
+-- where a keyset is taken from or put, and in which form: the file of this name, or none for standard
+-- input and output
+pub record Place : Type 0 where
+  pub file : Option (List ℕ)
+  pub form : Format
+
+-- what the words ask for, without where they lie in memory
+pub data Asked : Type 0 where
+  -- a new keyset of one key, by the template of this name
+  create_keyset : (template : List ℕ) (out : Place) → Asked
+  -- a keyset, changed
+  edit_keyset : (edit : AskedEdit) (in' out : Place) → Asked
+  -- the listing of a keyset
+  list_keyset : (in' : Place) → Asked
+  -- a keyset, in another place
+  convert_keyset : (in' out : Place) → Asked
+  -- the names of the templates
+  list_key_templates : Asked
+  -- work on the input, by the keys of the keyset in the file of this name
+  use_keyset : (keyset : List ℕ) (form : Format) (work : AskedWork) → Asked
+  -- the input as a stream, sealed or opened by such a keyset, with this associated data
+  seal_stream : (keyset : List ℕ) (form : Format) (ad : List ℕ) → Asked
+  open_stream : (keyset : List ℕ) (form : Format) (ad : List ℕ) → Asked
+  -- the lines of the input, answered over such a keyset, and where the last keyset is put
+  session : (keyset : List ℕ) (form : Format) (out : Place) → Asked
+  -- so many lines of a session, made from a number, and what becomes of them
+  self_test : (seed lines : ℕ) → Asked
+
+-- the values that were given, by option
+abbrev pub Values : Type 0
+Values = OptionName → Option (List ℕ)
+
+-- the text of an option that the command requires
+abbrev pub text : Option (List ℕ) → List ℕ
+text None = []
+text (Some value) = value
+
+-- the number of such an option
+abbrev pub or_zero : Option ℕ → ℕ
+or_zero None = 0
+or_zero (Some n) = n
+
+abbrev pub number : Option (List ℕ) → ℕ
+number value = or_zero (number_of (text value))
+
+-- a datum as it stands; one that is too long is none
+abbrev pub datum_as : List ℕ → List ℕ
+datum_as plain = if nat_le (length plain) datum_limit then plain else []
+
+-- what was decoded, or nothing
+abbrev pub decoded : Result (List ℕ) FromHexError → List ℕ
+decoded (Ok bytes) = bytes
+decoded (Err error) = []
+
+-- a datum in hexadecimal; one that is too long is none
+abbrev pub datum_of_hex : List ℕ → List ℕ
+datum_of_hex hex = if nat_le (length hex) (2 * datum_limit) then decoded (decode_of hex) else []
+
+-- a datum that is given as it stands or in hexadecimal, or isn't given
+abbrev pub datum : Option (List ℕ) → Option (List ℕ) → List ℕ
+datum (Some plain) hex = datum_as plain
+datum None hex = datum_of_hex (text hex)
+
+-- the associated data
+abbrev pub ad : Values → List ℕ
+ad values = datum (values options.Ad) (values options.AdHex)
+
+-- the key that is changed, the template of a new one, and the files
+abbrev pub id : Values → ℕ
+id values = number (values options.KeyId)
+
+abbrev pub template : Values → List ℕ
+template values = text (values options.KeyTemplate)
+
+-- how many lines a self-test has, where it isn't said
+abbrev pub known_lines : ℕ
+known_lines = 1000
+
+abbrev pub lines_in : Option (List ℕ) → ℕ
+lines_in None = known_lines
+lines_in (Some value) = or_zero (number_of value)
+
+-- the form of a keyset, JSON where none is given
+abbrev pub known_form : Option Format → Format
+known_form None = formats.Json
+known_form (Some form) = form
+
+abbrev pub form_in : Option (List ℕ) → Format
+form_in value = known_form (format_of (text value))
+
+-- where a keyset is taken from, and where one is put
+abbrev pub taken_from : Values → Place
+taken_from values = record { file = values options.In; form = form_in (values options.InFormat) }
+
+abbrev pub put_to : Values → Place
+put_to values = record { file = values options.Out; form = form_in (values options.OutFormat) }
+
+-- a keyset that is changed so
+abbrev pub edited : AskedEdit → Values → Asked
+edited edit values = edit_keyset edit (taken_from values) (put_to values)
+
+-- work by the keys of a keyset
+abbrev pub worked : AskedWork → Values → Asked
+worked work values =
+    use_keyset (text (values options.Keyset)) (form_in (values options.KeysetFormat)) work
+
+-- what each command asks with these values of its options
+abbrev pub asked_with : CommandName → Values → Asked
+asked_with commands.CreateKeyset values = create_keyset (template values) (put_to values)
+asked_with commands.AddKey values = edited (edits.Add (template values)) values
+asked_with commands.RotateKeyset values = edited (edits.Rotate (template values)) values
+asked_with commands.PromoteKey values = edited (edits.Promote (id values)) values
+asked_with commands.EnableKey values = edited (edits.Enable (id values)) values
+asked_with commands.DisableKey values = edited (edits.Disable (id values)) values
+asked_with commands.DestroyKey values = edited (edits.Destroy (id values)) values
+asked_with commands.DeleteKey values = edited (edits.Delete (id values)) values
+asked_with commands.ListKeyset values = list_keyset (taken_from values)
+asked_with commands.ConvertKeyset values = convert_keyset (taken_from values) (put_to values)
+asked_with commands.ListKeyTemplates values = list_key_templates
+asked_with commands.Seal values = worked (to_seal (ad values)) values
+asked_with commands.Open values = worked (to_open (ad values)) values
+asked_with commands.Dseal values = worked (to_dseal (ad values)) values
+asked_with commands.Dopen values = worked (to_dopen (ad values)) values
+asked_with commands.Sseal values =
+    seal_stream (text (values options.Keyset)) (form_in (values options.KeysetFormat)) (ad values)
+asked_with commands.Sopen values =
+    open_stream (text (values options.Keyset)) (form_in (values options.KeysetFormat)) (ad values)
+asked_with commands.Tag values = worked to_tag values
+asked_with commands.Verify values =
+    worked (to_verify (datum_of_hex (text (values options.TagHex)))) values
+asked_with commands.Derive values = worked (to_derive (number (values options.Length))) values
+asked_with commands.Selftest values =
+    self_test (number (values options.Seed)) (lines_in (values options.Lines))
+asked_with commands.Session values =
+    session (text (values options.Keyset)) (form_in (values options.KeysetFormat)) (put_to values)
+
+-- The words, one after another.
+
+-- the options that were given, and the one whose value is the next word
+pub record Options : Type 0 where
+  pub values : Values
+  pub waiting : Option OptionName
+
+-- an equals sign
+abbrev pub is_equals : ℕ → Bool
+is_equals b = b == 61
+
+-- a word that has a value of its own, `--name=value`, as name and value
+unfoldable pub own_value : List ℕ → Option (List ℕ × List ℕ)
+own_value word =
+    if nat_lt (position_or_len is_equals word) (length word)
+    then Some (before_first is_equals word, after_first is_equals word) else None
+
+-- the option was given before
+abbrev pub is_given : OptionName → Options → Bool
+is_given name given = is_some (given.values name)
+
+-- the option that excludes this one was given
+abbrev pub is_excluded : Option OptionName → Options → Bool
+is_excluded None given = false
+is_excluded (Some other) given = is_given other given
+
+-- the option was given before, or one that excludes it
+abbrev pub is_barred : OptionName → Options → Bool
+is_barred name given = is_given name given || is_excluded (rival name) given
+
+-- an option of the command that isn't given yet; its word has this place
+abbrev pub new_option : CommandName → Option OptionName → ℕ → Options → Result OptionName ℕ
+new_option command None place given = Err place
+new_option command (Some name) place given =
+    if takes command name then (if is_barred name given then Err place else Ok name) else Err place
+
+-- these options and this one with its value
+abbrev pub put : OptionName → List ℕ → Options → Options
+put name value given = record {
+  values = (λ other. if same name other then Some value else given.values other);
+  waiting = None;
+}
+
+-- the option with its value, which stands in the word of this place and is of its form
+abbrev pub with_value : OptionName → List ℕ → ℕ → Options → Result Options ℕ
+with_value name value place given =
+    if is_value (option_row name).form value then Ok (put name value given) else Err place
+
+-- an option's word of this place: its value is its own, or is the next word
+abbrev pub option_word : CommandName → Option (List ℕ × List ℕ) → List ℕ → ℕ → Options →
+    Result Options ℕ
+option_word command None word place given =
+    new_option command (option_of word) place given
+    >>= (λ name. Ok (record given { waiting = Some name }))
+option_word command (Some own) word place given =
+    new_option command (option_of own.0) place given >>= (λ name. with_value name own.1 place given)
+
+-- one more word, of this place: the value of the option that waits, or an option's word
+abbrev pub word_after : Option OptionName → CommandName → List ℕ → ℕ → Options → Result Options ℕ
+word_after (Some name) command word place given = with_value name word place given
+word_after None command word place given = option_word command (own_value word) word place given
+
+-- one more word, of this place, behind the options so far
+abbrev pub next_word : CommandName → List ℕ → ℕ → Options → Result Options ℕ
+next_word command word place given = word_after given.waiting command word place given
+
+-- the options at the end; where one waits for its value, that is missing at this place
+abbrev pub ended : Option OptionName → ℕ → Options → Result Options ℕ
+ended (Some name) place given = Err place
+ended None place given = Ok given
+
+-- the options of these words, the first of which has this place, behind those so far
+abbrev pub options_of : CommandName → ℕ → Options → List (List ℕ) → Result Options ℕ
+options_of command place given [] = ended given.waiting place given
+options_of command place given (word ∷ words) =
+    next_word command word place given >>= (λ more. options_of command (place + 1) more words)
+
+-- no option yet
+abbrev pub no_options : Options
+no_options = record { values = (λ name. None); waiting = None }
+
+-- the options of the command, whose own word has the place 0
+unfoldable pub given_in : CommandName → List (List ℕ) → Result Options ℕ
+given_in command words = options_of command 1 no_options words
+
+-- all that the command requires is there
+abbrev pub has_required : CommandName → Options → Bool
+has_required command given = list_all (λ name. is_given name given) (row_of command).required
+
+-- the command with its options, among so many words
+abbrev pub complete : CommandName → ℕ → Options → Result Asked ℕ
+complete command count given =
+    if has_required command given then Ok (asked_with command given.values) else Err count
+
+-- the command, where its name is known, with its options
+abbrev pub asked_of : Option CommandName → List (List ℕ) → Result Asked ℕ
+asked_of None words = Err 0
+asked_of (Some command) words = given_in command words >>= complete command (1 + length words)
+
+-- what the words ask for, or the place of the word at fault
+unfoldable pub words_of : List (List ℕ) → Result Asked ℕ
+words_of [] = Err 0
+words_of (name ∷ words) = asked_of (command_of name) words
+
+-- What the code's commands and options stand for.
+
+abbrev pub seen_edit : Command' (Bor (List ℕ)) → AskedEdit
+seen_edit edit = seen_by (λ name. name.now) edit
+
+-- the name of a file
+abbrev pub seen_name : Option (Bor (List ℕ)) → Option (List ℕ)
+seen_name name = option_map (λ name. name.now) name
+
+-- a place of a keyset
+abbrev pub seen_place : CodePlace → Place
+seen_place place = record { file = seen_name place.file; form = place.form }
+
+-- a datum, as its bytes
+abbrev pub seen_datum : Datum → List ℕ
+seen_datum (data'.Plain plain) = datum_as plain.now
+seen_datum (data'.Hex hex) = datum_of_hex hex.now
+
+abbrev pub seen_work : Work → AskedWork
+seen_work (works.Seal ad) = to_seal (seen_datum ad)
+seen_work (works.Open ad) = to_open (seen_datum ad)
+seen_work (works.Dseal ad) = to_dseal (seen_datum ad)
+seen_work (works.Dopen ad) = to_dopen (seen_datum ad)
+seen_work works.Tag = to_tag
+seen_work (works.Verify tag) = to_verify (seen_datum tag)
+seen_work (works.Derive size) = to_derive size
+
+abbrev pub seen_command : Command → Asked
+seen_command (asks.CreateKeyset template output) = create_keyset template.now (seen_place output)
+seen_command (asks.EditKeyset edit input output) =
+    edit_keyset (seen_edit edit) (seen_place input) (seen_place output)
+seen_command (asks.ListKeyset input) = list_keyset (seen_place input)
+seen_command (asks.ConvertKeyset input output) =
+    convert_keyset (seen_place input) (seen_place output)
+seen_command asks.ListKeyTemplates = list_key_templates
+seen_command (asks.UseKeyset keyset form work) = use_keyset keyset.now form (seen_work work)
+seen_command (asks.SealStream keyset form ad) = seal_stream keyset.now form (seen_datum ad)
+seen_command (asks.OpenStream keyset form ad) = open_stream keyset.now form (seen_datum ad)
+seen_command (asks.Session keyset form output) = session keyset.now form (seen_place output)
+seen_command (asks.SelfTest seed lines) = self_test seed lines
+
+-- the values, which the code keeps at the places of their options
+abbrev pub seen_values : List (Option (Bor (List ℕ))) → Values
+seen_values values name = seen_name (slice_index_or values (option_row name).place None)
+
+-- the options so far, as they are seen
+abbrev pub seen_options : CodeOptions → Options
+seen_options given = record { values = seen_values given.values; waiting = given.waiting }
+
+-- what the code answers is what the definition gives, seen so, or the same place
+abbrev pub Reads : {A B : Type 0} → (A → B) → Result A ℕ → Result B ℕ → Type 0
+Reads view (Ok value) read = read ≡ Ok (view value)
+Reads view (Err place) read = read ≡ Err place

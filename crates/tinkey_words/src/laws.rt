@@ -1,0 +1,14 @@
+//! Laws of the words. These functions do nothing: their contracts are the laws.
+
+ghost use Rattle.tinkey_words.specs.Grammar.{PlacesAreDecided, WordsAreSpelled};
+
+/// The place of a word at fault depends on the words up to it alone.
+pub fn places_are_decided()
+    ensures { PlacesAreDecided }
+{}
+
+/// Words are accepted as what they ask exactly where they are a command's word, and then options
+/// that fit its row, each as `--name value` or `--name=value`, in any order.
+pub fn words_are_spelled()
+    ensures { WordsAreSpelled }
+{}

@@ -1,0 +1,10 @@
+//! The words of a command: what they ask, or the first one at fault.
+//!
+//! What they mean is defined word by word, as the parser goes (`specs/Words.antt`, over the tables of
+//! `specs/Rows.antt`), and said again as a whole (`specs/Grammar.antt`).
+#![tactic(auto)]
+
+pub mod laws;
+mod words;
+
+pub use words::{Command, DATUM_LIMIT, Datum, Format, Place, Work, parse};

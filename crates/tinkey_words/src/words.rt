@@ -1,0 +1,494 @@
+//! The command's words, read by the grammar of `specs/Words.antt`. No memory is taken.
+
+ghost use Rattle.std.specs.Prelude.{◌≡◌, ◌<◌, Some, length, map, option_map, slice_set, string_bytes};
+ghost use Rattle.tinkey_words.specs.Rows.{option_of};
+ghost use Rattle.tinkey_words.specs.declared.words.rows.OptionName.TheVariants.{Lines};
+ghost use Rattle.tinkey_words.specs.Words.{words_of, given_in, lines_in, next_word, option_word, own_value, is_barred, new_option, with_value, no_options, has_required, complete, asked_with, text, number, id, template, ad, edited, worked, seen_command, seen_datum, seen_edit, seen_name, seen_options, seen_work, Reads, form_in, taken_from, put_to, seen_place};
+
+mod rows;
+
+pub use rows::{DATUM_LIMIT, Format};
+use rows::{
+    CommandName, OPTION_COUNT, OptionName, command_named, format_named, is_value, number_named,
+    option_named, takes,
+};
+use tinkey_cmds::Command as Edit;
+
+/// How many lines a self-test has, where the words don't say it.
+const KNOWN_LINES: u32 = 1000;
+
+/// What the words ask for.
+#[derive(Clone, Copy)]
+pub enum Command<'a> {
+    /// Make a keyset of one new key.
+    CreateKeyset {
+        /// The name of the template of the key.
+        template: &'a str,
+        /// Where the keyset is put.
+        output: Place<'a>,
+    },
+    /// Change a keyset.
+    EditKeyset {
+        /// The change.
+        edit: Edit<&'a str>,
+        /// Where the keyset is taken from.
+        input: Place<'a>,
+        /// Where the changed one is put.
+        output: Place<'a>,
+    },
+    /// List a keyset.
+    ListKeyset {
+        /// Where the keyset is taken from.
+        input: Place<'a>,
+    },
+    /// Put a keyset elsewhere, or in another form.
+    ConvertKeyset {
+        /// Where the keyset is taken from.
+        input: Place<'a>,
+        /// Where it is put.
+        output: Place<'a>,
+    },
+    /// List the names of the templates.
+    ListKeyTemplates,
+    /// Work on the input, by the keys of a keyset.
+    UseKeyset {
+        /// The file of the keyset.
+        keyset: &'a str,
+        /// The form of the keyset.
+        form: Format,
+        /// What is done.
+        work: Work<'a>,
+    },
+    /// Seal the input as a stream.
+    SealStream {
+        /// The file of the keyset.
+        keyset: &'a str,
+        /// The form of the keyset.
+        form: Format,
+        /// The associated data.
+        ad: Datum<'a>,
+    },
+    /// Open the input as a stream.
+    OpenStream {
+        /// The file of the keyset.
+        keyset: &'a str,
+        /// The form of the keyset.
+        form: Format,
+        /// The associated data.
+        ad: Datum<'a>,
+    },
+    /// Answer the lines of the input over a keyset.
+    Session {
+        /// The file of the keyset.
+        keyset: &'a str,
+        /// The form of the keyset.
+        form: Format,
+        /// Where the last keyset is put; where no file is named, nowhere.
+        output: Place<'a>,
+    },
+    /// Answer lines that are made from a number, and tell what became of them.
+    SelfTest {
+        /// The number.
+        seed: u32,
+        /// How many lines there are.
+        lines: u32,
+    },
+}
+
+/// What is done with the whole input by the keys of a keyset.
+#[derive(Clone, Copy)]
+pub enum Work<'a> {
+    /// Seal it, with this associated data.
+    Seal(Datum<'a>),
+    /// Open it, with this associated data.
+    Open(Datum<'a>),
+    /// Seal it without an IV, with this associated data.
+    Dseal(Datum<'a>),
+    /// Open what was sealed without an IV, with this associated data.
+    Dopen(Datum<'a>),
+    /// Tag it.
+    Tag,
+    /// Compare its tag with this one.
+    Verify(Datum<'a>),
+    /// Derive so many bytes from it.
+    Derive(u32),
+}
+
+/// Bytes that stand in a word.
+#[derive(Clone, Copy)]
+pub enum Datum<'a> {
+    /// As they are.
+    Plain(&'a str),
+    /// In hexadecimal.
+    Hex(&'a str),
+}
+
+/// Where a keyset is taken from or put.
+#[derive(Clone, Copy)]
+pub struct Place<'a> {
+    /// The file, or none for standard input and output.
+    pub file: Option<&'a str>,
+    /// The form of the keyset.
+    pub form: Format,
+}
+
+/// The options of the words so far.
+#[derive(Clone, Copy)]
+pub struct Options<'a> {
+    /// The values, each of its form, at the places of their options.
+    pub values: [Option<&'a str>; OPTION_COUNT],
+    /// The option whose value is the next word.
+    pub waiting: Option<OptionName>,
+}
+
+/// The command that the words ask for, or the place of the word at fault, as `Status::Usage` tells
+/// it.
+#[tactic(auto, unfolding(crate::specs::Words::words_of))]
+pub fn parse(words: &[String]) -> Result<Command<'_>, usize>
+    ensures { Reads seen_command result (words_of (map string_bytes words.now)) }
+{
+    match words.split_first() {
+        None => Err(0),
+        Some((name, options)) => match command_named(name.as_str()) {
+            None => Err(0),
+            Some(command) => match given_options(command, options) {
+                Ok(given) => complete(command, words.len(), given),
+                Err(place) => Err(place),
+            },
+        },
+    }
+}
+
+/// The command with its options, among so many words.
+fn complete(command: CommandName, count: usize, given: Options<'_>) -> Result<Command<'_>, usize>
+    ensures { Reads seen_command result (complete command count (seen_options given.entry)) }
+{
+    if has_required(command, &given) {
+        Ok(command_with(command, &given))
+    } else {
+        Err(count)
+    }
+}
+
+/// All that the command requires is there.
+fn has_required(command: CommandName, given: &Options<'_>) -> bool
+    ensures { result ≡ has_required command (seen_options given.now) }
+{
+    command
+        .row()
+        .required
+        .iter()
+        .all(|name| given.value(*name).is_some())
+}
+
+/// What the command asks with these options.
+fn command_with<'a>(command: CommandName, given: &Options<'a>) -> Command<'a>
+    ensures { seen_command result ≡ asked_with command (seen_options given.now).values }
+{
+    match command {
+        CommandName::CreateKeyset => Command::CreateKeyset {
+            template: given.template(),
+            output: given.put_to(),
+        },
+        CommandName::AddKey => given.edited(Edit::Add(given.template())),
+        CommandName::RotateKeyset => given.edited(Edit::Rotate(given.template())),
+        CommandName::PromoteKey => given.edited(Edit::Promote(given.id())),
+        CommandName::EnableKey => given.edited(Edit::Enable(given.id())),
+        CommandName::DisableKey => given.edited(Edit::Disable(given.id())),
+        CommandName::DestroyKey => given.edited(Edit::Destroy(given.id())),
+        CommandName::DeleteKey => given.edited(Edit::Delete(given.id())),
+        CommandName::ListKeyset => Command::ListKeyset {
+            input: given.taken_from(),
+        },
+        CommandName::ConvertKeyset => Command::ConvertKeyset {
+            input: given.taken_from(),
+            output: given.put_to(),
+        },
+        CommandName::ListKeyTemplates => Command::ListKeyTemplates,
+        CommandName::Seal => given.worked(Work::Seal(given.ad())),
+        CommandName::Open => given.worked(Work::Open(given.ad())),
+        CommandName::Dseal => given.worked(Work::Dseal(given.ad())),
+        CommandName::Dopen => given.worked(Work::Dopen(given.ad())),
+        CommandName::Sseal => Command::SealStream {
+            keyset: given.text(OptionName::Keyset),
+            form: given.form(OptionName::KeysetFormat),
+            ad: given.ad(),
+        },
+        CommandName::Sopen => Command::OpenStream {
+            keyset: given.text(OptionName::Keyset),
+            form: given.form(OptionName::KeysetFormat),
+            ad: given.ad(),
+        },
+        CommandName::Tag => given.worked(Work::Tag),
+        CommandName::Verify => given.worked(Work::Verify(Datum::Hex(given.text(
+            OptionName::TagHex,
+        )))),
+        CommandName::Derive => given.worked(Work::Derive(given.number(OptionName::Length))),
+        CommandName::Session => Command::Session {
+            keyset: given.text(OptionName::Keyset),
+            form: given.form(OptionName::KeysetFormat),
+            output: given.put_to(),
+        },
+        CommandName::Selftest => Command::SelfTest {
+            seed: given.number(OptionName::Seed),
+            lines: given.lines(),
+        },
+    }
+}
+
+impl<'a> Options<'a> {
+    /// The value of the option.
+    fn value(&self, name: OptionName) -> Option<&'a str>
+        ensures { seen_name result ≡ (seen_options self.now).values name }
+    {
+        self.values[name.place()]
+    }
+
+    /// The value of an option that the command requires.
+    fn text(&self, name: OptionName) -> &'a str
+        ensures { result.now ≡ text ((seen_options self.now).values name) }
+    {
+        match self.value(name) {
+            Some(text) => text,
+            None => "",
+        }
+    }
+
+    /// The name of the template of a new key.
+    fn template(&self) -> &'a str
+        ensures { result.now ≡ template (seen_options self.now).values }
+    {
+        self.text(OptionName::KeyTemplate)
+    }
+
+    /// The number of an option that the command requires.
+    fn number(&self, name: OptionName) -> u32
+        ensures { result ≡ number ((seen_options self.now).values name) }
+    {
+        match number_named(self.text(name)) {
+            Some(number) => number,
+            None => 0,
+        }
+    }
+
+    /// How many lines a self-test has.
+    fn lines(&self) -> u32
+        ensures { result ≡ lines_in ((seen_options self.now).values Lines) }
+    {
+        match self.value(OptionName::Lines) {
+            None => KNOWN_LINES,
+            Some(text) => match number_named(text) {
+                Some(lines) => lines,
+                None => 0,
+            },
+        }
+    }
+
+    /// The id of the key that is changed.
+    fn id(&self) -> u32
+        ensures { result ≡ id (seen_options self.now).values }
+    {
+        self.number(OptionName::KeyId)
+    }
+
+    /// The form of a keyset, JSON where none is given.
+    fn form(&self, name: OptionName) -> Format
+        ensures { result ≡ form_in ((seen_options self.now).values name) }
+    {
+        match format_named(self.text(name)) {
+            Some(form) => form,
+            None => Format::Json,
+        }
+    }
+
+    /// Where a keyset is taken from.
+    fn taken_from(&self) -> Place<'a>
+        ensures { seen_place result ≡ taken_from (seen_options self.now).values }
+    {
+        Place {
+            file: self.value(OptionName::In),
+            form: self.form(OptionName::InFormat),
+        }
+    }
+
+    /// Where a keyset is put.
+    fn put_to(&self) -> Place<'a>
+        ensures { seen_place result ≡ put_to (seen_options self.now).values }
+    {
+        Place {
+            file: self.value(OptionName::Out),
+            form: self.form(OptionName::OutFormat),
+        }
+    }
+
+    /// The associated data.
+    fn ad(&self) -> Datum<'a>
+        ensures { seen_datum result ≡ ad (seen_options self.now).values }
+    {
+        match self.value(OptionName::Ad) {
+            Some(text) => Datum::Plain(text),
+            None => Datum::Hex(self.text(OptionName::AdHex)),
+        }
+    }
+
+    /// Work by the keys of a keyset.
+    fn worked(&self, work: Work<'a>) -> Command<'a>
+        ensures { seen_command result
+            ≡ worked (seen_work work.entry) (seen_options self.now).values }
+    {
+        Command::UseKeyset {
+            keyset: self.text(OptionName::Keyset),
+            form: self.form(OptionName::KeysetFormat),
+            work,
+        }
+    }
+
+    /// The option was given before, or one that excludes it.
+    fn is_barred(&self, name: OptionName) -> bool
+        ensures { result ≡ is_barred name (seen_options self.now) }
+    {
+        if self.value(name).is_some() {
+            return true;
+        }
+        match name.rival() {
+            Some(other) => self.value(other).is_some(),
+            None => false,
+        }
+    }
+
+    /// A keyset that is changed so.
+    fn edited(&self, edit: Edit<&'a str>) -> Command<'a>
+        ensures { seen_command result
+            ≡ edited (seen_edit edit.entry) (seen_options self.now).values }
+    {
+        Command::EditKeyset {
+            edit,
+            input: self.taken_from(),
+            output: self.put_to(),
+        }
+    }
+}
+
+/// The options of these words, which stand behind the command.
+#[tactic(auto, unfolding(crate::specs::Words::given_in))]
+fn given_options(command: CommandName, words: &[String]) -> Result<Options<'_>, usize>
+    ensures { Reads seen_options result (given_in command (map string_bytes words.now)) }
+{
+    let mut so_far = no_options();
+    for (i, word) in words.iter().enumerate() {
+        if let Err(place) = next_word(command, word.as_str(), i + 1, &mut so_far) {
+            return Err(place);
+        }
+    }
+    match so_far.waiting {
+        Some(_) => Err(words.len() + 1),
+        None => Ok(so_far),
+    }
+}
+
+/// No option yet.
+fn no_options<'a>() -> Options<'a>
+    ensures { seen_options result ≡ no_options }
+{
+    Options {
+        values: [None; OPTION_COUNT],
+        waiting: None,
+    }
+}
+
+/// One more word, of this place.
+fn next_word<'a>(
+    command: CommandName,
+    word: &'a str,
+    place: usize,
+    so_far: &mut Options<'a>,
+) -> Result<(), usize>
+    ensures { Reads (λ done. seen_options so_far.new) result
+        (next_word command word.now place (seen_options so_far.old)) }
+{
+    match so_far.waiting {
+        Some(name) => with_value(name, word, place, so_far),
+        None => option_word(command, word, place, so_far),
+    }
+}
+
+/// An option's word: its value is its own, or is the next word.
+fn option_word<'a>(
+    command: CommandName,
+    word: &'a str,
+    place: usize,
+    so_far: &mut Options<'a>,
+) -> Result<(), usize>
+    ensures { Reads (λ done. seen_options so_far.new) result
+        (option_word command (own_value word.now) word.now place (seen_options so_far.old)) }
+{
+    match own_value(word) {
+        Some((name, value)) => match new_option(command, name, place, so_far) {
+            Ok(name) => with_value(name, value, place, so_far),
+            Err(place) => Err(place),
+        },
+        None => match new_option(command, word, place, so_far) {
+            Ok(name) => {
+                so_far.waiting = Some(name);
+                Ok(())
+            }
+            Err(place) => Err(place),
+        },
+    }
+}
+
+/// The name and the value of a word that has both.
+#[tactic(auto, unfolding(crate::specs::Words::own_value))]
+fn own_value(word: &str) -> Option<(&str, &str)>
+    ensures { option_map (λ own. (own.0.now, own.1.now)) result ≡ own_value word.now }
+{
+    word.split_once('=')
+}
+
+/// The option of this name, one of the command's that isn't given yet, and none that excludes it.
+fn new_option(
+    command: CommandName,
+    name: &str,
+    place: usize,
+    so_far: &Options<'_>,
+) -> Result<OptionName, usize>
+    ensures { result ≡ new_option command (option_of name.now) place (seen_options so_far.now) }
+{
+    match option_named(name) {
+        Some(name) => {
+            if takes(command, name) && !so_far.is_barred(name) {
+                Ok(name)
+            } else {
+                Err(place)
+            }
+        }
+        None => Err(place),
+    }
+}
+
+/// The option with its value, which stands in the word of this place.
+fn with_value<'a>(
+    name: OptionName,
+    value: &'a str,
+    place: usize,
+    so_far: &mut Options<'a>,
+) -> Result<(), usize>
+    ensures { Reads (λ done. seen_options so_far.new) result
+        (with_value name value.now place (seen_options so_far.old)) }
+{
+    if !is_value(name.row().form, value) {
+        return Err(place);
+    }
+    write(&mut so_far.values, name.place(), value);
+    so_far.waiting = None;
+    Ok(())
+}
+
+/// Keeps the value at this place.
+fn write<'a>(values: &mut [Option<&'a str>; OPTION_COUNT], place: usize, value: &'a str)
+    requires within { place < OPTION_COUNT }
+    ensures size { length values.old ≡ OPTION_COUNT }
+    ensures written { values.new ≡ slice_set values.old place (Some value.entry) }
+{
+    values[place] = Some(value);
+}

@@ -1,0 +1,430 @@
+//! The tables of `specs/Rows.antt`: the commands with their options, and the options with the forms
+//! of their values.
+
+ghost use Rattle.std.specs.Prelude.{◌≡◌, ◌<◌};
+ghost use Rattle.std.specs.List.{list_all};
+ghost use Rattle.hex.specs.Hex.{is_hex_digit};
+ghost use Rattle.tinkey_words.specs.Rows.{row, row_of, command_of, option_row, option_of, rival, is_one_of, takes, number_of, format_of, is_hex, is_line_count, is_value, seen_row};
+
+/// A command by its name.
+#[derive(Clone, Copy)]
+pub enum CommandName {
+    /// `create-keyset`
+    CreateKeyset,
+    /// `add-key`
+    AddKey,
+    /// `rotate-keyset`
+    RotateKeyset,
+    /// `promote-key`
+    PromoteKey,
+    /// `enable-key`
+    EnableKey,
+    /// `disable-key`
+    DisableKey,
+    /// `destroy-key`
+    DestroyKey,
+    /// `delete-key`
+    DeleteKey,
+    /// `list-keyset`
+    ListKeyset,
+    /// `convert-keyset`
+    ConvertKeyset,
+    /// `list-key-templates`
+    ListKeyTemplates,
+    /// `seal`
+    Seal,
+    /// `open`
+    Open,
+    /// `dseal`
+    Dseal,
+    /// `dopen`
+    Dopen,
+    /// `sseal`
+    Sseal,
+    /// `sopen`
+    Sopen,
+    /// `tag`
+    Tag,
+    /// `verify`
+    Verify,
+    /// `derive`
+    Derive,
+    /// `session`
+    Session,
+    /// `selftest`
+    Selftest,
+}
+
+/// An option by its name.
+#[derive(Clone, Copy)]
+pub enum OptionName {
+    /// `--key-template`, the name of the template of a new key.
+    KeyTemplate,
+    /// `--key-id`, the key that is changed.
+    KeyId,
+    /// `--in`, the file of the keyset that is read.
+    In,
+    /// `--in-format`, the form of that keyset.
+    InFormat,
+    /// `--out`, the file that is made.
+    Out,
+    /// `--out-format`, the form of the keyset that is written.
+    OutFormat,
+    /// `--keyset`, the file of the keyset that is used.
+    Keyset,
+    /// `--keyset-format`, the form of that keyset.
+    KeysetFormat,
+    /// `--ad`, the associated data.
+    Ad,
+    /// `--ad-hex`, the associated data in hexadecimal.
+    AdHex,
+    /// `--tag-hex`, the tag that is verified, in hexadecimal.
+    TagHex,
+    /// `--length`, how many bytes are derived.
+    Length,
+    /// `--seed`, the number that a self-test is made from.
+    Seed,
+    /// `--lines`, how many lines it has.
+    Lines,
+}
+
+/// How many options there are.
+pub const OPTION_COUNT: usize = 14;
+
+/// How many lines a self-test may have.
+const MOST_LINES: u32 = 100_000;
+
+/// How many bytes a datum may have that stands in a word.
+pub const DATUM_LIMIT: usize = 1_048_576;
+
+/// The form of a keyset.
+#[derive(Clone, Copy)]
+pub enum Format {
+    /// The JSON mapping of tink.proto's `Keyset`.
+    Json,
+    /// A `Keyset` message of tink.proto.
+    Binary,
+}
+
+/// The form of an option's value.
+#[derive(Clone, Copy)]
+pub enum Form {
+    /// Any text.
+    Text,
+    /// The name of a file, which isn't empty.
+    FileName,
+    /// 1 to 10 decimal digits, of a number up to 4,294,967,295.
+    Number,
+    /// The same, of a number from 1 to 100,000.
+    LineCount,
+    /// The form of a keyset: `json` or `binary`, in letters of either case.
+    Format,
+    /// A text of at most 1,048,576 bytes, which are meant.
+    Datum,
+    /// An even number of hexadecimal digits of either case, at most 2,097,152.
+    Hex,
+}
+
+/// A command's word, the options that it requires, and those that it may have.
+#[derive(Clone, Copy)]
+pub struct CommandRow {
+    pub word: &'static str,
+    pub required: &'static [OptionName],
+    pub optional: &'static [OptionName],
+}
+
+/// An option's word, and the form of its value.
+#[derive(Clone, Copy)]
+pub struct OptionRow {
+    pub word: &'static str,
+    pub form: Form,
+}
+
+impl CommandName {
+    /// The row of the command.
+    pub fn row(self) -> CommandRow
+        ensures { seen_row result ≡ row_of self }
+    {
+        match self {
+            CommandName::CreateKeyset => row("create-keyset", &BY_TEMPLATE, &OUT),
+            CommandName::AddKey => row("add-key", &BY_TEMPLATE, &IN_AND_OUT),
+            CommandName::RotateKeyset => row("rotate-keyset", &BY_TEMPLATE, &IN_AND_OUT),
+            CommandName::PromoteKey => row("promote-key", &BY_KEY, &IN_AND_OUT),
+            CommandName::EnableKey => row("enable-key", &BY_KEY, &IN_AND_OUT),
+            CommandName::DisableKey => row("disable-key", &BY_KEY, &IN_AND_OUT),
+            CommandName::DestroyKey => row("destroy-key", &BY_KEY, &IN_AND_OUT),
+            CommandName::DeleteKey => row("delete-key", &BY_KEY, &IN_AND_OUT),
+            CommandName::ListKeyset => row("list-keyset", &[], &IN),
+            CommandName::ConvertKeyset => row("convert-keyset", &[], &IN_AND_OUT),
+            CommandName::ListKeyTemplates => row("list-key-templates", &[], &[]),
+            CommandName::Seal => row("seal", &BY_KEYSET, &WITH_AD),
+            CommandName::Open => row("open", &BY_KEYSET, &WITH_AD),
+            CommandName::Dseal => row("dseal", &BY_KEYSET, &WITH_AD),
+            CommandName::Dopen => row("dopen", &BY_KEYSET, &WITH_AD),
+            CommandName::Sseal => row("sseal", &BY_KEYSET, &WITH_AD),
+            CommandName::Sopen => row("sopen", &BY_KEYSET, &WITH_AD),
+            CommandName::Tag => row("tag", &BY_KEYSET, &[OptionName::KeysetFormat]),
+            CommandName::Verify => row("verify", &BY_KEYSET_AND_TAG, &[OptionName::KeysetFormat]),
+            CommandName::Derive => {
+                row("derive", &BY_KEYSET_AND_LENGTH, &[OptionName::KeysetFormat])
+            }
+            CommandName::Session => row("session", &BY_KEYSET, &WITH_OUT),
+            CommandName::Selftest => row("selftest", &[OptionName::Seed], &[OptionName::Lines]),
+        }
+    }
+}
+
+/// What a command requires that makes a key by a template.
+const BY_TEMPLATE: [OptionName; 1] = [OptionName::KeyTemplate];
+
+/// What a command requires that changes one of a keyset's keys.
+const BY_KEY: [OptionName; 1] = [OptionName::KeyId];
+
+/// What a command requires that uses the keys of a keyset.
+const BY_KEYSET: [OptionName; 1] = [OptionName::Keyset];
+
+const BY_KEYSET_AND_TAG: [OptionName; 2] = [OptionName::Keyset, OptionName::TagHex];
+
+const BY_KEYSET_AND_LENGTH: [OptionName; 2] = [OptionName::Keyset, OptionName::Length];
+
+/// What such a command may have that takes associated data.
+const WITH_AD: [OptionName; 3] = [OptionName::KeysetFormat, OptionName::Ad, OptionName::AdHex];
+
+/// What such a command may have that puts a keyset.
+const WITH_OUT: [OptionName; 3] = [
+    OptionName::KeysetFormat,
+    OptionName::Out,
+    OptionName::OutFormat,
+];
+
+/// Where a keyset is taken from.
+const IN: [OptionName; 2] = [OptionName::In, OptionName::InFormat];
+
+/// Where a keyset is put.
+const OUT: [OptionName; 2] = [OptionName::Out, OptionName::OutFormat];
+
+/// Both.
+const IN_AND_OUT: [OptionName; 4] = [
+    OptionName::In,
+    OptionName::InFormat,
+    OptionName::Out,
+    OptionName::OutFormat,
+];
+
+fn row(
+    word: &'static str,
+    required: &'static [OptionName],
+    optional: &'static [OptionName],
+) -> CommandRow
+    ensures { seen_row result ≡ row word.now required.now optional.now }
+{
+    CommandRow {
+        word,
+        required,
+        optional,
+    }
+}
+
+impl OptionName {
+    /// The row of the option.
+    pub fn row(self) -> OptionRow
+        ensures word { result.word.now ≡ (option_row self).word }
+        ensures form { result.form ≡ (option_row self).form }
+    {
+        match self {
+            OptionName::KeyTemplate => option("--key-template", Form::Text),
+            OptionName::KeyId => option("--key-id", Form::Number),
+            OptionName::In => option("--in", Form::FileName),
+            OptionName::InFormat => option("--in-format", Form::Format),
+            OptionName::Out => option("--out", Form::FileName),
+            OptionName::OutFormat => option("--out-format", Form::Format),
+            OptionName::Keyset => option("--keyset", Form::FileName),
+            OptionName::KeysetFormat => option("--keyset-format", Form::Format),
+            OptionName::Ad => option("--ad", Form::Datum),
+            OptionName::AdHex => option("--ad-hex", Form::Hex),
+            OptionName::TagHex => option("--tag-hex", Form::Hex),
+            OptionName::Length => option("--length", Form::Number),
+            OptionName::Seed => option("--seed", Form::Number),
+            OptionName::Lines => option("--lines", Form::LineCount),
+        }
+    }
+
+    /// The place of the option among them all.
+    pub fn place(self) -> usize
+        ensures place { result ≡ (option_row self).place }
+        ensures within { result < OPTION_COUNT }
+    {
+        self as usize
+    }
+
+    /// The option that must not stand beside this one.
+    pub fn rival(self) -> Option<OptionName>
+        ensures { result ≡ rival self }
+    {
+        match self {
+            OptionName::Ad => Some(OptionName::AdHex),
+            OptionName::AdHex => Some(OptionName::Ad),
+            _ => None,
+        }
+    }
+}
+
+fn option(word: &'static str, form: Form) -> OptionRow
+    ensures word { result.word.now ≡ word.now }
+    ensures form { result.form ≡ form }
+{
+    OptionRow { word, form }
+}
+
+/// All commands.
+const COMMANDS: [CommandName; 22] = [
+    CommandName::CreateKeyset,
+    CommandName::AddKey,
+    CommandName::RotateKeyset,
+    CommandName::PromoteKey,
+    CommandName::EnableKey,
+    CommandName::DisableKey,
+    CommandName::DestroyKey,
+    CommandName::DeleteKey,
+    CommandName::ListKeyset,
+    CommandName::ConvertKeyset,
+    CommandName::ListKeyTemplates,
+    CommandName::Seal,
+    CommandName::Open,
+    CommandName::Dseal,
+    CommandName::Dopen,
+    CommandName::Sseal,
+    CommandName::Sopen,
+    CommandName::Tag,
+    CommandName::Verify,
+    CommandName::Derive,
+    CommandName::Session,
+    CommandName::Selftest,
+];
+
+/// All options, in the order of their places.
+const OPTIONS: [OptionName; OPTION_COUNT] = [
+    OptionName::KeyTemplate,
+    OptionName::KeyId,
+    OptionName::In,
+    OptionName::InFormat,
+    OptionName::Out,
+    OptionName::OutFormat,
+    OptionName::Keyset,
+    OptionName::KeysetFormat,
+    OptionName::Ad,
+    OptionName::AdHex,
+    OptionName::TagHex,
+    OptionName::Length,
+    OptionName::Seed,
+    OptionName::Lines,
+];
+
+/// The command of this name.
+pub fn command_named(name: &str) -> Option<CommandName>
+    ensures { result ≡ command_of name.now }
+{
+    COMMANDS
+        .iter()
+        .copied()
+        .find(|command| command.row().word == name)
+}
+
+/// The option of this name.
+pub fn option_named(name: &str) -> Option<OptionName>
+    ensures { result ≡ option_of name.now }
+{
+    OPTIONS
+        .iter()
+        .copied()
+        .find(|option| option.row().word == name)
+}
+
+/// The option is one of these.
+fn is_one_of(name: OptionName, names: &[OptionName]) -> bool
+    ensures { result ≡ is_one_of name names.now }
+{
+    names.iter().any(|other| name.place() == other.place())
+}
+
+/// Whether the command has the option.
+pub fn takes(command: CommandName, name: OptionName) -> bool
+    ensures { result ≡ takes command name }
+{
+    let row = command.row();
+    is_one_of(name, row.required) || is_one_of(name, row.optional)
+}
+
+/// Whether the text is a value of this form.
+#[tactic(auto, unfolding(crate::specs::Rows::is_value))]
+pub fn is_value(form: Form, text: &str) -> bool
+    ensures { result ≡ is_value form text.now }
+{
+    match form {
+        Form::Text => true,
+        Form::FileName => !text.is_empty(),
+        Form::Number => number_named(text).is_some(),
+        Form::LineCount => is_line_count(number_named(text)),
+        Form::Format => format_named(text).is_some(),
+        Form::Datum => text.len() <= DATUM_LIMIT,
+        Form::Hex => is_hex(text),
+    }
+}
+
+/// Whether a number is there, and may be a count of lines.
+fn is_line_count(number: Option<u32>) -> bool
+    ensures { result ≡ is_line_count number }
+{
+    match number {
+        Some(lines) => 1 <= lines && lines <= MOST_LINES,
+        None => false,
+    }
+}
+
+/// An even number of hexadecimal digits, two for each byte of a datum.
+fn is_hex(text: &str) -> bool
+    ensures { result ≡ is_hex text.now }
+{
+    text.len() <= 2 * DATUM_LIMIT && text.len().is_multiple_of(2) && has_hex_digits(text)
+}
+
+/// Hexadecimal digits of either case, and nothing else.
+fn has_hex_digits(text: &str) -> bool
+    ensures { result ≡ list_all is_hex_digit text.now }
+{
+    text.bytes().all(|b| is_hex_digit(b))
+}
+
+/// A hexadecimal digit of either case.
+fn is_hex_digit(b: u8) -> bool
+    ensures { result ≡ is_hex_digit b }
+{
+    matches!(b, b'0'..=b'9' | b'a'..=b'f' | b'A'..=b'F')
+}
+
+/// The form of a keyset of this name.
+#[tactic(auto, unfolding(crate::specs::Rows::format_of))]
+pub fn format_named(text: &str) -> Option<Format>
+    ensures { result ≡ format_of text.now }
+{
+    if text.eq_ignore_ascii_case("json") {
+        Some(Format::Json)
+    } else if text.eq_ignore_ascii_case("binary") {
+        Some(Format::Binary)
+    } else {
+        None
+    }
+}
+
+/// How many digits a number may have.
+const MOST_DIGITS: usize = 10;
+
+/// The number that the text is: 1 to 10 decimal digits, up to 4,294,967,295.
+pub fn number_named(text: &str) -> Option<u32>
+    ensures { result ≡ number_of text.now }
+{
+    if text.len() > MOST_DIGITS || !text.bytes().all(|b| b.is_ascii_digit()) {
+        return None;
+    }
+    text.parse::<u32>().ok()
+}
