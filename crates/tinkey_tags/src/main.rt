@@ -1,4 +1,5 @@
-//! The program `tinkey` once more, for a stored run that tags its input under a keyset file.
+//! The program `tinkey` once more, for a stored run that tags and verifies under a keyset file, and
+//! then ends in a refusal, since its new file is there.
 #![tactic(auto)]
 
 use std::process::ExitCode;
