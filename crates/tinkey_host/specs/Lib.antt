@@ -1,3 +1,1 @@
-pub mod Folder
 pub mod Program
-pub mod Streams

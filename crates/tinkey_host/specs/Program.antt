@@ -1,6 +1,7 @@
 -- What the program does with its words, its streams and its files.
-use Rattle.std.specs.Prelude.{◌≡◌, ℕ, List, Result, Ok, Err}
+use Rattle.std.specs.Prelude.{◌≡◌, ℕ, List, drop, Option, IfSome, Result, Ok, Err}
 use Rattle.managers.specs.Standard.{standard_table}
+use Rattle.real_objects.specs.Words.{HasNotText}
 use Rattle.tink_base.specs.declared.faults.NoMemory.{NoMemory}
 use Rattle.tink_spec.specs.Outside.{SinkState}
 use Rattle.tinkey_plans.specs.Commands.{plan_of}
@@ -30,3 +31,10 @@ pub record HasRun (words : List (List ℕ)) (old new : World) (before after : Si
   pub told : code ≡ code_of status
   pub promised : Promised (start_plan words) old status new
   pub line : Reports status before after
+
+-- How a command line was obeyed, whose words are known or not, the program's name first: the other
+-- words were run; or one of them isn't UTF-8, or memory for them was refused, and all is as it was.
+pub data HasObeyed (told : Option (List (List ℕ))) (old new : World) (before after : SinkState) (code : ℕ) : Type 0 where
+  has_run : (words : List (List ℕ)) → IfSome told (λ t. words ≡ drop 1 t) → HasRun words old new before after code → HasObeyed told old new before after code
+  not_text : code ≡ 8 → IfSome told HasNotText → old ≡ new → before ≡ after → HasObeyed told old new before after code
+  no_memory : code ≡ 7 → old ≡ new → before ≡ after → HasObeyed told old new before after code

@@ -1,20 +1,9 @@
-//! The real objects that the program `tinkey` runs over, and what its `main` does with them.
-//!
-//! What the system gives and takes no clause can say. So the clauses speak of any stream that knows
-//! its bytes, in the place of the system's.
+//! What the `main` of the program `tinkey` does: the managers of its keys, and runs over the real objects
+//! or over any others.
 #![tactic(auto)]
 
-mod args;
-mod entropy;
-mod folder;
 mod standard;
-mod streams;
-#[cfg(test)]
-mod tests;
 mod top;
 
-pub use entropy::FileEntropy;
-pub use folder::DirStore;
 pub use standard::start;
-pub use streams::{StdSink, StdSource};
-pub use top::{obey, program};
+pub use top::{obey, obey_listed, program};

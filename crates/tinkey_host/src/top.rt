@@ -3,11 +3,12 @@
 ghost use Rattle.std.specs.Prelude.{◌≡◌, map, string_bytes};
 ghost use Rattle.std.specs.Process.{exit_status};
 ghost use Rattle.tinkey_plans.specs.Ends.{world};
-ghost use Rattle.tinkey_host.specs.Program.{HasRun};
+ghost use Rattle.tinkey_host.specs.Program.{HasRun, HasObeyed};
 
-use crate::args::{NoWords, words};
 use crate::standard::start;
-use crate::{DirStore, FileEntropy, StdSink, StdSource};
+use real_objects::{
+    Arguments, DirStore, FileEntropy, NoWords, RandomDevice, StdSink, StdSource, words,
+};
 use std::alloc::Global;
 use std::process::ExitCode;
 use tink_base::{Entropy, Sink, Source, Store};
@@ -20,20 +21,38 @@ const NO_WORDS: u8 = 8;
 
 /// Obeys the words after the program's name, over standard input, output and error, the system's
 /// random bytes and the files.
+pub fn program(rt: &HostRuntime) -> ExitCode {
+    obey_listed(
+        rt,
+        rt.alloc(),
+        &mut StdSource::new(rt.stdin()),
+        &mut StdSink::new(rt.stdout()),
+        &mut StdSink::new(rt.stderr()),
+        &mut FileEntropy::new(RandomDevice::new(rt)),
+        &mut DirStore::new(rt),
+    )
+}
+
+/// Obeys the words of a command line but the first, the program's name, over these objects.
 ///
 /// The answer is 8 where one of these words isn't UTF-8, and 7 where memory for them is refused;
 /// nothing is done then. In all other cases it is the exit code of the run.
-pub fn program(rt: &HostRuntime) -> ExitCode {
-    match words(rt, rt.alloc()) {
-        Ok(words) => obey(
-            rt.alloc(),
-            &words,
-            &mut StdSource::new(rt.stdin()),
-            &mut StdSink::new(rt.stdout()),
-            &mut StdSink::new(rt.stderr()),
-            &mut FileEntropy::new(rt),
-            &mut DirStore::new(rt),
-        ),
+pub fn obey_listed<A: Arguments, S: Source, K: Sink, G: Sink, E: Entropy, D: Store>(
+    from: &A,
+    alloc: Global,
+    source: &mut S,
+    sink: &mut K,
+    diag: &mut G,
+    entropy: &mut E,
+    store: &mut D,
+) -> ExitCode
+    ensures { HasObeyed (A.told from.now)
+        (world (S.state source.old) (K.state sink.old) (D.state store.old) (E.state entropy.old))
+        (world (S.state source.new) (K.state sink.new) (D.state store.new) (E.state entropy.new))
+        (G.state diag.old) (G.state diag.new) (exit_status result) }
+{
+    match words(from, alloc) {
+        Ok(words) => obey(alloc, &words, source, sink, diag, entropy, store),
         Err(NoWords::NotText) => ExitCode::from(NO_WORDS),
         Err(NoWords::NoMemory) => ExitCode::from(OUT_OF_MEMORY),
     }

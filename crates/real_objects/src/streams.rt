@@ -1,23 +1,26 @@
 //! Real streams, standard ones and files, as sources and sinks. They tell no bytes of their own; their
 //! clauses speak of the bytes of the stream beneath, where it knows them. Each counts its errors.
 
-ghost use Rattle.std.specs.Prelude.{◌≡◌, ◌≢◌, ◌<◌, ◌≤◌, None, [], length, take, drop, IfOk, IfErr, OnOk, OnErr};
+ghost use Rattle.std.specs.Prelude.{◌≡◌, ◌≢◌, ◌<◌, ◌≤◌, true, false, None, [], length, take, drop, IfOk, IfErr, OnOk, OnErr};
 ghost use Rattle.std.specs.Io.KnownBytes.{Appends, Consumes, Keeps, IsAtEnd as IsNoneLeft};
 ghost use Rattle.std.specs.IoError.{error_kind};
-ghost use Rattle.tink_spec.specs.Outside.{Rose, Stood, Took, Gave, IsAtEnd};
-ghost use Rattle.tinkey_host.specs.Streams.{told_source, told_sink, stream_read, stream_written};
+ghost use Rattle.tink_spec.specs.Outside.{Rose, RoseOnce, Stood, Took, Gave, IsAtEnd, late_after};
+ghost use Rattle.real_objects.specs.Streams.{told_source, told_sink, stream_read, stream_written};
 
 use std::io::{self, ErrorKind, Read, Write};
 use tink_base::{Failed, Sink, Source};
 
 /// How many bytes are read at a time at the most.
-const PIECE: usize = 1 << 16;
+const PIECE: usize = 1 << 12;
 
 /// A stream that is read, as standard input.
 #[derive(Drop)]
 pub struct StdSource<R> {
     input: R,
     faults: u64,
+    // whether an end was answered, and how many reads came after that
+    ended: bool,
+    late: u64,
 }
 
 impl<R: Read> StdSource<R> {
@@ -25,10 +28,13 @@ impl<R: Read> StdSource<R> {
     pub fn new(from: R) -> StdSource<R>
         ensures beneath { stream_read result ≡ from }
         ensures new { (told_source result).faults ≡ 0 }
+        ensures not_ended { (told_source result).ended ≡ false }
     {
         StdSource {
             input: from,
             faults: 0,
+            ended: false,
+            late: 0,
         }
     }
 }
@@ -43,26 +49,39 @@ impl<R: Read> Source for StdSource<R> {
         ensures rest { IfOk result (λ n. drop n out.new ≡ drop n out.old) }
         ensures end { IfOk result (λ n. n ≡ 0 → 0 < length out.old →
             IsAtEnd (told_source self.new)) }
+        ensures ended { IfOk result (λ n. n ≡ 0 → 0 < length out.old →
+            (told_source self.new).ended ≡ true) }
+        ensures goes_on { IfOk result (λ n. 0 < n →
+            (told_source self.new).ended ≡ (told_source self.old).ended) }
+        ensures failed_goes_on { OnErr result
+            ((told_source self.new).ended ≡ (told_source self.old).ended) }
+        ensures late { (told_source self.new).late ≡ late_after (told_source self.old) }
         ensures no_fault { OnOk result
             (Stood (told_source self.old).faults (told_source self.new).faults) }
         ensures failed { OnErr result
             (Rose (told_source self.old).faults (told_source self.new).faults) }
+        ensures once { OnErr result
+            (RoseOnce (told_source self.old).faults (told_source self.new).faults) }
         ensures kept { OnErr result (Gave (told_source self.old) (told_source self.new) []) }
 
         // What goes out of the stream beneath.
         ensures read { IfOk result (λ n.
             Consumes (R.remaining (stream_read self.old)) (R.remaining (stream_read self.new))
             (take n out.new)) }
-        ensures ended { IfOk result (λ n. n ≡ 0 → 0 < length out.old →
+        ensures none_left { IfOk result (λ n. n ≡ 0 → 0 < length out.old →
             IsNoneLeft (R.remaining (stream_read self.new))) }
         ensures unread { OnErr result
             (Keeps (R.remaining (stream_read self.old)) (R.remaining (stream_read self.new))) }
     {
+        if self.ended {
+            self.late = self.late.saturating_add(1);
+        }
         let mut piece = [0u8; PIECE];
         let room = out.len().min(PIECE);
         match read_through_signals(&mut self.input, &mut piece[..room]) {
             Ok(n) => {
                 out[..n].copy_from_slice(&piece[..n]);
+                self.ended = self.ended || (n == 0 && room > 0);
                 Ok(n)
             }
             Err(_) => {
@@ -105,6 +124,8 @@ impl<W: Write> Sink for StdSink<W> {
             (Stood (told_sink self.old).faults (told_sink self.new).faults) }
         ensures failed { OnErr result
             (Rose (told_sink self.old).faults (told_sink self.new).faults) }
+        ensures once { OnErr result
+            (RoseOnce (told_sink self.old).faults (told_sink self.new).faults) }
         ensures kept { OnErr result (Took (told_sink self.old) (told_sink self.new) []) }
 
         // What goes into the stream beneath.
@@ -125,7 +146,7 @@ impl<W: Write> Sink for StdSink<W> {
 }
 
 /// One read, tried again where a signal interrupted it.
-fn read_through_signals<R: Read>(stream: &mut R, out: &mut [u8]) -> io::Result<usize>
+pub(crate) fn read_through_signals<R: Read>(stream: &mut R, out: &mut [u8]) -> io::Result<usize>
     ensures bound { IfOk result (λ n. n ≤ length out.old) }
     ensures read { IfOk result (λ n.
         Consumes (R.remaining stream.old) (R.remaining stream.new) (take n out.new)) }

@@ -1,6 +1,6 @@
 use Rattle.std.proofs.Common.{refl, arith}
-use Rattle.tinkey_host.proofs.KnownBytes.{read_whole}
-use Rattle.tinkey_host.proofs.folder.read_file.Goals as goal
+use Rattle.real_objects.proofs.KnownBytes.{read_whole}
+use Rattle.real_objects.proofs.folder.read_file.Goals as goal
 
 pub returns-in-Ok-2-clause-whole : goal.returns-in-Ok-2-clause-whole
 returns-in-Ok-2-clause-whole g c =

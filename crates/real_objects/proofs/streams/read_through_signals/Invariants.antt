@@ -1,5 +1,5 @@
 use Rattle.std.specs.Io.KnownBytes.{Keeps}
-use Rattle.tinkey_host.proofs.streams.read_through_signals.Given as goal
+use Rattle.real_objects.proofs.streams.read_through_signals.Given as goal
 
 -- what was interrupted moved nothing
 abbrev pub invariant-loop : goal.invariant-loop

@@ -1,13 +1,14 @@
--- What real streams, files and random bytes tell: how often they have failed, and no bytes.
+-- What real streams, files and random bytes tell: how often they have failed, whether a stream has
+-- ended, and no bytes.
 use Rattle.std.specs.Prelude.{ℕ, None, false}
 use Rattle.tink_spec.specs.Outside.{SourceState, SinkState, EntropyState}
 use Rattle.tink_spec.specs.Files.{StoreState}
-use Rattle.tinkey_host.specs.declared.streams.StdSource.{StdSource}
-use Rattle.tinkey_host.specs.declared.streams.StdSink.{StdSink}
+use Rattle.real_objects.specs.declared.streams.StdSource.{StdSource}
+use Rattle.real_objects.specs.declared.streams.StdSink.{StdSink}
 
 -- a stream that is read
 abbrev pub told_source : {R : Type 0} → StdSource R → SourceState
-told_source source = record { left = None; faults = source.faults }
+told_source source = record { left = None; faults = source.faults; ended = source.ended; late = source.late }
 
 -- the stream beneath it
 abbrev pub stream_read : {R : Type 0} → StdSource R → R

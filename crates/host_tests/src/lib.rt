@@ -1,0 +1,18 @@
+//! Tests of the real objects and of what `main` does with them: files, random bytes, words, streams
+//! that a signal interrupts, and exit codes. There is no code here but tests.
+#![tactic(auto)]
+
+#[cfg(test)]
+mod codes;
+#[cfg(test)]
+mod entropy;
+#[cfg(test)]
+mod files;
+#[cfg(test)]
+mod listed;
+#[cfg(test)]
+mod opened;
+#[cfg(test)]
+mod streams;
+#[cfg(test)]
+mod words;

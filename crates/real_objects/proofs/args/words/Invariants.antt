@@ -1,0 +1,6 @@
+use Rattle.std.proofs.Common.{◌≡◌, ◌-◌, take, drop, IfSome, map, string_bytes}
+use Rattle.real_objects.proofs.args.words.Given as goal
+
+-- the words before this place, but for the program's name
+abbrev pub invariant-loop-place : goal.invariant-loop-place
+invariant-loop-place g l = IfSome (g.A.Arguments.told l.from) (λ told. map string_bytes l.words.items ≡ take (l.place - 1) (drop 1 told))

@@ -1,0 +1,4 @@
+pub mod Device
+pub mod Folder
+pub mod Streams
+pub mod Words

@@ -1,0 +1,131 @@
+//! The words of the command line.
+
+ghost use Rattle.std.specs.Prelude.{◌≡◌, ◌≤◌, ℕ, List, Option, Some, None, length, take, drop, map, slice_get, string_bytes, vec_len, IfOk, IfSome, IfNone, IsErrOf};
+ghost use Rattle.std.specs.Str.{IsUtf8};
+ghost use Rattle.real_objects.specs.Words.{IsFound, IsNotText, HasNotText};
+
+use std::alloc::Global;
+use std::env::FillError;
+use std::rt::Env;
+use tink_base::NoMemory;
+
+/// What has the words of a command line.
+pub trait Arguments {
+    /// The words, the program's name first, each as its bytes, where they are known.
+    ghost told: { Self → Option (List (List ℕ)) };
+
+    /// Moves the word of this place into the front of `room`, and answers how many bytes it has.
+    fn argument(&self, place: usize, room: &mut [u8]) -> Result<usize, FillError>
+        ensures bound { IfOk result (λ n. n ≤ length room.new) }
+        ensures word { IfOk result (λ n. IfSome (told self.now)
+            (λ words. slice_get words place ≡ Some (take n room.new))) }
+        ensures end { IsErrOf result FillError.NotPresent → IfSome (told self.now)
+            (λ words. length words ≤ place) };
+}
+
+impl Arguments for HostRuntime {
+    ghost told = { λ _. None };
+
+    fn argument(&self, place: usize, room: &mut [u8]) -> Result<usize, FillError> {
+        self.arg(place, room)
+    }
+}
+
+/// Why the words can't be told.
+#[derive(Clone, Copy, Debug, PartialEq, Eq)]
+pub enum NoWords {
+    /// One of them isn't UTF-8.
+    NotText,
+    /// Memory was refused.
+    NoMemory,
+}
+
+/// The bytes that are reserved for a word at first.
+const ROOM: usize = 256;
+
+/// The words after the program's name, whatever bytes the name has.
+pub fn words<A: Arguments>(from: &A, alloc: Global) -> Result<Vec<String>, NoWords>
+    ensures all { IfOk result (λ words. IfSome (A.told from.now)
+        (λ told. map string_bytes words.items ≡ drop 1 told)) }
+    ensures not_text { IsErrOf result NoWords.NotText → IfSome (A.told from.now) HasNotText }
+{
+    let mut words = Vec::new(alloc);
+    let mut room = match vec![in alloc; 0u8; ROOM] {
+        Ok(room) => room,
+        Err(_) => return Err(NoWords::NoMemory),
+    };
+    for place in 1..usize::MAX {
+        match word(from, alloc, place, &mut room) {
+            Ok(None) => return Ok(words),
+            Ok(Some(word)) => match words.push(word) {
+                Ok(()) => {}
+                Err(_) => return Err(NoWords::NoMemory),
+            },
+            Err(why) => return Err(why),
+        }
+    }
+    Err(NoWords::NoMemory)
+}
+
+/// The word of this place, where there is one.
+fn word<A: Arguments>(
+    from: &A,
+    alloc: Global,
+    place: usize,
+    room: &mut Vec<u8>,
+) -> Result<Option<String>, NoWords>
+    ensures found { IfOk result (λ found. IfSome (A.told from.now)
+        (λ told. IsFound told place found)) }
+    ensures not_text { IsErrOf result NoWords.NotText → IfSome (A.told from.now)
+        (λ told. IsNotText told place) }
+{
+    match fetch(from, place, room) {
+        Ok(Some(length)) => match text(alloc, &room[..length]) {
+            Ok(text) => Ok(Some(text)),
+            Err(why) => Err(why),
+        },
+        Ok(None) => Ok(None),
+        Err(NoMemory) => Err(NoWords::NoMemory),
+    }
+}
+
+/// Moves the word of this place into the front of `room`, which grows where it must, and answers how
+/// many bytes it has, where there is one.
+fn fetch<A: Arguments>(
+    from: &A,
+    place: usize,
+    room: &mut Vec<u8>,
+) -> Result<Option<usize>, NoMemory>
+    ensures bound { IfOk result (λ found. IfSome found (λ n. n ≤ vec_len room.new)) }
+    ensures word { IfOk result (λ found. IfSome found (λ n. IfSome (A.told from.now)
+        (λ told. slice_get told place ≡ Some (take n room.new.items)))) }
+    ensures end { IfOk result (λ found. IfNone found (IfSome (A.told from.now)
+        (λ told. length told ≤ place))) }
+{
+    for _ in 0..usize::BITS {
+        match from.argument(place, room.as_mut_slice()) {
+            Ok(length) => return Ok(Some(length)),
+            Err(FillError::NotPresent) => return Ok(None),
+            Err(FillError::TooLong) => {
+                if room.resize(room.len().saturating_mul(2), 0).is_err() {
+                    return Err(NoMemory);
+                }
+            }
+        }
+    }
+    Err(NoMemory)
+}
+
+/// The text of these bytes.
+fn text(alloc: Global, bytes: &[u8]) -> Result<String, NoWords>
+    ensures text { IfOk result (λ text. string_bytes text ≡ bytes.now) }
+    ensures not_text { IsErrOf result NoWords.NotText → ¬ (IsUtf8 bytes.now) }
+{
+    match str::from_utf8(bytes) {
+        Ok(text) => match String::from_str(alloc, text) {
+            Ok(text) => Ok(text),
+            Err(_) => Err(NoWords::NoMemory),
+        },
+        Err(_) => Err(NoWords::NotText),
+    }
+}

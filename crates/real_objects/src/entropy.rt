@@ -1,0 +1,166 @@
+//! The random bytes of a device, which is opened at the first fill and kept.
+//!
+//! The entropy tells no bytes of its own and isn't steady; the clauses of what fills a slice speak of the
+//! bytes of the device, where it knows them.
+
+ghost use Rattle.std.specs.Prelude.{◌≡◌, ◌≤◌, ℕ, List, [], Option, None, length, IfOk, OnOk, OnErr};
+ghost use Rattle.std.specs.Io.KnownBytes.{Consumes, Keeps};
+ghost use Rattle.tink_spec.specs.Outside.{Drew, RanShort, RoseOnce, Stood};
+ghost use Rattle.real_objects.specs.Streams.{untold_entropy};
+ghost use Rattle.real_objects.specs.Device.{device_left, Skips};
+
+use crate::streams::read_through_signals;
+use std::fs::{self, File, Metadata};
+use std::io::{self, ErrorKind, Read};
+use std::os::unix::fs::{FileTypeExt, MetadataExt};
+use tink_base::{Entropy, Failed};
+
+/// The device of random bytes.
+const DEVICE: &str = "/dev/urandom";
+
+/// Its number, 1:9 (Linux, Documentation/admin-guide/devices.txt).
+const NUMBER: u64 = 0x109;
+
+/// What opens a device.
+pub trait Opens {
+    /// The device, once it is opened.
+    type Device: Read + Drop;
+
+    /// The bytes that the device gives which is opened now, where they are known.
+    ghost given: { Self → Option (List ℕ) };
+
+    /// Opens the device.
+    fn open(&self) -> io::Result<Self::Device>
+        ensures { IfOk result (λ device.
+            Keeps (given self.now) (Self.Device.remaining device)) };
+}
+
+/// The system's device of random bytes.
+#[derive(Drop)]
+pub struct RandomDevice<'a> {
+    rt: &'a HostRuntime,
+    path: &'a str,
+}
+
+impl<'a> RandomDevice<'a> {
+    /// The device, which isn't opened yet.
+    pub fn new(rt: &'a HostRuntime) -> RandomDevice<'a> {
+        RandomDevice { rt, path: DEVICE }
+    }
+
+    /// The file of this path in the place of the device, so that a test can see it refused.
+    pub fn at(rt: &'a HostRuntime, path: &'a str) -> RandomDevice<'a> {
+        RandomDevice { rt, path }
+    }
+}
+
+impl Opens for RandomDevice<'_> {
+    type Device = File;
+
+    ghost given = { λ _. None };
+
+    /// Opens the device. A file of another kind or number is refused.
+    fn open(&self) -> io::Result<File> {
+        let device = fs::open(self.rt, self.path)?;
+        if is_random(&device.metadata()?) {
+            Ok(device)
+        } else {
+            Err(io::Error::from(ErrorKind::InvalidInput))
+        }
+    }
+}
+
+/// Whether a file is the character device of random bytes.
+fn is_random(found: &Metadata) -> bool {
+    found.file_type().is_char_device() && found.rdev() == NUMBER
+}
+
+/// The random bytes of a device.
+#[derive(Drop)]
+pub struct FileEntropy<O: Opens> {
+    opener: O,
+    device: Option<O::Device>,
+    faults: u64,
+}
+
+impl<O: Opens> FileEntropy<O> {
+    /// The device, before the first fill.
+    pub fn new(opener: O) -> FileEntropy<O>
+        ensures { device_left O.given O.Device.remaining result ≡ O.given opener }
+    {
+        FileEntropy {
+            opener,
+            device: None,
+            faults: 0,
+        }
+    }
+
+    /// Fills `out` with the next bytes. The device is opened where it isn't yet, and kept.
+    fn draw(&mut self, out: &mut [u8]) -> io::Result<()>
+        ensures filled { OnOk result
+            (Consumes (device_left O.given O.Device.remaining self.old)
+            (device_left O.given O.Device.remaining self.new) out.new) }
+        ensures goes_on { OnErr result
+            (Skips (device_left O.given O.Device.remaining self.old)
+            (device_left O.given O.Device.remaining self.new) (length out.old)) }
+        ensures faults { self.new.faults ≡ self.old.faults }
+    {
+        let mut device = match self.device.take() {
+            Some(device) => device,
+            None => self.opener.open()?,
+        };
+        let filled = fill_from(&mut device, out);
+        self.device = Some(device);
+        filled
+    }
+}
+
+impl<O: Opens> Entropy for FileEntropy<O> {
+    ghost state = { λ s. untold_entropy s.faults };
+
+    fn fill(&mut self, out: &mut [u8]) -> Result<(), Failed>
+        ensures fills { OnOk result
+            (Drew (untold_entropy self.old.faults) (untold_entropy self.new.faults) out.new) }
+        ensures no_fault { OnOk result (Stood self.old.faults self.new.faults) }
+        ensures failed { OnErr result
+            (RanShort (untold_entropy self.old.faults) (untold_entropy self.new.faults)
+            (length out.old)) }
+        ensures once { OnErr result (RoseOnce self.old.faults self.new.faults) }
+        ensures kept { OnErr result
+            (Drew (untold_entropy self.old.faults) (untold_entropy self.new.faults) []) }
+
+        // What goes out of the device.
+        ensures filled { OnOk result
+            (Consumes (device_left O.given O.Device.remaining self.old)
+            (device_left O.given O.Device.remaining self.new) out.new) }
+        ensures goes_on { OnErr result
+            (Skips (device_left O.given O.Device.remaining self.old)
+            (device_left O.given O.Device.remaining self.new) (length out.old)) }
+    {
+        match self.draw(out) {
+            Ok(()) => Ok(()),
+            Err(_) => {
+                self.faults = self.faults.saturating_add(1);
+                Err(Failed)
+            }
+        }
+    }
+}
+
+/// Fills `out` with the next bytes of a device. Where it fails some of these bytes may be gone.
+fn fill_from<R: Read>(device: &mut R, out: &mut [u8]) -> io::Result<()>
+    ensures filled { OnOk result
+        (Consumes (R.remaining device.old) (R.remaining device.new) out.new) }
+    ensures goes_on { OnErr result
+        (Skips (R.remaining device.old) (R.remaining device.new) (length out.old)) }
+{
+    let mut at = 0;
+    while at < out.len() {
+        match read_through_signals(device, &mut out[at..]) {
+            Ok(0) => return Err(io::Error::from(ErrorKind::UnexpectedEof)),
+            Ok(n) => at += n,
+            Err(error) => return Err(error),
+        }
+    }
+    Ok(())
+}

@@ -1,0 +1,164 @@
+//! The files of the file system as a store, which tells no bytes of its own; the clauses of what reads
+//! and fills one file speak of the bytes of the file, where it knows them.
+
+ghost use Rattle.std.specs.Prelude.{◌≡◌, ◌+◌, ◌^◌, ◌<◌, ◌≤◌, ◌⊎◌, ℕ, Bool, IsTrue, true, [], min, IfOk, IfErr, IsOkAnd, IfSome, OnOk};
+ghost use Rattle.std.specs.Io.KnownBytes.{Appends, Keeps};
+ghost use Rattle.std.specs.IoError.{error_kind};
+ghost use Rattle.tink_base.specs.Store.{Loads};
+ghost use Rattle.real_objects.specs.Folder.{IsLoaded};
+ghost use Rattle.real_objects.specs.Streams.{untold_store};
+
+use std::alloc::Global;
+use std::fs::{self, File, OpenFile, OpenOptions};
+use std::io::{self, ErrorKind, Read, Write};
+use std::os::unix::fs::OpenOptionsExt;
+use tink_base::{Bytes, Created, Loaded, Store, StoreError};
+
+/// How many bytes a load reads at the most; files of more count as too long under any limit.
+const MOST: usize = 1 << 30;
+
+/// The permissions of a new file: its owner may read and write it, and nobody else.
+const OWNER_ALONE: u32 = 0o600;
+
+/// The files that the program can reach, by their paths.
+#[derive(Drop)]
+pub struct DirStore<'a> {
+    rt: &'a HostRuntime,
+    faults: u64,
+}
+
+impl<'a> DirStore<'a> {
+    /// The files, before the first call.
+    pub fn new(rt: &'a HostRuntime) -> DirStore<'a> {
+        DirStore { rt, faults: 0 }
+    }
+}
+
+impl Store for DirStore<'_> {
+    ghost state = { λ s. untold_store s.faults };
+
+    fn load(&mut self, alloc: Global, name: &str, limit: usize) -> Result<Loaded, StoreError> {
+        match load_opened(alloc, fs::open(self.rt, name), limit) {
+            Ok(found) => Ok(found),
+            Err(error) => {
+                if error == StoreError::Failed {
+                    self.faults = self.faults.saturating_add(1);
+                }
+                Err(error)
+            }
+        }
+    }
+
+    fn create(&mut self, _alloc: Global, name: &str, bytes: &[u8]) -> Result<Created, StoreError> {
+        match fill_opened(&mut open_new(self.rt, name), bytes) {
+            Ok(created) => Ok(created),
+            Err(error) => {
+                if error == StoreError::Failed {
+                    self.faults = self.faults.saturating_add(1);
+                }
+                Err(error)
+            }
+        }
+    }
+}
+
+/// Opens a new file of this path. One that is there is not replaced.
+fn open_new(rt: &HostRuntime, name: &str) -> io::Result<File> {
+    let mut options = OpenOptions::new();
+    options.write(true).create_new(true).mode(OWNER_ALONE);
+    options.open(rt, name)
+}
+
+/// What is found where this file was to be opened: all its bytes, where there are at most `limit`. A
+/// path that leads through a file, or through a folder that isn't there, has no file.
+pub fn load_opened<R: Read + Drop>(
+    alloc: Global,
+    opened: io::Result<R>,
+    limit: usize,
+) -> Result<Loaded, StoreError>
+    ensures whole { IfOk opened (λ file. IfSome (R.remaining file)
+        (λ bytes. IfOk result (λ found. IsLoaded bytes (min limit (2 ^ 30)) found))) }
+    ensures absent { IfErr opened (λ error. IfOk result
+        (λ found. (found ≡ Loaded.Absent) × ((error_kind error ≡ ErrorKind.NotFound) ⊎
+        (error_kind error ≡ ErrorKind.NotADirectory)))) }
+    ensures loads { IfOk result (λ found. Loads (untold_store 0) [] limit found) }
+{
+    match opened {
+        Ok(file) => read_file(alloc, file, limit.min(MOST)),
+        Err(error) => match error.kind() {
+            ErrorKind::NotFound | ErrorKind::NotADirectory => Ok(Loaded::Absent),
+            ErrorKind::OutOfMemory => Err(StoreError::NoMemory),
+            _ => Err(StoreError::Failed),
+        },
+    }
+}
+
+/// All bytes of a file, where there are at most `limit`.
+fn read_file<R: Read + Drop>(alloc: Global, file: R, limit: usize) -> Result<Loaded, StoreError>
+    requires limit_bound { limit ≤ 2 ^ 30 }
+    ensures whole { IfSome (R.remaining file)
+        (λ bytes. IfOk result (λ found. IsLoaded bytes limit found)) }
+    ensures loads { IfOk result (λ found. Loads (untold_store 0) [] limit found) }
+{
+    let mut bytes = Vec::new(alloc);
+    let mut front = file.take(limit as u64 + 1);
+    match front.read_to_end(&mut bytes) {
+        Ok(_) if bytes.len() > limit => Ok(Loaded::TooLong),
+        Ok(_) => Ok(Loaded::Bytes(Bytes::own(bytes))),
+        Err(error) if error.kind() == ErrorKind::OutOfMemory => Err(StoreError::NoMemory),
+        Err(_) => Err(StoreError::Failed),
+    }
+}
+
+/// A new file.
+pub trait NewFile: Write {
+    /// Whether what was written lasts.
+    ghost lasts: { Self → Bool };
+
+    /// Waits until the system has put away what was written.
+    fn put_away(&mut self) -> io::Result<()>
+        ensures lasts { OnOk result (IsTrue (lasts self.new)) }
+        ensures kept { Keeps (Self.contents self.old) (Self.contents self.new) };
+}
+
+impl NewFile for File {
+    ghost lasts = { λ _. true };
+
+    fn put_away(&mut self) -> io::Result<()> {
+        self.sync_all()
+    }
+}
+
+/// Fills the new file that was to be opened with all the bytes, and waits until they last.
+pub fn fill_opened<F: NewFile>(
+    opened: &mut io::Result<F>,
+    bytes: &[u8],
+) -> Result<Created, StoreError>
+    ensures made { IfOk opened.old (λ file. IfOk result (λ made. (made ≡ Created.Made) ×
+        IsOkAnd opened.new (λ filled. IsTrue (F.lasts filled) ×
+        Appends (F.contents file) (F.contents filled) bytes.now))) }
+    ensures exists { IfErr opened.old (λ error. IfOk result (λ made. (made ≡ Created.Exists) ×
+        (error_kind error ≡ ErrorKind.AlreadyExists))) }
+{
+    match opened {
+        Ok(file) => match fill_file(file, bytes) {
+            Ok(()) => Ok(Created::Made),
+            Err(_) => Err(StoreError::Failed),
+        },
+        Err(error) => match error.kind() {
+            ErrorKind::AlreadyExists => Ok(Created::Exists),
+            ErrorKind::OutOfMemory => Err(StoreError::NoMemory),
+            _ => Err(StoreError::Failed),
+        },
+    }
+}
+
+/// Writes all the bytes, flushes them, and waits until they last.
+fn fill_file<F: NewFile>(file: &mut F, bytes: &[u8]) -> io::Result<()>
+    ensures { OnOk result (IsTrue (F.lasts file.new) ×
+        Appends (F.contents file.old) (F.contents file.new) bytes.now) }
+{
+    file.write_all(bytes)?;
+    file.flush()?;
+    file.put_away()
+}

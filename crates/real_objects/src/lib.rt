@@ -1,0 +1,16 @@
+//! The real objects of the program: standard streams, files, random bytes and words.
+//!
+//! What the system gives and takes no clause can say. So the clauses speak of any stream, device, file
+//! or list of words that knows its bytes, in the place of the system's, and what is left to the system
+//! alone is one call each.
+#![tactic(auto)]
+
+mod args;
+mod entropy;
+mod folder;
+mod streams;
+
+pub use args::{Arguments, NoWords, words};
+pub use entropy::{FileEntropy, Opens, RandomDevice};
+pub use folder::{DirStore, NewFile, fill_opened, load_opened};
+pub use streams::{StdSink, StdSource};
