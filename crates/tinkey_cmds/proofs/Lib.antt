@@ -11,3 +11,4 @@ pub mod Refusals
 pub mod Sizes
 pub mod Steps
 pub mod WellFormed
+pub mod Standing
