@@ -12,3 +12,4 @@ pub mod Sizes
 pub mod Steps
 pub mod WellFormed
 pub mod Standing
+pub mod Wholes

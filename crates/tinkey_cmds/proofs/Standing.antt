@@ -1,11 +1,11 @@
 -- Records that an edit doesn't name stay in their places.
-use Rattle.std.proofs.Common.{◌≡◌, ◌∙◌, ℕ, true, false, cond, ◌||◌, List, [], ◌∷◌, ◌++◌, find, Some, refl, ap, eqb-true}
+use Rattle.std.proofs.Common.{◌≡◌, ◌∙◌, ℕ, true, false, cond, List, [], ◌∷◌, ◌++◌, find, Some, refl, ap, eqb-true}
 use Rattle.std.proofs.lemmas.Bool.{or_from}
 use Rattle.keyset_model.specs.declared.record.Record.{Record}
-use Rattle.keyset_model.specs.Keyset.{Keys, has_id, is_in}
-use Rattle.tinkey_cmds.specs.Edits.{Edit, changed, with_status, destroyed, without, step, Stepped}
+use Rattle.keyset_model.specs.Keyset.{has_id}
+use Rattle.tinkey_cmds.specs.Edits.{changed, with_status, destroyed, without, step}
 use Rattle.tinkey_cmds.specs.Laws.{EditsLeaveOthers, LeavesOthers, Replaces, Stands}
-use Rattle.tinkey_cmds.proofs.Cases.{Seven, edit_case, yielded}
+use Rattle.tinkey_cmds.proofs.Cases.{edit_case, yielded}
 use Rattle.tinkey_cmds.proofs.Lists.{none≢some}
 
 -- where the first record of an id stands, it changes or goes
