@@ -247,6 +247,19 @@ fn adds_a_key_with_a_new_id(rt: HostRuntime) -> Result<(), Fail> {
     assert_edits(rt.alloc(), &keyset, NEW_IDS, NEW_KEYS, 4)
 }
 
+// The id 0x01000000, and ten bytes of a key of sixteen.
+const SHORT_OF_A_KEY: &[u8] = b"\x01\0\0\0kkkkkkkkkk";
+
+const UNDRAWN: &str = "\
+add|AES128_GCM|EntropyFault, 10 left
+rotate|AES128_GCM|EntropyFault, 10 left";
+
+#[test]
+fn draws_no_part_of_a_key(rt: HostRuntime) -> Result<(), Fail> {
+    let keyset = keyset_of(rt.alloc(), FIRST)?;
+    assert_edits(rt.alloc(), &keyset, SHORT_OF_A_KEY, UNDRAWN, 2)
+}
+
 /// Key 7 and so many DISABLED ones, of an unknown URL and of ids from 128 on.
 fn crowd(alloc: Global, others: u32) -> Result<Vec<u8>, Fail> {
     let mut bytes = FIRST.to_vec(alloc)?;

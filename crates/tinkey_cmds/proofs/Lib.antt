@@ -11,3 +11,5 @@ pub mod Refusals
 pub mod Sizes
 pub mod Steps
 pub mod WellFormed
+pub mod Standing
+pub mod Wholes

@@ -37,8 +37,9 @@ distinct_own : (records : List Record) → HasOwnIds records → Distinct record
 unfolding Distinct
 distinct_own [] own = tt
 distinct_own (r ∷ later) own = (
-    not_in r.id later (λ i s there same. own 0 (suc i) r s (omega arith) refl there (sym same)),
-    distinct_own later (λ i j x y before here there. own (suc i) (suc j) x y (omega arith) here there))
+  not_in r.id later (λ i s there same. own 0 (suc i) r s (omega arith) refl there (sym same)),
+  distinct_own later (λ i j x y before here there. own (suc i) (suc j) x y (omega arith) here there),
+)
 
 pub good-keyset : (keys : Keys) → fault_of keys ≡ None → IsGood keys
 good-keyset keys faultless =

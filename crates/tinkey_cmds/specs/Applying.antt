@@ -1,5 +1,5 @@
 -- How code answers that draws from an entropy, by what is to be drawn.
-use Rattle.std.specs.Prelude.{◌≡◌, ℕ, List, [], ◌++◌, Option, Some, None, IfSome, IsTrue, Result, Ok, Err}
+use Rattle.std.specs.Prelude.{◌≡◌, ◌≤◌, ◌*◌, ℕ, List, [], ◌++◌, length, Option, Some, None, IfSome, IsTrue, Result, Ok, Err}
 use Rattle.tink_spec.specs.Outside.{EntropyState, Drew, Rose, Stood}
 use Rattle.tinkey_cmds.specs.declared.command.CmdError.{CmdError}
 use Rattle.tinkey_cmds.specs.declared.command.CmdError.TheVariants.{Refused, EntropyFault, NoMemory}
@@ -35,6 +35,20 @@ Applied (Err (Refused fault)) give old new =
 Applied (Err EntropyFault) give old new = RanOut give old new
 Applied {A} (Err NoMemory) give old new =
     Stood old.faults new.faults × ((answer : Result A CmdFault) × Draws give old new answer)
+
+-- whole ids were drawn, of four bytes each, and at most 64 of them
+pub record DrewIds (old new : EntropyState) : Type 0 where
+  pub drawn : List ℕ
+  pub drew : Drew old new drawn
+  pub ids : ℕ
+  pub most : ids ≤ 64
+  pub whole : length drawn ≡ 4 * ids
+
+-- Where the entropy failed, nothing was drawn of the id or the key at which it did: each is drawn in
+-- one fill.
+abbrev pub DrawsWhole : {A : Type 0} → Result A CmdError → (old new : EntropyState) → Type 0
+DrawsWhole (Err EntropyFault) old new = DrewIds old new
+DrawsWhole _ old new = Unit {0}
 
 -- the records of a keyset, or none
 abbrev pub records_in : Option Keyset → List Record

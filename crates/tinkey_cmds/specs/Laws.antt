@@ -8,7 +8,7 @@ use Rattle.keyset_model.specs.Writing.{HasWireBounds}
 use Rattle.tinkey_cmds.specs.declared.command.CmdFault.{CmdFault}
 use Rattle.tinkey_cmds.specs.declared.command.CmdFault.TheVariants.{IdsExhausted}
 use Rattle.tinkey_cmds.specs.Draws.{Draw, Drawn, answered}
-use Rattle.tinkey_cmds.specs.Edits.{Edit, Add, Rotate, Promote, Stepped, step, first, with_status, destroyed}
+use Rattle.tinkey_cmds.specs.Edits.{Edit, Add, Rotate, Promote, Enable, Disable, Destroy, Delete, Stepped, step, first, with_status, destroyed}
 
 -- a row of the table of templates
 abbrev pub IsTemplate : Row → Type 0
@@ -70,6 +70,36 @@ pub record Follows (old new : Keys) : Type 0 where
 abbrev pub EditsFollow : Type 0
 EditsFollow = (old new : Keys) (edit : Edit) (random : List ℕ) (s : Stepped)
     → step old edit random ≡ Some s → s.answer ≡ Ok new → Follows old new
+
+-- where the first record of an id stands among records
+pub record Stands (records : List Record) (id : ℕ) : Type 0 where
+  pub before : List Record
+  pub named : Record
+  pub after : List Record
+  pub whole : records ≡ before ++ named ∷ after
+  pub has : named.id ≡ id
+  pub first : is_in before id ≡ false
+
+-- in the place of that record another stands, and all else is as it was
+abbrev pub Replaces : (Record → Record) → ℕ → (old new : List Record) → Type 0
+Replaces change id old new =
+    (s : Stands old id) × (new ≡ s.before ++ change s.named ∷ s.after)
+
+-- every record that an edit doesn't name is as it was, and in its place
+abbrev pub LeavesOthers : Keys → Edit → Keys → Type 0
+LeavesOthers old (Add row) new = (r : Record) × (new.records ≡ old.records ++ r ∷ [])
+LeavesOthers old (Rotate row) new = (r : Record) × (new.records ≡ old.records ++ r ∷ [])
+LeavesOthers old (Promote id) new = new.records ≡ old.records
+LeavesOthers old (Enable id) new = Replaces (with_status 1) id old.records new.records
+LeavesOthers old (Disable id) new = Replaces (with_status 2) id old.records new.records
+LeavesOthers old (Destroy id) new = Replaces destroyed id old.records new.records
+LeavesOthers old (Delete id) new =
+    (s : Stands old.records id) × (new.records ≡ s.before ++ s.after)
+
+-- So it is after an accepted edit.
+abbrev pub EditsLeaveOthers : Type 0
+EditsLeaveOthers = (old new : Keys) (edit : Edit) (random : List ℕ) (s : Stepped)
+    → step old edit random ≡ Some s → s.answer ≡ Ok new → LeavesOthers old edit new
 
 -- Promote makes the record that it names primary, and Rotate the new record; any other edit leaves
 -- the primary id.

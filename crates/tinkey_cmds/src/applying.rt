@@ -4,7 +4,7 @@ ghost use Rattle.std.specs.Prelude.{◌≡◌, [], ◌∷◌, ◌++◌, None, If
 ghost use Rattle.std.specs.List.{AllByRecursion};
 ghost use Rattle.key_msgs.specs.Templates.{seen};
 ghost use Rattle.keyset_model.specs.Keyset.{HasSizes, IsShort, fault_of};
-ghost use Rattle.tinkey_cmds.specs.Applying.{Applied};
+ghost use Rattle.tinkey_cmds.specs.Applying.{Applied, DrawsWhole};
 ghost use Rattle.tinkey_cmds.specs.Edits.{Add, Rotate, first, seen_edit, step, full_or_mixed};
 ghost use Rattle.tinkey_cmds.specs.Laws.{IsTemplate};
 
@@ -25,8 +25,8 @@ const MOST_RECORDS: usize = 1000;
 ///
 /// Its id is four random bytes, big-endian, drawn until it isn't 0, at most 64 times; the bytes of
 /// the key are drawn behind it, in one call. `Refused` comes exactly where each of those ids is 0,
-/// and is `IdsExhausted`. `EntropyFault` comes only where the entropy failed. At `NoMemory` all has
-/// been drawn.
+/// and is `IdsExhausted`. `EntropyFault` comes only where the entropy failed; whole ids were drawn
+/// by then, and nothing else. At `NoMemory` all has been drawn.
 pub fn create<E: Entropy>(
     alloc: Global,
     template: &Template,
@@ -34,6 +34,7 @@ pub fn create<E: Entropy>(
 ) -> Result<Keyset, CmdError>
     ensures first { Applied result (first (seen template.now))
         (E.state entropy.old) (E.state entropy.new) }
+    ensures whole { DrawsWhole result (E.state entropy.old) (E.state entropy.new) }
     ensures short { IfOk result (λ keyset. AllByRecursion IsShort keyset.records) }
 {
     let key = match new_record(alloc, template, None, entropy) {
@@ -52,8 +53,9 @@ pub fn create<E: Entropy>(
 ///
 /// A new key gets an id as in `create`, which no record has. `Refused` comes exactly where the edit
 /// is refused, with the first reason in the order of the edit's own checks; only `IdsExhausted`
-/// comes after bytes were drawn. `EntropyFault` comes only where the entropy failed. At `NoMemory`
-/// all that the edit draws has been drawn. A keyset of short records gives one of short records.
+/// comes after bytes were drawn. `EntropyFault` comes only where the entropy failed; whole ids were
+/// drawn by then, and nothing else. At `NoMemory` all that the edit draws has been drawn. A keyset of
+/// short records gives one of short records.
 pub fn apply<E: Entropy>(
     alloc: Global,
     keyset: &Keyset,
@@ -62,6 +64,7 @@ pub fn apply<E: Entropy>(
 ) -> Result<Keyset, CmdError>
     ensures step { Applied result (step keyset.now (seen_edit command.now))
         (E.state entropy.old) (E.state entropy.new) }
+    ensures whole { DrawsWhole result (E.state entropy.old) (E.state entropy.new) }
     ensures short { AllByRecursion IsShort keyset.now.records →
         IfOk result (λ keyset. AllByRecursion IsShort keyset.records) }
 {
@@ -86,6 +89,7 @@ fn add<E: Entropy>(
     ensures known { OnOk result (IsTemplate (seen template.now)) }
     ensures step { Applied result (step keyset.now (Add (seen template.now)))
         (E.state entropy.old) (E.state entropy.new) }
+    ensures whole { DrawsWhole result (E.state entropy.old) (E.state entropy.new) }
 {
     if let Some(fault) = full_or_mixed(keyset, template) {
         return Err(CmdError::Refused(fault));
@@ -111,6 +115,7 @@ fn rotate<E: Entropy>(
     ensures known { OnOk result (IsTemplate (seen template.now)) }
     ensures step { Applied result (step keyset.now (Rotate (seen template.now)))
         (E.state entropy.old) (E.state entropy.new) }
+    ensures whole { DrawsWhole result (E.state entropy.old) (E.state entropy.new) }
 {
     if let Some(fault) = full_or_mixed(keyset, template) {
         return Err(CmdError::Refused(fault));

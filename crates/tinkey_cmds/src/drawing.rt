@@ -5,7 +5,7 @@ ghost use Rattle.std.specs.Option.{option_copied};
 ghost use Rattle.tink_spec.specs.Outside.{Drew, RanShort, Stood};
 ghost use Rattle.key_msgs.specs.Templates.{seen, random_of};
 ghost use Rattle.keyset_model.specs.Keyset.{HasSizes};
-ghost use Rattle.tinkey_cmds.specs.Applying.{Applied, DrewId, records_in};
+ghost use Rattle.tinkey_cmds.specs.Applying.{Applied, DrawsWhole, DrewId, DrewIds, records_in};
 ghost use Rattle.tinkey_cmds.specs.Edits.{is_taken, new_id, new_record, record_of};
 ghost use Rattle.tinkey_cmds.specs.Laws.{IsTemplate};
 
@@ -40,8 +40,9 @@ fn is_taken(keyset: Option<&Keyset>, id: u32) -> bool
 /// An id for a new record: four bytes, big-endian. `None` comes exactly where each of 64 draws gave
 /// an id that is taken.
 fn draw_id<E: Entropy>(keyset: Option<&Keyset>, entropy: &mut E) -> Result<Option<u32>, Failed>
-    ensures { DrewId result (new_id 64 (records_in (option_copied keyset.entry)))
+    ensures id { DrewId result (new_id 64 (records_in (option_copied keyset.entry)))
         (E.state entropy.old) (E.state entropy.new) }
+    ensures ids { DrewIds (E.state entropy.old) (E.state entropy.new) }
 {
     for _try in 0..DRAWS {
         let mut group = [0u8; 4];
@@ -113,6 +114,7 @@ pub(crate) fn new_record<E: Entropy>(
     ensures drawn { Applied result
         (new_record (seen template.now) (records_in (option_copied keyset.entry)))
         (E.state entropy.old) (E.state entropy.new) }
+    ensures whole { DrawsWhole result (E.state entropy.old) (E.state entropy.new) }
     ensures sizes { IfOk result HasSizes }
 {
     let size = random_len(template);

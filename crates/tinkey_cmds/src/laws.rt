@@ -1,6 +1,6 @@
 //! Laws of the definitions. These functions do nothing: their contracts are the laws.
 
-ghost use Rattle.tinkey_cmds.specs.Laws.{EditsDrawFronts, EditsFollow, EditsKeepBounds, EditsKeepKeysets, EditsKeepThePrimary, FirstsAreKeysets, FirstsHaveBounds, RefusalsDrawNothing};
+ghost use Rattle.tinkey_cmds.specs.Laws.{EditsDrawFronts, EditsFollow, EditsKeepBounds, EditsKeepKeysets, EditsKeepThePrimary, EditsLeaveOthers, FirstsAreKeysets, FirstsHaveBounds, RefusalsDrawNothing};
 
 /// An accepted edit of a keyset without a fault gives a keyset without a fault, and a new keyset
 /// has none.
@@ -20,6 +20,12 @@ pub fn edits_keep_bounds()
 /// one new record, whose id isn't 0 and was not in use.
 pub fn edits_follow()
     ensures { EditsFollow }
+{}
+
+/// An accepted edit leaves every record that it doesn't name as it was, and in its place: a new record
+/// stands behind the others, and of the records of an id the first one changes or goes.
+pub fn edits_leave_others()
+    ensures { EditsLeaveOthers }
 {}
 
 /// Only Promote and Rotate change the primary id: to that of the record named, and to that of the

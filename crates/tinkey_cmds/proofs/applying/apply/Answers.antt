@@ -1,7 +1,8 @@
 -- Edit by edit.
 use Rattle.key_msgs.specs.Templates.{seen}
-use Rattle.tinkey_cmds.specs.Edits.{Add, Rotate, Promote, Enable, Disable, Destroy, Delete, seen_edit, step}
+use Rattle.tinkey_cmds.specs.Edits.{Add, Rotate, Promote, Enable, Disable, Destroy, Delete, step}
 use Rattle.tinkey_cmds.proofs.Applications.{edited-applied, short-known, short-step}
+use Rattle.tinkey_cmds.proofs.Wholes.{edited-whole}
 use Rattle.tinkey_cmds.proofs.applying.apply.Goals as goal
 
 pub returns-in-Add-clause-short : goal.returns-in-Add-clause-short
@@ -29,3 +30,18 @@ returns-in-Destroy-clause-short g c = λ short. short-step c.args.keyset.now (De
 pub returns-in-Delete-clause-short : goal.returns-in-Delete-clause-short
 returns-in-Delete-clause-short g c = λ short. short-step c.args.keyset.now (Delete c.in-Delete.id) c.delete.result _ _ tt short
     (edited-applied c.delete.result (step c.args.keyset.now (Delete c.in-Delete.id)) (g.E.Entropy.state c.args.entropy.now) c.delete.ensures)
+
+pub returns-in-Promote-clause-whole : goal.returns-in-Promote-clause-whole
+returns-in-Promote-clause-whole g c = edited-whole c.promote.result (step c.args.keyset.now (Promote c.in-Promote.id)) (g.E.Entropy.state c.args.entropy.now) c.promote.ensures
+
+pub returns-in-Enable-clause-whole : goal.returns-in-Enable-clause-whole
+returns-in-Enable-clause-whole g c = edited-whole c.enable.result (step c.args.keyset.now (Enable c.in-Enable.id)) (g.E.Entropy.state c.args.entropy.now) c.enable.ensures
+
+pub returns-in-Disable-clause-whole : goal.returns-in-Disable-clause-whole
+returns-in-Disable-clause-whole g c = edited-whole c.disable.result (step c.args.keyset.now (Disable c.in-Disable.id)) (g.E.Entropy.state c.args.entropy.now) c.disable.ensures
+
+pub returns-in-Destroy-clause-whole : goal.returns-in-Destroy-clause-whole
+returns-in-Destroy-clause-whole g c = edited-whole c.destroy.result (step c.args.keyset.now (Destroy c.in-Destroy.id)) (g.E.Entropy.state c.args.entropy.now) c.destroy.ensures
+
+pub returns-in-Delete-clause-whole : goal.returns-in-Delete-clause-whole
+returns-in-Delete-clause-whole g c = edited-whole c.delete.result (step c.args.keyset.now (Delete c.in-Delete.id)) (g.E.Entropy.state c.args.entropy.now) c.delete.ensures

@@ -1,10 +1,12 @@
 -- The new record, alone.
 use Rattle.std.proofs.Common.{◌≡◌, ◌∙◌, [], Ok, None, sym, ap, subst}
-use Rattle.keyset_model.specs.Keyset.{fault_of}
+use Rattle.keyset_model.specs.declared.record.Record.{Record}
+use Rattle.keyset_model.specs.Keyset.{Keys, fault_of}
 use Rattle.key_msgs.specs.Templates.{seen}
 use Rattle.tinkey_cmds.specs.Applying.{Applied}
 use Rattle.tinkey_cmds.specs.Edits.{alone, first}
 use Rattle.tinkey_cmds.proofs.Applications.{applied-grown, draws-grown, first-faultless, short-alone}
+use Rattle.tinkey_cmds.proofs.Wholes.{error-whole}
 use Rattle.tinkey_cmds.proofs.applying.create.Goals as goal
 
 pub returns-in-Err-clause-first : goal.returns-in-Err-clause-first
@@ -26,3 +28,6 @@ returns-clause-first g c = subst (λ k. Applied (Ok k) (first (seen c.args.templ
 pub returns-clause-short : goal.returns-clause-short
 returns-clause-short g c = short-alone (seen c.args.template.now) c.in-Ok.key c.rebuilt.result _ _ c.new_record.ensures.known c.in-Ok.ensures.drawn.1
     (c.rebuilt.ensures ∙ ap (λ rs. record { primary = c.in-Ok.key.id; records = rs }) c.in-Ok-alone.ensures)
+
+pub returns-in-Err-clause-whole : goal.returns-in-Err-clause-whole
+returns-in-Err-clause-whole g c = error-whole Record Keys c.in-Err.error _ _ c.in-Err.ensures.whole

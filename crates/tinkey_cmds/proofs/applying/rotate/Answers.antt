@@ -1,11 +1,13 @@
 -- The refusals before anything is drawn, and the new record behind the others.
 use Rattle.std.proofs.Common.{◌∙◌, Ok, Err, sym, ap, subst, refl}
-use Rattle.keyset_model.specs.Keyset.{fault_of}
+use Rattle.keyset_model.specs.declared.record.Record.{Record}
+use Rattle.keyset_model.specs.Keyset.{Keys, fault_of}
 use Rattle.key_msgs.specs.Templates.{seen}
 use Rattle.tinkey_cmds.specs.Applying.{Applied}
 use Rattle.tinkey_cmds.specs.Edits.{Rotate, rotated, step}
 use Rattle.tinkey_cmds.proofs.Applications.{applied-refused, applied-grown, applied-accepted, effect-rotate, refusal-rotate, draws-rotate, drawn-faultless}
 use Rattle.tinkey_cmds.proofs.Steps.{same_keys}
+use Rattle.tinkey_cmds.proofs.Wholes.{error-whole}
 use Rattle.tinkey_cmds.proofs.applying.rotate.Goals as goal
 
 pub returns-in-Some-clause-step : goal.returns-in-Some-clause-step
@@ -26,3 +28,6 @@ pub returns-clause-step : goal.returns-clause-step
 returns-clause-step g c = subst (λ k. Applied (Ok k) (step c.args.keyset.now (Rotate (seen c.args.template.now))) (g.E.Entropy.state c.args.entropy.now) (g.E.Entropy.state c.new_record.new.entropy))
     (sym (c.rebuilt.ensures ∙ same_keys (rotated c.args.keyset.now c.in-Ok.key) _ _ refl c.in-Ok-grown.ensures.same))
     (c.in-Ok.ensures.drawn.0, (draws-rotate c.args.keyset.now (seen c.args.template.now) c.in-Ok.key _ _ (sym c.full_or_mixed.ensures ∙ c.in_default.is) c.in-Ok.ensures.drawn.1))
+
+pub returns-in-Err-clause-whole : goal.returns-in-Err-clause-whole
+returns-in-Err-clause-whole g c = error-whole Record Keys c.in-Err.error _ _ c.in-Err.ensures.whole

@@ -6,11 +6,12 @@ use Rattle.key_msgs.specs.Templates.{seen, random_of}
 use Rattle.tinkey_cmds.specs.Applying.{records_in, Draws}
 use Rattle.tinkey_cmds.specs.Edits.{new_record, record_of}
 use Rattle.tinkey_cmds.proofs.Drawings.{ran_out-key, draws-key}
+use Rattle.tinkey_cmds.proofs.Wholes.{ids-kept}
 use Rattle.tinkey_cmds.proofs.drawing.new_record.Goals as goal
 
 pub returns-in-Err-draw_key-clause-drawn : goal.returns-in-Err-draw_key-clause-drawn
 returns-in-Err-draw_key-clause-drawn g c =
-    let id = rw c.in-Ok-Some.field-0-is at c.in-Ok-Some.ensures in
+    let id = rw c.in-Ok-Some.field-0-is at c.in-Ok-Some.ensures.id in
     ran_out-key (seen c.args.template.now) (records_in (option_copied c.args.keyset)) c.in-Ok-Some.id c.random_len-size.result _ _ _ id.1 c.random_len-size.ensures.size
     (subst (λ n. 1 ≤ n) c.random_len-size.ensures.size c.random_len-size.ensures.least) c.in-Err-draw_key.ensures.failed c.in-Err-draw_key.ensures.kept
 
@@ -18,7 +19,7 @@ pub returns-in-Ok-record_of-clause-drawn : goal.returns-in-Ok-record_of-clause-d
 returns-in-Ok-record_of-clause-drawn g c =
     let row = seen c.args.template.now in
     let records = records_in (option_copied c.args.keyset) in
-    let id = rw c.in-Ok-Some.field-0-is at c.in-Ok-Some.ensures in
+    let id = rw c.in-Ok-Some.field-0-is at c.in-Ok-Some.ensures.id in
     let size : length (take c.random_len-size.result c.draw_key.new.material) ≡ random_of row
     = length-take-le c.random_len-size.result c.draw_key.new.material (omega (arith, c.draw_key.array_long, c.random_len-size.ensures.most)) ∙ c.random_len-size.ensures.size in (
       c.in-Ok.ensures.no_fault ∙ id.0,
@@ -30,7 +31,7 @@ pub returns-in-Err-record_of-clause-drawn : goal.returns-in-Err-record_of-clause
 returns-in-Err-record_of-clause-drawn g c =
     let row = seen c.args.template.now in
     let records = records_in (option_copied c.args.keyset) in
-    let id = rw c.in-Ok-Some.field-0-is at c.in-Ok-Some.ensures in
+    let id = rw c.in-Ok-Some.field-0-is at c.in-Ok-Some.ensures.id in
     let size : length (take c.random_len-size.result c.draw_key.new.material) ≡ random_of row
     = length-take-le c.random_len-size.result c.draw_key.new.material (omega (arith, c.draw_key.array_long, c.random_len-size.ensures.most)) ∙ c.random_len-size.ensures.size in (
       c.in-Ok.ensures.no_fault ∙ id.0,
@@ -39,3 +40,6 @@ returns-in-Err-record_of-clause-drawn g c =
         draws-key row records c.in-Ok-Some.id _ _ _ _ id.1 c.in-Ok.ensures.key size,
       ),
     )
+
+pub returns-in-Err-draw_key-clause-whole : goal.returns-in-Err-draw_key-clause-whole
+returns-in-Err-draw_key-clause-whole g c = ids-kept _ _ _ c.draw_id.ensures.ids c.in-Err-draw_key.ensures.kept

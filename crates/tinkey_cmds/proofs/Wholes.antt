@@ -1,0 +1,53 @@
+-- Ids are drawn whole.
+use Rattle.std.proofs.Common.{◌≡◌, ℕ, ◌+◌, ◌*◌, ◌≤◌, List, [], ◌++◌, length, Result, Ok, Err, arith, length-append}
+use Rattle.tink_spec.specs.Outside.{Drew, EntropyState}
+use Rattle.tink_spec.proofs.Moves.{drew_more, drew_nothing}
+use Rattle.keyset_model.specs.Keyset.{Keys}
+use Rattle.tinkey_cmds.specs.declared.command.CmdError.{CmdError}
+use Rattle.tinkey_cmds.specs.declared.command.CmdError.TheVariants.{Refused, EntropyFault, NoMemory}
+use Rattle.tinkey_cmds.specs.Applying.{DrawsWhole, DrewIds, Edited}
+use Rattle.tinkey_cmds.specs.Draws.{Draw}
+
+-- so many groups of four bytes were drawn
+pub record DrewGroups (old new : EntropyState) (groups : ℕ) : Type 0 where
+  pub drawn : List ℕ
+  pub drew : Drew old new drawn
+  pub whole : length drawn ≡ 4 * groups
+
+pub groups-nothing : (s : EntropyState) → DrewGroups s s 0
+groups-nothing s = record { drawn = []; drew = drew_nothing s; whole = omega arith }
+
+pub groups-more : (old mid new : EntropyState) (group : List ℕ) (groups : ℕ) → DrewGroups old mid groups → Drew mid new group → length group ≡ 4 → DrewGroups old new (groups + 1)
+groups-more old mid new group groups before drew four = record {
+  drawn = before.drawn ++ group;
+  drew = drew_more old mid new before.drawn group before.drew drew;
+  whole = simp length-append (omega (arith, before.whole, four));
+}
+
+pub groups-ids : (old new : EntropyState) (groups : ℕ) → groups ≤ 64 → DrewGroups old new groups → DrewIds old new
+groups-ids old new groups most before = record { drawn = before.drawn; drew = before.drew; ids = groups; most = most; whole = before.whole }
+
+pub ids-kept : (old mid new : EntropyState) → DrewIds old mid → Drew mid new [] → DrewIds old new
+ids-kept old mid new before drew = record {
+  drawn = before.drawn ++ [];
+  drew = drew_more old mid new before.drawn [] before.drew drew;
+  ids = before.ids;
+  most = before.most;
+  whole = simp length-append (omega (arith, before.whole));
+}
+
+pub groups-end : (old mid new : EntropyState) (groups : ℕ) → groups ≤ 64 → DrewGroups old mid groups → Drew mid new [] → DrewIds old new
+groups-end old mid new groups most before drew = ids-kept old mid new (groups-ids old mid groups most before) drew
+
+-- an edit that draws nothing
+pub edited-whole : (result : Result Keys CmdError) (give : Draw Keys) (s : EntropyState) → Edited result give → DrawsWhole result s s
+edited-whole (Ok keys) give s is = tt
+edited-whole (Err (Refused fault)) give s is = tt
+edited-whole (Err EntropyFault) give s is = absurd is
+edited-whole (Err NoMemory) give s is = tt
+
+-- an error of the new record is handed on
+pub error-whole : (A B : Type 0) (error : CmdError) (old new : EntropyState) → DrawsWhole {A = A} (Err error) old new → DrawsWhole {A = B} (Err error) old new
+error-whole A B (Refused fault) old new whole = tt
+error-whole A B EntropyFault old new whole = whole
+error-whole A B NoMemory old new whole = tt
