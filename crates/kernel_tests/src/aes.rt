@@ -4,12 +4,12 @@
 ghost use Rattle.std.specs.Prelude.{◌≤◌};
 
 use crate::plain::aes as plain;
-use crate::rows::{block_in, bytes_in, same};
+use crate::rows::{block_in, bytes_in};
 use aes_core::{Aes, CtrKind, KeySize};
 use std::alloc::Global;
 use std::process::Abort;
 use std::test::Fail;
-use test_words::cell;
+use test_words::{cell, same_bytes};
 
 // The key of FIPS 197 (2001), C.1 and C.3: the bytes from 0 on.
 const COUNTING_KEY: [u8; 32] = [
@@ -58,7 +58,13 @@ fn kind_named(name: &str) -> Result<CtrKind, Fail> {
 fn assert_enciphered(alloc: Global, row: &str) -> Result<(), Fail> {
     let aes = Aes::new(&bytes_in(alloc, row, 1)?)?;
     let found = aes.encrypt_block(&block_in(row, 2)?);
-    same(alloc, row, "the cipher", &block_in(row, 3)?, &found)
+    same_bytes(
+        alloc,
+        cell(row, 0)?,
+        "the cipher",
+        &block_in(row, 3)?,
+        &found,
+    )
 }
 
 fn assert_counted(alloc: Global, row: &str) -> Result<(), Fail> {
@@ -66,9 +72,9 @@ fn assert_counted(alloc: Global, row: &str) -> Result<(), Fail> {
     let aes = Aes::new(&bytes_in(alloc, row, 2)?)?;
     let mut body = bytes_in(alloc, row, 4)?;
     aes.ctr_xor(&block_in(row, 3)?, kind, &mut body);
-    same(
+    same_bytes(
         alloc,
-        row,
+        cell(row, 0)?,
         "the ciphertext",
         &bytes_in(alloc, row, 5)?,
         &body,
@@ -82,7 +88,13 @@ fn assert_chained(alloc: Global, row: &str) -> Result<(), Fail> {
         return Err("whole blocks".into());
     }
     let found = aes.chain(&block_in(row, 2)?, &body);
-    same(alloc, row, "the last result", &block_in(row, 4)?, &found)
+    same_bytes(
+        alloc,
+        cell(row, 0)?,
+        "the last result",
+        &block_in(row, 4)?,
+        &found,
+    )
 }
 
 #[test]

@@ -1,11 +1,11 @@
 //! Published values of GHASH, of products and of subkeys; and the fast forms beside the plain ones.
 
 use crate::plain::galois::{ghash_by_blocks, mul_by_bits};
-use crate::rows::{bytes_in, number_of_block, same};
+use crate::rows::{bytes_in, number_of_block};
 use ghash::{Ghash, dbl, mul};
 use std::alloc::Global;
 use std::test::Fail;
-use test_words::number_in;
+use test_words::{cell, number_in, same_bytes};
 
 // A tag of GCM is GHASH plus the cipher of the first counter block. The values of GHASH are so
 // computed, with H, by python's cryptography, from the tags of The Galois/Counter Mode of Operation
@@ -81,7 +81,7 @@ fn assert_hashed(alloc: Global, row: &str) -> Result<(), Fail> {
     let want = bytes_in(alloc, row, 4)?;
     for (size, part) in CUTS {
         let found = ghash_in_pieces(h, &[&ad, &text, &lengths], size).to_be_bytes();
-        same(alloc, row, part, &want, &found)?;
+        same_bytes(alloc, cell(row, 0)?, part, &want, &found)?;
     }
     Ok(())
 }
@@ -93,23 +93,23 @@ fn assert_long_hashed(alloc: Global, row: &str) -> Result<(), Fail> {
     let want = bytes_in(alloc, row, 3)?;
     for (size, part) in LONG_CUTS {
         let found = ghash_in_pieces(h, &[&data, &lengths], size).to_be_bytes();
-        same(alloc, row, part, &want, &found)?;
+        same_bytes(alloc, cell(row, 0)?, part, &want, &found)?;
     }
     Ok(())
 }
 
 fn assert_doubled(alloc: Global, row: &str) -> Result<(), Fail> {
     let k1 = dbl(number_of_block(row, 1)?);
-    same(
+    same_bytes(
         alloc,
-        row,
+        cell(row, 0)?,
         "K1",
         &bytes_in(alloc, row, 2)?,
         &k1.to_be_bytes(),
     )?;
-    same(
+    same_bytes(
         alloc,
-        row,
+        cell(row, 0)?,
         "K2",
         &bytes_in(alloc, row, 3)?,
         &dbl(k1).to_be_bytes(),
@@ -136,9 +136,9 @@ fn hashes_long_data_in_any_pieces(rt: HostRuntime) -> Result<(), Fail> {
 fn multiplies_as_printed(rt: HostRuntime) -> Result<(), Fail> {
     for row in PRODUCTS.lines() {
         let found = mul(number_of_block(row, 1)?, number_of_block(row, 2)?).to_be_bytes();
-        same(
+        same_bytes(
             rt.alloc(),
-            row,
+            cell(row, 0)?,
             "the product",
             &bytes_in(rt.alloc(), row, 3)?,
             &found,

@@ -1,17 +1,17 @@
 //! AES-GCM in place, with what is kept from one message to the next, and its sizes of keys.
 
-use crate::rows::{bytes_in, same};
+use crate::rows::bytes_in;
 use crate::schemes::{GCM_CAVS, GCM_PUBLISHED, MOST, TINK};
 use aead_kinds::{AeadKey, Gcm, gcm_open_in_place, gcm_seal_in_place};
 use aes_core::{Aes, KeySize};
 use std::alloc::Global;
 use std::test::Fail;
-use test_words::{cell, unlike};
+use test_words::{cell, same_bytes, unlike};
 
 // Two messages under one key, each opened and sealed again.
 fn assert_in_place(
     alloc: Global,
-    row: &str,
+    shows: &str,
     gcm: &mut Gcm,
     plain: &[u8],
     ad: &[u8],
@@ -26,12 +26,12 @@ fn assert_in_place(
     }
     for _ in 0..2 {
         if !gcm.open_in_place(iv, ad, body, tag) {
-            return Err(unlike(row, "the sealing in place", "opened", "refused"));
+            return Err(unlike(shows, "the sealing in place", "opened", "refused"));
         }
-        same(alloc, row, "the plaintext in place", plain, body)?;
+        same_bytes(alloc, shows, "the plaintext in place", plain, body)?;
         let found = gcm.seal_in_place(iv, ad, body);
-        same(alloc, row, "the tag in place", tag, &found)?;
-        same(alloc, row, "the ciphertext in place", text, body)?;
+        same_bytes(alloc, shows, "the tag in place", tag, &found)?;
+        same_bytes(alloc, shows, "the ciphertext in place", text, body)?;
     }
     Ok(())
 }
@@ -44,7 +44,7 @@ fn assert_row(alloc: Global, row: &str) -> Result<(), Fail> {
     let ad = bytes_in(alloc, row, 6)?;
     let want = bytes_in(alloc, row, 7)?;
     let plain = bytes_in(alloc, row, 8)?;
-    assert_in_place(alloc, row, &mut gcm, &plain, &ad, &want)
+    assert_in_place(alloc, cell(row, 0)?, &mut gcm, &plain, &ad, &want)
 }
 
 #[test]

@@ -6,11 +6,11 @@ ghost use Rattle.tink_base.specs.Hash.{hash_size};
 mod cmac;
 mod derive;
 
-use crate::rows::{bytes_in, same};
+use crate::rows::{bytes_in, title};
 use mac_prf::Hmac;
 use std::alloc::Global;
 use std::test::Fail;
-use test_words::{cell, hash_named};
+use test_words::{cell, hash_named, same_bytes};
 use tink_base::Hash;
 
 // A row of a table has what it shows, the hash function, the key, the message, and the first bytes
@@ -93,6 +93,7 @@ fn tag_in_pieces(hash: Hash, key: &[u8], message: &[u8], cut: usize, tag: &mut [
 }
 
 fn assert_row(alloc: Global, row: &str) -> Result<(), Fail> {
+    let shows = title(alloc, row)?;
     let hash = hash_named(cell(row, 1)?)?;
     let key = bytes_in(alloc, row, 2)?;
     let message = bytes_in(alloc, row, 3)?;
@@ -103,7 +104,7 @@ fn assert_row(alloc: Global, row: &str) -> Result<(), Fail> {
     for (cut, part) in CUTS {
         let mut tag = vec![in alloc; 0_u8; want.len()]?;
         tag_in_pieces(hash, &key, &message, cut, &mut tag);
-        same(alloc, row, part, &want, &tag)?;
+        same_bytes(alloc, &shows, part, &want, &tag)?;
     }
     Ok(())
 }

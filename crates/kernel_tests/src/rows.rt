@@ -1,4 +1,4 @@
-//! Cells of rows as bytes and blocks, and what was found beside what a row expects.
+//! Cells of rows as bytes and blocks, the name of a row, and what was to be refused.
 
 use std::alloc::Global;
 use std::test::Fail;
@@ -19,34 +19,20 @@ pub(crate) fn block_in(row: &str, place: usize) -> Result<[u8; 16], Fail> {
     Ok(number_of_block(row, place)?.to_be_bytes())
 }
 
-/// Fails unless this part of a row is what the row expects.
-pub(crate) fn same(
-    alloc: Global,
-    row: &str,
-    part: &str,
-    expected: &[u8],
-    found: &[u8],
-) -> Result<(), Fail> {
-    if found == expected {
-        return Ok(());
-    }
-    Err(unlike(
-        row,
-        part,
-        &digits_of(alloc, expected)?,
-        &digits_of(alloc, found)?,
-    ))
+/// The first two cells, by which a failure names a row: its text is short.
+pub(crate) fn title(alloc: Global, row: &str) -> Result<String, Fail> {
+    Ok(format!(in alloc; "{}, {}", cell(row, 0)?, cell(row, 1)?)?)
 }
 
 /// Fails where what was to be refused opened.
 pub(crate) fn refused(
     alloc: Global,
-    row: &str,
+    shows: &str,
     part: &str,
     opened: Option<Vec<u8>>,
 ) -> Result<(), Fail> {
     match opened {
         None => Ok(()),
-        Some(plain) => Err(unlike(row, part, "refused", &digits_of(alloc, &plain)?)),
+        Some(plain) => Err(unlike(shows, part, "refused", &digits_of(alloc, &plain)?)),
     }
 }

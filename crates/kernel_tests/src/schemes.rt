@@ -1,11 +1,11 @@
 //! The kinds of AEAD against published and independent answers, by the calls that other crates
 //! make. What AES-GCM does in place stands in `gcm`.
 
-use crate::rows::{bytes_in, refused, same};
+use crate::rows::{bytes_in, refused, title};
 use aead_kinds::{AeadKey, open, seal};
 use std::alloc::Global;
 use std::test::Fail;
-use test_words::{cell, hash_named, longer, number_in, turned};
+use test_words::{cell, hash_named, longer, number_in, same_bytes, turned};
 
 // The longest text and the longest associated data here.
 pub(crate) const MOST: usize = 1000;
@@ -63,16 +63,16 @@ row 4|SHA-512|297b9ff2bfcefbdc01d75cd6876029facea5e4812f3883d27f6c1fc7d94328bf|9
 // from memory: each agrees with Python's cryptography (CMAC and CTR), and none was compared with
 // the page.
 const EAX_PAPER: &str = "\
-0 bytes|EAX|233952dee4d5ed5f9b9c6d6ff80ff478||16|16|6bfb914fd07eae6b|62ec67f9c3a4a407fcb2a8c49031a8b3e037830e8389f27b025a2d6527e79d01|
-2 bytes|EAX|91945d3f4dcbee0bf45ef52255f095a4||16|16|fa3bfd4806eb53fa|becaf043b0a23d843194ba972c66debd19dd5c4c9331049d0bdab0277408f67967e5|f7fb
-5 bytes|EAX|01f74ad64077f2e704c0f60ada3dd523||16|16|234a3463c1264ac6|70c3db4f0d26368400a10ed05d2bff5ed851d5bae03a59f238a23e39199dc9266626c40f80|1a47cb4933
-5 bytes|EAX|d07cf6cbb7f313bdde66b727afd3c5e8||16|16|33cce2eabff5a79d|8408dfff3c1a2b1292dc199e46b7d617632a9d131ad4c168a4225d8e1ff755939974a7bede|481c9e39b1
-6 bytes|EAX|35b6d0580005bbc12b0587124557d2c2||16|16|aeb96eaebe2970e9|fdb6b06676eedc5c61d74276e1f8e816071dfe16c675cb0677e536f73afe6a14b74ee49844dd|40d0c07da5e4
-12 bytes|EAX|bd8e6e11475e60b268784c38c62feb22||16|16|d4482d1ca78dce0f|6eac5c93072d8e8513f750935e46da1b835bb4f15d743e350e728414abb8644fd6ccb86947c5e10590210a4f|4de3b35c3fc039245bd1fb7d
-17 bytes|EAX|7c77d6e813bed5ac98baa417477a2e7d||16|16|65d2017990d62528|1a8c98dcd73d38393b2bf1569deefc1902083e3979da014812f59f11d52630da30137327d10649b0aa6e1c181db617d7f2|8b0a79306c9ce7ed99dae4f87f8dd61636
-18 bytes|EAX|5fff20cafab119ca2fc73549e20f5b0d||16|16|54b9f04e6a09189a|dde59b97d722156d4d9aff2bc75598262ec47b2c4954a489afc7ba4897edcdae8cc33b60450599bd02c96382902aef7f832a|1bda122bce8a8dbaf1877d962b8592dd2d56
-18 bytes|EAX|a4a4782bcffd3ec5e7ef6d8c34a56123||16|16|899a175897561d7e|b781fcf2f75fa5a8de97a9ca48e522ec0de18fd0fdd91e7af19f1d8ee8733938b1e8e7f6d2231618102fdb7fe55ff1991700|6cf36720872b8513f6eab1a8a44438d5ef11
-21 bytes|EAX|8395fcf1e95bebd697bd010bc766aac3||16|16|126735fcc320d25a|22e7add93cfc6393c57ec0b3c17d6b44cb8920f87a6c75cff39627b56e3ed197c552d295a7cfc46afc253b4652b1af3795b124ab6e|ca40d7446e545ffaed3bd12a740a659ffbbb3ceab7";
+vector 1, 0 bytes|EAX|233952dee4d5ed5f9b9c6d6ff80ff478||16|16|6bfb914fd07eae6b|62ec67f9c3a4a407fcb2a8c49031a8b3e037830e8389f27b025a2d6527e79d01|
+vector 2, 2 bytes|EAX|91945d3f4dcbee0bf45ef52255f095a4||16|16|fa3bfd4806eb53fa|becaf043b0a23d843194ba972c66debd19dd5c4c9331049d0bdab0277408f67967e5|f7fb
+vector 3, 5 bytes|EAX|01f74ad64077f2e704c0f60ada3dd523||16|16|234a3463c1264ac6|70c3db4f0d26368400a10ed05d2bff5ed851d5bae03a59f238a23e39199dc9266626c40f80|1a47cb4933
+vector 4, 5 bytes|EAX|d07cf6cbb7f313bdde66b727afd3c5e8||16|16|33cce2eabff5a79d|8408dfff3c1a2b1292dc199e46b7d617632a9d131ad4c168a4225d8e1ff755939974a7bede|481c9e39b1
+vector 5, 6 bytes|EAX|35b6d0580005bbc12b0587124557d2c2||16|16|aeb96eaebe2970e9|fdb6b06676eedc5c61d74276e1f8e816071dfe16c675cb0677e536f73afe6a14b74ee49844dd|40d0c07da5e4
+vector 6, 12 bytes|EAX|bd8e6e11475e60b268784c38c62feb22||16|16|d4482d1ca78dce0f|6eac5c93072d8e8513f750935e46da1b835bb4f15d743e350e728414abb8644fd6ccb86947c5e10590210a4f|4de3b35c3fc039245bd1fb7d
+vector 7, 17 bytes|EAX|7c77d6e813bed5ac98baa417477a2e7d||16|16|65d2017990d62528|1a8c98dcd73d38393b2bf1569deefc1902083e3979da014812f59f11d52630da30137327d10649b0aa6e1c181db617d7f2|8b0a79306c9ce7ed99dae4f87f8dd61636
+vector 8, 18 bytes|EAX|5fff20cafab119ca2fc73549e20f5b0d||16|16|54b9f04e6a09189a|dde59b97d722156d4d9aff2bc75598262ec47b2c4954a489afc7ba4897edcdae8cc33b60450599bd02c96382902aef7f832a|1bda122bce8a8dbaf1877d962b8592dd2d56
+vector 9, 18 bytes|EAX|a4a4782bcffd3ec5e7ef6d8c34a56123||16|16|899a175897561d7e|b781fcf2f75fa5a8de97a9ca48e522ec0de18fd0fdd91e7af19f1d8ee8733938b1e8e7f6d2231618102fdb7fe55ff1991700|6cf36720872b8513f6eab1a8a44438d5ef11
+vector 10, 21 bytes|EAX|8395fcf1e95bebd697bd010bc766aac3||16|16|126735fcc320d25a|22e7add93cfc6393c57ec0b3c17d6b44cb8920f87a6c75cff39627b56e3ed197c552d295a7cfc46afc253b4652b1af3795b124ab6e|ca40d7446e545ffaed3bd12a740a659ffbbb3ceab7";
 
 // Of Python: cryptography's CMAC and CTR, and hmac.
 const PYTHON: &str = "\
@@ -97,37 +97,37 @@ fn opened(
 
 fn assert_refused(
     alloc: Global,
-    row: &str,
+    shows: &str,
     part: &str,
     key: &AeadKey<'_>,
     bytes: &[u8],
     ad: &[u8],
 ) -> Result<(), Fail> {
-    refused(alloc, row, part, opened(alloc, key, bytes, ad)?)
+    refused(alloc, shows, part, opened(alloc, key, bytes, ad)?)
 }
 
 fn assert_accepted(
     alloc: Global,
-    row: &str,
+    shows: &str,
     key: &AeadKey<'_>,
     plain: &[u8],
     ad: &[u8],
     bytes: &[u8],
 ) -> Result<(), Fail> {
     let back = opened(alloc, key, bytes, ad)?.ok_or("it opens")?;
-    same(alloc, row, "the plaintext", plain, &back)?;
+    same_bytes(alloc, shows, "the plaintext", plain, &back)?;
     let iv = bytes.get(..key.iv_size()).ok_or("an IV")?;
     if !key.fits() || plain.len() > MOST || ad.len() > MOST {
         return Err("a key that fits, and no more than 1,000 bytes".into());
     }
     let sealed = seal(alloc, key, iv, plain, ad)?;
-    same(alloc, row, "the sealing", bytes, &sealed)
+    same_bytes(alloc, shows, "the sealing", bytes, &sealed)
 }
 
 // Each part of accepted bytes altered, and their length.
 fn assert_altered_refused(
     alloc: Global,
-    row: &str,
+    shows: &str,
     key: &AeadKey<'_>,
     tag_size: usize,
     bytes: &[u8],
@@ -141,19 +141,19 @@ fn assert_altered_refused(
     let tag = size - tag_size;
     for at in [0, iv_size - 1, iv_size, tag - 1, tag, size - 10, size - 1] {
         let other = turned(alloc, bytes, at)?;
-        assert_refused(alloc, row, "a changed sealing", key, &other, ad)?;
+        assert_refused(alloc, shows, "a changed sealing", key, &other, ad)?;
     }
     for shorter in [size - 1, iv_size + tag_size - 1, iv_size, 0] {
-        assert_refused(alloc, row, "a cut sealing", key, &bytes[..shorter], ad)?;
+        assert_refused(alloc, shows, "a cut sealing", key, &bytes[..shorter], ad)?;
     }
     let more = longer(alloc, bytes)?;
-    assert_refused(alloc, row, "a sealing of a byte more", key, &more, ad)
+    assert_refused(alloc, shows, "a sealing of a byte more", key, &more, ad)
 }
 
 // The same of their associated data.
 fn assert_other_data_refused(
     alloc: Global,
-    row: &str,
+    shows: &str,
     key: &AeadKey<'_>,
     bytes: &[u8],
     ad: &[u8],
@@ -161,7 +161,7 @@ fn assert_other_data_refused(
     let more = longer(alloc, ad)?;
     assert_refused(
         alloc,
-        row,
+        shows,
         "associated data of a byte more",
         key,
         bytes,
@@ -171,10 +171,10 @@ fn assert_other_data_refused(
         return Ok(());
     }
     let other = turned(alloc, ad, 0)?;
-    assert_refused(alloc, row, "changed associated data", key, bytes, &other)?;
+    assert_refused(alloc, shows, "changed associated data", key, bytes, &other)?;
     assert_refused(
         alloc,
-        row,
+        shows,
         "associated data of a byte less",
         key,
         bytes,
@@ -203,17 +203,18 @@ fn key_of<'a>(row: &str, aes: &'a [u8], mac: &'a [u8]) -> Result<AeadKey<'a>, Fa
 }
 
 fn assert_row(alloc: Global, row: &str) -> Result<(), Fail> {
+    let shows = &title(alloc, row)?;
     let aes = bytes_in(alloc, row, 2)?;
     let mac = bytes_in(alloc, row, 3)?;
     let key = key_of(row, &aes, &mac)?;
     let ad = bytes_in(alloc, row, 6)?;
     let bytes = bytes_in(alloc, row, 7)?;
     if cell(row, 8)? == "refused" {
-        return assert_refused(alloc, row, "the sealing", &key, &bytes, &ad);
+        return assert_refused(alloc, shows, "the sealing", &key, &bytes, &ad);
     }
-    assert_accepted(alloc, row, &key, &bytes_in(alloc, row, 8)?, &ad, &bytes)?;
-    assert_altered_refused(alloc, row, &key, number_in(row, 5)?, &bytes, &ad)?;
-    assert_other_data_refused(alloc, row, &key, &bytes, &ad)
+    assert_accepted(alloc, shows, &key, &bytes_in(alloc, row, 8)?, &ad, &bytes)?;
+    assert_altered_refused(alloc, shows, &key, number_in(row, 5)?, &bytes, &ad)?;
+    assert_other_data_refused(alloc, shows, &key, &bytes, &ad)
 }
 
 fn assert_rows(alloc: Global, rows: &str) -> Result<(), Fail> {

@@ -1,10 +1,10 @@
 //! AES-SIV against printed and independent sealings, and altered ones refused.
 
-use crate::rows::{bytes_in, refused, same};
+use crate::rows::{bytes_in, refused};
 use siv_daead::{siv_open, siv_seal};
 use std::alloc::Global;
 use std::test::Fail;
-use test_words::longer;
+use test_words::{cell, longer, same_bytes};
 
 // A row has what it shows, the key, the associated datum, the plaintext, and SIV and ciphertext.
 
@@ -55,7 +55,7 @@ fn opened(alloc: Global, key: &[u8], bytes: &[u8], ad: &[u8]) -> Result<Option<V
 // A sealing with a bit changed in the SIV or in the last byte, with a byte less or a byte more.
 fn assert_altered_refused(
     alloc: Global,
-    row: &str,
+    shows: &str,
     key: &[u8],
     bytes: &[u8],
     ad: &[u8],
@@ -65,50 +65,51 @@ fn assert_altered_refused(
         let other = changed(alloc, bytes, at)?;
         refused(
             alloc,
-            row,
+            shows,
             "a changed sealing",
             opened(alloc, key, &other, ad)?,
         )?;
     }
     let less = opened(alloc, key, &bytes[..last], ad)?;
-    refused(alloc, row, "a sealing of a byte less", less)?;
+    refused(alloc, shows, "a sealing of a byte less", less)?;
     let more = opened(alloc, key, &longer(alloc, bytes)?, ad)?;
-    refused(alloc, row, "a sealing of a byte more", more)
+    refused(alloc, shows, "a sealing of a byte more", more)
 }
 
 // The same of another datum.
 fn assert_other_datum_refused(
     alloc: Global,
-    row: &str,
+    shows: &str,
     key: &[u8],
     bytes: &[u8],
     ad: &[u8],
 ) -> Result<(), Fail> {
     let more = opened(alloc, key, bytes, &longer(alloc, ad)?)?;
-    refused(alloc, row, "a datum of a byte more", more)?;
+    refused(alloc, shows, "a datum of a byte more", more)?;
     if ad.is_empty() {
         return Ok(());
     }
     let other = opened(alloc, key, bytes, &changed(alloc, ad, 0)?)?;
-    refused(alloc, row, "a changed datum", other)
+    refused(alloc, shows, "a changed datum", other)
 }
 
 fn assert_row(alloc: Global, row: &str) -> Result<(), Fail> {
+    let shows = cell(row, 0)?;
     let key = bytes_in(alloc, row, 1)?;
     let ad = bytes_in(alloc, row, 2)?;
     let plain = bytes_in(alloc, row, 3)?;
     let want = bytes_in(alloc, row, 4)?;
-    same(
+    same_bytes(
         alloc,
-        row,
+        shows,
         "the sealing",
         &want,
         &sealed(alloc, &key, &plain, &ad)?,
     )?;
     let back = opened(alloc, &key, &want, &ad)?.ok_or("it opens")?;
-    same(alloc, row, "the plaintext", &plain, &back)?;
-    assert_altered_refused(alloc, row, &key, &want, &ad)?;
-    assert_other_datum_refused(alloc, row, &key, &want, &ad)
+    same_bytes(alloc, shows, "the plaintext", &plain, &back)?;
+    assert_altered_refused(alloc, shows, &key, &want, &ad)?;
+    assert_other_datum_refused(alloc, shows, &key, &want, &ad)
 }
 
 fn assert_rows(alloc: Global, rows: &str) -> Result<(), Fail> {

@@ -1,9 +1,10 @@
 //! CMAC against printed and independent tags, of messages that come in pieces.
 
-use crate::rows::{bytes_in, same};
+use crate::rows::bytes_in;
 use mac_prf::Cmac;
 use std::alloc::Global;
 use std::test::Fail;
+use test_words::{cell, same_bytes};
 
 // What it shows, key, message and tag: RFC 4493, section 4, and SP 800-38B (2005), D.3, whose tags
 // Python's cryptography gives too; and the last three from there alone.
@@ -43,9 +44,9 @@ fn assert_row(alloc: Global, row: &str) -> Result<(), Fail> {
     let message = bytes_in(alloc, row, 2)?;
     let want = bytes_in(alloc, row, 3)?;
     for (cut, part) in CUTS {
-        same(
+        same_bytes(
             alloc,
-            row,
+            cell(row, 0)?,
             part,
             &want,
             &tag_in_pieces(&key, &message, cut)?,

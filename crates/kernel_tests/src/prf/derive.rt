@@ -1,10 +1,10 @@
 //! HKDF against the cases of RFC 5869, and of the greatest length.
 
-use crate::rows::{bytes_in, same};
+use crate::rows::bytes_in;
 use mac_prf::{TooLong, hkdf};
 use std::alloc::Global;
 use std::test::Fail;
-use test_words::{cell, hash_named};
+use test_words::{cell, hash_named, same_bytes};
 use tink_base::Hash;
 
 // What it shows, hash function, secret, salt, info and output: RFC 5869, appendix A. `0b*22` is a
@@ -39,7 +39,7 @@ fn assert_row(alloc: Global, row: &str) -> Result<(), Fail> {
         let want = &want[..size.min(want.len())];
         let mut out = vec![in alloc; 0_u8; want.len()]?;
         hkdf(hash, &secret, &salt, &info, &mut out)?;
-        same(alloc, row, part, want, &out)?;
+        same_bytes(alloc, cell(row, 0)?, part, want, &out)?;
     }
     Ok(())
 }
