@@ -112,43 +112,111 @@ const SNAKE_JSON: &str =
 const CAMEL_JSON: &str =
     "{\"key\":[{\"keyData\":{\"keyMaterialType\":\"SYMMETRIC\",\"typeUrl\":\"type.googleapis.com/google.crypto.tink.HmacKey\",\"value\":\"EgQIAxAQGhT//////////////////////////w==\"},\"keyId\":7,\"outputPrefixType\":\"RAW\",\"status\":\"ENABLED\"}],\"primaryKeyId\":7}\n";
 
+/// The session of `sessions.rt`: a key is used, replaced, switched off and on, and deleted. The sealed
+/// bytes are AES-GCM's second case behind an IV of zeros and the prefix of the first or the second key.
+const STORY: &str = "seal 00000000000000000000000000000000 -
+rotate AES128_GCM
+seal 00000000000000000000000000000000 -
+disable 16909060
+open 01010203040000000000000000000000000388dace60b6a392f328c2b971b2fe78ab6e47d42cec13bdf53a67b21257bddf -
+enable 16909060
+open 01010203040000000000000000000000000388dace60b6a392f328c2b971b2fe78ab6e47d42cec13bdf53a67b21257bddf -
+open 010a0b0c0d0000000000000000000000000388dace60b6a392f328c2b971b2fe78ab6e47d42cec13bdf53a67b21257bddf -
+add AES256_SIV
+delete 16909060
+open 01010203040000000000000000000000000388dace60b6a392f328c2b971b2fe78ab6e47d42cec13bdf53a67b21257bddf -
+delete 168496141
+hello
+";
+
+/// Its replies.
+const REPLIES: &str =
+    "ok 01010203040000000000000000000000000388dace60b6a392f328c2b971b2fe78ab6e47d42cec13bdf53a67b21257bddf
+ok 168496141
+ok 010a0b0c0d0000000000000000000000000388dace60b6a392f328c2b971b2fe78ab6e47d42cec13bdf53a67b21257bddf
+ok
+no open failed
+ok
+ok 00000000000000000000000000000000
+ok 00000000000000000000000000000000
+no key of another primitive
+ok
+no open failed
+no key is primary
+no bad line
+";
+
+/// The texts that have names in cells.
+const TEXTS: [(&str, &str); 11] = [
+    ("LISTING", GCM_LISTING),
+    ("TWO_LISTING", TWO_LISTING),
+    ("BARE_LISTING", BARE_LISTING),
+    ("TEMPLATES", TEMPLATE_NAMES),
+    ("GCM_JSON", GCM_JSON),
+    ("BARE_JSON", BARE_JSON),
+    ("SPELLED_JSON", SPELLED_JSON),
+    ("SNAKE_JSON", SNAKE_JSON),
+    ("CAMEL_JSON", CAMEL_JSON),
+    ("STORY", STORY),
+    ("REPLIES", REPLIES),
+];
+
+/// The keysets in binary form that have names in cells.
+const KEYSETS: [(&str, &[u8]); 2] = [("GCM", GCM_KEYSET), ("HMAC", HMAC_KEYSET)];
+
 /// The bytes that a cell spells, one item after another, with spaces between them.
 ///
-/// An item is hexadecimal digits (`0a2b`), digits with their count (`20x0b`), a name from the list
-/// in `named`, whole (`GCM`) or from a place to another (`GCM[5..]`, `GCM[..5]`, `GCM[9..57]`), or
+/// An item is hexadecimal digits (`0a2b`), digits with their count (`20x0b`), a name from the tables
+/// above, whole (`GCM`) or from a place to another (`GCM[5..]`, `GCM[..5]`, `GCM[9..57]`), or
 /// a text between backquotes, each of whose `'` stands for `"`, and `^` for a space. The items
 /// between `12(` and `)` are a message behind the tag `12` and its size.
 pub(crate) fn bytes_of(alloc: Global, cell: &str) -> Result<Vec<u8>, Fail> {
-    let mut around = Vec::new(alloc);
     let mut bytes = Vec::new(alloc);
+    let mut opened = Vec::new(alloc);
     for item in cell.split_whitespace() {
-        if let Some(tag) = item.strip_suffix('(') {
-            push_item(alloc, &mut bytes, tag)?;
-            around.push(bytes)?;
-            bytes = Vec::new(alloc);
-        } else if item == ")" {
-            let message = bytes;
-            bytes = around.pop().ok_or("a ( before a )")?;
-            push_size(&mut bytes, message.len())?;
-            bytes.extend_from_slice(&message)?;
-        } else {
-            push_item(alloc, &mut bytes, item)?;
-        }
+        take_item(alloc, &mut bytes, &mut opened, item)?;
     }
-    if around.is_empty() {
+    if opened.is_empty() {
         Ok(bytes)
     } else {
-        Err("a ) behind each (")?
+        Err("a ) behind each (".into())
     }
+}
+
+/// Takes an item, where messages have begun at these places.
+fn take_item(
+    alloc: Global,
+    bytes: &mut Vec<u8>,
+    opened: &mut Vec<usize>,
+    item: &str,
+) -> Result<(), Fail> {
+    if let Some(tag) = item.strip_suffix('(') {
+        push_item(alloc, bytes, tag)?;
+        opened.push(bytes.len())?;
+        Ok(())
+    } else if item == ")" {
+        close(alloc, bytes, opened.pop().ok_or("a ( before a )")?)
+    } else {
+        push_item(alloc, bytes, item)
+    }
+}
+
+/// Puts the size of the message that begins at this place in front of it.
+fn close(alloc: Global, bytes: &mut Vec<u8>, from: usize) -> Result<(), Fail> {
+    let message = bytes.get(from..).ok_or("a message")?.to_vec(alloc)?;
+    bytes.truncate(from);
+    push_size(bytes, message.len())?;
+    bytes.extend_from_slice(&message)?;
+    Ok(())
 }
 
 /// Appends a size as a varint of one byte or two.
 fn push_size(bytes: &mut Vec<u8>, size: usize) -> Result<(), Fail> {
     if size < 128 {
-        bytes.push(u8::try_from(size)?)?;
+        bytes.push(size as u8)?;
     } else if size < 16384 {
-        bytes.push(u8::try_from((size % 128).saturating_add(128))?)?;
-        bytes.push(u8::try_from(size / 128)?)?;
+        bytes.push((size % 128 + 128) as u8)?;
+        bytes.push((size / 128) as u8)?;
     } else {
         return Err(Fail::new(format_args!("a message of {size} bytes")));
     }
@@ -158,61 +226,49 @@ fn push_size(bytes: &mut Vec<u8>, size: usize) -> Result<(), Fail> {
 /// Appends the bytes of one item.
 fn push_item(alloc: Global, bytes: &mut Vec<u8>, item: &str) -> Result<(), Fail> {
     if let Some(text) = item.strip_prefix('`') {
-        let text = text.strip_suffix('`').ok_or("a second backquote")?;
-        let quoted = text.replace(alloc, '\'', "\"")?;
-        bytes.extend_from_slice(quoted.replace(alloc, '^', " ")?.as_bytes())?;
-    } else if let Some((count, piece)) = item.split_once('x') {
-        let piece = hex::decode(alloc, piece)?;
-        push_times(alloc, bytes, count.parse::<usize>()?, &piece)?;
+        push_text(alloc, bytes, text)
+    } else if let Some((count, digits)) = item.split_once('x') {
+        push_times(alloc, bytes, count, digits)
     } else if let Some((name, range)) = item.split_once('[') {
-        bytes.extend_from_slice(cut(name, range)?)?;
+        push(bytes, cut(name, range)?)
     } else if let Some(whole) = named(item) {
-        bytes.extend_from_slice(whole)?;
+        push(bytes, whole)
     } else {
-        bytes.extend_from_slice(&hex::decode(alloc, item)?)?;
+        push(bytes, &hex::decode(alloc, item)?)
     }
+}
+
+fn push(bytes: &mut Vec<u8>, piece: &[u8]) -> Result<(), Fail> {
+    bytes.extend_from_slice(piece)?;
     Ok(())
 }
 
-/// Appends these bytes so many times.
-fn push_times(alloc: Global, bytes: &mut Vec<u8>, count: usize, piece: &[u8]) -> Result<(), Fail> {
-    if let Some(byte) = piece.first().filter(|_| piece.len() == 1) {
-        bytes.extend_from_slice(&vec![in alloc; *byte; count]?)?;
-    } else {
-        for _ in 0..count {
-            bytes.extend_from_slice(piece)?;
-        }
-    }
-    Ok(())
+/// Appends the text in front of the second backquote.
+fn push_text(alloc: Global, bytes: &mut Vec<u8>, text: &str) -> Result<(), Fail> {
+    let text = text.strip_suffix('`').ok_or("a second backquote")?;
+    let quoted = text.replace(alloc, '\'', "\"")?;
+    push(bytes, quoted.replace(alloc, '^', " ")?.as_bytes())
+}
+
+/// Appends the bytes of these digits so many times.
+fn push_times(alloc: Global, bytes: &mut Vec<u8>, count: &str, digits: &str) -> Result<(), Fail> {
+    let piece = hex::decode(alloc, digits)?;
+    push(bytes, &piece.repeat(alloc, count.parse::<usize>()?)?)
 }
 
 /// The bytes that have this name.
 fn named(name: &str) -> Option<&'static [u8]> {
-    if name == "GCM" {
-        Some(GCM_KEYSET)
-    } else if name == "HMAC" {
-        Some(HMAC_KEYSET)
-    } else if name == "LISTING" {
-        Some(GCM_LISTING.as_bytes())
-    } else if name == "TWO_LISTING" {
-        Some(TWO_LISTING.as_bytes())
-    } else if name == "BARE_LISTING" {
-        Some(BARE_LISTING.as_bytes())
-    } else if name == "TEMPLATES" {
-        Some(TEMPLATE_NAMES.as_bytes())
-    } else if name == "GCM_JSON" {
-        Some(GCM_JSON.as_bytes())
-    } else if name == "BARE_JSON" {
-        Some(BARE_JSON.as_bytes())
-    } else if name == "SPELLED_JSON" {
-        Some(SPELLED_JSON.as_bytes())
-    } else if name == "SNAKE_JSON" {
-        Some(SNAKE_JSON.as_bytes())
-    } else if name == "CAMEL_JSON" {
-        Some(CAMEL_JSON.as_bytes())
-    } else {
-        None
+    for (known, text) in TEXTS {
+        if known == name {
+            return Some(text.as_bytes());
+        }
     }
+    for (known, keyset) in KEYSETS {
+        if known == name {
+            return Some(keyset);
+        }
+    }
+    None
 }
 
 /// The named bytes from a place to another: the range is what follows `[`, as `9..57]`.

@@ -5,6 +5,7 @@ use crate::keysets::run_by_keyset;
 use crate::rows::{Column, Row, rows_of};
 use std::alloc::Global;
 use std::test::Fail;
+use test_words::{digits_of, longer};
 
 // What is changed is the tag where the words have one, and else the input. As it stands each is taken:
 // the answers of tink-go 2.4.0, or those of `published.rt` and `verify.rt`.
@@ -25,34 +26,42 @@ a tag of AES-CMAC under TINK | verify --tag-hex 010000000728a7023f452e8f82bd4b |
 
 #[test]
 fn refuses_a_changed_bit_of_each_byte_and_every_front(rt: HostRuntime) -> Result<(), Fail> {
-    let alloc = rt.alloc();
-    for row in &rows_of(alloc, TAKEN, 10)? {
-        let taken = row.with(Column::Status, "0 Done");
-        run_by_keyset(alloc, &taken.with(Column::Line, ""))?;
-        run_changed(alloc, &row.with(Column::Output, ""))?;
+    for row in &rows_of(rt.alloc(), TAKEN, 10)? {
+        let taken = row.with(Column::Status, "0 Done").with(Column::Line, "");
+        run_by_keyset(rt.alloc(), &taken)?;
+        run_changed(rt.alloc(), &row.with(Column::Output, ""))?;
     }
     Ok(())
 }
 
 /// Runs over each front, a changed bit of each byte, and one byte more, which are refused.
 fn run_changed(alloc: Global, row: &Row<'_>) -> Result<(), Fail> {
-    let mut bytes = match row.cell(Column::Words).split_once("--tag-hex ") {
-        Some((_, tag)) => bytes_of(alloc, tag)?,
-        None => bytes_of(alloc, row.cell(Column::Input))?,
-    };
+    let bytes = taken_of(alloc, row)?;
     for place in 0..bytes.len() {
         run_with(alloc, row, bytes.get(..place).ok_or("a front")?)?;
-        let mut changed = bytes.to_vec(alloc)?;
-        *changed.get_mut(place).ok_or("a place")? ^= 1 << (place % 8);
-        run_with(alloc, row, &changed)?;
+        run_turned(alloc, row, &bytes, place)?;
     }
-    bytes.push(0)?;
-    run_with(alloc, row, &bytes)
+    run_with(alloc, row, &longer(alloc, &bytes)?)
+}
+
+/// The bytes of the tag, or of the input.
+fn taken_of(alloc: Global, row: &Row<'_>) -> Result<Vec<u8>, Fail> {
+    match row.cell(Column::Words).split_once("--tag-hex ") {
+        Some((_, tag)) => bytes_of(alloc, tag),
+        None => bytes_of(alloc, row.cell(Column::Input)),
+    }
+}
+
+/// Runs with one bit of the byte at this place turned, another one at the next place.
+fn run_turned(alloc: Global, row: &Row<'_>, bytes: &[u8], place: usize) -> Result<(), Fail> {
+    let mut turned = bytes.to_vec(alloc)?;
+    *turned.get_mut(place).ok_or("a place")? ^= 1 << (place % 8);
+    run_with(alloc, row, &turned)
 }
 
 /// Runs with these bytes as the tag, or as the input.
 fn run_with(alloc: Global, row: &Row<'_>, bytes: &[u8]) -> Result<(), Fail> {
-    let digits = hex::encode(alloc, bytes)?;
+    let digits = digits_of(alloc, bytes)?;
     match row.cell(Column::Words).split_once("--tag-hex ") {
         Some((front, _)) => {
             let words = format!(in alloc; "{front}--tag-hex={digits}")?;

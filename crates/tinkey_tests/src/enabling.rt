@@ -1,31 +1,18 @@
 //! The rules of a key that `enable-key` tells: those of each field, one broken alone, and then two.
 
-use crate::bytes::bytes_of;
-use crate::rows::{Column, rows_of, run_row};
+use crate::rows::{Column, Row, rows_of, run_row};
 use std::alloc::Global;
 use std::test::Fail;
 
-/// A field of at most 127 bytes, as a cell: its tag, its size and the bytes of this cell.
-fn field(alloc: Global, tag: &str, bytes: &str) -> Result<String, Fail> {
-    let size = bytes_of(alloc, bytes)?.len();
-    if size > 127 {
-        return Err(Fail::new("a field of more than 127 bytes"));
-    }
-    Ok(format!(in alloc; "{tag}{size:02x} {bytes}")?)
-}
-
 /// A keyset of two keys of one kind, as a cell: the primary one of the id 8, which is ENABLED and
 /// has no value, and one of the id 9 with this message and this status.
-fn two_keys(alloc: Global, kind: &str, message: &str, status: u8) -> Result<String, Fail> {
+fn two_keys(alloc: Global, kind: &str, message: &str, status: &str) -> Result<String, Fail> {
     let url = format!(in alloc; "`type.googleapis.com/google.crypto.tink.{kind}`")?;
-    let url = field(alloc, "0a", &url)?;
-    let value = field(alloc, "12", message)?;
-    let first = field(alloc, "0a", &format!(in alloc; "{url} 1801")?)?;
-    let first = field(alloc, "12", &format!(in alloc; "{first} 1001 1808 2001")?)?;
-    let second = field(alloc, "0a", &format!(in alloc; "{url} {value} 1801")?)?;
-    let second = format!(in alloc; "{second} 10{status:02x} 1809 2001")?;
-    let second = field(alloc, "12", &second)?;
-    Ok(format!(in alloc; "0808 {first} {second}")?)
+    let cell = format!(in alloc;
+        "0808 12( 0a( 0a( {url} ) 1801 ) 1001 1808 2001 ) \
+        12( 0a( 0a( {url} ) 12( {message} ) 1801 ) 10{status} 1809 2001 )"
+    )?;
+    Ok(cell)
 }
 
 // The message of the key that is enabled, by Tink's messages, and the first rule that it breaks. In
@@ -56,19 +43,24 @@ SHA-384, and a key of 15 bytes | AesGcmHkdfStreamingKey | 1206 0829 1010 1802 1a
 
 #[test]
 fn names_the_rule_that_a_key_breaks(rt: HostRuntime) -> Result<(), Fail> {
-    let alloc = rt.alloc();
-    for row in &rows_of(alloc, RULES, 19)? {
-        let kind = row.cell(Column::File);
-        let message = row.cell(Column::Input);
-        let disabled = two_keys(alloc, kind, message, 2)?;
-        let enabled = two_keys(alloc, kind, message, 1)?;
-        let filled = row.with(Column::File, "none");
-        let filled = filled.with(Column::Input, &disabled);
-        if row.cell(Column::Line).is_empty() {
-            run_row(alloc, &filled.with(Column::Output, &enabled))?;
-        } else {
-            run_row(alloc, &filled)?;
-        }
+    for row in &rows_of(rt.alloc(), RULES, 19)? {
+        run_enabling(rt.alloc(), row)?;
     }
     Ok(())
+}
+
+/// Runs over the keyset with the row's key DISABLED, which is ENABLED then where no rule is broken.
+fn run_enabling(alloc: Global, row: &Row<'_>) -> Result<(), Fail> {
+    let kind = row.cell(Column::File);
+    let message = row.cell(Column::Input);
+    let disabled = two_keys(alloc, kind, message, "02")?;
+    let filled = row
+        .with(Column::File, "none")
+        .with(Column::Input, &disabled);
+    if row.cell(Column::Line).is_empty() {
+        let enabled = two_keys(alloc, kind, message, "01")?;
+        run_row(alloc, &filled.with(Column::Output, &enabled))
+    } else {
+        run_row(alloc, &filled)
+    }
 }

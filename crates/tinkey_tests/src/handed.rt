@@ -3,27 +3,58 @@
 //! `program` are those of the program, and `none` are none. `gcm x` is one manager of AES-GCM keys,
 //! under the type URL `x`, and `hmac x` one of HMAC keys.
 
+use crate::objects::Outside;
 use managers::{AeadManager, GcmManager, HmacManager, MacManager, Managers};
 use std::alloc::Global;
 use std::test::Fail;
-use tink_base::{MemEntropy, MemSink, MemSource, MemStore};
 use tinkey_host::start;
 use tinkey_run::{Status, run};
 
-/// Runs the words over these objects, under the managers of this name.
+/// Runs the words over these objects, under the managers of this name. The answer is the exit code
+/// and the status, as `2 Usage(0)`.
 pub(crate) fn run_under(
     alloc: Global,
     name: &str,
     words: &[String],
-    source: &mut MemSource,
-    sink: &mut MemSink,
-    diag: &mut MemSink,
-    entropy: &mut MemEntropy,
-    store: &mut MemStore,
-) -> Result<Status, Fail> {
-    if name == "program" {
-        return Ok(start(alloc, words, source, sink, diag, entropy, store));
-    }
+    outside: &mut Outside,
+) -> Result<String, Fail> {
+    let status = if name == "program" {
+        run_program(alloc, words, outside)
+    } else {
+        run_with(alloc, words, &managers_named(alloc, name)?, outside)
+    };
+    Ok(format!(in alloc; "{} {status:?}", status.code())?)
+}
+
+/// Runs the words as the program does.
+fn run_program(alloc: Global, words: &[String], outside: &mut Outside) -> Status {
+    start(
+        alloc,
+        words,
+        &mut outside.source,
+        &mut outside.sink,
+        &mut outside.diag,
+        &mut outside.entropy,
+        &mut outside.store,
+    )
+}
+
+/// Runs the words under these managers.
+fn run_with(alloc: Global, words: &[String], managers: &Managers, outside: &mut Outside) -> Status {
+    run(
+        alloc,
+        words,
+        managers,
+        &mut outside.source,
+        &mut outside.sink,
+        &mut outside.diag,
+        &mut outside.entropy,
+        &mut outside.store,
+    )
+}
+
+/// The managers of this name.
+fn managers_named(alloc: Global, name: &str) -> Result<Managers, Fail> {
     let mut aead: Vec<Box<dyn AeadManager>> = Vec::new(alloc);
     let mut mac: Vec<Box<dyn MacManager>> = Vec::new(alloc);
     if let Some(url) = name.strip_prefix("gcm ") {
@@ -34,7 +65,7 @@ pub(crate) fn run_under(
         return Err(Fail::new(format_args!("the managers {name}")));
     }
     match Managers::new(aead, Vec::new(alloc), mac, Vec::new(alloc)) {
-        Ok(managers) => Ok(run(alloc, words, &managers, source, sink, diag, entropy, store)),
-        Err(_) => Err("one URL twice")?,
+        Ok(managers) => Ok(managers),
+        Err(_) => Err("one URL twice".into()),
     }
 }

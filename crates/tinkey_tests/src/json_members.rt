@@ -4,7 +4,7 @@
 //! base64 is RFC 4648's with unused bits of 0, and a number is decimal digits alone, in a text at
 //! most ten of them. The written keysets are put together as tink.proto encodes them.
 
-use crate::rows::{Column, rows_of, run_row, run_table};
+use crate::rows::{Column, Row, rows_of, run_row, run_table};
 use std::alloc::Global;
 use std::test::Fail;
 
@@ -13,17 +13,20 @@ use std::test::Fail;
 fn run_values(alloc: Global, table: &str, count: usize) -> Result<(), Fail> {
     for row in &rows_of(alloc, table, count)? {
         for value in row.cell(Column::Words).split_whitespace() {
-            let shows = format!(in alloc; "{} as {value}", row.cell(Column::Shows))?;
-            let input = row.cell(Column::Input).replace(alloc, '?', value)?;
-            let filled = row.with(Column::Shows, &shows);
-            let filled = filled.with(Column::Input, &input);
-            run_row(
-                alloc,
-                &filled.with(Column::Words, "convert-keyset --out-format binary"),
-            )?;
+            run_value(alloc, row, value)?;
         }
     }
     Ok(())
+}
+
+fn run_value(alloc: Global, row: &Row<'_>, value: &str) -> Result<(), Fail> {
+    let shows = format!(in alloc; "{} as {value}", row.cell(Column::Shows))?;
+    let input = row.cell(Column::Input).replace(alloc, '?', value)?;
+    let filled = row
+        .with(Column::Shows, &shows)
+        .with(Column::Input, &input)
+        .with(Column::Words, "convert-keyset --out-format binary");
+    run_row(alloc, &filled)
 }
 
 // Values of a wrong form, each alone. The key in front has no member, which is a fault of its

@@ -4,6 +4,17 @@ use crate::rows::{Column, Row, rows_of, run_row};
 use std::alloc::Global;
 use std::test::Fail;
 
+/// The numbers of statuses and of output prefix types.
+const NUMBERS: [(&str, u8); 7] = [
+    ("ENABLED", 1),
+    ("DISABLED", 2),
+    ("DESTROYED", 3),
+    ("TINK", 1),
+    ("LEGACY", 2),
+    ("RAW", 3),
+    ("CRUNCHY", 4),
+];
+
 /// Runs each row of a table of this many, as `run_by_keyset` does.
 pub(crate) fn run_by_keysets(alloc: Global, table: &str, count: usize) -> Result<(), Fail> {
     for row in &rows_of(alloc, table, count)? {
@@ -27,9 +38,14 @@ pub(crate) fn run_by_keyset(alloc: Global, row: &Row<'_>) -> Result<(), Fail> {
 /// varints in hexadecimal, and `@` stands for what all of Tink's type URLs begin with. A cell without
 /// `;` stays as it is.
 fn file_cell(alloc: Global, cell: &str) -> Result<String, Fail> {
-    let Some((primary, keys)) = cell.split_once(';') else {
-        return Ok(String::from_str(alloc, cell)?);
-    };
+    match cell.split_once(';') {
+        None => Ok(String::from_str(alloc, cell)?),
+        Some((primary, keys)) => keyset_cell(alloc, primary, keys),
+    }
+}
+
+/// The cell of a keyset with this primary id and these keys.
+fn keyset_cell(alloc: Global, primary: &str, keys: &str) -> Result<String, Fail> {
     let mut keyset = format!(in alloc; "08 {primary}")?;
     for key in keys.split(';') {
         keyset.push_str(&key_cell(alloc, key.trim())?)?;
@@ -47,18 +63,17 @@ fn key_cell(alloc: Global, key: &str) -> Result<String, Fail> {
     let prefix = number_of(prefix)?;
     let url = url.replace(alloc, '@', "type.googleapis.com/google.crypto.tink.")?;
     let cell = format!(in alloc;
-        " 12( 0a( 0a( `{url}` ) 12( {message} ) 1801 ) 10{status} 18{id} 20{prefix} )"
+        " 12( 0a( 0a( `{url}` ) 12( {message} ) 1801 ) 10{status:02x} 18{id} 20{prefix:02x} )"
     )?;
     Ok(cell)
 }
 
-/// The number of a status or of an output prefix type, in two digits.
-fn number_of(name: &str) -> Result<&'static str, Fail> {
-    match name {
-        "ENABLED" | "TINK" => Ok("01"),
-        "DISABLED" | "LEGACY" => Ok("02"),
-        "DESTROYED" | "RAW" => Ok("03"),
-        "CRUNCHY" => Ok("04"),
-        _ => Err(Fail::new(format_args!("the name {name}"))),
+/// The number of a status or of an output prefix type.
+fn number_of(name: &str) -> Result<u8, Fail> {
+    for (known, number) in NUMBERS {
+        if known == name {
+            return Ok(number);
+        }
     }
+    Err(Fail::new(format_args!("the name {name}")))
 }

@@ -2,7 +2,7 @@
 //! the longest bytes in words.
 
 use crate::keysets::{run_by_keyset, run_by_keysets};
-use crate::rows::{Column, rows_of, run_row};
+use crate::rows::{Column, Row, rows_of, run_row};
 use std::alloc::Global;
 use std::test::Fail;
 
@@ -37,15 +37,18 @@ one rotated in beside 1,001 | rotate-keyset --key-template AES128_GCM --in-forma
 
 #[test]
 fn takes_1000_keys(rt: HostRuntime) -> Result<(), Fail> {
-    let alloc = rt.alloc();
-    for row in &rows_of(alloc, KEYS, 9)? {
-        let keys = keys(alloc, row.cell(Column::Input).parse::<usize>()?)?;
-        let input = format!(in alloc; "GCM {keys}")?;
-        let output = row.cell(Column::Output).replace(alloc, '?', &keys)?;
-        let filled = row.with(Column::Input, &input);
-        run_row(alloc, &filled.with(Column::Output, &output))?;
+    for row in &rows_of(rt.alloc(), KEYS, 9)? {
+        run_keys(rt.alloc(), row)?;
     }
     Ok(())
+}
+
+fn run_keys(alloc: Global, row: &Row<'_>) -> Result<(), Fail> {
+    let keys = keys(alloc, row.cell(Column::Input).parse::<usize>()?)?;
+    let input = format!(in alloc; "GCM {keys}")?;
+    let output = row.cell(Column::Output).replace(alloc, '?', &keys)?;
+    let filled = row.with(Column::Input, &input);
+    run_row(alloc, &filled.with(Column::Output, &output))
 }
 
 // `*9` is nine digits 0. The tag under the longest associated data is by Python's cryptography.
@@ -78,15 +81,24 @@ the last key is broken | open | ENABLED RAW 64 @AesGcmKey 1a0f 15x00 | 3 BadKey(
 
 #[test]
 fn tries_a_hundred_keys(rt: HostRuntime) -> Result<(), Fail> {
-    let alloc = rt.alloc();
+    let keys = others(rt.alloc())?;
+    for row in &rows_of(rt.alloc(), HUNDRED, 4)? {
+        run_behind(rt.alloc(), &keys, row)?;
+    }
+    Ok(())
+}
+
+/// The 99 keys in front.
+fn others(alloc: Global) -> Result<String, Fail> {
     let mut keys = String::from_str(alloc, "01")?;
     for id in 1..100 {
         let key = format!(in alloc; "; ENABLED RAW {id:02x} @AesGcmKey 1a10 16xff")?;
         keys.push_str(&key)?;
     }
-    for row in &rows_of(alloc, HUNDRED, 4)? {
-        let file = format!(in alloc; "{keys}; {}", row.cell(Column::File))?;
-        run_by_keyset(alloc, &row.with(Column::File, &file))?;
-    }
-    Ok(())
+    Ok(keys)
+}
+
+fn run_behind(alloc: Global, keys: &str, row: &Row<'_>) -> Result<(), Fail> {
+    let file = format!(in alloc; "{keys}; {}", row.cell(Column::File))?;
+    run_by_keyset(alloc, &row.with(Column::File, &file))
 }

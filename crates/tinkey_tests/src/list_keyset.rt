@@ -149,25 +149,34 @@ the keyset | 90 to 90 | 0 Done | | LISTING
 
 #[test]
 fn names_the_fault_of_every_front(rt: HostRuntime) -> Result<(), Fail> {
-    let alloc = rt.alloc();
-    let mut next = 0usize;
-    for row in &rows_of(alloc, FRONTS, 5)? {
-        let (least, most) = row
-            .cell(Column::Input)
-            .split_once(" to ")
-            .ok_or("two sizes")?;
-        assert_eq!(rt; least.parse::<usize>()?, next, "{least} follows");
-        let most = most.parse::<usize>()?;
-        for size in next..=most {
-            let shows = format!(in alloc; "the first {size} bytes")?;
-            let input = format!(in alloc; "GCM[..{size}]")?;
-            let front = row.with(Column::Shows, &shows);
-            run_row(alloc, &front.with(Column::Input, &input))?;
-        }
-        next = most.saturating_add(1);
+    let mut next = 0;
+    for row in &rows_of(rt.alloc(), FRONTS, 5)? {
+        next = run_fronts(rt.alloc(), row, next)?;
     }
     assert_eq!(rt; next, 91, "sizes");
     Ok(())
+}
+
+/// Runs over the fronts of a row, the first of which has this size. The answer is the size behind
+/// them.
+fn run_fronts(alloc: Global, row: &Row<'_>, next: usize) -> Result<usize, Fail> {
+    let sizes = row.cell(Column::Input).split_once(" to ");
+    let (least, most) = sizes.ok_or("two sizes")?;
+    let most = most.parse::<usize>()?;
+    if least.parse::<usize>()? != next {
+        return Err(Fail::new(format_args!("{least} follows, and not {next}")));
+    }
+    for size in next..=most {
+        run_front(alloc, row, size)?;
+    }
+    Ok(most.saturating_add(1))
+}
+
+fn run_front(alloc: Global, row: &Row<'_>, size: usize) -> Result<(), Fail> {
+    let shows = format!(in alloc; "the first {size} bytes")?;
+    let input = format!(in alloc; "GCM[..{size}]")?;
+    let front = row.with(Column::Shows, &shows);
+    run_row(alloc, &front.with(Column::Input, &input))
 }
 
 // How a run ends that a letter stands for in the table below; r is the listing with `RAW` at its end.
@@ -234,23 +243,36 @@ fn names_the_fault_of_every_changed_bit(rt: HostRuntime) -> Result<(), Fail> {
         assert_eq!(rt;
             row.cell(Column::Status).len(),
             8,
-            "letters of byte {}",
-            row.cell(Column::Input)
+            "{}",
+            row.cell(Column::Shows)
         );
-        let mut bit = 1;
-        for letter in row.cell(Column::Status).chars() {
-            let end = ends
-                .iter()
-                .find(|end| end.cell(Column::Shows).starts_with(letter));
-            run_changed(rt.alloc(), row, bit, end.ok_or("a letter")?)?;
-            bit = bit.wrapping_mul(2);
-        }
+        run_bits(rt.alloc(), &ends, row)?;
     }
     Ok(())
 }
 
+/// Runs over the keyset with each bit of the row's byte changed in turn.
+fn run_bits(alloc: Global, ends: &[Row<'_>], row: &Row<'_>) -> Result<(), Fail> {
+    let mut bit = 1;
+    for letter in row.cell(Column::Status).chars() {
+        run_bit(alloc, row, bit, end_of(ends, letter)?)?;
+        bit = bit.wrapping_mul(2);
+    }
+    Ok(())
+}
+
+/// The end that this letter stands for.
+fn end_of<'e, 'a>(ends: &'e [Row<'a>], letter: char) -> Result<&'e Row<'a>, Fail> {
+    for end in ends {
+        if end.cell(Column::Shows).starts_with(letter) {
+            return Ok(end);
+        }
+    }
+    Err(Fail::new(format_args!("the letter {letter}")))
+}
+
 /// Runs over the keyset with this bit of the row's byte changed, which has to end so.
-fn run_changed(alloc: Global, row: &Row<'_>, bit: u8, end: &Row<'_>) -> Result<(), Fail> {
+fn run_bit(alloc: Global, row: &Row<'_>, bit: u8, end: &Row<'_>) -> Result<(), Fail> {
     let place = row.cell(Column::Input).parse::<usize>()?;
     let changed = *GCM_KEYSET.get(place).ok_or("a place")? ^ bit;
     let behind = place.saturating_add(1);

@@ -7,7 +7,9 @@
 use crate::bytes::bytes_of;
 use crate::objects::{CALLS, Objects, Outcome, run_over};
 use std::alloc::Global;
+use std::str::from_utf8;
 use std::test::Fail;
+use test_words::{digits_of, same_bytes, unlike};
 
 /// The columns of a table.
 #[derive(Clone, Copy)]
@@ -23,7 +25,7 @@ pub(crate) enum Column {
     Input,
     /// The random bytes.
     Random,
-    /// How many bytes the objects move at a time.
+    /// How many bytes the objects move at a time: a run for each of these numbers.
     Piece,
     /// The call that fails, counted from 1: `read 1` of the input, `write 1` of the output, `line 1`
     /// of the diagnostic line, `store 1` of the files, `fill 1` of the random bytes; or `none 0`.
@@ -95,21 +97,27 @@ pub(crate) fn run_table(alloc: Global, table: &str, count: usize) -> Result<(), 
 /// The rows of a table, which has this many.
 pub(crate) fn rows_of(alloc: Global, table: &str, count: usize) -> Result<Vec<Row<'_>>, Fail> {
     let (shared, own) = table.split_once("\n\n").ok_or("an empty line")?;
+    let (columns, lines) = own.split_once('\n').ok_or("a line of columns")?;
+    let plain = with_shared(shared)?;
+    let mut rows = Vec::new(alloc);
+    for line in lines.lines() {
+        rows.push(row_of(plain, columns, line)?)?;
+    }
+    if rows.len() == count {
+        Ok(rows)
+    } else {
+        Err(Fail::new(format_args!("{} rows, and not {count}", rows.len())))
+    }
+}
+
+/// The row of the cells that all rows have.
+fn with_shared(shared: &str) -> Result<Row<'_>, Fail> {
     let mut plain = PLAIN;
     for line in shared.lines() {
         let (name, cell) = line.split_once(':').ok_or("a cell of all rows")?;
         plain = plain.with_named(name, cell.trim())?;
     }
-    let (columns, lines) = own.split_once('\n').ok_or("a line of columns")?;
-    let mut rows = Vec::new(alloc);
-    for line in lines.lines() {
-        rows.push(row_of(plain, columns, line)?)?;
-    }
-    let read = rows.len();
-    if read != count {
-        return Err(Fail::new(format_args!("{read} rows, and not {count}")));
-    }
-    Ok(rows)
+    Ok(plain)
 }
 
 /// The row of a line, whose cells are those of the columns.
@@ -127,63 +135,18 @@ fn row_of<'a>(plain: Row<'a>, columns: &str, line: &'a str) -> Result<Row<'a>, F
     Ok(row)
 }
 
-/// Runs a row, and compares how it ended.
+/// Runs a row for each of its pieces, and compares how each run ended.
 pub(crate) fn run_row(alloc: Global, row: &Row<'_>) -> Result<(), Fail> {
-    let got = outcome_of(alloc, row)?;
-    let code = got.status.code();
-    let told = got.status;
-    let status = format!(in alloc; "{code} {told:?}")?;
-    if status.as_str() != row.cell(Column::Status) {
-        return Err(unlike(row, &status, "status"));
-    }
-    if got.line.as_slice() != line_of(alloc, row.cell(Column::Line))?.as_bytes() {
-        return Err(unlike(row, &status, "line"));
-    }
-    if !is_output(alloc, &got.output, row.cell(Column::Output))? {
-        return Err(unlike(row, &status, "output"));
-    }
-    if got.made.as_deref() != file_of(alloc, row.cell(Column::Made))?.as_deref() {
-        return Err(unlike(row, &status, "new file"));
-    }
-    if got.drawn != row.cell(Column::Drawn).parse::<usize>()? {
-        return Err(unlike(row, &status, "count of random bytes"));
+    for piece in row.cell(Column::Piece).split_whitespace() {
+        let row = row.with(Column::Piece, piece);
+        compare(alloc, &row, &outcome_of(alloc, &row)?)?;
     }
     Ok(())
 }
 
-/// The output is as its cell tells.
-fn is_output(alloc: Global, output: &[u8], cell: &str) -> Result<bool, Fail> {
-    let Some((first, rest)) = cell.split_once('~') else {
-        return Ok(output == bytes_of(alloc, cell)?.as_slice());
-    };
-    let (count, last) = rest.split_once(' ').ok_or("a count and the last bytes")?;
-    let count = count.parse::<usize>()?;
-    let first = bytes_of(alloc, first)?;
-    let last = bytes_of(alloc, last)?;
-    let from = count.saturating_sub(last.len());
-    Ok(
-        output.len() == count
-            && output.get(..first.len()) == Some(first.as_slice())
-            && output.get(from..) == Some(last.as_slice()),
-    )
-}
-
-/// The failure of a row that ended with this status, and whose part of this name isn't the row's.
-fn unlike(row: &Row<'_>, status: &str, part: &str) -> Fail {
-    let shows = row.cell(Column::Shows);
-    let piece = row.cell(Column::Piece);
-    let fails = row.cell(Column::Fails);
-    Fail::new(format_args!(
-        "{shows} (pieces of {piece}, fails: {fails}): ended with {status}, and another {part}"
-    ))
-}
-
 /// Runs the row's words over its objects.
-fn outcome_of(alloc: Global, row: &Row<'_>) -> Result<Outcome, Fail> {
-    let mut words = Vec::new(alloc);
-    for word in row.cell(Column::Words).split_whitespace() {
-        words.push(word_of(alloc, word)?)?;
-    }
+pub(crate) fn outcome_of(alloc: Global, row: &Row<'_>) -> Result<Outcome, Fail> {
+    let words = words_of(alloc, row.cell(Column::Words))?;
     let file = file_of(alloc, row.cell(Column::File))?;
     let objects = Objects {
         managers: row.cell(Column::Managers),
@@ -196,17 +159,157 @@ fn outcome_of(alloc: Global, row: &Row<'_>) -> Result<Outcome, Fail> {
     run_over(alloc, &words, objects)
 }
 
+/// Compares how a run ended with what its row tells.
+fn compare(alloc: Global, row: &Row<'_>, got: &Outcome) -> Result<(), Fail> {
+    let line = line_of(alloc, row.cell(Column::Line))?;
+    hold_text(
+        alloc,
+        row,
+        got,
+        "status",
+        row.cell(Column::Status),
+        &got.status,
+    )?;
+    hold(alloc, row, got, "line", line.as_bytes(), &got.line)?;
+    hold_output(alloc, row, got, row.cell(Column::Output))?;
+    hold_made(alloc, row, got, row.cell(Column::Made))?;
+    hold_count(
+        alloc,
+        row,
+        got,
+        "count of random bytes",
+        row.cell(Column::Drawn),
+        got.drawn,
+    )
+}
+
+/// Holds a part of how a run ended to what is expected. The failure tells the whole end with it.
+fn hold(
+    alloc: Global,
+    row: &Row<'_>,
+    got: &Outcome,
+    part: &str,
+    expected: &[u8],
+    found: &[u8],
+) -> Result<(), Fail> {
+    if found == expected {
+        return Ok(());
+    }
+    same_bytes(alloc, &told(alloc, row, got)?, part, expected, found)
+}
+
+/// The same of a short text.
+fn hold_text(
+    alloc: Global,
+    row: &Row<'_>,
+    got: &Outcome,
+    part: &str,
+    expected: &str,
+    found: &str,
+) -> Result<(), Fail> {
+    if found == expected {
+        return Ok(());
+    }
+    Err(unlike(&told(alloc, row, got)?, part, expected, found))
+}
+
+fn hold_count(
+    alloc: Global,
+    row: &Row<'_>,
+    got: &Outcome,
+    part: &str,
+    expected: &str,
+    found: usize,
+) -> Result<(), Fail> {
+    hold_text(
+        alloc,
+        row,
+        got,
+        part,
+        expected,
+        &format!(in alloc; "{found}")?,
+    )
+}
+
+/// The output is as its cell tells.
+fn hold_output(alloc: Global, row: &Row<'_>, got: &Outcome, cell: &str) -> Result<(), Fail> {
+    match cell.split_once('~') {
+        None => hold(
+            alloc,
+            row,
+            got,
+            "output",
+            &bytes_of(alloc, cell)?,
+            &got.output,
+        ),
+        Some((first, rest)) => hold_ends(alloc, row, got, first, rest),
+    }
+}
+
+/// The output has these first bytes, and as many and such last ones as the rest of its cell tells.
+fn hold_ends(
+    alloc: Global,
+    row: &Row<'_>,
+    got: &Outcome,
+    first: &str,
+    rest: &str,
+) -> Result<(), Fail> {
+    let (count, last) = rest.split_once(' ').ok_or("a count and the last bytes")?;
+    let output = got.output.as_slice();
+    hold_count(alloc, row, got, "size of the output", count, output.len())?;
+    let first = bytes_of(alloc, first)?;
+    let begin = output.get(..first.len()).unwrap_or(output);
+    hold(alloc, row, got, "begin of the output", &first, begin)?;
+    let last = bytes_of(alloc, last)?;
+    let from = output.len().saturating_sub(last.len());
+    let end = output.get(from..).unwrap_or(output);
+    hold(alloc, row, got, "end of the output", &last, end)
+}
+
+/// There is a new file exactly where its cell tells one, and it has those bytes.
+fn hold_made(alloc: Global, row: &Row<'_>, got: &Outcome, cell: &str) -> Result<(), Fail> {
+    match (file_of(alloc, cell)?, &got.made) {
+        (None, None) => Ok(()),
+        (Some(expected), Some(made)) => hold(alloc, row, got, "new file", &expected, made),
+        (Some(_), None) => hold_text(alloc, row, got, "new file", "one", "none"),
+        (None, Some(_)) => hold_text(alloc, row, got, "new file", "none", "one"),
+    }
+}
+
+/// A row, and how its run ended: its status, its line, and the output, of which the first bytes.
+fn told(alloc: Global, row: &Row<'_>, got: &Outcome) -> Result<String, Fail> {
+    let shows = row.cell(Column::Shows);
+    let piece = row.cell(Column::Piece);
+    let fails = row.cell(Column::Fails);
+    let status = got.status.as_str();
+    let line = from_utf8(&got.line)?.trim_end();
+    let size = got.output.len();
+    let output = got.output.get(..32).unwrap_or(&got.output);
+    let output = digits_of(alloc, output)?;
+    Ok(format!(in alloc;
+        "{shows} (pieces of {piece}, fails: {fails}; ended with {status}, the line '{line}' and \
+        {size} bytes {output})"
+    )?)
+}
+
+/// The words that a cell tells.
+fn words_of(alloc: Global, cell: &str) -> Result<Vec<String>, Fail> {
+    let mut words = Vec::new(alloc);
+    for word in cell.split_whitespace() {
+        words.push(word_of(alloc, word)?)?;
+    }
+    Ok(words)
+}
+
 /// The word that is written so.
 fn word_of(alloc: Global, written: &str) -> Result<String, Fail> {
     if written == "''" {
-        Ok(String::new(alloc))
-    } else if let Some((front, count)) = written.split_once('*') {
-        let mut word = String::from_str(alloc, front)?;
-        word.push_str(&"0".repeat(alloc, count.parse::<usize>()?)?)?;
-        Ok(word)
-    } else {
-        Ok(String::from_str(alloc, written)?)
+        return Ok(String::new(alloc));
     }
+    let (front, count) = written.split_once('*').unwrap_or((written, "0"));
+    let mut word = String::from_str(alloc, front)?;
+    word.push_str(&"0".repeat(alloc, count.parse::<usize>()?)?)?;
+    Ok(word)
 }
 
 /// The bytes of a file that a cell tells, where there is one.

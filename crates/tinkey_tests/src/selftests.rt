@@ -1,10 +1,8 @@
 //! `selftest`: its words, its line, and that it is the same each time.
 
-use crate::objects::{Objects, Outcome, run_over};
-use crate::rows::run_table;
+use crate::rows::{Column, PLAIN, outcome_of, run_table};
 use std::alloc::Global;
 use std::test::Fail;
-use tinkey_run::Status;
 
 // The counts of four lines are those that the words of ChaCha20 with this seed choose, by hand from the
 // key stream: a seal three times, and an edit. Under no managers a keyset can be made and edited.
@@ -24,33 +22,23 @@ fn counts_what_became_of_its_lines(rt: HostRuntime) -> Result<(), Fail> {
     run_table(rt.alloc(), ROWS, 6)
 }
 
-/// The outcome of a self-test of 1,000 lines.
-fn run_of(alloc: Global, seed: &str) -> Result<Outcome, Fail> {
-    let mut words = Vec::new(alloc);
-    words.push(String::from_str(alloc, "selftest")?)?;
-    words.push(String::from_str(alloc, "--seed")?)?;
-    words.push(String::from_str(alloc, seed)?)?;
-    let objects = Objects {
-        managers: "program",
-        piece: 4096,
-        fails: ("none", 0),
-        file: None,
-        input: Vec::new(alloc),
-        random: Vec::new(alloc),
-    };
-    run_over(alloc, &words, objects)
+/// The output of a self-test of 1,000 lines.
+fn output_of(alloc: Global, seed: &str) -> Result<Vec<u8>, Fail> {
+    let words = format!(in alloc; "selftest --seed {seed}")?;
+    let outcome = outcome_of(alloc, &PLAIN.with(Column::Words, &words))?;
+    if outcome.status.as_str() != "0 Done" {
+        return Err(Fail::new(format_args!("seed {seed}: {}", outcome.status)));
+    }
+    Ok(outcome.output)
 }
 
 #[test]
 fn loses_nothing_and_says_the_same_each_time(rt: HostRuntime) -> Result<(), Fail> {
-    let alloc = rt.alloc();
-    let first = run_of(alloc, "1")?;
-    let again = run_of(alloc, "1")?;
-    let other = run_of(alloc, "4294967295")?;
-    assert_eq!(rt; first.status, Status::Done);
-    assert!(rt; first.output.starts_with(b"lines 1000 seals "));
-    assert!(rt; first.output.ends_with(b" lost 0\n"));
-    assert!(rt; first.output == again.output);
-    assert!(rt; other.output.ends_with(b" lost 0\n") && other.output != first.output);
+    let first = output_of(rt.alloc(), "1")?;
+    let again = output_of(rt.alloc(), "1")?;
+    let other = output_of(rt.alloc(), "4294967295")?;
+    assert!(rt; first.starts_with(b"lines 1000 seals ") && first.ends_with(b" lost 0\n"));
+    assert!(rt; first == again);
+    assert!(rt; other.ends_with(b" lost 0\n") && other != first);
     Ok(())
 }

@@ -1,197 +1,109 @@
 //! `session`: lines and their replies, cut anywhere, and what stands at each fault.
 
-use crate::bytes::bytes_of;
 use crate::keysets::run_by_keysets;
-use crate::objects::{Objects, Outcome, run_over};
-use crate::rows::{Column, PLAIN, Row, run_row};
-use std::alloc::Global;
+use crate::rows::run_table;
 use std::test::Fail;
-use tinkey_run::Status;
 
-// A key is used, replaced, switched off and on, and deleted. `#` stands for 32 digits 0, and `@` and
-// `%` for what AES-GCM's second case gives behind the prefix of the first key and of the second.
-const STORY: &str = "seal # - => ok @
-rotate AES128_GCM => ok 168496141
-seal # - => ok %
-disable 16909060 => ok
-open @ - => no open failed
-enable 16909060 => ok
-open @ - => ok #
-open % - => ok #
-add AES256_SIV => no key of another primitive
-delete 16909060 => ok
-open @ - => no open failed
-delete 168496141 => no key is primary
-hello => no bad line
+// The story of `bytes.rt` draws an IV, an id, a key and an IV. The new file is the keyset at its end.
+const WHOLE: &str = "words: session --keyset k --keyset-format binary --out n --out-format binary
+file: GCM
+input: STORY
+random: 12x00 0a0b0c0d 16x00 12x00
+status: 0 Done
+output: REPLIES
+made: 088d98ac50 GCM[5..83] 188d98ac50 2001
+drawn: 44
+
+shows | piece | fails
+the story in pieces of several sizes | 1 7 64 4096 | none 0
+no write behind the replies | 64 | write 16
+no diagnostic line | 64 | line 1
 ";
-
-/// The random bytes of the story: an IV, an id, a key and an IV.
-const RANDOM: &str = "12x00 0a0b0c0d 16x00 12x00";
-
-/// The keyset at its end.
-const LAST: &str = "088d98ac50 GCM[5..83] 188d98ac50 2001";
-
-/// The story with its digits.
-fn story_of(alloc: Global) -> Result<String, Fail> {
-    let sealed = "0388dace60b6a392f328c2b971b2fe78ab6e47d42cec13bdf53a67b21257bddf";
-    let zeros = "0".repeat(alloc, 24)?;
-    let first = format!(in alloc; "0101020304{zeros}{sealed}")?;
-    let second = format!(in alloc; "010a0b0c0d{zeros}{sealed}")?;
-    let story = STORY.replace(alloc, '#', &"0".repeat(alloc, 32)?)?;
-    let story = story.replace(alloc, '@', &first)?;
-    Ok(story.replace(alloc, '%', &second)?)
-}
-
-/// The lines of a story, or its replies, as the bytes of an input or an output.
-fn side_of(alloc: Global, story: &str, is_reply: bool) -> Result<String, Fail> {
-    let mut side = String::new(alloc);
-    for row in story.lines() {
-        let (line, reply) = row.split_once(" => ").ok_or("a line and its reply")?;
-        side.push_str(if is_reply { reply } else { line })?;
-        side.push('\n')?;
-    }
-    Ok(side)
-}
-
-/// The first so many lines of a text.
-fn first_lines(text: &str, count: usize) -> &str {
-    let mut seen = 0_usize;
-    for (at, byte) in text.bytes().enumerate() {
-        if byte == b'\n' {
-            seen = seen.saturating_add(1);
-            if seen > count {
-                break;
-            }
-            if seen == count {
-                return text.get(..at.saturating_add(1)).unwrap_or("");
-            }
-        }
-    }
-    if count == 0 { "" } else { text }
-}
-
-/// Runs the story over objects that move so many bytes at a time, one call of which fails.
-fn run_story(alloc: Global, piece: usize, fails: (&str, u64)) -> Result<Outcome, Fail> {
-    let story = story_of(alloc)?;
-    let mut words = Vec::new(alloc);
-    let written = "session --keyset k --keyset-format binary --out n --out-format binary";
-    for word in written.split_whitespace() {
-        words.push(String::from_str(alloc, word)?)?;
-    }
-    let keyset = bytes_of(alloc, "GCM")?;
-    let objects = Objects {
-        managers: "program",
-        piece,
-        fails,
-        file: Some(keyset.as_slice()),
-        input: side_of(alloc, &story, false)?.as_bytes().to_vec(alloc)?,
-        random: bytes_of(alloc, RANDOM)?,
-    };
-    run_over(alloc, &words, objects)
-}
 
 #[test]
 fn answers_each_line_wherever_the_input_is_cut(rt: HostRuntime) -> Result<(), Fail> {
-    let alloc = rt.alloc();
-    let replies = side_of(alloc, &story_of(alloc)?, true)?;
-    for piece in [1, 7, 64, 4096] {
-        let outcome = run_story(alloc, piece, ("none", 0))?;
-        assert_eq!(rt; outcome.status, Status::Done, "pieces of {piece}");
-        assert!(rt;
-            outcome.output.as_slice() == replies.as_bytes(),
-            "the replies, in pieces of {piece}"
-        );
-        assert!(rt;
-            outcome.made == Some(bytes_of(alloc, LAST)?),
-            "the keyset, in pieces of {piece}"
-        );
-        assert_eq!(rt; outcome.drawn, 44, "pieces of {piece}");
-    }
-    Ok(())
+    run_table(rt.alloc(), WHOLE, 3)
 }
+
+// A read takes 64 bytes. What was written and drawn then follows from the lines that came whole.
+const READS: &str = "words: session --keyset k --keyset-format binary --out n --out-format binary
+file: GCM
+input: STORY
+random: 12x00 0a0b0c0d 16x00 12x00
+piece: 64
+status: 5 ReadFault
+line: tinkey: read fault
+
+shows | fails | output | drawn
+0 whole lines came | read 1 |  | 0
+2 whole lines came | read 2 | REPLIES[..115] | 32
+4 whole lines came | read 3 | REPLIES[..220] | 44
+4 whole lines came | read 4 | REPLIES[..220] | 44
+6 whole lines came | read 5 | REPLIES[..238] | 44
+6 whole lines came | read 6 | REPLIES[..238] | 44
+7 whole lines came | read 7 | REPLIES[..274] | 44
+7 whole lines came | read 8 | REPLIES[..274] | 44
+10 whole lines came | read 9 | REPLIES[..341] | 44
+10 whole lines came | read 10 | REPLIES[..341] | 44
+";
 
 #[test]
 fn has_answered_all_whole_lines_before_a_read_that_fails(rt: HostRuntime) -> Result<(), Fail> {
-    let alloc = rt.alloc();
-    let story = story_of(alloc)?;
-    let input = side_of(alloc, &story, false)?;
-    let replies = side_of(alloc, &story, true)?;
-    for at in 0..10_usize {
-        let taken = input
-            .as_bytes()
-            .get(..at.saturating_mul(64))
-            .unwrap_or(input.as_bytes());
-        let whole = taken.iter().filter(|byte| **byte == b'\n').count();
-        let outcome = run_story(alloc, 64, ("read", at.saturating_add(1) as u64))?;
-        if outcome.status == Status::Done {
-            assert!(rt; at > 9, "{at} reads were enough");
-        } else {
-            assert_eq!(rt; outcome.status, Status::ReadFault, "behind {at} reads");
-            assert!(rt;
-                outcome.output.as_slice() == first_lines(&replies, whole).as_bytes(),
-                "behind {at} reads"
-            );
-            assert!(rt; outcome.made.is_none(), "a file behind {at} reads");
-        }
-    }
-    Ok(())
+    run_table(rt.alloc(), READS, 10)
 }
+
+// In pieces of 64 bytes the two replies of 102 bytes take two writes each.
+const WRITES: &str = "words: session --keyset k --keyset-format binary --out n --out-format binary
+file: GCM
+input: STORY
+random: 12x00 0a0b0c0d 16x00 12x00
+piece: 64
+status: 5 WriteFault
+line: tinkey: write fault
+
+shows | fails | output | drawn
+the first write | write 1 |  | 12
+the second write | write 2 | REPLIES[..64] | 12
+the third write | write 3 | REPLIES[..102] | 32
+the fourth write | write 4 | REPLIES[..115] | 44
+the fifth write | write 5 | REPLIES[..179] | 44
+the sixth write | write 6 | REPLIES[..217] | 44
+the seventh write | write 7 | REPLIES[..220] | 44
+the eighth write | write 8 | REPLIES[..235] | 44
+the ninth write | write 9 | REPLIES[..238] | 44
+the tenth write | write 10 | REPLIES[..274] | 44
+the eleventh write | write 11 | REPLIES[..310] | 44
+the twelfth write | write 12 | REPLIES[..338] | 44
+the thirteenth write | write 13 | REPLIES[..341] | 44
+the fourteenth write | write 14 | REPLIES[..356] | 44
+the fifteenth write | write 15 | REPLIES[..374] | 44
+";
 
 #[test]
 fn writes_replies_in_order_until_a_write_fails(rt: HostRuntime) -> Result<(), Fail> {
-    let alloc = rt.alloc();
-    let replies = side_of(alloc, &story_of(alloc)?, true)?;
-    let mut most = 0_usize;
-    // In pieces of 64 bytes the two replies of 102 bytes take two writes each.
-    for call in 1..16_u64 {
-        let outcome = run_story(alloc, 64, ("write", call))?;
-        assert_eq!(rt; outcome.status, Status::WriteFault, "write {call}");
-        assert!(rt;
-            replies.as_bytes().starts_with(&outcome.output),
-            "write {call}"
-        );
-        assert!(rt;
-            outcome.output.len() >= most && outcome.made.is_none(),
-            "write {call}"
-        );
-        most = outcome.output.len();
-    }
-    let whole = run_story(alloc, 64, ("write", 16))?;
-    assert_eq!(rt; whole.status, Status::Done, "write 16");
-    Ok(())
+    run_table(rt.alloc(), WRITES, 15)
 }
 
-#[test]
-fn leaves_the_replies_before_a_line_that_entropy_fails(rt: HostRuntime) -> Result<(), Fail> {
-    let alloc = rt.alloc();
-    let replies = side_of(alloc, &story_of(alloc)?, true)?;
-    for (call, before, drawn) in [(1, 0, 0), (2, 1, 12), (3, 1, 16), (4, 2, 32)] {
-        let outcome = run_story(alloc, 64, ("fill", call))?;
-        assert_eq!(rt; outcome.status, Status::EntropyFault, "fill {call}");
-        assert!(rt;
-            outcome.output.as_slice() == first_lines(&replies, before).as_bytes(),
-            "fill {call}"
-        );
-        assert_eq!(rt; outcome.drawn, drawn, "fill {call}");
-        assert!(rt; outcome.made.is_none(), "fill {call}");
-    }
-    Ok(())
-}
+// The fills are an IV, an id, a key and an IV; the calls of the store load the file and make the new
+// one.
+const OTHERS: &str = "words: session --keyset k --keyset-format binary --out n --out-format binary
+file: GCM
+input: STORY
+random: 12x00 0a0b0c0d 16x00 12x00
+piece: 64
+
+shows | fails | status | line | output | drawn
+the IV of the first line | fill 1 | 5 EntropyFault | tinkey: entropy fault | | 0
+the id of the second | fill 2 | 5 EntropyFault | tinkey: entropy fault | REPLIES[..102] | 12
+its key | fill 3 | 5 EntropyFault | tinkey: entropy fault | REPLIES[..102] | 16
+the IV of the third | fill 4 | 5 EntropyFault | tinkey: entropy fault | REPLIES[..115] | 32
+the load of the file | store 1 | 5 StoreFault | tinkey: store fault | | 0
+the new file, behind all replies | store 2 | 5 StoreFault | tinkey: store fault | REPLIES | 44
+";
 
 #[test]
-fn has_written_all_replies_before_the_new_file(rt: HostRuntime) -> Result<(), Fail> {
-    let alloc = rt.alloc();
-    let replies = side_of(alloc, &story_of(alloc)?, true)?;
-    let unloaded = run_story(alloc, 64, ("store", 1))?;
-    assert_eq!(rt; unloaded.status, Status::StoreFault);
-    assert!(rt; unloaded.output.is_empty());
-    let unmade = run_story(alloc, 64, ("store", 2))?;
-    assert_eq!(rt; unmade.status, Status::StoreFault);
-    assert!(rt; unmade.output.as_slice() == replies.as_bytes());
-    assert!(rt; unmade.made.is_none());
-    let untold = run_story(alloc, 64, ("line", 1))?;
-    assert_eq!(rt; untold.status, Status::Done);
-    Ok(())
+fn leaves_the_replies_before_a_fault(rt: HostRuntime) -> Result<(), Fail> {
+    run_table(rt.alloc(), OTHERS, 6)
 }
 
 // The tags are those of RFC 4231's first case.
@@ -245,44 +157,33 @@ fn reads_lines_by_their_grammar(rt: HostRuntime) -> Result<(), Fail> {
     run_by_keysets(rt.alloc(), LINES, 40)
 }
 
-/// The row of a session over the first keyset, with this input and this output.
-fn row<'a>(input: &'a str, status: &'a str, line: &'a str, output: &'a str) -> Row<'a> {
-    PLAIN
-        .with(Column::Words, "session --keyset k --keyset-format binary")
-        .with(Column::File, "GCM")
-        .with(Column::Input, input)
-        .with(Column::Status, status)
-        .with(Column::Line, line)
-        .with(Column::Output, output)
-}
+const LONGEST: &str = "words: session --keyset k --keyset-format binary
+file: GCM
+
+shows | input | status | line | output
+the longest line | 65536x61 0a | 0 Done | | `no^bad^line` 0a
+a longer one | 65537x61 0a | 6 LineTooLong | tinkey: line too long |
+a longer one behind another | `hello` 0a 65537x61 | 6 LineTooLong | tinkey: line too long | `no^bad^line` 0a
+";
 
 #[test]
 fn takes_lines_up_to_their_limit(rt: HostRuntime) -> Result<(), Fail> {
-    let alloc = rt.alloc();
-    let longest = row("65536x61 0a", "0 Done", "", "`no^bad^line` 0a");
-    run_row(alloc, &longest)?;
-    let long = "tinkey: line too long";
-    run_row(alloc, &row("65537x61 0a", "6 LineTooLong", long, ""))?;
-    run_row(
-        alloc,
-        &row(
-            "`hello` 0a 65537x61",
-            "6 LineTooLong",
-            long,
-            "`no^bad^line` 0a",
-        ),
-    )
+    run_table(rt.alloc(), LONGEST, 3)
 }
+
+// The lines are `hello`, and `no bad line` answers each; the last one is the first byte of another.
+const MOST: &str = "words: session --keyset k --keyset-format binary
+file: GCM
+output: 100000x6e6f20626164206c696e650a
+
+shows | input | status | line
+100,000 lines | 100000x68656c6c6f0a | 0 Done |
+a byte more | 100000x68656c6c6f0a 68 | 6 TooManyLines | tinkey: too many lines
+";
 
 #[test]
 fn takes_100000_lines(rt: HostRuntime) -> Result<(), Fail> {
-    let alloc = rt.alloc();
-    let lines = "100000x68656c6c6f0a";
-    let replies = "100000x6e6f20626164206c696e650a";
-    run_row(alloc, &row(lines, "0 Done", "", replies))?;
-    let more = format!(in alloc; "{lines} 68")?;
-    let many = "tinkey: too many lines";
-    run_row(alloc, &row(&more, "6 TooManyLines", many, replies))
+    run_table(rt.alloc(), MOST, 2)
 }
 
 // The first file is the last one of the story, and so is the second, whose key serves no longer.

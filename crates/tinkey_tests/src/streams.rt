@@ -1,14 +1,13 @@
 //! `sseal` and `sopen`: streams under keys of both schemes, what is left of damaged ones, and each
 //! fault.
 
-use crate::keysets::run_by_keyset;
-use crate::rows::{Column, rows_of};
+use crate::keysets::run_by_keysets;
 use std::test::Fail;
 
 // Streams in segments of 64 bytes of AES-GCM-HKDF, and of 60 bytes of AES-CTR-HMAC, by Python's
 // cryptography and hmac from Tink's description. The first plaintext has 24 bytes, and each later
 // one 48; a stream of 73 bytes `a` is cut, and its segments are exchanged.
-const STREAMS: &str = "piece: 7
+const STREAMS: &str = "piece: 1 7 4097
 
 shows | words | file | input | random | status | line | output | drawn
 no plaintext | sseal | 07; ENABLED RAW 07 @AesGcmHkdfStreamingKey 12( 0840 1010 1803 ) 1a( 000102030405060708090a0b0c0d0e0f ) |  | 404142434445464748494a4b4c4d4e4f50515253545556 ff | 0 Done |  | 18404142434445464748494a4b4c4d4e4f50515253545556 c56f23e560c85b5fdd15eb26ac311e46 | 23
@@ -46,12 +45,7 @@ a byte of the second changed | sopen | 07; ENABLED RAW 07 @AesGcmHkdfStreamingKe
 
 #[test]
 fn seals_and_opens_streams(rt: HostRuntime) -> Result<(), Fail> {
-    for row in &rows_of(rt.alloc(), STREAMS, 31)? {
-        for piece in ["1", "7", "4097"] {
-            run_by_keyset(rt.alloc(), &row.with(Column::Piece, piece))?;
-        }
-    }
-    Ok(())
+    run_by_keysets(rt.alloc(), STREAMS, 31)
 }
 
 // The buffer of 65 bytes takes the stream of 145 bytes in reads of 64, 1, 64 and 16 bytes, and in one
@@ -85,8 +79,5 @@ segments of 40 bytes | sopen | 07; ENABLED RAW 07 @AesGcmHkdfStreamingKey 12( 08
 
 #[test]
 fn leaves_what_authenticated_at_each_fault(rt: HostRuntime) -> Result<(), Fail> {
-    for row in &rows_of(rt.alloc(), FAULTS, 22)? {
-        run_by_keyset(rt.alloc(), row)?;
-    }
-    Ok(())
+    run_by_keysets(rt.alloc(), FAULTS, 22)
 }

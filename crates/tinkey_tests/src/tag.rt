@@ -1,7 +1,6 @@
 //! `tag`: tags of the input under a keyset in a file, and the keys that are taken. The input is
 //! `Hi There` where a table says 4869205468657265.
 
-use crate::bytes::bytes_of;
 use crate::rows::{Column, rows_of, run_row, run_table};
 use std::alloc::Global;
 use std::test::Fail;
@@ -10,6 +9,7 @@ use std::test::Fail;
 // the input with one byte 0 behind it, by OpenSSL's `dgst -sha256 -mac HMAC`.
 const PREFIXES: &str = "words: tag --keyset k --keyset-format binary
 input: 4869205468657265
+piece: 1 7 4096
 status: 0 Done
 
 shows | file | output
@@ -21,12 +21,7 @@ CRUNCHY | HMAC[..97] 04 | 0001020304 b0344c61d8db38535ca8afceaf0bf12b
 
 #[test]
 fn tags_under_each_output_prefix(rt: HostRuntime) -> Result<(), Fail> {
-    for row in &rows_of(rt.alloc(), PREFIXES, 4)? {
-        for piece in ["1", "7", "4096"] {
-            run_row(rt.alloc(), &row.with(Column::Piece, piece))?;
-        }
-    }
-    Ok(())
+    run_table(rt.alloc(), PREFIXES, 4)
 }
 
 // Reads fail from the first on, so nothing behind the read of the input is reached. The texts are
@@ -72,16 +67,10 @@ fn tags_under_the_primary_key_of_several(rt: HostRuntime) -> Result<(), Fail> {
     run_table(rt.alloc(), KEYSETS, 7)
 }
 
-/// The keyset whose one key has this message, of at most 64 bytes, in place of its own, as a cell.
+/// The keyset whose one key has this message in place of its own, as a cell.
 fn with_message(alloc: Global, message: &str) -> Result<String, Fail> {
-    let size = bytes_of(alloc, message)?.len();
-    if size > 64 {
-        return Err(Fail::new("a message of more than 64 bytes"));
-    }
-    let key_data = size + 52;
-    let key = size + 63;
     let cell = format!(in alloc;
-        "HMAC[..5] 12{key:02x} 0a{key_data:02x} HMAC[9..57] 12{size:02x} {message} HMAC[87..]"
+        "HMAC[..5] 12( 0a( HMAC[9..57] 12( {message} ) HMAC[87..89] ) HMAC[89..] )"
     )?;
     Ok(cell)
 }
