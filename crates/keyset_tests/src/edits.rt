@@ -43,45 +43,56 @@ fn shown(alloc: Global, keyset: &Keyset) -> Result<String, Fail> {
     Ok(text)
 }
 
-/// The edit of a record.
-fn by_id(word: &str, id: u32) -> Result<Command<Template>, Fail> {
-    let commands = [
-        ("promote", Command::Promote(id)),
-        ("enable", Command::Enable(id)),
-        ("disable", Command::Disable(id)),
-        ("destroy", Command::Destroy(id)),
-        ("delete", Command::Delete(id)),
-    ];
-    for (known, command) in commands {
-        if known == word {
-            return Ok(command);
-        }
-    }
-    Err("an edit of a record".into())
+#[derive(Clone, Copy)]
+enum Word {
+    Add,
+    Rotate,
+    Promote,
+    Enable,
+    Disable,
+    Destroy,
+    Delete,
 }
 
-/// The edit that makes a key of a template.
-fn by_template(word: &str, name: &str) -> Result<Command<Template>, Fail> {
-    let template = template_named(name)?;
-    for (known, command) in [
-        ("add", Command::Add(template)),
-        ("rotate", Command::Rotate(template)),
-    ] {
-        if known == word {
-            return Ok(command);
-        }
-    }
-    Err("an edit that makes a key".into())
-}
+const WORDS: [(&str, Word); 7] = [
+    ("add", Word::Add),
+    ("rotate", Word::Rotate),
+    ("promote", Word::Promote),
+    ("enable", Word::Enable),
+    ("disable", Word::Disable),
+    ("destroy", Word::Destroy),
+    ("delete", Word::Delete),
+];
 
-/// The edit of a row: its word, and an id or a template.
-fn command_in(row: &str) -> Result<Command<Template>, Fail> {
+fn word_in(row: &str) -> Result<Word, Fail> {
     let word = cell(row, 0)?;
-    let argument = cell(row, 1)?;
-    match argument.parse::<u32>() {
-        Ok(id) => by_id(word, id),
-        Err(_) => by_template(word, argument),
+    for (known, edit) in WORDS {
+        if known == word {
+            return Ok(edit);
+        }
     }
+    Err("the word of an edit".into())
+}
+
+fn template_in(row: &str) -> Result<Template, Fail> {
+    Ok(template_named(cell(row, 1)?)?)
+}
+
+fn id_in(row: &str) -> Result<u32, Fail> {
+    Ok(cell(row, 1)?.parse::<u32>()?)
+}
+
+/// The edit of a row: its word, and a template or an id.
+fn command_in(row: &str) -> Result<Command<Template>, Fail> {
+    Ok(match word_in(row)? {
+        Word::Add => Command::Add(template_in(row)?),
+        Word::Rotate => Command::Rotate(template_in(row)?),
+        Word::Promote => Command::Promote(id_in(row)?),
+        Word::Enable => Command::Enable(id_in(row)?),
+        Word::Disable => Command::Disable(id_in(row)?),
+        Word::Destroy => Command::Destroy(id_in(row)?),
+        Word::Delete => Command::Delete(id_in(row)?),
+    })
 }
 
 /// The keyset that an edit gives, or the refusal.
