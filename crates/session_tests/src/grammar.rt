@@ -153,21 +153,22 @@ fn read_row(alloc: Global, row: &str) -> Result<(), Fail> {
 // Bytes that a table can't hold: a tab, a carriage return and a letter of two bytes stand in names;
 // half a letter, a surrogate, an overlong form and the byte 255 are no UTF-8; only a space parts
 // words, and only ASCII has digits. The answers are Python's, as above.
+const BYTES: [(&[u8], &str); 10] = [
+    (b"add \t", "add \t"),
+    (b"add A\r", "add A\r"),
+    (b"rotate \xc3\xa9", "rotate \u{e9}"),
+    (b"tag -\r", "bad"),
+    (b"tag\xc2\xa0-", "bad"),
+    (b"add \xc3", "bad"),
+    (b"add \xed\xa0\x80", "bad"),
+    (b"add \xc0\xaf", "bad"),
+    (b"tag -\xff", "bad"),
+    (b"delete \xef\xbc\x97", "bad"),
+];
+
 #[test]
 fn reads_only_text(rt: HostRuntime) -> Result<(), Fail> {
-    let rows: [(&[u8], &str); 10] = [
-        (b"add \t", "add \t"),
-        (b"add A\r", "add A\r"),
-        (b"rotate \xc3\xa9", "rotate \u{e9}"),
-        (b"tag -\r", "bad"),
-        (b"tag\xc2\xa0-", "bad"),
-        (b"add \xc3", "bad"),
-        (b"add \xed\xa0\x80", "bad"),
-        (b"add \xc0\xaf", "bad"),
-        (b"tag -\xff", "bad"),
-        (b"delete \xef\xbc\x97", "bad"),
-    ];
-    for (line, want) in rows {
+    for (line, want) in BYTES {
         read(rt.alloc(), want, line, want)?;
     }
     Ok(())

@@ -13,6 +13,7 @@ use managers::{
 use std::alloc::Global;
 use std::process::Abort;
 use std::test::Fail;
+use test_words::unlike;
 use tink_base::MemEntropy;
 use tinkey_cmds::create;
 use tinkey_session::{LineFault, Reply, Session, read_line};
@@ -30,6 +31,21 @@ fn told(alloc: Global, answer: &Result<Reply, LineFault>) -> Result<String, Fail
             Reply::Refuses(why) => Ok(format!(in alloc; "{why:?}")?),
         },
         Err(fault) => Ok(format!(in alloc; "{fault:?}")?),
+    }
+}
+
+// Holds an answer to what is wanted.
+fn hold(
+    alloc: Global,
+    line: &str,
+    answer: &Result<Reply, LineFault>,
+    want: &str,
+) -> Result<(), Fail> {
+    let text = told(alloc, answer)?;
+    if text.as_str() == want {
+        Ok(())
+    } else {
+        Err(unlike(line, "the answer", want, &text))
     }
 }
 
@@ -54,9 +70,7 @@ fn expect(
     assert!(rt; line.len() <= MOST);
     let read = read_line(alloc, line.as_bytes())?;
     let answer = session.serve(alloc, &read, entropy);
-    let text = told(alloc, &answer)?;
-    assert_eq!(rt; text.as_str(), want, "{line}");
-    Ok(())
+    hold(alloc, line, &answer, want)
 }
 
 // The same of each row, a line and what is wanted.

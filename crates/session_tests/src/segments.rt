@@ -5,7 +5,7 @@ use mac_prf::Hmac;
 use segment_stream::StreamKeys;
 use std::alloc::Global;
 use std::test::Fail;
-use test_words::{bytes_of, cell, counting, number_in, same_bytes};
+use test_words::{bytes_of, cell, counting, number_in, same_bytes, unlike};
 use tink_base::Hash;
 
 // A keyset of one key of AES128_GCM_HKDF_4KB, and of one of AES256_CTR_HMAC_SHA256_4KB.
@@ -99,14 +99,19 @@ fn digest_of(stream: &[u8]) -> [u8; 32] {
     digest
 }
 
-fn run_full(alloc: Global, row: &str) -> Result<(), Fail> {
-    let case = made(alloc, cell(row, 0)?, number_in(row, 1)?)?;
-    let size = number_in(row, 2)?;
-    if case.stream.len() != size {
-        return Err(Fail::new(format_args!("{row}: {} bytes", case.stream.len())));
+// Holds the stream of a case to its size and its digest.
+fn hold_stream(alloc: Global, row: &str, stream: &[u8]) -> Result<(), Fail> {
+    let size = format!(in alloc; "{}", stream.len())?;
+    if size.as_str() != cell(row, 2)? {
+        return Err(unlike(row, "the size", cell(row, 2)?, &size));
     }
     let digest = bytes_of(alloc, cell(row, 3)?)?;
-    same_bytes(alloc, row, "the digest", &digest, &digest_of(&case.stream))?;
+    same_bytes(alloc, row, "the digest", &digest, &digest_of(stream))
+}
+
+fn run_full(alloc: Global, row: &str) -> Result<(), Fail> {
+    let case = made(alloc, cell(row, 0)?, number_in(row, 1)?)?;
+    hold_stream(alloc, row, &case.stream)?;
     let ended = opened(alloc, &case, &case.stream, Calls::of(1))?;
     expect(alloc, row, &ended, "done", &case.plain)
 }
