@@ -1,11 +1,11 @@
 //! Keysets as JSON: other writers' texts, other spellings, and what is refused.
 
-use crate::rows::{count, few, holds, holds_text, holds_to};
+use crate::rows::{count, few, holds, holds_text};
 use keyset_json::{Member, read_bytes, read_json, write_json};
 use keyset_model::{read_binary, write_binary};
 use std::alloc::Global;
 use std::test::Fail;
-use test_words::{cell, digits_of};
+use test_words::{cell, digits_of, same_bytes};
 
 // Keysets as protoc 3.21.12 encodes them, and as python's json prints the same values (with sorted
 // names, no spaces and characters beyond ASCII as they are).
@@ -60,7 +60,7 @@ fn assert_written(alloc: Global, shows: &str, bytes: &[u8], text: &str) -> Resul
 fn assert_read(alloc: Global, shows: &str, bytes: &[u8], text: &str) -> Result<(), Fail> {
     let text = few(text.as_bytes().to_vec(alloc)?)?;
     let found = write_binary(alloc, &read_json(alloc, &text)?)?;
-    holds_to(alloc, shows, "the binary form", bytes, &found)
+    same_bytes(alloc, shows, "the binary form", bytes, &found)
 }
 
 #[test]

@@ -5,7 +5,7 @@ ghost use Rattle.std.specs.Prelude.{◌≤◌, length, IfOk};
 
 use std::alloc::Global;
 use std::test::Fail;
-use test_words::{bytes_of, cell, digits_of, unlike};
+use test_words::{bytes_of, cell, same_bytes, unlike};
 
 /// The most bytes that a cell writes.
 const MOST: usize = 1000;
@@ -40,22 +40,6 @@ pub(crate) fn holds(row: &str, place: usize, part: &str, found: &str) -> Result<
     holds_text(cell(row, 0)?, part, cell(row, place)?, found)
 }
 
-/// Holds bytes to others, in the row that shows this.
-pub(crate) fn holds_to(
-    alloc: Global,
-    shows: &str,
-    part: &str,
-    expected: &[u8],
-    found: &[u8],
-) -> Result<(), Fail> {
-    if expected != found {
-        let expected = digits_of(alloc, expected)?;
-        let found = digits_of(alloc, found)?;
-        return Err(unlike(shows, part, expected.as_str(), found.as_str()));
-    }
-    Ok(())
-}
-
 /// Holds bytes to the digits in the cell at this place.
 pub(crate) fn holds_bytes(
     alloc: Global,
@@ -65,7 +49,7 @@ pub(crate) fn holds_bytes(
     found: &[u8],
 ) -> Result<(), Fail> {
     let expected = bytes_of(alloc, cell(row, place)?)?;
-    holds_to(alloc, cell(row, 0)?, part, &expected, found)
+    same_bytes(alloc, cell(row, 0)?, part, &expected, found)
 }
 
 /// Holds a table to the number of its rows.

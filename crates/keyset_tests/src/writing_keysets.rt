@@ -5,10 +5,11 @@ ghost use Rattle.std.specs.List.{AllByRecursion};
 ghost use Rattle.keyset_model.specs.Keyset.{IsWithin};
 
 use crate::keysets::{KEYSET, keyset_of, record_text};
-use crate::rows::{holds_text, holds_to};
+use crate::rows::holds_text;
 use keyset_model::{Keyset, ReadError, Record, write_binary};
 use std::alloc::Global;
 use std::test::Fail;
+use test_words::same_bytes;
 use tink_base::{Bytes, DESTROYED, ENABLED, LEGACY, NoMemory, RAW, TINK, Text};
 
 // Two AES-GCM keys of 16 zero bytes, the second one primary: 175 bytes.
@@ -49,7 +50,7 @@ const KEYSETS: [(&str, &[u8], usize); 5] = [
 
 fn assert_rewritten(alloc: Global, shows: &str, given: &[u8], want: &[u8]) -> Result<(), Fail> {
     let written = write_binary(alloc, &keyset_of(alloc, given)?)?;
-    holds_to(alloc, shows, "the keyset", want, &written)
+    same_bytes(alloc, shows, "the keyset", want, &written)
 }
 
 #[test]
@@ -114,7 +115,7 @@ fn retired(alloc: Global) -> Result<Keyset, ReadError>
 #[test]
 fn a_keyset_made_of_records_is_written(rt: HostRuntime) -> Result<(), Fail> {
     let written = write_binary(rt.alloc(), &retired(rt.alloc())?)?;
-    holds_to(rt.alloc(), "three records", "the keyset", RETIRED, &written)
+    same_bytes(rt.alloc(), "three records", "the keyset", RETIRED, &written)
 }
 
 #[test]
@@ -123,7 +124,7 @@ fn a_copy_is_the_same_keyset(rt: HostRuntime) -> Result<(), Fail> {
     let copy = keyset.copy(rt.alloc())?;
     drop(keyset);
     let written = write_binary(rt.alloc(), &copy)?;
-    holds_to(rt.alloc(), "a copy", "the keyset", RETIRED, &written)?;
+    same_bytes(rt.alloc(), "a copy", "the keyset", RETIRED, &written)?;
     assert_eq!(rt; copy.len(), 3);
     let key = copy.record_at(2).copy(rt.alloc())?;
     let text = record_text(rt.alloc(), &key)?;
