@@ -1,4 +1,5 @@
--- The laws of what the program answers, over the definitions alone. Grammar has those of its words.
+-- The laws of what the program answers, over the definitions alone. Grammar of tinkey_words has
+-- those of its words.
 use Rattle.std.specs.Prelude.{◌≡◌, ◌⊎◌, List, ℕ, None, IsSome}
 use Rattle.key_msgs.specs.declared.primitive.Primitive.{Primitive}
 use Rattle.key_msgs.specs.declared.primitive.Primitive.TheVariants.{Daead, Mac, Prf}

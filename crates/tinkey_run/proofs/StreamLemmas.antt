@@ -93,7 +93,7 @@ sealing_lasts key header cipher = record { stays = λ taken more refusal decided
     out taken = sealed_behind key header taken false
 
     was : List ℕ → SourceState
-    was bytes = record { left = Some bytes; faults = 0 }
+    was bytes = record { left = Some bytes; faults = 0; ended = false; late = 0 }
 
     sink : List ℕ → SinkState
     sink bytes = record { written = Some bytes; faults = 0 }
