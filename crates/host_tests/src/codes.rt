@@ -7,7 +7,7 @@ use real_objects::{DirStore, FileEntropy, RandomDevice};
 use std::alloc::Global;
 use std::process::ExitCode;
 use std::test::Fail;
-use test_words::{bytes_of, cell, counting, number_in, unlike};
+use test_words::{bytes_of, cell, counting, unlike};
 use tink_base::{Created, Loaded, MemEntropy, MemSink, MemSource, MemStore, Store, StoreError};
 use tinkey_host::{obey, obey_listed, program};
 
@@ -121,7 +121,7 @@ fn obey_row(alloc: Global, row: &str) -> Result<(), Fail> {
             &mut store,
         )
     };
-    if code != ExitCode::from(number_in(row, 3)? as u8) {
+    if code != ExitCode::from(cell(row, 3)?.parse::<u8>()?) {
         return Err(unlike(row, "the exit code", cell(row, 3)?, "another"));
     }
     let output = if cell(row, 5)? == "listing" {
