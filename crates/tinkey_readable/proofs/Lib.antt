@@ -1,3 +1,4 @@
+pub mod EndedLemmas
 pub mod ReachLemmas
 pub mod ReadIdLemmas
 pub mod ReadableLemmas

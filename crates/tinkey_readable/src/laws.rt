@@ -2,7 +2,7 @@
 
 ghost use Rattle.keyset_json.specs.Writing.{JsonBack};
 ghost use Rattle.keyset_model.specs.Writing.{BinaryBack};
-ghost use Rattle.tinkey_readable.specs.Readable.{SessionsAreReadable};
+ghost use Rattle.tinkey_readable.specs.Readable.{AnswersAreReadable, SessionsAreReadable};
 ghost use Rattle.tinkey_readable.specs.Runs.{RunStep, RunsDopen, RunsDopenRaw, RunsOpen, RunsOpenRaw, RunsVerify};
 
 use keyset_json::laws::json_back;
@@ -62,9 +62,10 @@ pub fn kept_runs()
 }
 
 /// What a run of a session wrote are the replies of turns, which are readable over the standard
-/// table.
+/// table: however the run ends, and of whatever is answered as the stated answer says.
 pub fn sessions_are_readable()
-    ensures { SessionsAreReadable }
+    ensures ended { SessionsAreReadable }
+    ensures answered { AnswersAreReadable }
 {
     session_opens();
     session_dopens();
