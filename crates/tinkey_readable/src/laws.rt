@@ -2,6 +2,7 @@
 
 ghost use Rattle.keyset_json.specs.Writing.{JsonBack};
 ghost use Rattle.keyset_model.specs.Writing.{BinaryBack};
+ghost use Rattle.tinkey_readable.specs.LineRuns.{MadeDopens, MadeDopensRaw, MadeOpens, MadeOpensRaw, MadeVerifies};
 ghost use Rattle.tinkey_readable.specs.Readable.{AnswersAreReadable, SessionsAreReadable};
 ghost use Rattle.tinkey_readable.specs.Runs.{RunStep, RunsDopen, RunsDopenRaw, RunsOpen, RunsOpenRaw, RunsVerify};
 
@@ -48,6 +49,27 @@ pub fn kept_runs()
     ensures open_raw { RunsOpenRaw }
     ensures dopen_raw { RunsDopenRaw }
     ensures verify { RunsVerify }
+{
+    run_step();
+    fit_keysets_answer();
+    session_is_edits();
+    sound_usable();
+    edited_kept();
+    kept_open();
+    kept_dopen();
+    kept_open_raw();
+    kept_dopen_raw();
+    kept_tag();
+}
+
+/// The same where what sealed or tagged, or what opens or verifies, may be a run of a command or a
+/// line of a session. A session that sealed hands its keyset on; one that opens may be any.
+pub fn kept_lines()
+    ensures open { MadeOpens }
+    ensures dopen { MadeDopens }
+    ensures open_raw { MadeOpensRaw }
+    ensures dopen_raw { MadeDopensRaw }
+    ensures verify { MadeVerifies }
 {
     run_step();
     fit_keysets_answer();
