@@ -26,6 +26,6 @@ started words old new s run = promised (allocates (plan_of standard_table words)
 pub starved : (words : List (List ℕ)) (old new : World) (s : Status) → s ≡ status.NoMemory → old ≡ new → Promised (start_plan words) old s new
 starved words old new s is same = promised (allocates (plan_of standard_table words)) old s new (inr (is, same))
 
--- the answer over the plan that may want memory first is that of the words
+-- a run that may want memory first is readable
 pub readable_start : SessionsAreReadable → (words : List (List ℕ)) (old new : World) (s : Status) → Promised (start_plan words) old s new → IsReadable standard_table words old s new
-readable_start law words old new s run = law standard_table words old s new (record { over = run.answer.over })
+readable_start law words old new s run = law standard_table words old s new run.ends

@@ -1,4 +1,5 @@
 pub mod AnswerLemmas
+pub mod CountLemmas
 pub mod FaultLemmas
 pub mod PromiseLemmas
 pub mod ReportLemmas

@@ -1,15 +1,24 @@
 -- The laws of what the program answers, over the definitions alone. Grammar of tinkey_words has
 -- those of its words.
-use Rattle.std.specs.Prelude.{◌≡◌, ◌⊎◌, List, ℕ, None, IsSome}
+use Rattle.std.specs.Prelude.{◌≡◌, ◌⊎◌, List, [], ℕ, ◌+◌, None, Ok, IsSome}
 use Rattle.key_msgs.specs.declared.primitive.Primitive.{Primitive}
 use Rattle.key_msgs.specs.declared.primitive.Primitive.TheVariants.{Daead, Mac, Prf}
 use Rattle.keyset_model.specs.Keyset.{Keys, fault_of}
+use Rattle.managers.specs.Standard.{standard_table}
 use Rattle.managers.specs.Table.{Table}
+use Rattle.tink_spec.specs.Outside.{Took, TookPrefix}
+use Rattle.tinkey_cmds.specs.declared.command.CmdFault.TheVariants.{IdsExhausted}
+use Rattle.tinkey_selftest.specs.Telling.{counts_text}
+use Rattle.tinkey_selftest.specs.declared.counts.Counts.{Counts}
 use Rattle.wrapped_prims.specs.Answers.{primary_key, dseal_answer, tag_answer, derive_answer}
 use Rattle.wrapped_prims.specs.Fitness.{unfit}
-use Rattle.tinkey_plans.specs.Commands.{command_plan}
+use Rattle.tinkey_plans.specs.declared.status.Status.{Status}
+use Rattle.tinkey_plans.specs.declared.status.Status.TheVariants as status
+use Rattle.tinkey_plans.specs.Commands.{command_plan, plan_of}
+use Rattle.tinkey_plans.specs.Ends.{World, Ends}
+use Rattle.tinkey_plans.specs.Plan.{Answer, Told, answer}
 use Rattle.tinkey_plans.specs.Promises.{IsWhole}
-use Rattle.tinkey_words.specs.Words.{Asked, seal_stream, open_stream, session}
+use Rattle.tinkey_words.specs.Words.{Asked, seal_stream, open_stream, self_test, session, words_of}
 
 -- a keyset without a fault, each record of which can serve for the primitive
 pub record IsFit (table : Table) (primitive : Primitive) (keys : Keys) : Type 0 where
@@ -42,3 +51,41 @@ IsSession _ = ⊥
 abbrev pub CommandsAreWhole : Type 0
 CommandsAreWhole = (table : Table) (asked : Asked) →
     IsWhole (command_plan table asked) ⊎ IsStream asked ⊎ IsSession asked
+
+-- ---- the self-test
+
+-- The counts of so many lines, as they are put out: each line counts once, and under the program's
+-- table no open was refused whose key was there.
+pub record TellsLines (table : Table) (lines : ℕ) (output : List ℕ) : Type 0 where
+  pub n : Counts
+  pub text : output ≡ counts_text lines n
+  pub add_up : n.sealed + n.opened + n.refused + n.edited + n.declined ≡ lines
+  pub none_lost : table ≡ standard_table → n.lost ≡ 0
+
+-- the counts are told, or none of the ids that were drawn was free
+abbrev pub TellsOrRefuses : Table → (lines : ℕ) → Answer → Type 0
+TellsOrRefuses table lines a =
+    ((a.status ≡ status.Done) × TellsLines table lines a.output)
+    ⊎ ((a.status ≡ status.Command IdsExhausted) × (a.output ≡ []))
+
+-- The stated answer of a self-test is Done and tells its counts, but where no id was free.
+abbrev pub SelfTestsTell : Type 0
+SelfTestsTell = (table : Table) (seed lines : ℕ) (told : Told)
+    → TellsOrRefuses table lines (answer (command_plan table (self_test seed lines)) told)
+
+-- a run of a self-test told its counts, or the first bytes of them where the sink failed; or no id
+-- was free, or memory was wanting
+pub data HasTested (table : Table) (lines : ℕ) (old : World) (s : Status) (new : World)
+    : Type 0 where
+  tested : (output : List ℕ) → s ≡ status.Done → TellsLines table lines output →
+      Took old.sink new.sink output → HasTested table lines old s new
+  cut_short : (output : List ℕ) → s ≡ status.WriteFault → TellsLines table lines output →
+      TookPrefix old.sink new.sink output → HasTested table lines old s new
+  refused : s ≡ status.Command IdsExhausted → old ≡ new → HasTested table lines old s new
+  starved : s ≡ status.NoMemory → old ≡ new → HasTested table lines old s new
+
+-- So it is of each run, whatever fails.
+abbrev pub SelfTestRuns : Type 0
+SelfTestRuns = (table : Table) (words : List (List ℕ)) (seed lines : ℕ) (old : World) (s : Status)
+    (new : World) → words_of words ≡ Ok (self_test seed lines) → Ends (plan_of table words) old s new
+    → HasTested table lines old s new

@@ -1,6 +1,8 @@
 //! Laws of what the program answers. These functions do nothing: their contracts are the laws.
 
-ghost use Rattle.tinkey_plans.specs.Laws.{CommandsAreWhole, FitKeysetsAnswer};
+ghost use Rattle.tinkey_plans.specs.Laws.{CommandsAreWhole, FitKeysetsAnswer, SelfTestRuns, SelfTestsTell};
+
+use tinkey_selftest::laws::{counts_add_up, nothing_is_lost};
 
 /// A keyset without a fault, each ENABLED record of which can serve, has a primary key under its
 /// table, and what that makes is there for every input.
@@ -12,3 +14,14 @@ pub fn fit_keysets_answer()
 pub fn commands_are_whole()
     ensures { CommandsAreWhole }
 {}
+
+/// A self-test is Done and tells the counts of its lines, which add up to their number, with none
+/// lost under the standard table; or it is refused, and then none of 64 ids was free. A run of it may
+/// also be cut short in telling them, or want memory.
+pub fn self_tests_tell()
+    ensures stated { SelfTestsTell }
+    ensures runs { SelfTestRuns }
+{
+    counts_add_up();
+    nothing_is_lost();
+}

@@ -1,3 +1,5 @@
+pub mod EndedLemmas
+pub mod LineRunLemmas
 pub mod ReachLemmas
 pub mod ReadIdLemmas
 pub mod ReadableLemmas

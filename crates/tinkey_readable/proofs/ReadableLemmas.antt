@@ -1,5 +1,5 @@
 -- What a run of a session wrote, and what of it is readable.
-use Rattle.std.proofs.Common.{◌≡◌, ◌∙◌, sym, refl, ap, subst, ℕ, ◌≤◌, Bool, true, false, List, [], ◌++◌, length, nat_le, append-nil, Option, Some, None, arith}
+use Rattle.std.proofs.Common.{◌≡◌, ◌≢◌, ◌∙◌, sym, refl, ap, subst, ℕ, ◌≤◌, Bool, true, false, List, [], ◌++◌, length, nat_le, append-nil, Option, Some, None, arith}
 use Rattle.std.specs.Prelude.{if◌then◌else◌, map as each}
 use Rattle.std.specs.FinMap as map
 use Rattle.std.specs.List.{AllByRecursion}
@@ -22,11 +22,11 @@ use Rattle.tinkey_plans.specs.declared.status.Status.{Status}
 use Rattle.tinkey_plans.specs.declared.status.Status.TheVariants as status
 use Rattle.tinkey_words.specs.declared.words.rows.Format.{Format}
 use Rattle.tinkey_words.specs.declared.words.rows.Format.TheVariants as formats
-use Rattle.tinkey_plans.specs.Commands.{asked_plan, plan_of}
+use Rattle.tinkey_plans.specs.Commands.{asked_plan}
 use Rattle.tinkey_plans.specs.Ends.{World}
 use Rattle.tinkey_plans.specs.Plan.{Told, Answer, answer, create_answer, IsStated, refused, talk_answer}
-use Rattle.tinkey_plans.specs.Promises.{Answers, IsAnswer}
-use Rattle.tinkey_readable.specs.Readable.{AreAmong, AreReadable, HasReplies, IsReadable, turns_of}
+use Rattle.tinkey_plans.specs.Promises.{IsAnswer}
+use Rattle.tinkey_readable.specs.Readable.{AnswersAreReadable, AreAmong, AreReadable, HasReplies, turns_of}
 use Rattle.tinkey_readable.specs.Runs.{read_in}
 use Rattle.tinkey_plans.specs.Session.{holds_session, saves, saves_as}
 use Rattle.tinkey_plans.specs.Steps.{keyset_limit, keyset_in, loads_keyset, written_in}
@@ -35,15 +35,19 @@ use Rattle.tinkey_readable.proofs.ReachLemmas.{keyset_reached}
 use Rattle.tinkey_readable.proofs.ReadIdLemmas.{json_words}
 use Rattle.tinkey_readable.proofs.RunLemmas.{each_of, ok_of, read_faultless}
 
+-- a stated status is no fault of the entropy or of the sink
 not_fault : (s : Status) → IsStated s → s ≡ status.EntropyFault → ⊥
 not_fault s stated is = let h : IsStated status.EntropyFault = rw is at stated in h
+
+not_unwritten : (s : Status) → IsStated s → s ≡ status.WriteFault → ⊥
+not_unwritten s stated is = let h : IsStated status.WriteFault = rw is at stated in h
 
 -- ---- turns
 
 has_turns : (keys : Keys) (lines : List Line) (random : List ℕ) (s t : Turn) → AreAmong (turns standard_table keys lines random) s t → HasTurns keys lines random s t
 has_turns keys lines random s t x = record { i = x.i; j = x.j; later = x.later; first = x.first; second = x.second }
 
-are_readable : SessionOpens → SessionDopens → SessionOpensRaw → SessionDopensRaw → SessionVerifies → (keys : Keys) (lines : List Line) (random : List ℕ) → IsKeyset keys → AreReadable (turns standard_table keys lines random)
+pub are_readable : SessionOpens → SessionDopens → SessionOpensRaw → SessionDopensRaw → SessionVerifies → (keys : Keys) (lines : List Line) (random : List ℕ) → IsKeyset keys → AreReadable (turns standard_table keys lines random)
 are_readable opens dopens opens_raw dopens_raw verifies keys lines random is = record {
   opens = λ s t r prefix plain ad sealed x. opens keys lines random prefix plain ad sealed s t r is (has_turns keys lines random s t x);
   dopens = λ s t r prefix plain ad sealed x. dopens keys lines random prefix plain ad sealed s t r is (has_turns keys lines random s t x);
@@ -71,7 +75,7 @@ read_words : ReadKeysFit → (form : Format) (bytes : List ℕ) (keys : Keys) �
 read_words fit formats.Json bytes keys within e = json_words bytes keys (ok_of (reads_json bytes) keys e)
 read_words fit formats.Binary bytes keys within e = each_of keys.records (λ r b. b.id) (fit bytes keys (omega (arith, within)) (ok_of (reads_binary bytes) keys e)).1
 
-read_keyset : ReadKeysFit → (form : Format) (bytes : List ℕ) (keys : Keys) → length bytes ≤ keyset_limit → read_in form bytes ≡ Some keys → IsKeyset keys
+pub read_keyset : ReadKeysFit → (form : Format) (bytes : List ℕ) (keys : Keys) → length bytes ≤ keyset_limit → read_in form bytes ≡ Some keys → IsKeyset keys
 read_keyset fit form bytes keys within e = record { faultless = read_faultless (record { bytes = bytes; form = form }) keys e; words = read_words fit form bytes keys within e }
 
 -- ---- the answer of a session
@@ -105,7 +109,8 @@ replied opens dopens opens_raw dopens_raw verifies law table out keys told old s
           cut = t.cut;
           all = λ h. t.all (done h);
           whole = t.whole;
-          took = subst (λ bytes. Took old.sink new.sink bytes) (same ∙ t.output) took;
+          took = λ other. subst (λ bytes. Took old.sink new.sink bytes) (same ∙ t.output) took;
+          front = λ fault. absurd (not_unwritten s stated fault);
           readable = λ standard. subst (λ (tb : Table). AreReadable (turns_of tb keys t.answered told.random)) (sym standard) (are_readable opens dopens opens_raw dopens_raw verifies keys (each line_of t.answered) told.random is);
         }
 
@@ -115,31 +120,32 @@ replied opens dopens opens_raw dopens_raw verifies law table out keys told old s
     by_stop (passes long_line) is a = told_so (λ h. let clash : status.Done ≡ status.LineTooLong = sym h ∙ a.status in absurd (cc)) x.output refl a.output
     by_stop (passes many_lines) is a = told_so (λ h. let clash : status.Done ≡ status.TooManyLines = sym h ∙ a.status in absurd (cc)) x.output refl a.output
 
--- a keyset that is too long has no lines answered
-too_long : (table : Table) (keys : Keys) (told : Told) (old : World) (s : Status) (new : World) → s ≡ status.KeysetTooLong → Took old.sink new.sink [] → HasReplies table keys told old s new
+-- nothing was written, and no line was answered
+pub none_replied : (table : Table) (keys : Keys) (told : Told) (old : World) (s : Status) (new : World) → s ≢ status.Done → s ≢ status.WriteFault → Took old.sink new.sink [] → HasReplies table keys told old s new
 unfolding turns
-too_long table keys told old s new is took = record {
+none_replied table keys told old s new undone other took = record {
   answered = [];
   later = lines_of told.input;
   cut = refl;
-  all = λ h. let clash : status.Done ≡ status.KeysetTooLong = sym h ∙ is in absurd (cc);
+  all = λ h. absurd (undone h);
   whole = refl;
-  took = took;
+  took = λ h. took;
+  front = λ h. absurd (other h);
   readable = λ standard. none_readable;
 }
 
-pub readable : SessionOpens → SessionDopens → SessionOpensRaw → SessionDopensRaw → SessionVerifies → TalkIsTurns → ReadKeysFit → (table : Table) (words : List (List ℕ)) (old : World) (s : Status) (new : World)
-    → Answers (plan_of table words) old s new → IsReadable table words old s new
-readable opens dopens opens_raw dopens_raw verifies law fit table words old s new answers = record {
-  replies = λ told name bytes form out keys tells stated is there read.
+pub readable_answer : SessionOpens → SessionDopens → SessionOpensRaw → SessionDopensRaw → SessionVerifies → TalkIsTurns → ReadKeysFit → AnswersAreReadable
+readable_answer opens dopens opens_raw dopens_raw verifies law fit table words old s new stated answers = record {
+  replies = λ told name bytes form out keys tells is there read.
       let a : IsAnswer (answer (loads_keyset name form (holds_session table out)) told) old s new = subst (λ p. IsAnswer (answer p told) old s new) (ap (asked_plan table) is) (answers.over told tells stated) in
       let b : IsAnswer (if nat_le (length bytes) keyset_limit then answer (keyset_in form bytes (holds_session table out)) told else refused told status.KeysetTooLong) old s new = rw there at a in
-      by_length told bytes form out keys stated read (nat_le (length bytes) keyset_limit) refl b;
+      by_length told bytes form out keys read (nat_le (length bytes) keyset_limit) refl b;
 }
   where
-    by_length : (told : Told) (bytes : List ℕ) (form : Format) (out : Place) (keys : Keys) → IsStated s → read_in form bytes ≡ Some keys → (t : Bool) → nat_le (length bytes) keyset_limit ≡ t
+    by_length : (told : Told) (bytes : List ℕ) (form : Format) (out : Place) (keys : Keys) → read_in form bytes ≡ Some keys → (t : Bool) → nat_le (length bytes) keyset_limit ≡ t
         → IsAnswer (if t then answer (keyset_in form bytes (holds_session table out)) told else refused told status.KeysetTooLong) old s new → HasReplies table keys told old s new
-    by_length told bytes form out keys stated read true is a =
+    by_length told bytes form out keys read true is a =
         replied opens dopens opens_raw dopens_raw verifies law table out keys told old s new (read_keyset fit form bytes keys (grind (arith, nat_tests, is)) read) stated
         (subst (λ x. IsAnswer x old s new) (keyset_reached form bytes keys (holds_session table out) told read) a)
-    by_length told bytes form out keys stated read false is a = too_long table keys told old s new a.status a.output
+    by_length told bytes form out keys read false is a =
+        none_replied table keys told old s new (λ h. let clash : status.Done ≡ status.KeysetTooLong = sym h ∙ a.status in absurd (cc)) (not_unwritten s stated) a.output

@@ -309,16 +309,16 @@ done_edits sessions table told (seal_stream name form ad) old new does = absurd 
 done_edits sessions table told (open_stream name form ad) old new does = absurd does
 done_edits sessions table told (self_test seed lines) old new does = absurd does
 
-record Led (old : Keys) (after : Written) : Type 0 where
-  new : Keys
-  read : keyset_of after ≡ Some new
-  edited : IsEdited old new
+pub record Led (old : Keys) (after : Written) : Type 0 where
+  pub new : Keys
+  pub read : keyset_of after ≡ Some new
+  pub edited : IsEdited old new
 
 no_edits : (old : Keys) → IsEdited old old
 unfolding after
 no_edits old = record { edits = []; asked = tt; last = refl }
 
-led : RunStep → SessionIsEdits → (table : Table) (runs : List Run) (before after : Written) (old : Keys) → AreRuns table runs before after → AllByRecursion DrawsBytes runs → keyset_of before ≡ Some old → AreStored old → Led old after
+pub led : RunStep → SessionIsEdits → (table : Table) (runs : List Run) (before after : Written) (old : Keys) → AreRuns table runs before after → AllByRecursion DrawsBytes runs → keyset_of before ≡ Some old → AreStored old → Led old after
 led law sessions table [] before after old are bytes is stored = record { new = old; read = ap keyset_of (sym are) ∙ is; edited = no_edits old }
 led law sessions table (run ∷ later) before after old (between, hands, are) bytes is stored =
     let step' = law table run before between old hands bytes.0 is stored in
@@ -351,19 +351,19 @@ lead_ends law sessions runs before after r x =
     }
 
 -- each record of the last keyset serves where each of the first one does
-still_fit : (p : Primitive) → SoundIsUsable p → EditedIsSound → EditedIsKeyset → (old new : Keys) → IsKeyset old → IsEdited old new → unfit old p standard_table ≡ None → unfit new p standard_table ≡ None
+pub still_fit : (p : Primitive) → SoundIsUsable p → EditedIsSound → EditedIsKeyset → (old new : Keys) → IsKeyset old → IsEdited old new → unfit old p standard_table ≡ None → unfit new p standard_table ≡ None
 still_fit p usable sound keyset old new is edited fit =
     (usable new (keyset old new edited is)).1 (sound p old new edited ((usable old is).0 fit))
 
 -- ---- work before and after
 
 -- work over the first keyset was done
-record Started (work : AskedWork) (old : Keys) (told : Told) (output : List ℕ) : Type 0 where
-  fit : unfit old (primitive_for work) standard_table ≡ None
-  status' : IsDoneAnswer (answer (works standard_table old work told.input writes) (record told { input = [] }))
-  gave : (answer (works standard_table old work told.input writes) (record told { input = [] })).output ≡ output
+pub record Started (work : AskedWork) (old : Keys) (told : Told) (output : List ℕ) : Type 0 where
+  pub fit : unfit old (primitive_for work) standard_table ≡ None
+  pub status' : IsDoneAnswer (answer (works standard_table old work told.input writes) (record told { input = [] }))
+  pub gave : (answer (works standard_table old work told.input writes) (record told { input = [] })).output ≡ output
 
-started : (work : AskedWork) (written : Written) (old : Keys) (told : Told) (output : List ℕ) → keyset_of written ≡ Some old → WasDone work written told output → Started work old told output
+pub started : (work : AskedWork) (written : Written) (old : Keys) (told : Told) (output : List ℕ) → keyset_of written ≡ Some old → WasDone work written told output → Started work old told output
 started work written old told output is was =
     let u = used_done standard_table was.name written.form work written.bytes old told was.lies is was.done in
     record {
@@ -373,7 +373,7 @@ started work written old told output is was =
     }
 
 -- work over the last one is done, where its keys answer so
-finished : (work : AskedWork) (written : Written) (new : Keys) (input output : List ℕ) → keyset_of written ≡ Some new → unfit new (primitive_for work) standard_table ≡ None
+pub finished : (work : AskedWork) (written : Written) (new : Keys) (input output : List ℕ) → keyset_of written ≡ Some new → unfit new (primitive_for work) standard_table ≡ None
     → ((told : Told) → (IsDoneAnswer (answer (works standard_table new work input writes) told)) × ((answer (works standard_table new work input writes) told).output ≡ output))
     → IsDone work written input output
 finished work written new input output is fit gives told name lies same within fits =
@@ -382,7 +382,7 @@ finished work written new input output is fit gives told name lies same within f
     (ap (λ (a : Answer). a.status) r ∙ g.0, ap (λ (a : Answer). a.output) r ∙ g.1)
 
 -- what was sealed, by the answer of its work
-sealed_by : (old : Keys) (ad : List ℕ) (told : Told) (output : List ℕ) → Started (to_seal ad) old told output → (s : Sealed) × (seal_answer old standard_table told.input ad told.random ≡ Some s) × (s.bytes ≡ output)
+pub sealed_by : (old : Keys) (ad : List ℕ) (told : Told) (output : List ℕ) → Started (to_seal ad) old told output → (s : Sealed) × (seal_answer old standard_table told.input ad told.random ≡ Some s) × (s.bytes ≡ output)
 sealed_by old ad told output x = by (seal_answer old standard_table told.input ad told.random) refl x.status' x.gave
   where
     a : Option Sealed → Answer
@@ -397,7 +397,7 @@ made_some (Some bytes) some = (bytes, refl)
 made_some None some = no_truth some
 
 -- opening gives that plaintext
-opens_so : (o : Option (List ℕ)) (plain : List ℕ) (told : Told) → o ≡ Some plain → (IsDoneAnswer (answer (with_opened o writes) told)) × ((answer (with_opened o writes) told).output ≡ plain)
+pub opens_so : (o : Option (List ℕ)) (plain : List ℕ) (told : Told) → o ≡ Some plain → (IsDoneAnswer (answer (with_opened o writes) told)) × ((answer (with_opened o writes) told).output ≡ plain)
 opens_so o plain told is = rw is (refl, refl)
 
 pub runs_open : RunStep → SessionIsEdits → SoundIsUsable Aead → EditedIsSound → EditedIsKeyset → KeptOpen → RunsOpen
@@ -421,12 +421,12 @@ runs_open_raw law sessions usable sound keyset kept runs before after r ad seale
     )
 
 -- what was made without a draw
-dsealed_by : FitKeysetsAnswer → (old : Keys) (ad : List ℕ) (told : Told) (output : List ℕ) → IsKeyset old → Started (to_dseal ad) old told output → dseal_answer old standard_table told.input ad ≡ Some output
+pub dsealed_by : FitKeysetsAnswer → (old : Keys) (ad : List ℕ) (told : Told) (output : List ℕ) → IsKeyset old → Started (to_dseal ad) old told output → dseal_answer old standard_table told.input ad ≡ Some output
 dsealed_by fit old ad told output is x =
     let m = made_some (dseal_answer old standard_table told.input ad) (fit.dseal standard_table old told.input ad (record { faultless = is.faultless; fit = x.fit })) in
     m.1 ∙ ap Some (sym (ap made_bytes m.1) ∙ x.gave)
 
-tagged_by : FitKeysetsAnswer → (old : Keys) (told : Told) (output : List ℕ) → IsKeyset old → Started to_tag old told output → tag_answer old standard_table told.input ≡ Some output
+pub tagged_by : FitKeysetsAnswer → (old : Keys) (told : Told) (output : List ℕ) → IsKeyset old → Started to_tag old told output → tag_answer old standard_table told.input ≡ Some output
 tagged_by fit old told output is x =
     let m = made_some (tag_answer old standard_table told.input) (fit.tag standard_table old told.input (record { faultless = is.faultless; fit = x.fit })) in
     m.1 ∙ ap Some (sym (ap made_bytes m.1) ∙ x.gave)
@@ -450,7 +450,7 @@ runs_dopen_raw fits law sessions usable sound keyset kept runs before after r ad
     )
 
 -- verifying is done, with no output
-verifies_so : (b : Bool) (told : Told) → b ≡ true → (IsDoneAnswer (answer (with_verified b writes) told)) × ((answer (with_verified b writes) told).output ≡ [])
+pub verifies_so : (b : Bool) (told : Told) → b ≡ true → (IsDoneAnswer (answer (with_verified b writes) told)) × ((answer (with_verified b writes) told).output ≡ [])
 verifies_so b told is = rw is (refl, refl)
 
 pub runs_verify : FitKeysetsAnswer → RunStep → SessionIsEdits → SoundIsUsable Mac → EditedIsSound → EditedIsKeyset → KeptTag → RunsVerify

@@ -1,14 +1,15 @@
 -- What a session leaves readable.
 --
 --   AreReadable   of turns: what one sealed or tagged, a later one opens or verifies
---   IsReadable    of a run: where it is that of a session, what it wrote are the replies of such turns
-use Rattle.std.specs.Prelude.{◌≡◌, ℕ, ◌<◌, List, [], ◌++◌, length, map, Some, None, Ok, slice_get}
+--   IsReadable    of a run: where it is that of a session, however it ended, what it wrote are the
+--                 replies of such turns
+use Rattle.std.specs.Prelude.{◌≡◌, ◌≢◌, ℕ, ◌<◌, List, [], ◌++◌, length, map, Some, None, Ok, slice_get}
 use Rattle.std.specs.FinMap as map
 use Rattle.keyset_model.specs.Keyset.{Keys, primary_of}
 use Rattle.keyset_model.specs.declared.record.Record.{Record}
 use Rattle.managers.specs.Standard.{standard_table}
 use Rattle.managers.specs.Table.{Table}
-use Rattle.tink_spec.specs.Outside.{Took}
+use Rattle.tink_spec.specs.Outside.{Took, TookPrefix}
 use Rattle.tinkey_session.specs.Lines.{line_of, Seal, Open, Dseal, Dopen, Tag, Verify}
 use Rattle.tinkey_session.specs.declared.reply.Reply.TheVariants.{Done, Gives}
 use Rattle.tinkey_session.specs.Session.{Turn, lines_of, turns}
@@ -18,8 +19,8 @@ use Rattle.wrapped_prims.specs.Laws.{HasSameKey}
 use Rattle.tinkey_plans.specs.declared.status.Status.{Status}
 use Rattle.tinkey_plans.specs.declared.status.Status.TheVariants as status
 use Rattle.tinkey_words.specs.declared.words.rows.Format.{Format}
-use Rattle.tinkey_plans.specs.Ends.{World}
-use Rattle.tinkey_plans.specs.Plan.{Told, IsStated}
+use Rattle.tinkey_plans.specs.Ends.{World, Ends}
+use Rattle.tinkey_plans.specs.Plan.{Told, IsStated, allocates}
 use Rattle.tinkey_plans.specs.Commands.{plan_of}
 use Rattle.tinkey_plans.specs.Promises.{Answers, Tells}
 use Rattle.tinkey_readable.specs.Runs.{read_in}
@@ -65,8 +66,8 @@ abbrev pub turns_of : Table → Keys → (answered : List (List ℕ)) → (rando
 turns_of table keys answered random = turns table keys (map line_of answered) random
 
 -- The first lines of the input were answered, and all of them where the session was done; what was
--- written are the replies of their turns, over the keyset of the file and one after another; and over
--- the program's table these are readable.
+-- written are the replies of their turns, over the keyset of the file and one after another, and at a
+-- write fault the first bytes of these; and over the program's table the turns are readable.
 pub record HasReplies (table : Table) (keys : Keys) (told : Told) (old : World) (s : Status)
     (new : World) : Type 0 where
   pub answered : List (List ℕ)
@@ -74,19 +75,28 @@ pub record HasReplies (table : Table) (keys : Keys) (told : Told) (old : World) 
   pub cut : lines_of told.input ≡ answered ++ later
   pub all : s ≡ status.Done → later ≡ []
   pub whole : length (turns_of table keys answered told.random) ≡ length answered
-  pub took : Took old.sink new.sink (replies_text (turns_of table keys answered told.random))
+  pub took : s ≢ status.WriteFault →
+      Took old.sink new.sink (replies_text (turns_of table keys answered told.random))
+  pub front : s ≡ status.WriteFault →
+      TookPrefix old.sink new.sink (replies_text (turns_of table keys answered told.random))
   pub readable : table ≡ standard_table → AreReadable (turns_of table keys answered told.random)
 
--- a run of `session` over objects that tell, whose status is no fault and no want of memory, over a
--- file that is a keyset
+-- a run of `session` over objects that tell, whatever its status, over a file that is a keyset
 pub record IsReadable (table : Table) (words : List (List ℕ)) (old : World) (s : Status)
     (new : World) : Type 0 where
   pub replies : (told : Told) (name bytes : List ℕ) (form : Format) (out : Place) (keys : Keys)
-      → Tells old told → IsStated s → words_of words ≡ Ok (session name form out)
+      → Tells old told → words_of words ≡ Ok (session name form out)
       → map.get told.files name ≡ Some bytes → read_in form bytes ≡ Some keys
       → HasReplies table keys told old s new
 
--- Whatever a run answers as the stated answer says, is readable.
+-- However a run of these words ends, also where memory was wanting before it, it is readable.
 abbrev pub SessionsAreReadable : Type 0
 SessionsAreReadable = (table : Table) (words : List (List ℕ)) (old : World) (s : Status)
-    (new : World) → Answers (plan_of table words) old s new → IsReadable table words old s new
+    (new : World) → Ends (allocates (plan_of table words)) old s new
+    → IsReadable table words old s new
+
+-- Whatever a run answers as the stated answer says, is readable.
+abbrev pub AnswersAreReadable : Type 0
+AnswersAreReadable = (table : Table) (words : List (List ℕ)) (old : World) (s : Status)
+    (new : World) → IsStated s → Answers (plan_of table words) old s new
+    → IsReadable table words old s new

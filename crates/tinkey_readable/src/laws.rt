@@ -2,7 +2,8 @@
 
 ghost use Rattle.keyset_json.specs.Writing.{JsonBack};
 ghost use Rattle.keyset_model.specs.Writing.{BinaryBack};
-ghost use Rattle.tinkey_readable.specs.Readable.{SessionsAreReadable};
+ghost use Rattle.tinkey_readable.specs.LineRuns.{MadeDopens, MadeDopensRaw, MadeOpens, MadeOpensRaw, MadeVerifies};
+ghost use Rattle.tinkey_readable.specs.Readable.{AnswersAreReadable, SessionsAreReadable};
 ghost use Rattle.tinkey_readable.specs.Runs.{RunStep, RunsDopen, RunsDopenRaw, RunsOpen, RunsOpenRaw, RunsVerify};
 
 use keyset_json::laws::json_back;
@@ -61,10 +62,32 @@ pub fn kept_runs()
     kept_tag();
 }
 
+/// The same where what sealed or tagged, or what opens or verifies, may be a run of a command or a
+/// line of a session. A session that sealed hands its keyset on; one that opens may be any.
+pub fn kept_lines()
+    ensures open { MadeOpens }
+    ensures dopen { MadeDopens }
+    ensures open_raw { MadeOpensRaw }
+    ensures dopen_raw { MadeDopensRaw }
+    ensures verify { MadeVerifies }
+{
+    run_step();
+    fit_keysets_answer();
+    session_is_edits();
+    sound_usable();
+    edited_kept();
+    kept_open();
+    kept_dopen();
+    kept_open_raw();
+    kept_dopen_raw();
+    kept_tag();
+}
+
 /// What a run of a session wrote are the replies of turns, which are readable over the standard
-/// table.
+/// table: however the run ends, and of whatever is answered as the stated answer says.
 pub fn sessions_are_readable()
-    ensures { SessionsAreReadable }
+    ensures ended { SessionsAreReadable }
+    ensures answered { AnswersAreReadable }
 {
     session_opens();
     session_dopens();

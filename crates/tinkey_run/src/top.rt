@@ -34,7 +34,8 @@ use tink_base::{Entropy, Sink, Source, Store};
 /// that the status is a stated one where nothing fails and memory suffices; `ends`, from which they
 /// follow, has each way in which a run may end. `line` is the diagnostic line. `readable` is over the
 /// table of the program: what a session sealed or tagged it opens or verifies in a later line, while
-/// the keyset has the key, ENABLED, and what it wrote are the replies that say so.
+/// the keyset has the key, ENABLED, and what it wrote are the replies that say so, whatever the
+/// status; at a write fault they are the first bytes of these.
 pub fn run<S: Source, K: Sink, G: Sink, E: Entropy, D: Store>(
     alloc: Global,
     words: &[String],

@@ -1,0 +1,274 @@
+-- What runs and lines made, read by later runs and lines.
+use Rattle.std.proofs.Common.{◌≡◌, ◌∙◌, inl, inr, sym, refl, ap, subst, ℕ, zero, suc, true, List, [], ◌∷◌, Option, Some, None, option_map}
+use Rattle.std.specs.Prelude.{slice_get}
+use Rattle.std.specs.Option.{option_and_then}
+use Rattle.std.proofs.lemmas.Option.{same_Some}
+use Rattle.key_msgs.specs.declared.primitive.Primitive.{Primitive}
+use Rattle.key_msgs.specs.declared.primitive.Primitive.TheVariants.{Aead, Daead, Mac}
+use Rattle.keyset_model.specs.Keyset.{Keys, primary_of}
+use Rattle.keyset_model.specs.declared.record.Record.{Record}
+use Rattle.managers.specs.Standard.{standard_table}
+use Rattle.managers.specs.Table.{Table}
+use Rattle.tinkey_session.proofs.Options.{clash, map_some}
+use Rattle.tinkey_session.proofs.TurnLemmas.{edited_on, handle_cases, reached}
+use Rattle.tinkey_session.specs.HeldLaws.{AreStored}
+use Rattle.tinkey_session.specs.Laws.{EditedIsKeyset, EditedIsSound, IsEdited, KeptDopen, KeptDopenRaw, KeptOpen, KeptOpenRaw, KeptTag, SoundIsUsable}
+use Rattle.tinkey_session.specs.Lines.{Line}
+use Rattle.tinkey_session.specs.Serving.{cannot_serve, Served, answered, by_handle, computed, opened_reply, sealed_reply, serve, unless_unfit, verified_reply}
+use Rattle.tinkey_session.specs.Session.{Remains, Turn, asked_in, remains, turn_then, turns}
+use Rattle.tinkey_session.specs.SessionLaws.{SessionIsEdits}
+use Rattle.tinkey_session.specs.declared.reply.Reply.{Reply}
+use Rattle.tinkey_session.specs.declared.reply.Reply.TheVariants.{Gives, Refuses}
+use Rattle.wrapped_prims.specs.Answers.{Sealed, dopen_answer, dseal_answer, open_answer, seal_answer, tag_answer, verify_answer}
+use Rattle.wrapped_prims.specs.Fitness.{unfit}
+use Rattle.wrapped_prims.specs.Laws.{HasSameKey, IsKeyset}
+use Rattle.tinkey_plans.specs.Laws.{FitKeysetsAnswer, IsSession}
+use Rattle.tinkey_plans.specs.Plan.{Told, answer, writes}
+use Rattle.tinkey_plans.specs.Using.{works}
+use Rattle.tinkey_words.specs.Words.{Asked, AskedWork, create_keyset, edit_keyset, list_keyset, convert_keyset, list_key_templates, use_keyset, seal_stream, open_stream, self_test, session, to_seal, to_open, to_dseal, to_dopen, to_tag, to_verify, primitive_for}
+use Rattle.tinkey_readable.specs.LineRuns.{HasTurn, IsRead, IsReadSomehow, MadeDopens, MadeDopensRaw, MadeOpens, MadeOpensRaw, MadeVerifies, WasMade, asks, by_line, by_run, done_reply}
+use Rattle.tinkey_readable.specs.Runs.{Does, IsDone, RunStep, Written, keyset_of}
+use Rattle.tinkey_readable.proofs.ReachLemmas.{IsDoneAnswer}
+use Rattle.tinkey_readable.proofs.RunLemmas.{Started, dsealed_by, each_of, finished, led, opens_so, read_faultless, sealed_by, started, still_fit, tagged_by, verifies_so}
+
+-- ---- the replies of lines
+
+-- a line that gave bytes had a keyset that serves the primitive, and this is what it gave
+gave : (p : Primitive) (keys : Keys) (random : List ℕ) (served : Option Served) (x : Served) (bytes : List ℕ) → by_handle p standard_table keys random served ≡ Some x → x.reply ≡ Gives bytes
+    → (unfit keys p standard_table ≡ None) × (served ≡ Some x)
+gave p keys random served x bytes e reply = elim (handle_cases (unfit keys p standard_table) keys random served x e) [
+  | inl is ↦ is
+  | inr other ↦ let h : Refuses (cannot_serve other.0.0 other.0.1) ≡ Gives bytes = ap (λ y. y.reply) other.1 ∙ reply in absurd (cc)
+]
+
+same_bytes : (a b : List ℕ) → Gives a ≡ Gives b → a ≡ b
+same_bytes a b e = cc
+
+-- under a keyset that serves the primitive, the reply is the answer
+answer_is : (p : Primitive) (keys : Keys) (random : List ℕ) (reply : Reply) (x : Served) → unfit keys p standard_table ≡ None
+    → by_handle p standard_table keys random (Some (answered keys random reply)) ≡ Some x → x.reply ≡ reply
+answer_is p keys random reply x fit e =
+    sym (ap (λ y. y.reply) (same_Some _ _ (sym (ap (λ u. unless_unfit u keys random (Some (answered keys random reply))) fit) ∙ e)))
+
+-- what is computed without a draw
+computed_gave : (p : Primitive) (keys : Keys) (random : List ℕ) (answer : Option (List ℕ)) (bytes : List ℕ) (x : Served)
+    → by_handle p standard_table keys random (computed keys random Gives answer) ≡ Some x → x.reply ≡ Gives bytes
+    → (unfit keys p standard_table ≡ None) × (answer ≡ Some bytes)
+computed_gave p keys random answer bytes x e is =
+    let g = gave p keys random (computed keys random Gives answer) x bytes e is in
+    let there = map_some (λ value. answered keys random (Gives value)) answer x g.1 in
+    (g.0, there.1 ∙ ap Some (same_bytes _ _ (ap (λ y. y.reply) there.2 ∙ is)))
+
+-- ---- where something was made
+
+-- the keyset that made it, and the last one
+record Origin (p : Primitive) (Makes : Keys → Type 0) (r : Record) (after : Written) : Type 0 where
+  old : Keys
+  last : Keys
+  lies : keyset_of after ≡ Some last
+  edited : IsEdited old last
+  keyset : IsKeyset old
+  primary : primary_of old ≡ Some r
+  fit : unfit old p standard_table ≡ None
+  makes : Makes old
+
+-- a session goes on from a turn of it
+turn_on : (table : Table) (lines : List Line) (keys : Keys) (random : List ℕ) (i : ℕ) (t : Turn) (m : Remains) → slice_get (turns table keys lines random) i ≡ Some t → remains table keys lines random ≡ Some m
+    → (later : List Line) × (left : List ℕ) × (remains table t.before later left ≡ Some m)
+unfolding turns remains
+turn_on table [] keys random i t m at e = clash at
+turn_on table (line ∷ later) keys random zero t m at e = elim (serve table keys line random) as (λ o. slice_get (turn_then keys line o (λ s. turns table s.keys later s.left)) 0 ≡ Some t → (rest : List Line) × (left : List ℕ) × (remains table t.before rest left ≡ Some m)) [
+  | None ↦ λ k. clash k
+  | Some x ↦ λ k. (line ∷ later, random, subst (λ keys. remains table keys (line ∷ later) random ≡ Some m) (ap (λ y. y.before) (same_Some _ _ k)) e)
+] at
+turn_on table (line ∷ later) keys random (suc i) t m at e = elim (serve table keys line random) as (λ o. slice_get (turn_then keys line o (λ s. turns table s.keys later s.left)) (suc i) ≡ Some t → option_and_then (λ s. remains table s.keys later s.left) o ≡ Some m
+    → (rest : List Line) × (left : List ℕ) × (remains table t.before rest left ≡ Some m)) [
+      | None ↦ λ k h. clash k
+      | Some x ↦ λ k h. turn_on table later x.keys x.left i t m k h
+    ] at e
+
+-- what a session does
+session_does : (table : Table) (told : Told) (old new : Keys) (asked : Asked) → IsSession asked → Does table told old new asked → (m : Remains) × (remains table old (asked_in told.input) told.random ≡ Some m) × (m.keys ≡ new)
+session_does table told old new (session name form out) is does = does
+session_does table told old new (create_keyset template out) is does = absurd is
+session_does table told old new (edit_keyset edit in' out) is does = absurd is
+session_does table told old new (list_keyset in') is does = absurd is
+session_does table told old new (convert_keyset in' out) is does = absurd is
+session_does table told old new list_key_templates is does = absurd is
+session_does table told old new (use_keyset name form work) is does = absurd is
+session_does table told old new (seal_stream name form ad) is does = absurd is
+session_does table told old new (open_stream name form ad) is does = absurd is
+session_does table told old new (self_test seed lines) is does = absurd is
+
+stored_keyset : (written : Written) (keys : Keys) → keyset_of written ≡ Some keys → AreStored keys → IsKeyset keys
+stored_keyset written keys read stored = record { faultless = read_faultless written keys read; words = each_of keys.records (λ r s. s.held.id) stored }
+
+origin : RunStep → SessionIsEdits → EditedIsKeyset → (work : AskedWork) (input output : List ℕ) (r : Record) (after : Written) (Makes : Keys → Type 0)
+    → ((old : Keys) (told : Told) → IsKeyset old → Started work old told output → told.input ≡ input → Makes old)
+    → ((keys : Keys) (random : List ℕ) (x : Served) → serve standard_table keys (asks work input) random ≡ Some x → x.reply ≡ Gives output → (unfit keys (primitive_for work) standard_table ≡ None) × Makes keys)
+    → WasMade work input output r after → Origin (primitive_for work) Makes r after
+origin law sessions keyset work input output r after Makes of_run of_line (by_run runs before old lead told was same primary) =
+    let l = led law sessions standard_table runs before after old lead.are lead.bytes lead.read lead.stored in
+    let k = stored_keyset before old lead.read lead.stored in
+    let b = started work before old told output lead.read was in
+    record { old = old; last = l.new; lies = l.read; edited = l.edited; keyset = k; primary = primary; fit = b.fit; makes = of_run old told k b same }
+origin law sessions keyset work input output r after Makes of_run of_line (by_line run runs before old lead is t has line reply primary) =
+    let between = lead.are.0 in
+    let hands = lead.are.1 in
+    let step' = law standard_table run before between old hands lead.bytes.0 lead.read lead.stored in
+    let l = led law sessions standard_table runs between after step'.new lead.are.2 lead.bytes.1 step'.read step'.stored in
+    let there = subst (λ k. slice_get (turns standard_table k (asked_in run.told.input) run.told.random) has.place ≡ Some t) (same_Some _ _ (sym has.read ∙ lead.read)) has.there in
+    let at = reached standard_table (asked_in run.told.input) old run.told.random has.place t there in
+    let does = session_does standard_table run.told old step'.new run.asked is step'.does in
+    let on = turn_on standard_table (asked_in run.told.input) old run.told.random has.place t does.0 there does.1 in
+    let behind = subst (λ k. IsEdited t.before k) does.2 (sessions standard_table t.before on.0 on.1 does.0 on.2) in
+    let made = of_line t.before at.random at.served (subst (λ asked. serve standard_table t.before asked at.random ≡ Some at.served) line at.is) (sym at.reply ∙ reply) in
+    record {
+      old = t.before;
+      last = l.new;
+      lies = l.read;
+      edited = edited_on t.before step'.new l.new behind l.edited;
+      keyset = keyset old t.before at.edited (stored_keyset before old lead.read lead.stored);
+      primary = primary;
+      fit = made.0;
+      makes = made.1;
+    }
+
+-- ---- where it is read
+
+-- some output of this kind is read
+record Reads (work : AskedWork) (input : List ℕ) (Is : List ℕ → Type 0) (r : Record) (written : Written) : Type 0 where
+  of_run : (new : Keys) → keyset_of written ≡ Some new → HasSameKey r new → (other : List ℕ) × Is other × IsDone work written input other
+  of_line : (told : Told) (t : Turn) → HasTurn told written t → t.line ≡ asks work input → HasSameKey r t.before → (other : List ℕ) × Is other × (t.reply ≡ done_reply work other)
+
+-- what a run and a line answer over a keyset
+record Answers (work : AskedWork) (input : List ℕ) (Is : List ℕ → Type 0) (new : Keys) : Type 0 where
+  other : List ℕ
+  is : Is other
+  of_run : (told : Told) → (IsDoneAnswer (answer (works standard_table new work input writes) told)) × ((answer (works standard_table new work input writes) told).output ≡ other)
+  of_line : (random : List ℕ) (x : Served) → unfit new (primitive_for work) standard_table ≡ None → serve standard_table new (asks work input) random ≡ Some x → x.reply ≡ done_reply work other
+
+reads : {Makes : Keys → Type 0} (work : AskedWork) (input : List ℕ) (Is : List ℕ → Type 0) (r : Record) (after : Written) → SoundIsUsable (primitive_for work) → EditedIsSound → EditedIsKeyset → (o : Origin (primitive_for work) Makes r after)
+    → ((new : Keys) → IsEdited o.old new → HasSameKey r new → Answers work input Is new) → Reads work input Is r after
+reads work input Is r after usable sound keyset o answers = record {
+  of_run = λ new lies same.
+      let edited = subst (λ k. IsEdited o.old k) (same_Some _ _ (sym o.lies ∙ lies)) o.edited in
+      let a = answers new edited same in
+      (a.other, a.is, finished work after new input a.other lies (still_fit (primitive_for work) usable sound keyset o.old new o.keyset edited o.fit) a.of_run);
+  of_line = λ told t has line same.
+      let last = same_Some _ _ (sym has.read ∙ o.lies) in
+      let at = reached standard_table (asked_in told.input) has.keys told.random has.place t has.there in
+      let edited = edited_on o.old o.last t.before o.edited (subst (λ k. IsEdited k t.before) last at.edited) in
+      let a = answers t.before edited same in
+      let fit = still_fit (primitive_for work) usable sound keyset o.old t.before o.keyset edited o.fit in
+      (a.other, a.is, at.reply ∙ a.of_line at.random at.served fit (subst (λ asked. serve standard_table t.before asked at.random ≡ Some at.served) line at.is));
+}
+
+is_read : (work : AskedWork) (input output : List ℕ) (r : Record) (written : Written) → Reads work input (λ other. other ≡ output) r written → IsRead work input output r written
+is_read work input output r written x = record {
+  by_run = λ new lies same. let d = x.of_run new lies same in subst (λ o. IsDone work written input o) d.1 d.2;
+  by_line = λ told t has line same. let d = x.of_line told t has line same in d.2 ∙ ap (done_reply work) d.1;
+}
+
+is_read_somehow : (work : AskedWork) (input : List ℕ) (r : Record) (written : Written) → Reads work input (λ other. Unit {0}) r written → IsReadSomehow work input r written
+is_read_somehow work input r written x = record {
+  by_run = λ new lies same. let d = x.of_run new lies same in (d.0, d.2);
+  by_line = λ told t has line same. let d = x.of_line told t has line same in (d.0, d.2);
+}
+
+-- ---- seals
+
+record MakesSeal (plain ad sealed : List ℕ) (keys : Keys) : Type 0 where
+  random : List ℕ
+  made : Sealed
+  is : seal_answer keys standard_table plain ad random ≡ Some made
+  bytes : made.bytes ≡ sealed
+
+seal_origin : RunStep → SessionIsEdits → EditedIsKeyset → (ad plain sealed : List ℕ) (r : Record) (after : Written) → WasMade (to_seal ad) plain sealed r after → Origin Aead (MakesSeal plain ad sealed) r after
+unfolding serve
+seal_origin law sessions keyset ad plain sealed r after was = origin law sessions keyset (to_seal ad) plain sealed r after (MakesSeal plain ad sealed)
+    (λ old told k b same. let s = sealed_by old ad told sealed b in record { random = told.random; made = s.0; is = ap (λ i. seal_answer old standard_table i ad told.random) (sym same) ∙ s.1; bytes = s.2 })
+    (λ keys random x e is.
+    let g = gave Aead keys random (option_map (sealed_reply keys) (seal_answer keys standard_table plain ad random)) x sealed e is in
+    let there = map_some (sealed_reply keys) (seal_answer keys standard_table plain ad random) x g.1 in
+    (g.0, record { random = random; made = there.0; is = there.1; bytes = same_bytes _ _ (ap (λ y. y.reply) there.2 ∙ is) }))
+    was
+
+open_answers : (Is : List ℕ → Type 0) (new : Keys) (sealed ad plain : List ℕ) → Is plain → open_answer new standard_table sealed ad ≡ Some plain → Answers (to_open ad) sealed Is new
+unfolding serve
+open_answers Is new sealed ad plain is e = record {
+  other = plain;
+  is = is;
+  of_run = λ told. opens_so (open_answer new standard_table sealed ad) plain told e;
+  of_line = λ random x fit served. answer_is Aead new random _ x fit served ∙ ap opened_reply e;
+}
+
+pub made_opens : RunStep → SessionIsEdits → SoundIsUsable Aead → EditedIsSound → EditedIsKeyset → KeptOpen → MadeOpens
+made_opens law sessions usable sound keyset kept ad plain sealed prefix r after is was =
+    let o = seal_origin law sessions keyset ad plain sealed r after was in
+    let m = o.makes in
+    is_read (to_open ad) sealed plain r after (reads (to_open ad) sealed (λ other. other ≡ plain) r after usable sound keyset o (λ new edited same.
+    open_answers (λ other. other ≡ plain) new sealed ad plain refl (ap (λ c. open_answer new standard_table c ad) (sym m.bytes) ∙ kept o.old new r prefix plain ad m.random m.made o.keyset edited same o.primary is m.is)))
+
+pub made_opens_raw : RunStep → SessionIsEdits → SoundIsUsable Aead → EditedIsSound → EditedIsKeyset → KeptOpenRaw → MadeOpensRaw
+made_opens_raw law sessions usable sound keyset kept ad plain sealed r after is was =
+    let o = seal_origin law sessions keyset ad plain sealed r after was in
+    let m = o.makes in
+    is_read_somehow (to_open ad) sealed r after (reads (to_open ad) sealed (λ other. Unit {0}) r after usable sound keyset o (λ new edited same.
+    let opened = kept o.old new r plain ad m.random m.made same o.primary is m.is in
+    open_answers (λ other. Unit {0}) new sealed ad opened.0 tt (ap (λ c. open_answer new standard_table c ad) (sym m.bytes) ∙ opened.1)))
+
+-- ---- seals without an IV
+
+dseal_origin : FitKeysetsAnswer → RunStep → SessionIsEdits → EditedIsKeyset → (ad plain sealed : List ℕ) (r : Record) (after : Written) → WasMade (to_dseal ad) plain sealed r after → Origin Daead (λ keys. dseal_answer keys standard_table plain ad ≡ Some sealed) r after
+unfolding serve
+dseal_origin fits law sessions keyset ad plain sealed r after was = origin law sessions keyset (to_dseal ad) plain sealed r after (λ keys. dseal_answer keys standard_table plain ad ≡ Some sealed)
+    (λ old told k b same. ap (λ i. dseal_answer old standard_table i ad) (sym same) ∙ dsealed_by fits old ad told sealed k b)
+    (λ keys random x e is. computed_gave Daead keys random (dseal_answer keys standard_table plain ad) sealed x e is)
+    was
+
+dopen_answers : (Is : List ℕ → Type 0) (new : Keys) (sealed ad plain : List ℕ) → Is plain → dopen_answer new standard_table sealed ad ≡ Some plain → Answers (to_dopen ad) sealed Is new
+unfolding serve
+dopen_answers Is new sealed ad plain is e = record {
+  other = plain;
+  is = is;
+  of_run = λ told. opens_so (dopen_answer new standard_table sealed ad) plain told e;
+  of_line = λ random x fit served. answer_is Daead new random _ x fit served ∙ ap opened_reply e;
+}
+
+pub made_dopens : FitKeysetsAnswer → RunStep → SessionIsEdits → SoundIsUsable Daead → EditedIsSound → EditedIsKeyset → KeptDopen → MadeDopens
+made_dopens fits law sessions usable sound keyset kept ad plain sealed prefix r after is was =
+    let o = dseal_origin fits law sessions keyset ad plain sealed r after was in
+    is_read (to_dopen ad) sealed plain r after (reads (to_dopen ad) sealed (λ other. other ≡ plain) r after usable sound keyset o (λ new edited same.
+    dopen_answers (λ other. other ≡ plain) new sealed ad plain refl (kept o.old new r prefix plain ad sealed o.keyset edited same o.primary is o.makes)))
+
+pub made_dopens_raw : FitKeysetsAnswer → RunStep → SessionIsEdits → SoundIsUsable Daead → EditedIsSound → EditedIsKeyset → KeptDopenRaw → MadeDopensRaw
+made_dopens_raw fits law sessions usable sound keyset kept ad plain sealed r after is was =
+    let o = dseal_origin fits law sessions keyset ad plain sealed r after was in
+    is_read_somehow (to_dopen ad) sealed r after (reads (to_dopen ad) sealed (λ other. Unit {0}) r after usable sound keyset o (λ new edited same.
+    let opened = kept o.old new r plain ad sealed same o.primary is o.makes in
+    dopen_answers (λ other. Unit {0}) new sealed ad opened.0 tt opened.1))
+
+-- ---- tags
+
+tag_origin : FitKeysetsAnswer → RunStep → SessionIsEdits → EditedIsKeyset → (tag body : List ℕ) (r : Record) (after : Written) → WasMade to_tag body tag r after → Origin Mac (λ keys. tag_answer keys standard_table body ≡ Some tag) r after
+unfolding serve
+tag_origin fits law sessions keyset tag body r after was = origin law sessions keyset to_tag body tag r after (λ keys. tag_answer keys standard_table body ≡ Some tag)
+    (λ old told k b same. ap (λ i. tag_answer old standard_table i) (sym same) ∙ tagged_by fits old told tag k b)
+    (λ keys random x e is. computed_gave Mac keys random (tag_answer keys standard_table body) tag x e is)
+    was
+
+verify_answers : (new : Keys) (tag body : List ℕ) → verify_answer new standard_table tag body ≡ true → Answers (to_verify tag) body (λ other. other ≡ []) new
+unfolding serve
+verify_answers new tag body e = record {
+  other = [];
+  is = refl;
+  of_run = λ told. verifies_so (verify_answer new standard_table tag body) told e;
+  of_line = λ random x fit served. answer_is Mac new random _ x fit served ∙ ap verified_reply e;
+}
+
+pub made_verifies : FitKeysetsAnswer → RunStep → SessionIsEdits → SoundIsUsable Mac → EditedIsSound → EditedIsKeyset → KeptTag → MadeVerifies
+made_verifies fits law sessions usable sound keyset kept tag body r after was =
+    let o = tag_origin fits law sessions keyset tag body r after was in
+    is_read (to_verify tag) body [] r after (reads (to_verify tag) body (λ other. other ≡ []) r after usable sound keyset o (λ new edited same.
+    verify_answers new tag body (kept o.old new r tag body edited same o.primary o.makes)))
