@@ -1,19 +1,22 @@
 -- A keyset that can serve has a primary key, and what that makes.
-use Rattle.std.proofs.Common.{◌≡◌, ◌∙◌, refl, ap, subst, ℕ, ◌+◌, Bool, true, false, List, [], ◌∷◌, ◌++◌, Option, Some, None, arith}
-use Rattle.std.specs.Prelude.{IsSome, find, option_map}
+use Rattle.std.proofs.Common.{◌≡◌, ◌∙◌, refl, sym, ap, subst, ℕ, ◌+◌, ◌≤◌, length, Bool, true, false, List, [], ◌∷◌, ◌++◌, Option, Some, None, arith}
+use Rattle.std.specs.Prelude.{◌↔◌, IsSome, drop, find, if◌then◌else◌, nat_lt, option_map, take}
 use Rattle.std.specs.Option.{option_and_then}
 use Rattle.std.proofs.lemmas.Bool.Decides.{nat_tests}
 use Rattle.key_msgs.specs.declared.key.KeyKind.{KeyKind}
 use Rattle.key_msgs.specs.declared.primitive.Primitive.{Primitive}
-use Rattle.key_msgs.specs.declared.primitive.Primitive.TheVariants.{Prf}
+use Rattle.key_msgs.specs.declared.primitive.Primitive.TheVariants.{Aead, Prf}
 use Rattle.keyset_model.specs.Keyset.{Keys, is_enabled, is_primary, primary_of}
 use Rattle.keyset_model.specs.declared.record.Record.{Record}
 use Rattle.keyset_model.proofs.PrimaryLemmas.{primary_enabled, primary_there}
 use Rattle.managers.specs.Table.{Table}
-use Rattle.wrapped_prims.specs.Answers.{primary_key, made, made_by, derive_under}
+use Rattle.managers.specs.Uses.{iv_size, seal_of}
+use Rattle.tinkey_session.proofs.Options.{clash}
+use Rattle.wrapped_prims.specs.Answers.{Sealed, primary_key, made, made_by, derive_under, seal_answer, seal_behind, seal_under}
 use Rattle.wrapped_prims.specs.Candidates.{prefix_of, prefix_bytes}
 use Rattle.wrapped_prims.specs.Fitness.{fault_of_record, key_of_record, unfit_from}
 use Rattle.wrapped_prims.proofs.OpenLemmas.{none_here, kept_as, KeptAs, off, on}
+use Rattle.tinkey_plans.specs.Going.{FitKeysetsSeal}
 use Rattle.tinkey_plans.specs.Laws.{IsFit, FitKeysetsAnswer}
 
 found_fits : (b : Bool) (p : Record → Bool) (table : Table) (primitive : Primitive) (x r : Record) (rs : List Record) → p x ≡ b → fault_of_record table primitive x ≡ None → find p (x ∷ rs) ≡ Some r → (find p rs ≡ Some r → fault_of_record table primitive r ≡ None) → fault_of_record table primitive r ≡ None
@@ -71,3 +74,24 @@ fit_keysets_answer = record {
   tag = λ table keys body fit. made_there table _ keys _ (has_key table _ keys fit);
   derive = λ table keys input size fit. let has = has_key table _ keys fit in derived_there (primary_key keys table Prf) has.key input size (key_there table _ keys has);
 }
+
+-- ---- sealing
+
+-- a key seals exactly where the random bytes suffice for its IV
+abbrev SealsWhere : (random : List ℕ) → KeyKind → Option Sealed → Type 0
+SealsWhere random key o = (iv_size key ≤ length random) ↔ ((sealed : Sealed) × (o ≡ Some sealed))
+
+sealed_where : (prefix plain ad random : List ℕ) (key : KeyKind) → SealsWhere random key (seal_behind prefix plain ad random key)
+sealed_where prefix plain ad random key = by (nat_lt (length random) (iv_size key)) refl
+  where
+    by : (b : Bool) → nat_lt (length random) (iv_size key) ≡ b
+        → SealsWhere random key (if b then None else Some (record { bytes = prefix ++ seal_of key (take (iv_size key) random) plain ad; left = drop (iv_size key) random }))
+    by true is = (λ fits. absurd (grind (arith, nat_tests)), λ x. clash x.1)
+    by false is = (λ fits. (record { bytes = prefix ++ seal_of key (take (iv_size key) random) plain ad; left = drop (iv_size key) random }, refl), λ x. grind (arith, nat_tests, is))
+
+pub fit_keysets_seal : FitKeysetsSeal
+fit_keysets_seal table keys plain ad random fit =
+    let has = has_key table Aead keys fit in
+    let is : seal_answer keys table plain ad random ≡ seal_behind (prefix_bytes (prefix_of has.under)) plain ad random has.key =
+    ap (option_and_then (seal_under table plain ad random)) has.primary ∙ ap (option_and_then (seal_behind (prefix_bytes (prefix_of has.under)) plain ad random)) has.there in
+    (has.key, key_there table Aead keys has, subst (SealsWhere random has.key) (sym is) (sealed_where (prefix_bytes (prefix_of has.under)) plain ad random has.key))

@@ -5,3 +5,4 @@ pub mod PromiseLemmas
 pub mod ReportLemmas
 pub mod StepLemmas
 pub mod WholeLemmas
+pub mod GoingLemmas

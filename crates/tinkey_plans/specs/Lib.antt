@@ -9,3 +9,4 @@ pub mod Status
 pub mod Steps
 pub mod Streaming
 pub mod Using
+pub mod Going

@@ -1,5 +1,6 @@
 //! Laws of what the program answers. These functions do nothing: their contracts are the laws.
 
+ghost use Rattle.tinkey_plans.specs.Going.{DoneExactly, FitKeysetsSeal};
 ghost use Rattle.tinkey_plans.specs.Laws.{CommandsAreWhole, FitKeysetsAnswer, SelfTestRuns, SelfTestsTell};
 
 use tinkey_selftest::laws::{counts_add_up, nothing_is_lost};
@@ -25,3 +26,10 @@ pub fn self_tests_tell()
     counts_add_up();
     nothing_is_lost();
 }
+
+/// The stated answer of a command is Done exactly where none of its steps refuses. Sealing is one of
+/// them: over a keyset that can serve it goes on exactly where the random bytes suffice for an IV.
+pub fn done_exactly()
+    ensures commands { DoneExactly }
+    ensures seals { FitKeysetsSeal }
+{}

@@ -10,14 +10,14 @@ ghost use Rattle.tinkey_plans.specs.Steps.{edit_refusal, finds_edit, makes_keyse
 ghost use Rattle.tinkey_plans.specs.Commands.{create_output, edit_output};
 ghost use Rattle.tinkey_words.specs.Words.{seen_edit, seen_place};
 
-use tinkey_plans::Status;
 use crate::steps::{find_template, take_keyset};
-use tinkey_words::Place;
 use key_msgs::Template;
 use keyset_model::Keyset;
 use std::alloc::Global;
 use tink_base::{Entropy, Source, Store};
 use tinkey_cmds::{CmdError, Command, apply, create};
+use tinkey_plans::Status;
+use tinkey_words::Place;
 
 /// create-keyset: the keyset of one new key of the template of this name.
 pub(crate) fn create_keyset<E: Entropy>(

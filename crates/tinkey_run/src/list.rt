@@ -5,12 +5,12 @@ ghost use Rattle.tinkey_plans.specs.Steps.{Passes};
 ghost use Rattle.tinkey_plans.specs.Commands.{list_keyset_output};
 ghost use Rattle.tinkey_words.specs.Words.{seen_place};
 
-use tinkey_plans::Status;
 use crate::steps::take_keyset;
-use tinkey_words::Place;
 use keyset_model::info_text;
 use std::alloc::Global;
 use tink_base::{Bytes, Source, Store};
+use tinkey_plans::Status;
+use tinkey_words::Place;
 
 /// list-keyset: the listing of the keyset in a file, or of the one that the whole input is.
 pub(crate) fn list_keyset<S: Source, D: Store>(

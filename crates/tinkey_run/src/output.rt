@@ -9,12 +9,12 @@ ghost use Rattle.tinkey_plans.specs.Steps.{written_in, puts, puts_keyset, Passes
 ghost use Rattle.tinkey_words.specs.Words.{seen_name, seen_place};
 ghost use Rattle.tinkey_plans.specs.declared.status.Status.TheVariants as status;
 
-use tinkey_plans::Status;
-use tinkey_words::{Format, Place};
 use keyset_json::write_json;
 use keyset_model::{Keyset, write_binary};
 use std::alloc::Global;
 use tink_base::{Bytes, Created, NoMemory, Sink, Store, StoreError, write_all};
+use tinkey_plans::Status;
+use tinkey_words::{Format, Place};
 
 /// Writes a command's output, its last step, or hands on why there is none.
 pub(crate) fn finish<K: Sink>(sink: &mut K, output: Result<Bytes, Status>) -> Status

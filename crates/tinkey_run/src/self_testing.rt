@@ -7,10 +7,10 @@ ghost use Rattle.tinkey_plans.specs.SelfTesting.{self_test_output, self_test_ref
 ghost use Rattle.tinkey_plans.specs.Steps.{Passes};
 ghost use Rattle.tinkey_plans.specs.declared.status.Status.TheVariants as status;
 
-use tinkey_plans::Status;
 use managers::{KeyTable, Managers};
 use std::alloc::Global;
 use tink_base::Bytes;
+use tinkey_plans::Status;
 use tinkey_selftest::{Counts, SelfTestFault, counts_text, self_test};
 
 /// selftest: the line of its counts.

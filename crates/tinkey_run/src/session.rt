@@ -9,15 +9,15 @@ ghost use Rattle.tinkey_plans.specs.Session.{holds_session, saves, saves_as};
 ghost use Rattle.tinkey_plans.specs.Steps.{Passes};
 ghost use Rattle.tinkey_words.specs.Words.{seen_place};
 
-use tinkey_plans::Status;
 use crate::output::{create_file, written};
-use tinkey_words::{Format, Place};
 use keyset_model::Keyset;
 use managers::{KeyTable, Managers};
 use std::alloc::Global;
 use tink_base::{Entropy, Sink, Source, Store};
+use tinkey_plans::Status;
 use tinkey_session::TalkFault;
 use tinkey_session::talk::talk;
+use tinkey_words::{Format, Place};
 
 /// session: answers the lines of the input over a keyset, and puts the last keyset into a new file,
 /// where one is named. Or hands on why there is no keyset.

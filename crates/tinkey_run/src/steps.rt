@@ -9,13 +9,13 @@ ghost use Rattle.tinkey_plans.specs.Ends.{World};
 ghost use Rattle.tinkey_words.specs.Words.{seen_place};
 ghost use Rattle.tinkey_plans.specs.Steps.{refusal_of, json_refusal_of, keyset_in, loads_keyset, reads_keyset, takes_keyset, reads_input, finds_template, Passes, PassesAs};
 
-use tinkey_plans::Status;
-use tinkey_words::{Format, Place};
 use key_msgs::{Template, TemplateFault, template_named};
 use keyset_json::{JsonError, read_json};
 use keyset_model::{Keyset, ReadError, read_binary};
 use std::alloc::Global;
 use tink_base::{Bytes, Loaded, ReadAllFault, Source, Store, StoreError, read_all};
+use tinkey_plans::Status;
+use tinkey_words::{Format, Place};
 
 /// How many bytes a keyset may have.
 const KEYSET_LIMIT: usize = 1_048_576;

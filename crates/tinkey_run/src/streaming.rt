@@ -9,15 +9,15 @@ ghost use Rattle.tinkey_plans.specs.Steps.{Passes};
 ghost use Rattle.tinkey_plans.specs.Streaming.{loads_stream_keys, seals_stream, opens_stream, stream_keys_refusal};
 ghost use Rattle.tinkey_words.specs.Words.{seen_datum};
 
-use tinkey_plans::Status;
 use crate::steps::load_keyset;
 use crate::using::datum;
-use tinkey_words::{Datum, Format};
 use segment_stream::{
     OpenPumpFault, Opener, SealPumpFault, Sealer, SealerFault, StreamKeys, StreamKeysFault,
 };
 use std::alloc::Global;
 use tink_base::{Entropy, Sink, Source, Store};
+use tinkey_plans::Status;
+use tinkey_words::{Datum, Format};
 
 /// The keys for streams of the keyset in the file of this name.
 pub(crate) fn load_stream_keys<D: Store>(

@@ -6,9 +6,9 @@ ghost use Rattle.tinkey_plans.specs.Ends.{Ends, World};
 ghost use Rattle.tinkey_plans.specs.Commands.{template_names};
 ghost use Rattle.tinkey_plans.specs.Plan.{writes};
 
-use tinkey_plans::Status;
 use key_msgs::template_at;
 use tink_base::{Failed, Sink, write_all};
+use tinkey_plans::Status;
 
 /// list-key-templates: the names of the templates, one a line. No memory is taken.
 pub(crate) fn list_templates<K: Sink>(sink: &mut K) -> Status

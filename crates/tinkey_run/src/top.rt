@@ -8,22 +8,21 @@ ghost use Rattle.tinkey_readable.specs.Readable.{IsReadable};
 ghost use Rattle.tinkey_plans.specs.Status.{Reports};
 ghost use Rattle.tinkey_words.specs.Words.{seen_command};
 
-use tinkey_plans::Status;
 use crate::edits::{create_keyset, edit_keyset};
-use tinkey_readable::laws::sessions_are_readable;
 use crate::list::list_keyset;
 use crate::output::{finish, finish_keyset};
-use tinkey_plans::report;
 use crate::self_testing::tell_self_test;
 use crate::session::answer_lines;
 use crate::steps::{load_keyset, take_keyset};
 use crate::streaming::{load_stream_keys, open_stream, seal_stream};
 use crate::templates::list_templates;
 use crate::using::use_keyset;
-use tinkey_words::{Command, parse};
 use managers::{KeyTable, Managers};
 use std::alloc::Global;
 use tink_base::{Entropy, Sink, Source, Store};
+use tinkey_plans::{Status, report};
+use tinkey_readable::laws::sessions_are_readable;
+use tinkey_words::{Command, parse};
 
 /// Does what the words after the program's name ask for, and tells on `diag` what went wrong. Keys
 /// are used through the managers handed in.

@@ -8,15 +8,15 @@ ghost use Rattle.tinkey_plans.specs.Steps.{Passes, PassesAs};
 ghost use Rattle.tinkey_plans.specs.Using.{handles, handle_refusal, use_output, with_opened, IsServing, Works};
 ghost use Rattle.tinkey_words.specs.Words.{primitive_for, datum_as, datum_of_hex, seen_datum, seen_work, to_seal, to_open, to_dseal, to_dopen, to_tag, to_verify, to_derive};
 
-use tinkey_plans::Status;
 use crate::steps::{load_keyset, read_input};
-use tinkey_words::{DATUM_LIMIT, Datum, Format, Work};
 use hex::FromHexError;
 use key_msgs::Primitive;
 use keyset_model::Keyset;
 use managers::{KeyTable, Managers};
 use std::alloc::Global;
 use tink_base::{Bytes, Entropy, NoMemory, Source, Store, Trials};
+use tinkey_plans::Status;
+use tinkey_words::{DATUM_LIMIT, Datum, Format, Work};
 use wrapped_prims::{DeriveFault, Handle, HandleFault, SealFault};
 
 /// Work on the whole input, by the keys of the keyset in the file of this name: what is put out.

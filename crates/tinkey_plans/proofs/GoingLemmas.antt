@@ -1,0 +1,247 @@
+-- That a plan comes to its end exactly where none of its steps refuses.
+use Rattle.std.proofs.Common.{arith, ◌≡◌, ◌≢◌, sym, refl, subst, ℕ, ◌≤◌, Bool, true, false, List, [], length, nat_le, Option, Some, None, Result, Ok, Err}
+use Rattle.std.specs.Prelude.{◌↔◌, if◌then◌else◌}
+use Rattle.std.specs.FinMap as map
+use Rattle.std.proofs.lemmas.Bool.Decides.{nat_tests}
+use Rattle.key_msgs.specs.Templates.{Row, row_named, is_asymmetric}
+use Rattle.keyset_json.specs.Reading as Json
+use Rattle.keyset_json.specs.Reading.{reads_json}
+use Rattle.keyset_model.specs.Keyset.{Keys}
+use Rattle.keyset_model.specs.Reading.{Refusal, Wire, Fault, reads_binary}
+use Rattle.managers.specs.Table.{Table}
+use Rattle.segment_stream.specs.Opening.{StreamRefusal, too_many, failed}
+use Rattle.segment_stream.specs.Pumping.{Part}
+use Rattle.segment_stream.specs.KeysModel.{KeysForStreams}
+use Rattle.segment_stream.specs.StreamKeys as streams
+use Rattle.tinkey_cmds.specs.Draws.{Draw, Drawn}
+use Rattle.tinkey_cmds.specs.Edits.{Edit, Add, Rotate, Promote, Enable, Disable, Destroy, Delete, first, step}
+use Rattle.tinkey_cmds.specs.declared.command.CmdFault.{CmdFault}
+use Rattle.wrapped_prims.specs.Answers.{open_answer, dopen_answer, verify_answer, derive_answer}
+use Rattle.wrapped_prims.specs.Fitness.{Unfit, NoManager, BadKey, NotRaw, unfit}
+use Rattle.tinkey_plans.specs.declared.status.Status.{Status}
+use Rattle.tinkey_plans.specs.declared.status.Status.TheVariants as status
+use Rattle.tinkey_words.specs.declared.words.rows.Format.{Format}
+use Rattle.tinkey_words.specs.declared.words.rows.Format.TheVariants as formats
+use Rattle.tinkey_plans.specs.Going.{DoneExactly, NoneRefuses}
+use Rattle.tinkey_plans.specs.Plan.{Answer, Of, Plan, Told, answer, create_answer, draw_answer, load_answer, pump_answer, refused, stream_status, talk_answer, limit_status, ends, writes, creates, allocates, loads, reads_all, draws, pumps, exchanges}
+use Rattle.tinkey_plans.specs.Steps.{with_keyset, with_json, keyset_in, takes_keyset, with_row, finds_edit, with_made, makes_keyset, puts, puts_keyset}
+use Rattle.tinkey_plans.specs.Using.{unless_unfit, with_opened, with_verified, with_derived, works}
+use Rattle.tinkey_selftest.specs.Trial as trial
+use Rattle.tinkey_selftest.specs.declared.counts.Counts.{Counts}
+use Rattle.tinkey_plans.specs.SelfTesting.{tells_counts}
+use Rattle.tinkey_plans.specs.Session.{saves_as}
+use Rattle.tinkey_plans.specs.Streaming.{keys_for, opens_stream, seals_stream, with_keys}
+use Rattle.tinkey_plans.specs.Streaming as streaming
+use Rattle.tinkey_session.proofs.Options.{clash}
+use Rattle.tinkey_session.specs.Talking.{Stop, goes, wants, passes, long_line, many_lines, Talk, Limit}
+use Rattle.tinkey_plans.specs.Commands.{command_plan}
+use Rattle.tinkey_words.specs.Words.{Asked, self_test, Place, AskedEdit, AskedWork, to_seal, to_open, to_dseal, to_dopen, to_tag, to_verify, to_derive, primitive_for, create_keyset, edit_keyset, list_keyset, convert_keyset, list_key_templates, use_keyset, seal_stream, open_stream, session}
+
+-- the refusals of its steps aren't Done
+abbrev IsProper : Plan → Type 0
+IsProper (ends s stated) = Unit {0}
+IsProper (writes output) = Unit {0}
+IsProper (creates name output taken stated) = taken ≢ status.Done
+IsProper (allocates next) = IsProper next
+IsProper (loads name limit absent long a l next) = (absent ≢ status.Done) × (long ≢ status.Done) × ((bytes : List ℕ) → IsProper (next bytes))
+IsProper (reads_all limit long stated next) = (long ≢ status.Done) × ((all : List ℕ) → IsProper (next all))
+IsProper (draws kind give next) = (given : Result (Of kind) CmdFault) → IsProper (next given)
+IsProper (pumps part) = Unit {0}
+IsProper (exchanges exchange next) = (keys : Keys) → IsProper (next keys)
+
+-- ---- a step
+
+refusal_other : (refusal : StreamRefusal) → stream_status refusal ≢ status.Done
+refusal_other too_many e = cc
+refusal_other (failed number) e = cc
+
+limit_other : (limit : Limit) → limit_status limit ≢ status.Done
+limit_other long_line e = cc
+limit_other many_lines e = cc
+
+entropy_other : status.EntropyFault ≢ status.Done
+entropy_other e = cc
+
+abbrev IsDone : Answer → Type 0
+IsDone a = a.status ≡ status.Done
+
+created : (found : Option (List ℕ)) (told : Told) (name output : List ℕ) (taken : Status) → taken ≢ status.Done → IsDone (create_answer found told name output (refused told taken)) ↔ (found ≡ None)
+created None told name output taken other = (λ d. refl, λ e. refl)
+created (Some bytes) told name output taken other = (λ d. absurd (other d), λ e. absurd (cc))
+
+loaded : (found : Option (List ℕ)) (limit : ℕ) (told : Told) (absent long : Status) (next : List ℕ → Answer) (Then : List ℕ → Type 0) → absent ≢ status.Done → long ≢ status.Done → ((bytes : List ℕ) → IsDone (next bytes) ↔ Then bytes)
+    → IsDone (load_answer found limit (refused told absent) (refused told long) next) ↔ ((bytes : List ℕ) × (found ≡ Some bytes) × (length bytes ≤ limit) × Then bytes)
+loaded None limit told absent long next Then other past each = (λ d. absurd (other d), λ x. clash x.1)
+loaded (Some bytes) limit told absent long next Then other past each = (
+  λ d. by (nat_le (length bytes) limit) refl d,
+  λ x. let same : bytes ≡ x.0 = (let e : Some bytes ≡ Some x.0 = x.1 in cc) in
+      back (nat_le (length bytes) limit) (let fits : length bytes ≤ limit = subst (λ b. length b ≤ limit) (sym same) x.2 in grind (arith, nat_tests, fits)) (subst Then (sym same) x.3),
+)
+  where
+    by : (b : Bool) → nat_le (length bytes) limit ≡ b → IsDone (if b then next bytes else refused told long) → (found : List ℕ) × (Some bytes ≡ Some found) × (length found ≤ limit) × Then found
+    by true is d = (bytes, refl, grind (arith, nat_tests, is), (each bytes).0 d)
+    by false is d = absurd (past d)
+
+    back : (b : Bool) → b ≡ true → Then bytes → IsDone (if b then next bytes else refused told long)
+    back true is x = (each bytes).1 x
+    back false is x = absurd (cc)
+
+read_in : (input : List ℕ) (limit : ℕ) (went long : Answer) (Then : Type 0) → long.status ≢ status.Done → (IsDone went ↔ Then) → IsDone (if nat_le (length input) limit then went else long) ↔ ((length input ≤ limit) × Then)
+read_in input limit went long Then past each = (λ d. by (nat_le (length input) limit) refl d, λ x. back (nat_le (length input) limit) (let fits = x.0 in grind (arith, nat_tests, fits)) x.1)
+  where
+    by : (b : Bool) → nat_le (length input) limit ≡ b → IsDone (if b then went else long) → (length input ≤ limit) × Then
+    by true is d = (grind (arith, nat_tests, is), each.0 d)
+    by false is d = absurd (past d)
+
+    back : (b : Bool) → b ≡ true → Then → IsDone (if b then went else long)
+    back true is x = each.1 x
+    back false is x = absurd (cc)
+
+drawn_in : {A : Type 0} (o : Option (Drawn A)) (told : Told) (next : Drawn A → Answer) (Then : Drawn A → Type 0) → ((drawn : Drawn A) → IsDone (next drawn) ↔ Then drawn)
+    → IsDone (draw_answer o (refused told status.EntropyFault) next) ↔ ((drawn : Drawn A) × (o ≡ Some drawn) × Then drawn)
+drawn_in None told next Then each = (λ d. absurd (entropy_other d), λ x. clash x.1)
+drawn_in (Some drawn) told next Then each = (λ d. (drawn, refl, (each drawn).0 d), λ x. let same : drawn ≡ x.0 = (let e : Some drawn ≡ Some x.0 = x.1 in cc) in (each drawn).1 (subst Then (sym same) x.2))
+
+pumped : (part : Part) (told : Told) (o : Option StreamRefusal) → IsDone (pump_answer part told o) ↔ (o ≡ None)
+pumped part told None = (λ d. refl, λ e. refl)
+pumped part told (Some refusal) = (λ d. absurd (refusal_other refusal d), λ e. absurd (cc))
+
+talked : (stop : Stop) (x : Talk) (told : Told) (next : Answer) (Then : Type 0) → (IsDone next ↔ Then) → IsDone (talk_answer stop x told next) ↔ ((stop ≡ goes) × Then)
+talked goes x told next Then each = (λ d. (refl, each.0 d), λ y. each.1 y.1)
+talked wants x told next Then each = (λ d. absurd (entropy_other d), λ y. let e : wants ≡ goes = y.0 in absurd (cc))
+talked (passes limit) x told next Then each = (λ d. absurd (limit_other limit d), λ y. let e : passes limit ≡ goes = y.0 in absurd (cc))
+
+-- ---- a plan
+
+done_exactly : (p : Plan) (told : Told) → IsProper p → IsDone (answer p told) ↔ NoneRefuses p told
+done_exactly (ends s stated) told proper = (λ d. d, λ d. d)
+done_exactly (writes output) told proper = (λ d. tt, λ x. refl)
+done_exactly (creates name output taken stated) told proper = created (map.get told.files name) told name output taken proper
+done_exactly (allocates next) told proper = done_exactly next told proper
+done_exactly (loads name limit absent long a l next) told proper = loaded (map.get told.files name) limit told absent long _ _ proper.0 proper.1 (λ bytes. done_exactly (next bytes) told (proper.2 bytes))
+done_exactly (reads_all limit long stated next) told proper = read_in told.input limit _ _ _ proper.0 (done_exactly (next told.input) (record told { input = [] }) (proper.1 told.input))
+done_exactly (draws kind give next) told proper = drawn_in (give told.random) told _ _ (λ drawn. done_exactly (next drawn.answer) (record told { random = drawn.left }) (proper drawn.answer))
+done_exactly (pumps part) told proper = pumped part told (part.refusal told.input true)
+done_exactly (exchanges exchange next) told proper =
+    let x = exchange told.input told.random true in
+    talked x.stop x told _ _ (done_exactly (next x.keys) (record told { input = []; random = x.random }) (proper x.keys))
+
+-- ---- the commands
+
+-- the rest of a plan is so, whatever it takes
+abbrev AreProper : {A : Type 0} → (A → Plan) → Type 0
+AreProper {A} next = (value : A) → IsProper (next value)
+
+with_keyset_proper : (r : Result Keys Refusal) (next : Keys → Plan) → AreProper next → IsProper (with_keyset r next)
+with_keyset_proper (Err (Wire at)) next proper = tt
+with_keyset_proper (Err (Fault fault)) next proper = tt
+with_keyset_proper (Ok keys) next proper = proper keys
+
+with_json_proper : (r : Result Keys Json.Refusal) (next : Keys → Plan) → AreProper next → IsProper (with_json r next)
+with_json_proper (Err Json.NotJson) next proper = tt
+with_json_proper (Err (Json.Shape path)) next proper = tt
+with_json_proper (Err (Json.Fault fault)) next proper = tt
+with_json_proper (Ok keys) next proper = proper keys
+
+keyset_proper : (form : Format) (bytes : List ℕ) (next : Keys → Plan) → AreProper next → IsProper (keyset_in form bytes next)
+keyset_proper formats.Json bytes next proper = with_json_proper (reads_json bytes) next proper
+keyset_proper formats.Binary bytes next proper = with_keyset_proper (reads_binary bytes) next proper
+
+taken_proper : (file : Option (List ℕ)) (form : Format) (next : Keys → Plan) → AreProper next → IsProper (takes_keyset (record { file = file; form = form }) next)
+taken_proper (Some name) form next proper = (λ e. cc, λ e. cc, λ bytes. keyset_proper form bytes next proper)
+taken_proper None form next proper = (λ e. cc, λ bytes. keyset_proper form bytes next proper)
+
+no_row_proper : (b : Bool) → IsProper (if b then ends status.AsymmetricTemplate tt else ends status.UnknownTemplate tt)
+no_row_proper true = tt
+no_row_proper false = tt
+
+row_proper : (found : Option Row) (name : List ℕ) (next : Row → Plan) → AreProper next → IsProper (with_row found name next)
+row_proper (Some row) name next proper = proper row
+row_proper None name next proper = no_row_proper (is_asymmetric name)
+
+edit_proper : (asked : AskedEdit) (next : Edit → Plan) → AreProper next → IsProper (finds_edit asked next)
+edit_proper (Add name) next proper = row_proper (row_named name) name (λ row. next (Add row)) (λ row. proper (Add row))
+edit_proper (Rotate name) next proper = row_proper (row_named name) name (λ row. next (Rotate row)) (λ row. proper (Rotate row))
+edit_proper (Promote id) next proper = proper (Promote id)
+edit_proper (Enable id) next proper = proper (Enable id)
+edit_proper (Disable id) next proper = proper (Disable id)
+edit_proper (Destroy id) next proper = proper (Destroy id)
+edit_proper (Delete id) next proper = proper (Delete id)
+
+made_proper : {A : Type 0} (given : Result A CmdFault) (next : A → Plan) → AreProper next → IsProper (with_made given next)
+made_proper (Ok value) next proper = proper value
+made_proper (Err fault) next proper = tt
+
+draw_proper : (give : Draw Keys) (next : Keys → Plan) → AreProper next → IsProper (makes_keyset give next)
+draw_proper give next proper = λ given. made_proper given next proper
+
+put_proper : (file : Option (List ℕ)) (output : List ℕ) → IsProper (puts file output)
+put_proper (Some name) output = λ e. cc
+put_proper None output = tt
+
+out_proper : (out : Place) (keys : Keys) → IsProper (puts_keyset out keys)
+out_proper out keys = put_proper out.file _
+
+fit_proper : (found : Option (ℕ × Unfit)) (next : Plan) → IsProper next → IsProper (unless_unfit found next)
+fit_proper None next proper = proper
+fit_proper (Some (i, NoManager)) next proper = tt
+fit_proper (Some (i, BadKey rule)) next proper = tt
+fit_proper (Some (i, NotRaw)) next proper = tt
+
+opened_proper : (found : Option (List ℕ)) (next : List ℕ → Plan) → AreProper next → IsProper (with_opened found next)
+opened_proper None next proper = tt
+opened_proper (Some plain) next proper = proper plain
+
+verified_proper : (b : Bool) (next : List ℕ → Plan) → AreProper next → IsProper (with_verified b next)
+verified_proper true next proper = proper []
+verified_proper false next proper = tt
+
+derived_proper : (asked : ℕ) (found : Option (Result (List ℕ) ℕ)) (next : List ℕ → Plan) → AreProper next → IsProper (with_derived asked found next)
+derived_proper asked None next proper = proper []
+derived_proper asked (Some (Ok bytes)) next proper = proper bytes
+derived_proper asked (Some (Err greatest)) next proper = tt
+
+work_proper : (table : Table) (keys : Keys) (work : AskedWork) (input : List ℕ) (next : List ℕ → Plan) → AreProper next → IsProper (works table keys work input next)
+work_proper table keys (to_seal ad) input next proper = λ made. made_proper made next proper
+work_proper table keys (to_open ad) input next proper = opened_proper (open_answer keys table input ad) next proper
+work_proper table keys (to_dseal ad) input next proper = proper _
+work_proper table keys (to_dopen ad) input next proper = opened_proper (dopen_answer keys table input ad) next proper
+work_proper table keys to_tag input next proper = proper _
+work_proper table keys (to_verify tag) input next proper = verified_proper (verify_answer keys table tag input) next proper
+work_proper table keys (to_derive size) input next proper = derived_proper size (derive_answer keys table input size) next proper
+
+counts_proper : (r : Result Counts CmdFault) (lines : ℕ) → IsProper (tells_counts lines r writes)
+counts_proper (Ok n) lines = tt
+counts_proper (Err fault) lines = tt
+
+-- the keys of a keyset for streams
+stream_fit_proper : (found : Option (ℕ × streams.Unfit)) (next : Plan) → IsProper next → IsProper (streaming.unless_unfit found next)
+stream_fit_proper None next proper = proper
+stream_fit_proper (Some (i, streams.not_stream)) next proper = tt
+stream_fit_proper (Some (i, streams.bad_key rule)) next proper = tt
+
+stream_keys_proper : (found : Option KeysForStreams) (next : KeysForStreams → Plan) → AreProper next → IsProper (with_keys found next)
+stream_keys_proper None next proper = tt
+stream_keys_proper (Some keys) next proper = proper keys
+
+seals_proper : (ad : List ℕ) (keys : KeysForStreams) → IsProper (seals_stream keys ad)
+seals_proper ad keys = λ made. made_proper made _ (λ random. tt)
+
+saves_proper : (file : Option (List ℕ)) (form : Format) (keys : Keys) → IsProper (saves_as file form keys)
+saves_proper None form keys = tt
+saves_proper (Some name) form keys = λ e. cc
+
+commands_are_proper : (table : Table) (asked : Asked) → IsProper (command_plan table asked)
+commands_are_proper table (create_keyset name out) = row_proper (row_named name) name _ (λ row. draw_proper (first row) _ (out_proper out))
+commands_are_proper table (edit_keyset edit in' out) = edit_proper edit _ (λ edit. taken_proper in'.file in'.form _ (λ keys. draw_proper (step keys edit) _ (out_proper out)))
+commands_are_proper table (list_keyset in') = taken_proper in'.file in'.form _ (λ keys. tt)
+commands_are_proper table (convert_keyset in' out) = taken_proper in'.file in'.form _ (out_proper out)
+commands_are_proper table list_key_templates = tt
+commands_are_proper table (use_keyset name form work) = (λ e. cc, λ e. cc, λ bytes. keyset_proper form bytes _ (λ keys. fit_proper (unfit keys (primitive_for work) table) _ (λ e. cc, λ input. work_proper table keys work input _ (λ output. tt))))
+commands_are_proper table (seal_stream name form ad) = (λ e. cc, λ e. cc, λ bytes. keyset_proper form bytes _ (λ keys. stream_fit_proper (streams.unfit keys) _ (stream_keys_proper (keys_for keys) _ (seals_proper ad))))
+commands_are_proper table (open_stream name form ad) = (λ e. cc, λ e. cc, λ bytes. keyset_proper form bytes _ (λ keys. stream_fit_proper (streams.unfit keys) _ (stream_keys_proper (keys_for keys) _ (λ k. tt))))
+commands_are_proper table (self_test seed lines) = counts_proper (trial.self_test table seed lines) lines
+commands_are_proper table (session name form out) = (λ e. cc, λ e. cc, λ bytes. keyset_proper form bytes _ (λ keys. λ last. saves_proper out.file out.form last))
+
+pub commands_done_exactly : DoneExactly
+commands_done_exactly table asked told = done_exactly (command_plan table asked) told (commands_are_proper table asked)
