@@ -4,9 +4,11 @@
 pub use key_msgs::laws::key_back;
 pub use managers::laws::opens_sealings;
 pub use segment_stream::laws::{released_prefix, stream_back};
-pub use tinkey_plans::laws::{commands_are_whole, done_exactly, fit_keysets_answer, self_tests_tell};
+pub use tinkey_plans::laws::{
+    commands_are_whole, done_exactly, fit_keysets_answer, self_tests_tell,
+};
 pub use tinkey_readable::laws::{
-    forms_back, kept_lines, kept_runs, run_step, sessions_are_readable,
+    binary_is_stored, forms_back, kept_lines, kept_runs, run_step, sessions_are_readable,
 };
 pub use tinkey_session::laws::{kept_open, kept_tag, sound_kept, sound_usable};
 pub use tinkey_words::laws::{places_are_decided, words_are_spelled};
