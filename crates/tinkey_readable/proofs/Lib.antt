@@ -4,3 +4,4 @@ pub mod ReachLemmas
 pub mod ReadIdLemmas
 pub mod ReadableLemmas
 pub mod RunLemmas
+pub mod ReadBytesLemmas

@@ -18,7 +18,7 @@ use Rattle.managers.specs.Standard.{standard_table}
 use Rattle.managers.specs.Table.{Table}
 use Rattle.tink_spec.specs.Files.{Files}
 use Rattle.tinkey_cmds.specs.Edits.{Edit, Stepped, edit_then, step}
-use Rattle.tinkey_session.specs.HeldLaws.{AreStored}
+use Rattle.tinkey_session.specs.HeldLaws.{AreBytes, AreStored}
 use Rattle.tinkey_session.specs.Session.{Remains, asked_in, remains}
 use Rattle.wrapped_prims.specs.Candidates.{prefix_of}
 use Rattle.wrapped_prims.specs.Laws.{HasSameKey}
@@ -42,6 +42,13 @@ pub record Written : Type 0 where
 
 abbrev pub keyset_of : Written → Option Keys
 keyset_of written = read_in written.form written.bytes
+
+-- A keyset that is read of bytes in the binary form, within the limit, is held to what the types of
+-- its records hold.
+abbrev pub BinaryIsStored : Type 0
+BinaryIsStored = (written : Written) (keys : Keys) → written.form ≡ formats.Binary
+    → AreBytes written.bytes → length written.bytes ≤ keyset_limit
+    → keyset_of written ≡ Some keys → AreStored keys
 
 -- the bytes of the file of this name, or where none is named, these
 abbrev pub bytes_at : Option (List ℕ) → Files → (stream : List ℕ) → Option (List ℕ)

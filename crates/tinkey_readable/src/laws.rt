@@ -4,7 +4,7 @@ ghost use Rattle.keyset_json.specs.Writing.{JsonBack};
 ghost use Rattle.keyset_model.specs.Writing.{BinaryBack};
 ghost use Rattle.tinkey_readable.specs.LineRuns.{MadeDopens, MadeDopensRaw, MadeOpens, MadeOpensRaw, MadeVerifies};
 ghost use Rattle.tinkey_readable.specs.Readable.{AnswersAreReadable, SessionsAreReadable};
-ghost use Rattle.tinkey_readable.specs.Runs.{RunStep, RunsDopen, RunsDopenRaw, RunsOpen, RunsOpenRaw, RunsVerify};
+ghost use Rattle.tinkey_readable.specs.Runs.{BinaryIsStored, RunStep, RunsDopen, RunsDopenRaw, RunsOpen, RunsOpenRaw, RunsVerify};
 
 use keyset_json::laws::json_back;
 use keyset_model::laws::{binary_back, faultless_keysets, read_keysets_fit};
@@ -23,6 +23,14 @@ pub fn forms_back()
 {
     binary_back();
     json_back();
+}
+
+/// A keyset that is read in the binary form holds what the types of a record hold it to. So in that
+/// form this need not be asked of the keyset that a first run reads, but that its bytes are bytes.
+pub fn binary_is_stored()
+    ensures { BinaryIsStored }
+{
+    read_keysets_fit();
 }
 
 /// What a run that hands a keyset on puts out is read back in its own form: it is the keyset that
