@@ -16,6 +16,7 @@ saves_as None form keys = ends status.Done tt
 saves_as (Some name) form keys =
     works_out (written_in form keys) (λ output. creates name output status.OutExists tt)
 
+-- the keyset becomes the new file of this place, or where it names none, it goes nowhere
 abbrev pub saves : Place → Keys → Plan
 saves place keys = saves_as place.file place.form keys
 

@@ -52,6 +52,7 @@ json_refusal_of (json_errors.Shape path) = status.Shape path
 json_refusal_of (json_errors.Fault fault) = status.Keyset fault
 json_refusal_of json_errors.NoMemory = status.NoMemory
 
+-- the keyset goes on, or what is wrong with its JSON is the answer
 abbrev pub with_json : Result Keys Json.Refusal → (Keys → Plan) → Plan
 with_json (Err Json.NotJson) next = ends status.NotJson tt
 with_json (Err (Json.Shape path)) next = ends (status.Shape path) tt
@@ -79,6 +80,7 @@ abbrev pub keyset_at : Option (List ℕ) → Format → (Keys → Plan) → Plan
 keyset_at (Some name) form next = loads_keyset name form next
 keyset_at None form next = reads_keyset form next
 
+-- the keyset that lies at this place
 abbrev pub takes_keyset : Place → (Keys → Plan) → Plan
 takes_keyset place next = keyset_at place.file place.form next
 

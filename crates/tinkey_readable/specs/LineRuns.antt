@@ -99,6 +99,7 @@ MadeOpensRaw = (ad plain sealed : List ℕ) (r : Record) (after : Written)
     → prefix_of r ≡ None → WasMade (to_seal ad) plain sealed r after
     → IsReadSomehow (to_open ad) sealed r after
 
+-- the same without an IV
 abbrev pub MadeDopensRaw : Type 0
 MadeDopensRaw = (ad plain sealed : List ℕ) (r : Record) (after : Written)
     → prefix_of r ≡ None → WasMade (to_dseal ad) plain sealed r after

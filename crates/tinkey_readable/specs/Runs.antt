@@ -40,6 +40,7 @@ pub record Written : Type 0 where
   pub bytes : List ℕ
   pub form : Format
 
+-- the keyset that its bytes are, where they are one
 abbrev pub keyset_of : Written → Option Keys
 keyset_of written = read_in written.form written.bytes
 
@@ -79,6 +80,7 @@ pub record Run : Type 0 where
   pub asked : Asked
   pub told : Told
 
+-- what a run is answered, over these managers
 abbrev pub answer_of : Table → Run → Answer
 answer_of table run = answer (command_plan table run.asked) run.told
 
@@ -201,6 +203,7 @@ RunsOpenRaw = (runs : List Run) (before after : Written) (r : Record) (ad sealed
     → WasDone (to_seal ad) before told sealed
     → (other : List ℕ) × IsDone (to_open ad) after sealed other
 
+-- the same without an IV
 abbrev pub RunsDopenRaw : Type 0
 RunsDopenRaw = (runs : List Run) (before after : Written) (r : Record) (ad sealed : List ℕ)
     (told : Told) → LeadOn runs before after r → prefix_of r ≡ None

@@ -58,6 +58,7 @@ abbrev pub open_or_seal : Words → Option Sealing → Task
 open_or_seal w (Some sealing) = Opens sealing
 open_or_seal w None = seal_task w
 
+-- the open of one of the seals that were accepted, chosen by the words
 abbrev pub open_task : Words → List Sealing → Task
 open_task w sealings = open_or_seal w (slice_get sealings (w.b % length sealings))
 
@@ -72,6 +73,7 @@ names =
     ∷ codes "AES256_CTR_HMAC_SHA256"
     ∷ []
 
+-- the name of the template that the words choose
 abbrev pub name_of : Words → List ℕ
 name_of w = get_or names (w.c % 6) []
 
@@ -80,6 +82,7 @@ abbrev pub about : (Record → Line) → Option Record → Line
 about asks (Some r) = asks r
 about asks None = Bad
 
+-- the line that deletes a record
 abbrev pub delete_line : Record → Line
 delete_line r = Edit (Delete r.id)
 
@@ -97,6 +100,7 @@ change_record c r =
     else (if c % 3 == 1 then (if is_enabled r then Edit (Disable r.id) else Edit (Enable r.id))
     else Edit (Delete r.id))
 
+-- an edit of the record that the words choose
 abbrev pub change_line : Words → Keys → Line
 change_line w keys =
     about (change_record w.c) (slice_get keys.records (w.b % length keys.records))
@@ -109,6 +113,7 @@ task_of w trial =
     else (if w.a % 8 == 6 then Edits (grow_line w trial.keys)
     else Edits (change_line w trial.keys)))
 
+-- the line of the session that asks for it
 abbrev pub line_of_task : Task → Line
 line_of_task (Seals plain ad) = Seal plain ad
 line_of_task (Opens sealing) = Open sealing.bytes sealing.ad
@@ -126,6 +131,7 @@ is_same_key r s =
 abbrev pub has_key : Record → Keys → Bool
 has_key r keys = list_any (is_same_key r) keys.records
 
+-- the counts before the first line
 abbrev pub none_yet : Counts
 none_yet = record { sealed = 0; opened = 0; refused = 0; edited = 0; declined = 0; lost = 0 }
 
@@ -133,6 +139,7 @@ none_yet = record { sealed = 0; opened = 0; refused = 0; edited = 0; declined = 
 abbrev pub total : Counts → ℕ
 total n = n.sealed + n.opened + n.refused + n.edited + n.declined
 
+-- a line that was refused, and no open
 abbrev pub one_declined : Counts → Counts
 one_declined n = record n { declined = n.declined + 1 }
 
@@ -173,6 +180,7 @@ after_line trial task (Some x) = record {
   counts = counted trial.keys task x.reply trial.counts;
 }
 
+-- the trial after this line
 abbrev pub task_done : Table → Trial → Task → Trial
 task_done table trial task =
     after_line trial task (serve table trial.keys (line_of_task task) trial.left)
@@ -186,6 +194,7 @@ unfoldable pub after_lines : Table → (seed : ℕ) → Trial → (lines : ℕ) 
 after_lines table seed trial zero = trial
 after_lines table seed trial (suc k) = tried table (words_of seed k) (after_lines table seed trial k)
 
+-- the trial before the first line
 abbrev pub start : Keys → (random : List ℕ) → Trial
 start keys random = record { keys = keys; sealings = []; left = random; counts = none_yet }
 

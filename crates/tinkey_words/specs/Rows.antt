@@ -22,31 +22,35 @@ pub record Row : Type 0 where
   pub required : List OptionName
   pub optional : List OptionName
 
+-- a row of these three
 abbrev pub row : List ℕ → List OptionName → List OptionName → Row
 row word required optional = record { word = word; required = required; optional = optional }
 
--- where a keyset is taken from, and where one is put
+-- where a keyset is taken from
 abbrev pub taken : List OptionName
 taken = options.In ∷ options.InFormat ∷ []
 
+-- where a keyset is put
 abbrev pub put_out : List OptionName
 put_out = options.Out ∷ options.OutFormat ∷ []
 
+-- what a command may have that takes a keyset and puts one
 abbrev pub in_and_out : List OptionName
 in_and_out = taken ++ put_out
 
--- what a command requires that changes a keyset by a template, and one that changes one of its keys
+-- what a command requires that changes a keyset by a template
 abbrev pub by_template : List OptionName
 by_template = options.KeyTemplate ∷ []
 
+-- what a command requires that changes one key of a keyset
 abbrev pub by_key : List OptionName
 by_key = options.KeyId ∷ []
 
--- what a command requires that uses the keys of a keyset, and what one may have that takes
--- associated data
+-- what a command requires that uses the keys of a keyset
 abbrev pub by_keyset : List OptionName
 by_keyset = options.Keyset ∷ []
 
+-- what a command may have that uses a keyset and takes associated data
 abbrev pub with_ad : List OptionName
 with_ad = options.KeysetFormat ∷ options.Ad ∷ options.AdHex ∷ []
 
@@ -99,6 +103,7 @@ pub record OptionRow : Type 0 where
   pub word : List ℕ
   pub form : Form
 
+-- a row of these three
 abbrev pub option : ℕ → List ℕ → Form → OptionRow
 option place word form = record { place = place; word = word; form = form }
 
@@ -207,5 +212,6 @@ is_value forms.Hex text = is_hex text
 
 -- What the code's rows stand for.
 
+-- a command's row, with its word as bytes
 abbrev pub seen_row : CodeRow → Row
 seen_row r = row r.word.now r.required.now r.optional.now

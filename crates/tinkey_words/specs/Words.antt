@@ -106,6 +106,7 @@ abbrev pub or_zero : Option ℕ → ℕ
 or_zero None = 0
 or_zero (Some n) = n
 
+-- the number that an option gives, whose value is one
 abbrev pub number : Option (List ℕ) → ℕ
 number value = or_zero (number_of (text value))
 
@@ -131,10 +132,11 @@ datum None hex = datum_of_hex (text hex)
 abbrev pub ad : Values → List ℕ
 ad values = datum (values options.Ad) (values options.AdHex)
 
--- the key that is changed, the template of a new one, and the files
+-- the id of the key that is changed
 abbrev pub id : Values → ℕ
 id values = number (values options.KeyId)
 
+-- the name of the template of a new key
 abbrev pub template : Values → List ℕ
 template values = text (values options.KeyTemplate)
 
@@ -142,6 +144,7 @@ template values = text (values options.KeyTemplate)
 abbrev pub known_lines : ℕ
 known_lines = 1000
 
+-- the number of lines that an option gives, or where it isn't given, the known one
 abbrev pub lines_in : Option (List ℕ) → ℕ
 lines_in None = known_lines
 lines_in (Some value) = or_zero (number_of value)
@@ -151,13 +154,15 @@ abbrev pub known_form : Option Format → Format
 known_form None = formats.Json
 known_form (Some form) = form
 
+-- the form that an option gives
 abbrev pub form_in : Option (List ℕ) → Format
 form_in value = known_form (format_of (text value))
 
--- where a keyset is taken from, and where one is put
+-- where a keyset is taken from
 abbrev pub taken_from : Values → Place
 taken_from values = record { file = values options.In; form = form_in (values options.InFormat) }
 
+-- where a keyset is put
 abbrev pub put_to : Values → Place
 put_to values = record { file = values options.Out; form = form_in (values options.OutFormat) }
 
@@ -306,6 +311,7 @@ words_of (name ∷ words) = asked_of (command_of name) words
 
 -- What the code's commands and options stand for.
 
+-- an edit, with the bytes of its template's name
 abbrev pub seen_edit : Command' (Bor (List ℕ)) → AskedEdit
 seen_edit edit = seen_by (λ name. name.now) edit
 
@@ -322,6 +328,7 @@ abbrev pub seen_datum : Datum → List ℕ
 seen_datum (data'.Plain plain) = datum_as plain.now
 seen_datum (data'.Hex hex) = datum_of_hex hex.now
 
+-- work on the input, with its data as bytes
 abbrev pub seen_work : Work → AskedWork
 seen_work (works.Seal ad) = to_seal (seen_datum ad)
 seen_work (works.Open ad) = to_open (seen_datum ad)
@@ -331,6 +338,7 @@ seen_work works.Tag = to_tag
 seen_work (works.Verify tag) = to_verify (seen_datum tag)
 seen_work (works.Derive size) = to_derive size
 
+-- what a command asks, with its names and data as bytes
 abbrev pub seen_command : Command → Asked
 seen_command (asks.CreateKeyset template output) = create_keyset template.now (seen_place output)
 seen_command (asks.EditKeyset edit input output) =
