@@ -23,17 +23,20 @@ IsFit (CtrHmac aes iv_size hash mac tag_size) =
     ((length aes.now ≡ 16) ⊎ (length aes.now ≡ 32)) × (12 ≤ iv_size) × (iv_size ≤ 16)
     × (16 ≤ length mac.now) × (10 ≤ tag_size) × (tag_size ≤ hash_size hash)
 
+-- bytes of an IV: 12 for GCM, as the key says for the others
 abbrev pub iv_size_of : AeadKey → ℕ
 iv_size_of (Gcm key) = 12
 iv_size_of (Eax key iv_size) = iv_size
 iv_size_of (CtrHmac aes iv_size hash mac tag_size) = iv_size
 
+-- IV, ciphertext and tag of a plaintext and associated data, by the kind of the key
 abbrev pub seal_of : AeadKey → List ℕ → List ℕ → List ℕ → List ℕ
 seal_of (Gcm key) iv plain ad = gcm_seal key.now iv plain ad
 seal_of (Eax key iv_size) iv plain ad = eax_seal key.now iv plain ad
 seal_of (CtrHmac aes iv_size hash mac tag_size) iv plain ad =
     ctr_hmac_seal aes.now hash mac.now tag_size iv plain ad
 
+-- the plaintext of what `seal_of` gives, by the kind of the key; none where the tag isn't right
 abbrev pub open_key : AeadKey → List ℕ → List ℕ → Option (List ℕ)
 open_key (Gcm key) bytes ad = gcm_open key.now bytes ad
 open_key (Eax key iv_size) bytes ad = eax_open key.now iv_size bytes ad

@@ -13,12 +13,15 @@ sealed_by crypt tag iv plain ad = let text = crypt iv plain in iv ++ text ++ tag
 
 -- ---- IV, ciphertext and tag of the bytes that are opened, by the sizes of IV and tag
 
+-- the IV in front
 abbrev pub iv_of : ℕ → List ℕ → List ℕ
 iv_of iv_size bytes = take iv_size bytes
 
+-- the ciphertext between IV and tag
 abbrev pub text_of : ℕ → ℕ → List ℕ → List ℕ
 text_of iv_size tag_size bytes = take (length bytes - (iv_size + tag_size)) (drop iv_size bytes)
 
+-- the tag at the end
 abbrev pub tag_of : ℕ → List ℕ → List ℕ
 tag_of tag_size bytes = drop (length bytes - tag_size) bytes
 

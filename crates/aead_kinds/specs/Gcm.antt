@@ -62,12 +62,15 @@ gcm_seal key iv plain ad =
 
 -- ---- IV, C and T of the bytes that are opened
 
+-- the 12 bytes of IV in front
 abbrev pub iv_of : List ℕ → List ℕ
 iv_of bytes = take 12 bytes
 
+-- the ciphertext between IV and tag
 abbrev pub text_of : List ℕ → List ℕ
 text_of bytes = take (length bytes - 28) (drop 12 bytes)
 
+-- the 16 bytes of tag at the end
 abbrev pub tag_of : List ℕ → List ℕ
 tag_of bytes = drop (length bytes - 16) bytes
 

@@ -39,6 +39,7 @@ EaxOpensSealings = (key : List ℕ) (iv_size : ℕ) (bytes plain ad : List ℕ)
     → eax_open key iv_size bytes ad ≡ Some plain
     ↔ bytes ≡ eax_seal key (take iv_size bytes) plain ad
 
+-- A sealing of EAX has the lengths of IV and plaintext and 16 bytes of tag, and is made of bytes.
 abbrev pub EaxSealsBytes : Type 0
 EaxSealsBytes = (key iv plain ad : List ℕ) → IsBytes key → IsBytes iv → IsBytes plain
     → (length (eax_seal key iv plain ad) ≡ length iv + length plain + 16)
@@ -51,6 +52,7 @@ CtrHmacOpensSealings = (aes : List ℕ) (iv_size : ℕ) (hash : Hash) (mac : Lis
     → ctr_hmac_open aes iv_size hash mac tag_size bytes ad ≡ Some plain
     ↔ bytes ≡ ctr_hmac_seal aes hash mac tag_size (take iv_size bytes) plain ad
 
+-- A sealing of AES-CTR-HMAC has the lengths of IV, plaintext and tag, and is made of bytes.
 abbrev pub CtrHmacSealsBytes : Type 0
 CtrHmacSealsBytes = (aes : List ℕ) (hash : Hash) (mac : List ℕ) (tag_size : ℕ)
     (iv plain ad : List ℕ) → 1 ≤ tag_size → tag_size ≤ hash_size hash

@@ -17,14 +17,17 @@ IsSound (Eax key) = (length key.now ≡ 16) ⊎ (length key.now ≡ 32)
 IsSound (CtrHmac aes hash mac tag_size) =
     ((length aes.now ≡ 16) ⊎ (length aes.now ≡ 32)) × (tag_size ≤ hash_size hash)
 
+-- bytes of a tag
 abbrev pub tag_size_of : Scheme → ℕ
 tag_size_of (Eax key) = 16
 tag_size_of (CtrHmac aes hash mac tag_size) = tag_size
 
+-- a text enciphered, or deciphered, under this IV
 abbrev pub crypt_under : Scheme → List ℕ → List ℕ → List ℕ
 crypt_under (Eax key) iv text = eax_text key.now iv text
 crypt_under (CtrHmac aes hash mac tag_size) iv text = ctr_hmac_text aes.now iv text
 
+-- the tag of IV, associated data and ciphertext
 abbrev pub tag_under : Scheme → List ℕ → List ℕ → List ℕ → List ℕ
 tag_under (Eax key) iv ad text = eax_tag key.now iv ad text
 tag_under (CtrHmac aes hash mac tag_size) iv ad text =

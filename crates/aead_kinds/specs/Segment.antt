@@ -31,6 +31,7 @@ sealed_with crypt tag plain = crypt plain ++ tag (crypt plain)
 abbrev pub body_of : ℕ → List ℕ → List ℕ
 body_of tag_size segment = take (length segment - tag_size) segment
 
+-- the tag at the end of a segment
 abbrev pub tag_of : ℕ → List ℕ → List ℕ
 tag_of tag_size segment = drop (length segment - tag_size) segment
 

@@ -9,6 +9,7 @@ ghost use Rattle.aead_kinds.specs.Eax.{eax_tag, eax_text, omac};
 use crate::aead::expanded;
 use aes_core::CtrKind;
 use mac_prf::Cmac;
+use mac_prf::blocks::xor;
 
 /// Encrypts or decrypts `body` in place: counter mode from the tag of the IV, where all 128 bits
 /// count.
@@ -44,15 +45,4 @@ fn numbered_mac(key: &[u8], number: u8, message: &[u8]) -> [u8; 16]
         }
         Err(_) => unreachable!(),
     }
-}
-
-// The XOR of two blocks.
-fn xor(block: &[u8; 16], mask: &[u8; 16]) -> [u8; 16]
-    ensures { result ≡ xor_bytes block.now mask.now }
-{
-    let mut sum = *block;
-    for i in 0..16 {
-        sum[i] ^= mask[i];
-    }
-    sum
 }

@@ -11,6 +11,7 @@ ghost use Rattle.aead_kinds.specs.GcmState.{RunsUnder};
 
 use aes_core::{Aes, CtrKind, KeySize};
 use ghash::Ghash;
+use mac_prf::blocks::same_bytes;
 use std::marker::Model;
 
 /// AES-GCM under one key, for many messages: it keeps the expanded key, and what GHASH makes of the
@@ -152,7 +153,7 @@ fn open_with(
     ensures runs { RunsUnder hash.new aes.now }
 {
     let anew = tag_of(aes, hash, iv, ad, body);
-    let same = is_same(&anew, tag);
+    let same = same_bytes(&anew, tag);
     if same {
         crypt(aes, iv, body);
     }
@@ -203,12 +204,4 @@ fn length_block(ad: usize, text: usize) -> [u8; 16]
     block[..8].copy_from_slice(&(8 * ad as u64).to_be_bytes());
     block[8..].copy_from_slice(&(8 * text as u64).to_be_bytes());
     block
-}
-
-// Whether two tags are the same: all their bits are compared at once.
-fn is_same(a: &[u8; 16], b: &[u8; 16]) -> bool
-    ensures { IsTrue result ↔ (a.now ≡ b.now) }
-{
-    let difference = u128::from_be_bytes(*a) ^ u128::from_be_bytes(*b);
-    difference == 0
 }

@@ -6,6 +6,7 @@ ghost use Rattle.aead_kinds.specs.EncryptThenTag.{opened_by, sealed_by};
 ghost use Rattle.aead_kinds.specs.SchemeState.{crypt_under, IsSound, tag_size_of, tag_under};
 
 use crate::{ctr_hmac, eax};
+use mac_prf::blocks::same_bytes;
 use std::alloc::Global;
 use tink_base::{Hash, NoMemory};
 
@@ -135,18 +136,6 @@ impl Scheme<'_> {
         let mut longest = [0; LONGEST_TAG];
         let anew = &mut longest[..tag.len()];
         self.write_tag(iv, ad, text, anew);
-        is_same(anew, tag)
+        same_bytes(anew, tag)
     }
-}
-
-// Whether two tags of one length are the same: all their bytes are compared, wherever they differ.
-pub(crate) fn is_same(a: &[u8], b: &[u8]) -> bool
-    requires { length a.now ≡ length b.now }
-    ensures { IsTrue result ↔ (a.now ≡ b.now) }
-{
-    let mut difference = 0;
-    for i in 0..a.len() {
-        difference |= a[i] ^ b[i];
-    }
-    difference == 0
 }

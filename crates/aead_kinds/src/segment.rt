@@ -8,9 +8,10 @@ ghost use Rattle.std.specs.Bool.{OnFalse, OnTrue};
 ghost use Rattle.tink_base.specs.Hash.{hash_size};
 ghost use Rattle.aead_kinds.specs.Segment.{segment_tag, segment_text};
 
-use crate::scheme::{LONGEST_TAG, is_same};
+use crate::scheme::LONGEST_TAG;
 use aes_core::{Aes, CtrKind};
 use mac_prf::Hmac;
+use mac_prf::blocks::same_bytes;
 use tink_base::Hash;
 
 /// Encrypts `body` in place and writes its tag: counter mode from `start`, where all 128 bits count
@@ -58,7 +59,7 @@ pub fn ctr_hmac_open_in_place(
     let mut longest = [0; LONGEST_TAG];
     let anew = &mut longest[..tag.len()];
     write_tag(hash, mac, start, body, anew);
-    let same = is_same(anew, tag);
+    let same = same_bytes(anew, tag);
     if same {
         crypt(aes, start, body);
     }

@@ -2,3 +2,4 @@ pub mod CmacLemmas
 pub mod HkdfLemmas
 pub mod HmacLemmas
 pub mod ByteLemmas
+pub mod SameLemmas

@@ -35,6 +35,7 @@ block_size Sha512 = 128
 abbrev pub ipad : ℕ
 ipad = 0x36
 
+-- the byte of the outer pad
 abbrev pub opad : ℕ
 opad = 0x5C
 

@@ -4,8 +4,8 @@ ghost use Rattle.std.specs.Prelude.{◌≡◌, ◌≢◌, ◌↔◌, ◌+◌, �
 ghost use Rattle.aes_core.specs.Bytes.{xor_bytes};
 ghost use Rattle.mac_prf.specs.Cmac.{cmac, doubled_block, masked};
 
+use crate::blocks::{doubled, padded, xor};
 use aes_core::{Aes, KeySize};
-use ghash::dbl;
 
 /// CMAC under one key, of a message that comes in pieces: `new`, an `update` for each piece, and
 /// `finish`.
@@ -110,33 +110,4 @@ impl Cmac {
             xor(&doubled(&subkey1), &padded(&self.held[..self.size]))
         }
     }
-}
-
-// The doubling of a block, by which each subkey follows (SP 800-38B, 6.1).
-fn doubled(block: &[u8; 16]) -> [u8; 16]
-    ensures { result ≡ doubled_block block.now }
-{
-    dbl(u128::from_be_bytes(*block)).to_be_bytes()
-}
-
-// The part of a block, a bit 1 after it, and zeros (SP 800-38B, 6.2, step 4).
-fn padded(part: &[u8]) -> [u8; 16]
-    requires { length part.now < 16 }
-    ensures { result ≡ part.now ++ 0x80 ∷ replicate (15 - length part.now) 0 }
-{
-    let mut block = [0; 16];
-    block[..part.len()].copy_from_slice(part);
-    block[part.len()] = 0x80;
-    block
-}
-
-// The XOR of two blocks.
-fn xor(block: &[u8; 16], mask: &[u8; 16]) -> [u8; 16]
-    ensures { result ≡ xor_bytes block.now mask.now }
-{
-    let mut sum = *block;
-    for i in 0..16 {
-        sum[i] ^= mask[i];
-    }
-    sum
 }

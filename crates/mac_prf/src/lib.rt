@@ -1,7 +1,9 @@
 //! Tags of messages that come in pieces: HMAC (RFC 2104) with SHA-1 and SHA-2,
-//! and CMAC (SP 800-38B) over AES; and HKDF (RFC 5869), which derives keys.
+//! and CMAC (SP 800-38B) over AES; HKDF (RFC 5869), which derives keys; and what modes of AES need of
+//! blocks and tags.
 #![tactic(auto)]
 
+pub mod blocks;
 mod cmac;
 mod derive;
 mod hasher;

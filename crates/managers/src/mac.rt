@@ -1,15 +1,16 @@
-//! Managers of HMAC and CMAC.
+//! The manager of message authentication: HMAC and CMAC.
 
 ghost use Rattle.std.specs.Prelude.{◌≡◌, ◌≤◌, length, string_bytes, IfOk, IsTrue, ◌↔◌};
 ghost use Rattle.std.specs.Str.{bytes_eq};
 ghost use Rattle.key_msgs.specs.Keys.{IsValid};
-ghost use Rattle.managers.specs.Schemes as schemes;
+ghost use Rattle.managers.specs.Schemes.{mac_scheme, type_under};
 ghost use Rattle.managers.specs.Uses.{tag_of, tag_size_of, tagged};
 
 use crate::firsts::{write_cmac, write_hmac};
 use crate::reading::read_as;
 use crate::{CheckFault, KeyManager, MacManager};
 use key_msgs::{KeyKind, KeyType};
+use mac_prf::blocks::same_bytes;
 use std::alloc::Global;
 use tink_base::{NoMemory, Trials};
 
@@ -67,106 +68,62 @@ fn verify_under(key: &KeyKind, tag: &[u8], body: &[u8], zero: bool) -> bool
 fn are_same(a: &[u8], b: &[u8]) -> bool
     ensures { result ≡ bytes_eq a.now b.now }
 {
-    a.len() == b.len() && have_no_difference(a, b)
+    a.len() == b.len() && same_bytes(a, b)
 }
 
-/// Whether all bytes of two lists of one length are the same.
-fn have_no_difference(a: &[u8], b: &[u8]) -> bool
-    requires { length a.now ≡ length b.now }
-    ensures { IsTrue result ↔ (a.now ≡ b.now) }
-{
-    let mut difference = 0;
-    for i in 0..a.len() {
-        difference |= a[i] ^ b[i];
-    }
-    difference == 0
+/// The schemes of message authentication.
+#[derive(Clone, Copy, Debug, PartialEq, Eq)]
+pub enum MacScheme {
+    /// HMAC (RFC 2104).
+    Hmac,
+    /// CMAC of AES (SP 800-38B).
+    Cmac,
 }
 
-/// The manager of HMAC keys (RFC 2104).
-#[derive(Drop)]
-pub struct HmacManager {
-    url: String,
-}
-
-impl HmacManager {
-    /// The manager under this type URL. No memory is taken.
-    pub fn new(url: String) -> Self
-        ensures url { ⟦<HmacManager as KeyManager>⟧.url result ≡ string_bytes url }
-        ensures scheme { ⟦<HmacManager as KeyManager>⟧.scheme result ≡ schemes.Hmac }
+impl MacScheme {
+    /// The type of the scheme's keys. No memory is taken.
+    pub fn key_type(self) -> KeyType
+        ensures { result ≡ type_under (mac_scheme self) }
     {
-        HmacManager { url }
+        match self {
+            MacScheme::Hmac => KeyType::Hmac,
+            MacScheme::Cmac => KeyType::AesCmac,
+        }
     }
 }
 
-impl KeyManager for HmacManager {
+/// The manager of the keys of one of these schemes.
+#[derive(Drop)]
+pub struct StandardMac {
+    url: String,
+    scheme: MacScheme,
+}
+
+impl StandardMac {
+    /// The manager of a scheme's keys under this type URL. No memory is taken.
+    pub fn new(url: String, scheme: MacScheme) -> Self
+        ensures url { ⟦<StandardMac as KeyManager>⟧.url result ≡ string_bytes url }
+        ensures scheme { ⟦<StandardMac as KeyManager>⟧.scheme result ≡ mac_scheme scheme }
+    {
+        StandardMac { url, scheme }
+    }
+}
+
+impl KeyManager for StandardMac {
     ghost url = { λ m. string_bytes m.url };
 
-    ghost scheme = { λ _. schemes.Hmac };
+    ghost scheme = { λ m. mac_scheme m.scheme };
 
     fn type_url(&self) -> &str {
         self.url.as_str()
     }
 
     fn check(&self, alloc: Global, value: &[u8]) -> Result<KeyKind, CheckFault> {
-        read_as(alloc, KeyType::Hmac, value)
+        read_as(alloc, self.scheme.key_type(), value)
     }
 }
 
-impl MacManager for HmacManager {
-    fn tag(
-        &self,
-        alloc: Global,
-        key: &KeyKind,
-        body: &[u8],
-        zero: bool,
-    ) -> Result<Vec<u8>, NoMemory> {
-        tag_under(alloc, key, body, zero)
-    }
-
-    fn verify(
-        &self,
-        key: &KeyKind,
-        tag: &[u8],
-        body: &[u8],
-        zero: bool,
-        trials: &mut Trials,
-    ) -> bool {
-        trials.tick();
-        verify_under(key, tag, body, zero)
-    }
-}
-
-/// The manager of CMAC keys (SP 800-38B).
-#[derive(Drop)]
-pub struct CmacManager {
-    url: String,
-}
-
-impl CmacManager {
-    /// The manager under this type URL. No memory is taken.
-    pub fn new(url: String) -> Self
-        ensures url { ⟦<CmacManager as KeyManager>⟧.url result ≡ string_bytes url }
-        ensures scheme { ⟦<CmacManager as KeyManager>⟧.scheme result ≡ schemes.Cmac }
-    {
-        CmacManager { url }
-    }
-}
-
-impl KeyManager for CmacManager {
-    ghost url = { λ m. string_bytes m.url };
-
-    ghost scheme = { λ _. schemes.Cmac };
-
-    fn type_url(&self) -> &str {
-        self.url.as_str()
-    }
-
-    fn check(&self, alloc: Global, value: &[u8]) -> Result<KeyKind, CheckFault> {
-        read_as(alloc, KeyType::AesCmac, value)
-    }
-}
-
-impl MacManager for CmacManager {
+impl MacManager for StandardMac {
     fn tag(
         &self,
         alloc: Global,

@@ -1,8 +1,6 @@
--- The text that S2V authenticates, and whether two blocks are the same.
-use Rattle.std.proofs.Common.{◌≡◌, ℕ, ◌-◌, ◌<◌, ◌≤◌, List, ◌++◌, length, drop, take, sym, ap, ◌∙◌}
+-- The text that S2V authenticates.
+use Rattle.std.proofs.Common.{◌≡◌, ℕ, ◌-◌, ◌<◌, ◌≤◌, List, ◌++◌, length, drop, take, ap, ◌∙◌}
 use Rattle.std.proofs.lemmas.Bool.{cond-false, cond-true, le-ltb, lt-ltb}
-use Rattle.std.specs.Int.Bits.{xor_assoc, xor_self, xor_zero_l, xor_zero_r}
-use lib.Bits.{bit_xor}
 use Rattle.aes_core.specs.Bytes.{xor_bytes}
 use Rattle.mac_prf.specs.Cmac.{doubled_block}
 use Rattle.siv_daead.specs.Siv.{mac_text, pad}
@@ -19,12 +17,3 @@ unfolding mac_text
 mac_text-long d plain block long =
     cond-false _ _ _ (le-ltb (length plain) 16 long)
     ∙ ap (λ n. take (length plain - n) plain ++ xor_bytes (drop (length plain - n) plain) d) block
-
--- numbers without a difference are the same
-pub zero-xor : (a b : ℕ) → bit_xor a b ≡ 0 → a ≡ b
-zero-xor a b e =
-    sym (xor_zero_r a) ∙ ap (λ n. bit_xor a n) (sym (xor_self b)) ∙ sym (xor_assoc a b b)
-    ∙ ap (λ n. bit_xor n b) e ∙ xor_zero_l b
-
-pub xor_of_same-zero : (a b : ℕ) → a ≡ b → bit_xor a b ≡ 0
-xor_of_same-zero a b e = ap (λ n. bit_xor a n) (sym e) ∙ xor_self a

@@ -72,6 +72,7 @@ siv_seal key plain ad =
 abbrev pub siv_of : List ℕ → List ℕ
 siv_of bytes = take 16 bytes
 
+-- the ciphertext behind the 16 bytes of SIV
 abbrev pub text_of : List ℕ → List ℕ
 text_of bytes = drop 16 bytes
 

@@ -2,7 +2,6 @@
 //! which may be empty, and with keys of 32 and 64 bytes.
 #![tactic(auto)]
 
-mod blocks;
 pub mod laws;
 mod siv;
 

@@ -4,9 +4,9 @@ ghost use Rattle.std.specs.Prelude.{◌≡◌, ◌⊎◌, ◌↔◌, ◌+◌, �
 ghost use Rattle.mac_prf.specs.Cmac.{cmac};
 ghost use Rattle.siv_daead.specs.Siv.{mac_key, s2v, siv_open, siv_seal, siv_text};
 
-use crate::blocks::{block_of, doubled, is_same, padded, xor};
 use aes_core::{Aes, CtrKind};
 use mac_prf::Cmac;
+use mac_prf::blocks::{doubled, padded, same_bytes, xor};
 use std::alloc::Global;
 use tink_base::NoMemory;
 
@@ -69,7 +69,7 @@ fn open_in_place(key: &[u8], siv: &[u8; 16], ad: &[u8], body: &mut [u8]) -> bool
     ensures authentic { IsTrue result ↔ (siv.now ≡ s2v (mac_key key.now) ad.now body.new) }
 {
     crypt(key, siv, body);
-    is_same(siv, &synthetic_iv(key, ad, body))
+    same_bytes(siv, &synthetic_iv(key, ad, body))
 }
 
 // S2V of the datum and the plaintext, under the first half of the key (2.4 and 2.6).
@@ -119,4 +119,14 @@ fn crypt(key: &[u8], siv: &[u8; 16], body: &mut [u8])
     let start = (u128::from_be_bytes(*siv) & KEPT_BITS).to_be_bytes();
     let aes = Aes::new(ctr_key).unwrap();
     aes.ctr_xor(&start, CtrKind::All128, body);
+}
+
+// The bytes of a block.
+fn block_of(bytes: &[u8]) -> [u8; 16]
+    requires { length bytes.now ≡ 16 }
+    ensures { result ≡ bytes.now }
+{
+    let mut block = [0; 16];
+    block.copy_from_slice(bytes);
+    block
 }

@@ -1,6 +1,6 @@
 use Rattle.std.proofs.Common.{arith}
-use Rattle.aead_kinds.proofs.SchemeLemmas.{same-step}
-use Rattle.aead_kinds.proofs.scheme.is_same.Goals as goal
+use Rattle.mac_prf.proofs.SameLemmas.{same-step}
+use Rattle.mac_prf.proofs.blocks.same_bytes.Goals as goal
 
 pub loop-i-preserved : goal.loop-i-preserved
 loop-i-preserved c =

@@ -2,7 +2,7 @@
 use Rattle.std.proofs.Common.{arith, refl}
 use Rattle.aes_core.specs.Bytes.{xor_bytes}
 use Rattle.mac_prf.proofs.CmacLemmas.{xor-step}
-use Rattle.mac_prf.proofs.cmac.xor.Goals as goal
+use Rattle.mac_prf.proofs.blocks.xor.Goals as goal
 
 pub loop-i-init : goal.loop-i-init
 unfolding xor_bytes

@@ -1,7 +1,7 @@
 -- After i bytes they are XORed, and the rest are as they were.
 use Rattle.std.proofs.Common.{◌≡◌, ◌++◌, take, drop}
 use Rattle.aes_core.specs.Bytes.{xor_bytes}
-use Rattle.mac_prf.proofs.cmac.xor.Given as goal
+use Rattle.mac_prf.proofs.blocks.xor.Given as goal
 
 abbrev pub invariant-loop-i : goal.invariant-loop-i
 invariant-loop-i l =
