@@ -1,6 +1,7 @@
 -- What a manager of keys is for, which contracts alone see.
 --
 --   Scheme        the kinds of keys that aren't for streams
+--   aead_scheme, mac_scheme, prf_scheme   the schemes that the code names
 --   type_under    the key type of a scheme
 --   IsReading     a key or a broken rule is what a message reads as
 --   IsAdmitted    a key is a valid one of the scheme
@@ -11,6 +12,12 @@ use Rattle.key_msgs.specs.declared.key.KeyKind.{KeyKind}
 use Rattle.key_msgs.specs.declared.key_type.KeyType.{KeyType}
 use Rattle.key_msgs.specs.declared.key_type.KeyType.TheVariants as types
 use Rattle.key_msgs.specs.declared.rule.Rule.{Rule}
+use Rattle.managers.specs.declared.aead.AeadScheme.{AeadScheme}
+use Rattle.managers.specs.declared.aead.AeadScheme.TheVariants as aeads
+use Rattle.managers.specs.declared.mac.MacScheme.{MacScheme}
+use Rattle.managers.specs.declared.mac.MacScheme.TheVariants as macs
+use Rattle.managers.specs.declared.prf.PrfScheme.{PrfScheme}
+use Rattle.managers.specs.declared.prf.PrfScheme.TheVariants as prfs
 use Rattle.managers.specs.declared.interfaces.CheckFault.{CheckFault}
 use Rattle.managers.specs.declared.interfaces.CheckFault.TheVariants.{Bad, NoMemory}
 
@@ -25,6 +32,23 @@ pub data Scheme : Type 0 where
   HkdfPrf : Scheme
   HmacPrf : Scheme
   CmacPrf : Scheme
+
+-- the scheme of an AEAD that the code names
+abbrev pub aead_scheme : AeadScheme → Scheme
+aead_scheme aeads.Gcm = Gcm
+aead_scheme aeads.Eax = Eax
+aead_scheme aeads.CtrHmac = CtrHmac
+
+-- the same of a MAC
+abbrev pub mac_scheme : MacScheme → Scheme
+mac_scheme macs.Hmac = Hmac
+mac_scheme macs.Cmac = Cmac
+
+-- and of a pseudo-random function
+abbrev pub prf_scheme : PrfScheme → Scheme
+prf_scheme prfs.Hkdf = HkdfPrf
+prf_scheme prfs.Hmac = HmacPrf
+prf_scheme prfs.Cmac = CmacPrf
 
 -- the type of the scheme's keys
 abbrev pub type_under : Scheme → KeyType

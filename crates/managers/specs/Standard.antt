@@ -1,6 +1,6 @@
 -- The table of the program: a manager for each scheme, in the list of its primitive, under the type
 -- URL of its keys.
-use Rattle.std.specs.Prelude.{List, [], ◌∷◌}
+use Rattle.std.specs.Prelude.{[], ◌∷◌}
 use Rattle.key_msgs.specs.KeyTypes.{url_of_type}
 use Rattle.managers.specs.Schemes.{Scheme, Gcm, Eax, CtrHmac, Siv, Hmac, Cmac, HkdfPrf, HmacPrf, CmacPrf, type_under}
 use Rattle.managers.specs.Table.{Entry, Table}
@@ -9,6 +9,7 @@ use Rattle.managers.specs.Table.{Entry, Table}
 abbrev pub standard_entry : Scheme → Entry
 standard_entry scheme = record { url = url_of_type (type_under scheme); scheme = scheme }
 
+-- each of the nine schemes once, in the list of its primitive, under its own type URL
 abbrev pub standard_table : Table
 standard_table = record {
   aead = standard_entry Gcm ∷ standard_entry Eax ∷ standard_entry CtrHmac ∷ [];

@@ -39,6 +39,7 @@ seal_of (kinds.AesCtrHmac aes size hash mac tag_size) iv plain ad =
     ctr_hmac_seal aes hash mac tag_size iv plain ad
 seal_of _ iv plain ad = []
 
+-- what an AEAD key opens bytes to; none under a key of another primitive
 abbrev pub open_key : KeyKind → List ℕ → List ℕ → Option (List ℕ)
 open_key (kinds.AesGcm key) bytes ad = gcm_open key bytes ad
 open_key (kinds.AesEax key size) bytes ad = eax_open key size bytes ad
@@ -51,6 +52,7 @@ abbrev pub dseal_of : KeyKind → List ℕ → List ℕ → List ℕ
 dseal_of (kinds.AesSiv key) plain ad = siv_seal key plain ad
 dseal_of _ plain ad = []
 
+-- what an AES-SIV key opens bytes to; none under any other key
 abbrev pub dopen_key : KeyKind → List ℕ → List ℕ → Option (List ℕ)
 dopen_key (kinds.AesSiv key) bytes ad = siv_open key bytes ad
 dopen_key _ bytes ad = None

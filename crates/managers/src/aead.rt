@@ -1,9 +1,9 @@
-//! Managers of AES-GCM, EAX and AES-CTR-HMAC.
+//! The manager of authenticated encryption: AES-GCM, EAX and AES-CTR-HMAC.
 
 ghost use Rattle.std.specs.Prelude.{◌≡◌, ◌+◌, ◌^◌, ◌≤◌, length, string_bytes, IfOk};
 ghost use Rattle.std.specs.Option.{option_map};
 ghost use Rattle.key_msgs.specs.Keys.{IsValid};
-ghost use Rattle.managers.specs.Schemes as schemes;
+ghost use Rattle.managers.specs.Schemes.{aead_scheme, type_under};
 ghost use Rattle.managers.specs.Uses.{iv_size, open_key, seal_of};
 
 use crate::reading::read_as;
@@ -114,155 +114,62 @@ fn open_under(
     }
 }
 
-/// The manager of AES-GCM keys (SP 800-38D).
-#[derive(Drop)]
-pub struct GcmManager {
-    url: String,
+/// The schemes of authenticated encryption.
+#[derive(Clone, Copy, Debug, PartialEq, Eq)]
+pub enum AeadScheme {
+    /// AES-GCM (SP 800-38D).
+    Gcm,
+    /// EAX (Bellare, Rogaway and Wagner).
+    Eax,
+    /// AES-CTR-HMAC, by Tink's wire format.
+    CtrHmac,
 }
 
-impl GcmManager {
-    /// The manager under this type URL. No memory is taken.
-    pub fn new(url: String) -> Self
-        ensures url { ⟦<GcmManager as KeyManager>⟧.url result ≡ string_bytes url }
-        ensures scheme { ⟦<GcmManager as KeyManager>⟧.scheme result ≡ schemes.Gcm }
+impl AeadScheme {
+    /// The type of the scheme's keys. No memory is taken.
+    pub fn key_type(self) -> KeyType
+        ensures { result ≡ type_under (aead_scheme self) }
     {
-        GcmManager { url }
+        match self {
+            AeadScheme::Gcm => KeyType::AesGcm,
+            AeadScheme::Eax => KeyType::AesEax,
+            AeadScheme::CtrHmac => KeyType::AesCtrHmac,
+        }
     }
 }
 
-impl KeyManager for GcmManager {
+/// The manager of the keys of one of these schemes.
+#[derive(Drop)]
+pub struct StandardAead {
+    url: String,
+    scheme: AeadScheme,
+}
+
+impl StandardAead {
+    /// The manager of a scheme's keys under this type URL. No memory is taken.
+    pub fn new(url: String, scheme: AeadScheme) -> Self
+        ensures url { ⟦<StandardAead as KeyManager>⟧.url result ≡ string_bytes url }
+        ensures scheme { ⟦<StandardAead as KeyManager>⟧.scheme result ≡ aead_scheme scheme }
+    {
+        StandardAead { url, scheme }
+    }
+}
+
+impl KeyManager for StandardAead {
     ghost url = { λ m. string_bytes m.url };
 
-    ghost scheme = { λ _. schemes.Gcm };
+    ghost scheme = { λ m. aead_scheme m.scheme };
 
     fn type_url(&self) -> &str {
         self.url.as_str()
     }
 
     fn check(&self, alloc: Global, value: &[u8]) -> Result<KeyKind, CheckFault> {
-        read_as(alloc, KeyType::AesGcm, value)
+        read_as(alloc, self.scheme.key_type(), value)
     }
 }
 
-impl AeadManager for GcmManager {
-    fn iv_size(&self, key: &KeyKind) -> usize {
-        iv_size_under(key)
-    }
-
-    fn seal(
-        &self,
-        alloc: Global,
-        key: &KeyKind,
-        iv: &[u8],
-        plain: &[u8],
-        ad: &[u8],
-    ) -> Result<Vec<u8>, NoMemory> {
-        seal_under(alloc, key, iv, plain, ad)
-    }
-
-    fn open(
-        &self,
-        alloc: Global,
-        key: &KeyKind,
-        bytes: &[u8],
-        ad: &[u8],
-        trials: &mut Trials,
-    ) -> Result<Option<Vec<u8>>, NoMemory> {
-        trials.tick();
-        open_under(alloc, key, bytes, ad)
-    }
-}
-
-/// The manager of EAX keys (Bellare, Rogaway and Wagner).
-#[derive(Drop)]
-pub struct EaxManager {
-    url: String,
-}
-
-impl EaxManager {
-    /// The manager under this type URL. No memory is taken.
-    pub fn new(url: String) -> Self
-        ensures url { ⟦<EaxManager as KeyManager>⟧.url result ≡ string_bytes url }
-        ensures scheme { ⟦<EaxManager as KeyManager>⟧.scheme result ≡ schemes.Eax }
-    {
-        EaxManager { url }
-    }
-}
-
-impl KeyManager for EaxManager {
-    ghost url = { λ m. string_bytes m.url };
-
-    ghost scheme = { λ _. schemes.Eax };
-
-    fn type_url(&self) -> &str {
-        self.url.as_str()
-    }
-
-    fn check(&self, alloc: Global, value: &[u8]) -> Result<KeyKind, CheckFault> {
-        read_as(alloc, KeyType::AesEax, value)
-    }
-}
-
-impl AeadManager for EaxManager {
-    fn iv_size(&self, key: &KeyKind) -> usize {
-        iv_size_under(key)
-    }
-
-    fn seal(
-        &self,
-        alloc: Global,
-        key: &KeyKind,
-        iv: &[u8],
-        plain: &[u8],
-        ad: &[u8],
-    ) -> Result<Vec<u8>, NoMemory> {
-        seal_under(alloc, key, iv, plain, ad)
-    }
-
-    fn open(
-        &self,
-        alloc: Global,
-        key: &KeyKind,
-        bytes: &[u8],
-        ad: &[u8],
-        trials: &mut Trials,
-    ) -> Result<Option<Vec<u8>>, NoMemory> {
-        trials.tick();
-        open_under(alloc, key, bytes, ad)
-    }
-}
-
-/// The manager of AES-CTR-HMAC keys, by Tink's wire format.
-#[derive(Drop)]
-pub struct CtrHmacManager {
-    url: String,
-}
-
-impl CtrHmacManager {
-    /// The manager under this type URL. No memory is taken.
-    pub fn new(url: String) -> Self
-        ensures url { ⟦<CtrHmacManager as KeyManager>⟧.url result ≡ string_bytes url }
-        ensures scheme { ⟦<CtrHmacManager as KeyManager>⟧.scheme result ≡ schemes.CtrHmac }
-    {
-        CtrHmacManager { url }
-    }
-}
-
-impl KeyManager for CtrHmacManager {
-    ghost url = { λ m. string_bytes m.url };
-
-    ghost scheme = { λ _. schemes.CtrHmac };
-
-    fn type_url(&self) -> &str {
-        self.url.as_str()
-    }
-
-    fn check(&self, alloc: Global, value: &[u8]) -> Result<KeyKind, CheckFault> {
-        read_as(alloc, KeyType::AesCtrHmac, value)
-    }
-}
-
-impl AeadManager for CtrHmacManager {
+impl AeadManager for StandardAead {
     fn iv_size(&self, key: &KeyKind) -> usize {
         iv_size_under(key)
     }

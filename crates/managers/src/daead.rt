@@ -47,21 +47,21 @@ fn dopen_under(
 
 /// The manager of AES-SIV keys (RFC 5297).
 #[derive(Drop)]
-pub struct SivManager {
+pub struct StandardDaead {
     url: String,
 }
 
-impl SivManager {
+impl StandardDaead {
     /// The manager under this type URL. No memory is taken.
     pub fn new(url: String) -> Self
-        ensures url { ⟦<SivManager as KeyManager>⟧.url result ≡ string_bytes url }
-        ensures scheme { ⟦<SivManager as KeyManager>⟧.scheme result ≡ schemes.Siv }
+        ensures url { ⟦<StandardDaead as KeyManager>⟧.url result ≡ string_bytes url }
+        ensures scheme { ⟦<StandardDaead as KeyManager>⟧.scheme result ≡ schemes.Siv }
     {
-        SivManager { url }
+        StandardDaead { url }
     }
 }
 
-impl KeyManager for SivManager {
+impl KeyManager for StandardDaead {
     ghost url = { λ m. string_bytes m.url };
 
     ghost scheme = { λ _. schemes.Siv };
@@ -75,7 +75,7 @@ impl KeyManager for SivManager {
     }
 }
 
-impl DaeadManager for SivManager {
+impl DaeadManager for StandardDaead {
     fn seal(
         &self,
         alloc: Global,

@@ -14,9 +14,9 @@ mod prf;
 mod reading;
 mod table;
 
-pub use aead::{CtrHmacManager, EaxManager, GcmManager};
-pub use daead::SivManager;
+pub use aead::{AeadScheme, StandardAead};
+pub use daead::StandardDaead;
 pub use interfaces::{AeadManager, CheckFault, DaeadManager, KeyManager, MacManager, PrfManager};
-pub use mac::{CmacManager, HmacManager};
-pub use prf::{CmacPrfManager, HkdfPrfManager, HmacPrfManager};
+pub use mac::{MacScheme, StandardMac};
+pub use prf::{PrfScheme, StandardPrf};
 pub use table::{KeyList, KeyTable, Managers, SameUrl};

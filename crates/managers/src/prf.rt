@@ -1,10 +1,10 @@
-//! Managers of pseudo-random functions: HKDF, HMAC and CMAC.
+//! The manager of pseudo-random functions: HKDF, HMAC and CMAC.
 
 ghost use Rattle.std.specs.Prelude.{◌≡◌, ◌≤◌, length, string_bytes, IfOk};
 ghost use Rattle.key_msgs.specs.Keys.{IsValid};
 ghost use Rattle.mac_prf.specs.Hkdf.{hkdf as derived};
 ghost use Rattle.tink_base.specs.Hash.{hash_size};
-ghost use Rattle.managers.specs.Schemes as schemes;
+ghost use Rattle.managers.specs.Schemes.{prf_scheme, type_under};
 ghost use Rattle.managers.specs.Uses.{greatest, prf_of};
 
 use crate::firsts::{write_cmac, write_hmac};
@@ -62,129 +62,62 @@ fn derive_under(
     Ok(bytes)
 }
 
-/// The manager of HKDF keys as a pseudo-random function (RFC 5869): the input is its `info`.
-#[derive(Drop)]
-pub struct HkdfPrfManager {
-    url: String,
+/// The schemes of pseudo-random functions.
+#[derive(Clone, Copy, Debug, PartialEq, Eq)]
+pub enum PrfScheme {
+    /// HKDF (RFC 5869).
+    Hkdf,
+    /// HMAC (RFC 2104).
+    Hmac,
+    /// CMAC of AES (SP 800-38B).
+    Cmac,
 }
 
-impl HkdfPrfManager {
-    /// The manager under this type URL. No memory is taken.
-    pub fn new(url: String) -> Self
-        ensures url { ⟦<HkdfPrfManager as KeyManager>⟧.url result ≡ string_bytes url }
-        ensures scheme { ⟦<HkdfPrfManager as KeyManager>⟧.scheme result ≡ schemes.HkdfPrf }
+impl PrfScheme {
+    /// The type of the scheme's keys. No memory is taken.
+    pub fn key_type(self) -> KeyType
+        ensures { result ≡ type_under (prf_scheme self) }
     {
-        HkdfPrfManager { url }
+        match self {
+            PrfScheme::Hkdf => KeyType::HkdfPrf,
+            PrfScheme::Hmac => KeyType::HmacPrf,
+            PrfScheme::Cmac => KeyType::CmacPrf,
+        }
     }
 }
 
-impl KeyManager for HkdfPrfManager {
+/// The manager of the keys of one of these schemes.
+#[derive(Drop)]
+pub struct StandardPrf {
+    url: String,
+    scheme: PrfScheme,
+}
+
+impl StandardPrf {
+    /// The manager of a scheme's keys under this type URL. No memory is taken.
+    pub fn new(url: String, scheme: PrfScheme) -> Self
+        ensures url { ⟦<StandardPrf as KeyManager>⟧.url result ≡ string_bytes url }
+        ensures scheme { ⟦<StandardPrf as KeyManager>⟧.scheme result ≡ prf_scheme scheme }
+    {
+        StandardPrf { url, scheme }
+    }
+}
+
+impl KeyManager for StandardPrf {
     ghost url = { λ m. string_bytes m.url };
 
-    ghost scheme = { λ _. schemes.HkdfPrf };
+    ghost scheme = { λ m. prf_scheme m.scheme };
 
     fn type_url(&self) -> &str {
         self.url.as_str()
     }
 
     fn check(&self, alloc: Global, value: &[u8]) -> Result<KeyKind, CheckFault> {
-        read_as(alloc, KeyType::HkdfPrf, value)
+        read_as(alloc, self.scheme.key_type(), value)
     }
 }
 
-impl PrfManager for HkdfPrfManager {
-    fn greatest(&self, key: &KeyKind) -> usize {
-        greatest_under(key)
-    }
-
-    fn derive(
-        &self,
-        alloc: Global,
-        key: &KeyKind,
-        input: &[u8],
-        size: usize,
-    ) -> Result<Vec<u8>, NoMemory> {
-        derive_under(alloc, key, input, size)
-    }
-}
-
-/// The manager of HMAC keys as a pseudo-random function (RFC 2104).
-#[derive(Drop)]
-pub struct HmacPrfManager {
-    url: String,
-}
-
-impl HmacPrfManager {
-    /// The manager under this type URL. No memory is taken.
-    pub fn new(url: String) -> Self
-        ensures url { ⟦<HmacPrfManager as KeyManager>⟧.url result ≡ string_bytes url }
-        ensures scheme { ⟦<HmacPrfManager as KeyManager>⟧.scheme result ≡ schemes.HmacPrf }
-    {
-        HmacPrfManager { url }
-    }
-}
-
-impl KeyManager for HmacPrfManager {
-    ghost url = { λ m. string_bytes m.url };
-
-    ghost scheme = { λ _. schemes.HmacPrf };
-
-    fn type_url(&self) -> &str {
-        self.url.as_str()
-    }
-
-    fn check(&self, alloc: Global, value: &[u8]) -> Result<KeyKind, CheckFault> {
-        read_as(alloc, KeyType::HmacPrf, value)
-    }
-}
-
-impl PrfManager for HmacPrfManager {
-    fn greatest(&self, key: &KeyKind) -> usize {
-        greatest_under(key)
-    }
-
-    fn derive(
-        &self,
-        alloc: Global,
-        key: &KeyKind,
-        input: &[u8],
-        size: usize,
-    ) -> Result<Vec<u8>, NoMemory> {
-        derive_under(alloc, key, input, size)
-    }
-}
-
-/// The manager of CMAC keys as a pseudo-random function (SP 800-38B).
-#[derive(Drop)]
-pub struct CmacPrfManager {
-    url: String,
-}
-
-impl CmacPrfManager {
-    /// The manager under this type URL. No memory is taken.
-    pub fn new(url: String) -> Self
-        ensures url { ⟦<CmacPrfManager as KeyManager>⟧.url result ≡ string_bytes url }
-        ensures scheme { ⟦<CmacPrfManager as KeyManager>⟧.scheme result ≡ schemes.CmacPrf }
-    {
-        CmacPrfManager { url }
-    }
-}
-
-impl KeyManager for CmacPrfManager {
-    ghost url = { λ m. string_bytes m.url };
-
-    ghost scheme = { λ _. schemes.CmacPrf };
-
-    fn type_url(&self) -> &str {
-        self.url.as_str()
-    }
-
-    fn check(&self, alloc: Global, value: &[u8]) -> Result<KeyKind, CheckFault> {
-        read_as(alloc, KeyType::CmacPrf, value)
-    }
-}
-
-impl PrfManager for CmacPrfManager {
+impl PrfManager for StandardPrf {
     fn greatest(&self, key: &KeyKind) -> usize {
         greatest_under(key)
     }

@@ -1,3 +1,4 @@
+pub mod Decimal
 pub mod Hash
 pub mod Memory
 pub mod Numbers

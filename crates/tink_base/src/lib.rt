@@ -7,6 +7,7 @@
 mod all;
 mod bytes;
 mod constants;
+mod decimal;
 mod entropy;
 mod faults;
 mod files;
@@ -23,6 +24,7 @@ mod trials;
 pub use all::{ReadAllFault, read_all, write_all};
 pub use bytes::Bytes;
 pub use constants::{CRUNCHY, DESTROYED, DISABLED, ENABLED, LEGACY, RAW, TINK};
+pub use decimal::number_in;
 pub use entropy::Entropy;
 pub use faults::{Failed, NoMemory};
 pub use files::MemStore;

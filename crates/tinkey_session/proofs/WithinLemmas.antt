@@ -8,7 +8,8 @@ use Rattle.hex.specs.declared.error.FromHexError.{FromHexError}
 use Rattle.hex.specs.declared.error.FromHexError.TheVariants as hex_errors
 use Rattle.hex.proofs.HexLemmas.{decode_pairs-ok}
 use Rattle.tinkey_cmds.specs.Edits.{Add, Rotate, Promote, Enable, Disable, Destroy, Delete}
-use Rattle.tinkey_session.specs.Lines.{Line, Seal, Dseal, Open, Dopen, Tag, Verify, Derive, Edit, Bad, bytes_in, line_of, line_of_words, line_with_bytes, line_with_id, line_with_one, line_with_two, name_in, number_in, with_one, with_two, words_of}
+use Rattle.tink_base.specs.Decimal.{number_in}
+use Rattle.tinkey_session.specs.Lines.{Line, Seal, Dseal, Open, Dopen, Tag, Verify, Derive, Edit, Bad, bytes_in, line_of, line_of_words, line_with_bytes, line_with_id, line_with_one, line_with_two, name_in, with_one, with_two, words_of}
 use Rattle.tinkey_session.specs.Reading.{IsWithin}
 
 -- ---- words

@@ -3,7 +3,6 @@
 --   Line           what a line asks
 --   bytes_in       the bytes that a word spells in hexadecimal
 --   word_of        the word that spells bytes
---   number_in      the number that a word spells
 --   line_of        what the bytes of a line ask
 --
 -- Words are separated by one space each: what stands between two spaces is a word, also an empty
@@ -11,8 +10,8 @@
 use Rattle.std.specs.Prelude.{ℕ, ◌^◌, List, [], ◌∷◌, length, Bool, ◌&&◌, ◌==◌, nat_le, nat_lt, Option, Some, None, if◌then◌else◌, codes}
 use Rattle.std.specs.List.{slice_split}
 use Rattle.std.specs.Result.{result_ok}
-use Rattle.std.specs.Str.{all_ascii_digits, bytes_eq, is_utf8}
-use Rattle.std.specs.Str.Parse.{digits_value}
+use Rattle.std.specs.Str.{bytes_eq, is_utf8}
+use Rattle.tink_base.specs.Decimal.{number_in}
 use Rattle.hex.specs.Hex.{decode_of, encode_lower}
 use Rattle.tinkey_cmds.specs.Edits.{EditOf, Add, Rotate, Promote, Enable, Disable, Destroy, Delete}
 
@@ -45,15 +44,6 @@ bytes_in word =
 abbrev pub word_of : List ℕ → List ℕ
 word_of [] = codes "-"
 word_of (b ∷ bytes) = encode_lower (b ∷ bytes)
-
--- 1 to 10 decimal digits, of a number up to 4,294,967,295
-abbrev pub is_number : List ℕ → Bool
-is_number word =
-    nat_le 1 (length word) && (nat_le (length word) 10
-    && (all_ascii_digits word && nat_lt (digits_value 10 word) (2 ^ 32)))
-
-abbrev pub number_in : List ℕ → Option ℕ
-number_in word = if is_number word then Some (digits_value 10 word) else None
 
 -- a name isn't empty
 abbrev pub name_in : List ℕ → Option (List ℕ)
@@ -105,6 +95,7 @@ line_with_two name a b =
     if bytes_eq name (codes "derive") then with_two Derive (number_in a) (bytes_in b)
     else with_two (line_with_bytes name) (bytes_in a) (bytes_in b)
 
+-- the line of these words
 abbrev pub line_of_words : List (List ℕ) → Line
 line_of_words (name ∷ a ∷ []) = line_with_one name a
 line_of_words (name ∷ a ∷ b ∷ []) = line_with_two name a b

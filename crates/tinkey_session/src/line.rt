@@ -1,13 +1,13 @@
 //! One line of a session, read by the grammar of `specs/Lines.antt`.
 
 ghost use Rattle.std.specs.Prelude.{◌≡◌, length, IfOk, option_map};
-ghost use Rattle.tinkey_session.specs.Lines.{bytes_in, line_of, line_of_words, line_with_bytes, line_with_id, line_with_one, line_with_two, name_in, number_in, words_of};
+ghost use Rattle.tinkey_session.specs.Lines.{bytes_in, line_of, line_of_words, line_with_bytes, line_with_id, line_with_one, line_with_two, name_in, words_of};
 ghost use Rattle.tinkey_session.specs.Reading.{IsWithin, seen_line, seen_name};
 
 use hex::FromHexError;
 use std::alloc::Global;
 use std::str::from_utf8;
-use tink_base::{Bytes, NoMemory};
+use tink_base::{Bytes, NoMemory, number_in};
 use tinkey_cmds::Command;
 
 /// What a line asks.
@@ -150,19 +150,6 @@ fn bytes_in(alloc: Global, word: &str) -> Result<Option<Bytes>, NoMemory>
         Err(FromHexError::OutOfMemory) => Err(NoMemory),
         Err(_) => Ok(None),
     }
-}
-
-/// How many digits a number may have.
-const MOST_DIGITS: usize = 10;
-
-/// The number that the word spells.
-fn number_in(word: &str) -> Option<u32>
-    ensures { result ≡ number_in word.now }
-{
-    if word.len() > MOST_DIGITS || !word.bytes().all(|b| b.is_ascii_digit()) {
-        return None;
-    }
-    word.parse::<u32>().ok()
 }
 
 /// The name, where it isn't empty.

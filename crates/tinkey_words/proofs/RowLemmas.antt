@@ -3,16 +3,15 @@
 use Rattle.std.proofs.Common.{◌≡◌, ◌≢◌, ◌⊎◌, inl, inr, ◌∙◌, sym, refl, ap, subst, ℕ, ◌+◌, ◌*◌, ◌%◌, ◌<◌, ◌≤◌, Bool, true, false, List, [], ◌∷◌, ◌++◌, length, get_or, cond, arith, rules, length-append, Option, Some, None, Ok, Err, Result}
 use Rattle.std.specs.Prelude.{◌==◌, ◌&&◌, nat_lt, nat_le, is_some, option_map, if◌then◌else◌, codes}
 use Rattle.std.specs.List.{find, list_all, position_or_len, before_first, after_first}
-use Rattle.std.specs.Result.{OkIff, result_ok}
 use Rattle.std.specs.Str.{bytes_eq, all_ascii_digits, str_eq_ignore_ascii_case, str_to_ascii_lowercase}
-use Rattle.std.specs.Str.Parse.{ParsesUnsigned}
-use Rattle.std.specs.Char.{is_ascii_digit}
+use Rattle.std.specs.Str.Parse.{digits_value}
+use Rattle.tink_base.specs.Decimal.{number_in}
+use Rattle.tink_base.proofs.DecimalLemmas.{number_passes, number_taken}
 use Rattle.std.proofs.Math.Seq.{get_or-append_seam, take-append_seam, drop-append-add}
 use Rattle.std.proofs.lemmas.Bool.Decides.{nat_tests}
 use Rattle.std.proofs.lemmas.List.{get_or_append_left}
 use Rattle.std.proofs.lemmas.List.Sums.{position_or_len_is, fails_before_first}
 use Rattle.std.proofs.lemmas.Slice.Eq.{bytes_eq-Decides}
-use Rattle.std.proofs.lemmas.Str.Parse.{IsNumeralModel, numerals_by_fold, parse_digits}
 use Rattle.tinkey_words.specs.declared.words.rows.CommandName.{CommandName}
 use Rattle.tinkey_words.specs.declared.words.rows.CommandName.TheVariants as commands
 use Rattle.tinkey_words.specs.declared.words.rows.Format.TheVariants as formats
@@ -21,7 +20,7 @@ use Rattle.tinkey_words.specs.declared.words.rows.Form.TheVariants as forms
 use Rattle.tinkey_words.specs.declared.words.rows.OptionName.{OptionName}
 use Rattle.tinkey_words.specs.declared.words.rows.OptionName.TheVariants as options
 use Rattle.hex.specs.Hex.{is_hex_digit}
-use Rattle.tinkey_words.specs.Rows.{row_of, all_commands, command_of, option_row, all_options, option_of, rival, same, datum_limit, digits_after, is_number, is_line_count, most_lines, number_of, format_of, is_hex, is_value}
+use Rattle.tinkey_words.specs.Rows.{row_of, all_commands, command_of, option_row, all_options, option_of, rival, same, datum_limit, is_line_count, most_lines, format_of, is_hex, is_value}
 use Rattle.tinkey_words.specs.Words.{is_equals, own_value}
 use Rattle.tinkey_words.specs.Grammar.{IsHex, IsLineCount, IsNumber, IsValue}
 
@@ -158,119 +157,45 @@ own_joined name value =
     let back : after_first is_equals (word ++ (61 ∷ value)) ≡ value = rw at (drop-append-add word (61 ∷ value) 1) in
     rw (e, front, back) refl
 
--- Numbers.
-
-numerals : IsNumeralModel (λ ds. all_ascii_digits ds ≡ true) (digits_after 0)
-numerals = numerals_by_fold _ (search rules) digits_after (search rules)
-
-pub digits_all : (text : List ℕ) → list_all is_ascii_digit text ≡ all_ascii_digits text
-digits_all [] = refl
-digits_all (digit ∷ digits) = ap (λ (b : Bool). is_ascii_digit digit && b) (digits_all digits)
-
--- a text that fails one of the tests is no number
-short_fails : {A : Type 0} (a b c d : Bool) (x : A) → b ≡ false → (if a && b && c && d then Some x else None) ≡ None
-short_fails false b c d x is = refl
-short_fails true false c d x is = refl
-short_fails true true c d x is = absurd (cc)
-
-digits_fail : {A : Type 0} (a b c d : Bool) (x : A) → c ≡ false → (if a && b && c && d then Some x else None) ≡ None
-digits_fail false b c d x is = refl
-digits_fail true false c d x is = refl
-digits_fail true true false d x is = refl
-digits_fail true true true d x is = absurd (cc)
-
-ends_fail : {A : Type 0} (a b c d : Bool) (x : A) → (a ≡ true → d ≡ true → ⊥) → (if a && b && c && d then Some x else None) ≡ None
-ends_fail false b c d x fails = refl
-ends_fail true false c d x fails = refl
-ends_fail true true false d x fails = refl
-ends_fail true true true false x fails = refl
-ends_fail true true true true x fails = absurd (fails refl refl)
-
-pub long_number : (text : List ℕ) → 10 < length text → number_of text ≡ None
-unfolding number_of
-long_number text long = short_fails (nat_lt 0 (length text)) (nat_le (length text) 10) (all_ascii_digits text) (nat_le (digits_after 0 text) 4294967295) (digits_after 0 text) (grind (arith, nat_tests))
-
-pub other_number : (text : List ℕ) → all_ascii_digits text ≡ false → number_of text ≡ None
-unfolding number_of
-other_number text other = digits_fail (nat_lt 0 (length text)) (nat_le (length text) 10) (all_ascii_digits text) (nat_le (digits_after 0 text) 4294967295) (digits_after 0 text) other
-
--- a parsed text is the number that it is
-number_ok : {E : Type 0} (text : List ℕ) (r : Result ℕ E) → OkIff r ((0 < length text) × (digits_after 0 text < 4294967296)) (digits_after 0 text) → length text ≤ 10 → all_ascii_digits text ≡ true → result_ok r ≡ number_of text
-unfolding number_of
-number_ok text (Ok x) is short digits =
-    let a : nat_lt 0 (length text) ≡ true = grind (arith, nat_tests, is.0) in
-    let b : nat_le (length text) 10 ≡ true = grind (arith, nat_tests) in
-    let d : nat_le (digits_after 0 text) 4294967295 ≡ true = grind (arith, nat_tests, is.0) in
-    rw (a, b, digits, d, is.1) refl
-number_ok text (Err e) is short digits =
-    sym (ends_fail (nat_lt 0 (length text)) (nat_le (length text) 10) (all_ascii_digits text) (nat_le (digits_after 0 text) 4294967295) (digits_after 0 text) (λ a d. is (
-      (let some : 0 < length text = grind (arith, nat_tests) in some),
-      (let within : digits_after 0 text < 4294967296 = grind (arith, nat_tests) in within),
-    )))
-
-pub number_parsed : {E : Type 0} (text : List ℕ) (r : Result ℕ E) → ParsesUnsigned 32 10 text r → length text ≤ 10 → all_ascii_digits text ≡ true → result_ok r ≡ number_of text
-number_parsed text r parsed short digits = number_ok text r (parse_digits numerals 32 text r parsed digits) short digits
-
 -- Values of their forms.
 
-number_test : (text : List ℕ) (b : Bool) → is_number text ≡ b → is_some (if b then Some (digits_after 0 text) else None) ≡ b
-number_test text true is = refl
-number_test text false is = refl
+is_there : (o : Option ℕ) → is_some o ≡ true → (n : ℕ) × (o ≡ Some n)
+is_there (Some n) is = (n, refl)
+is_there None is = absurd (cc)
 
-four_pass : (a b c d : Bool) → (a && b && c && d) ≡ true → (a ≡ true) × (b ≡ true) × (c ≡ true) × (d ≡ true)
-four_pass true true true true is = (refl, refl, refl, refl)
-four_pass true true true false is = absurd (cc)
-four_pass true true false d is = absurd (cc)
-four_pass true false c d is = absurd (cc)
-four_pass false b c d is = absurd (cc)
-
-number_formed : (text : List ℕ) → is_some (number_of text) ≡ true → IsNumber text
-unfolding number_of
+number_formed : (text : List ℕ) → is_some (number_in text) ≡ true → IsNumber text
 number_formed text is =
-    let tests = four_pass (nat_lt 0 (length text)) (nat_le (length text) 10) (all_ascii_digits text) (nat_le (digits_after 0 text) 4294967295) (sym (number_test text (is_number text) refl) ∙ is) in
-    record {
-      digits = tests.2;
-      some = (let e = tests.0 in grind (arith, nat_tests));
-      short = (let e = tests.1 in grind (arith, nat_tests));
-      within = (let e = tests.3 in grind (arith, nat_tests));
-    }
+    let there = is_there (number_in text) is in
+    let tests = number_passes text there.0 there.1 in
+    record { digits = tests.2; some = tests.0; short = tests.1; within = (let below = tests.3 in omega (arith, below)) }
 
-number_taken : (text : List ℕ) → IsNumber text → is_some (number_of text) ≡ true
-unfolding number_of
-number_taken text formed =
-    let a : nat_lt 0 (length text) ≡ true = grind (arith, nat_tests, formed.some) in
-    let b : nat_le (length text) 10 ≡ true = grind (arith, nat_tests, formed.short) in
-    let d : nat_le (digits_after 0 text) 4294967295 ≡ true = grind (arith, nat_tests, formed.within) in
-    rw (a, b, formed.digits, d) refl
-
-count_taken : (text : List ℕ) → IsLineCount text → is_line_count (number_of text) ≡ true
-unfolding number_of
-count_taken text formed =
-    let a : nat_lt 0 (length text) ≡ true = grind (arith, nat_tests, formed.number.some) in
-    let b : nat_le (length text) 10 ≡ true = grind (arith, nat_tests, formed.number.short) in
-    let d : nat_le (digits_after 0 text) 4294967295 ≡ true = grind (arith, nat_tests, formed.number.within) in
-    let e : nat_le 1 (digits_after 0 text) ≡ true = grind (arith, nat_tests, formed.some') in
-    let f : nat_le (digits_after 0 text) most_lines ≡ true = grind (arith, nat_tests, formed.most) in
-    rw (a, b, formed.number.digits, d, e, f) refl
+number_is : (text : List ℕ) → IsNumber text → number_in text ≡ Some (digits_value 10 text)
+number_is text formed = number_taken text formed.some formed.short formed.digits (let within = formed.within in omega (arith, within))
 
 two_pass : (a b : Bool) → (a && b) ≡ true → (a ≡ true) × (b ≡ true)
 two_pass true true is = (refl, refl)
 two_pass true false is = absurd (cc)
 two_pass false b is = absurd (cc)
 
-count_formed : (text : List ℕ) → is_line_count (number_of text) ≡ true → IsLineCount text
-unfolding number_of
-count_formed text is = by (is_number text) refl is
+count_taken : (text : List ℕ) → IsLineCount text → is_line_count (number_in text) ≡ true
+count_taken text formed =
+    let e : nat_le 1 (digits_value 10 text) ≡ true = grind (arith, nat_tests, formed.some') in
+    let f : nat_le (digits_value 10 text) most_lines ≡ true = grind (arith, nat_tests, formed.most) in
+    rw (number_is text formed.number, e, f) refl
+
+count_formed : (text : List ℕ) → is_line_count (number_in text) ≡ true → IsLineCount text
+count_formed text is = by (number_in text) refl is
   where
-    by : (b : Bool) → is_number text ≡ b → is_line_count (if b then Some (digits_after 0 text) else None) ≡ true → IsLineCount text
-    by true test is =
-        let tests = two_pass (nat_le 1 (digits_after 0 text)) (nat_le (digits_after 0 text) most_lines) is in
+    by : (o : Option ℕ) → number_in text ≡ o → is_line_count o ≡ true → IsLineCount text
+    by (Some n) there is =
+        let tests = two_pass (nat_le 1 n) (nat_le n most_lines) is in
+        let same : digits_value 10 text ≡ n = (number_passes text n there).4 in
         record {
-          number = number_formed text (rw test refl);
-          some' = (let e = tests.0 in grind (arith, nat_tests));
-          most = (let e = tests.1 in grind (arith, nat_tests));
+          number = number_formed text (rw there refl);
+          some' = (let e = tests.0 in grind (arith, nat_tests, same));
+          most = (let e = tests.1 in grind (arith, nat_tests, same));
         }
-    by false test is = absurd (cc)
+    by None there is = absurd (cc)
 
 not_empty : (value : List ℕ) → value ≢ [] → nat_lt 0 (length value) ≡ true
 not_empty [] some = absurd (some refl)
@@ -340,7 +265,7 @@ pub value_taken : (form : Form) (value : List ℕ) → IsValue form value → is
 unfolding is_value
 value_taken forms.Text value formed = refl
 value_taken forms.FileName value formed = not_empty value formed
-value_taken forms.Number value formed = number_taken value formed
+value_taken forms.Number value formed = rw (number_is value formed) refl
 value_taken forms.LineCount value formed = count_taken value formed
 value_taken forms.Format value formed = format_taken value formed
 value_taken forms.Datum value formed = datum_taken value formed

@@ -8,12 +8,13 @@
 use Rattle.std.specs.Prelude.{◌≡◌, ◌≢◌, ◌⊎◌, ◌↔◌, ℕ, ◌+◌, ◌*◌, ◌%◌, ◌<◌, ◌≤◌, List, [], ◌∷◌, ◌++◌, length, Bool, true, None, Some, if◌then◌else◌, Ok, Err, codes}
 use Rattle.std.specs.List.{AllByRecursion, flat_map, list_all}
 use Rattle.std.specs.Str.{all_ascii_digits, str_to_ascii_lowercase}
+use Rattle.std.specs.Str.Parse.{digits_value}
 use Rattle.tinkey_words.specs.declared.words.rows.CommandName.{CommandName}
 use Rattle.tinkey_words.specs.declared.words.rows.Form.{Form}
 use Rattle.tinkey_words.specs.declared.words.rows.Form.TheVariants as forms
 use Rattle.tinkey_words.specs.declared.words.rows.OptionName.{OptionName}
 use Rattle.hex.specs.Hex.{is_hex_digit}
-use Rattle.tinkey_words.specs.Rows.{Row, row_of, option_row, rival, same, datum_limit, digits_after, most_lines}
+use Rattle.tinkey_words.specs.Rows.{Row, row_of, option_row, rival, same, datum_limit, most_lines}
 use Rattle.tinkey_words.specs.Words.{Asked, Values, asked_with, words_of}
 
 -- where the word of a place is at fault, it is so whatever words stand behind it
@@ -27,13 +28,13 @@ pub record IsNumber (text : List ℕ) : Type 0 where
   pub digits : all_ascii_digits text ≡ true
   pub some : 0 < length text
   pub short : length text ≤ 10
-  pub within : digits_after 0 text ≤ 4294967295
+  pub within : digits_value 10 text ≤ 4294967295
 
 -- a number of lines
 pub record IsLineCount (text : List ℕ) : Type 0 where
   pub number : IsNumber text
-  pub some' : 1 ≤ digits_after 0 text
-  pub most : digits_after 0 text ≤ most_lines
+  pub some' : 1 ≤ digits_value 10 text
+  pub most : digits_value 10 text ≤ most_lines
 
 -- a text of hexadecimal digits, two for each of at most 1,048,576 bytes
 pub record IsHex (text : List ℕ) : Type 0 where

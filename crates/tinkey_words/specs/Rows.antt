@@ -4,6 +4,7 @@ use Rattle.std.specs.Prelude.{ℕ, ◌+◌, ◌-◌, ◌*◌, ◌%◌, List, [],
 use Rattle.std.specs.List.{find, list_any, list_all}
 use Rattle.std.specs.Str.{bytes_eq, all_ascii_digits, str_eq_ignore_ascii_case}
 use Rattle.hex.specs.Hex.{is_hex_digit}
+use Rattle.tink_base.specs.Decimal.{number_in}
 use Rattle.tinkey_words.specs.declared.words.rows.CommandRow.{CommandRow as CodeRow}
 use Rattle.tinkey_words.specs.declared.words.rows.CommandName.{CommandName}
 use Rattle.tinkey_words.specs.declared.words.rows.CommandName.TheVariants as commands
@@ -155,21 +156,6 @@ takes command name = is_one_of name ((row_of command).required ++ (row_of comman
 
 -- The values.
 
--- the number that decimal digits write behind those of n
-abbrev pub digits_after : ℕ → List ℕ → ℕ
-digits_after n [] = n
-digits_after n (digit ∷ digits) = digits_after (10 * n + (digit - 48)) digits
-
--- the text is 1 to 10 decimal digits, of a number up to 4,294,967,295
-abbrev pub is_number : List ℕ → Bool
-is_number text =
-    nat_lt 0 (length text) && nat_le (length text) 10 && all_ascii_digits text
-    && nat_le (digits_after 0 text) 4294967295
-
--- the number that the text is
-unfoldable pub number_of : List ℕ → Option ℕ
-number_of text = if is_number text then Some (digits_after 0 text) else None
-
 -- a self-test of more lines isn't made
 abbrev pub most_lines : ℕ
 most_lines = 100000
@@ -204,8 +190,8 @@ is_hex text =
 unfoldable pub is_value : Form → List ℕ → Bool
 is_value forms.Text text = true
 is_value forms.FileName text = nat_lt 0 (length text)
-is_value forms.Number text = is_some (number_of text)
-is_value forms.LineCount text = is_line_count (number_of text)
+is_value forms.Number text = is_some (number_in text)
+is_value forms.LineCount text = is_line_count (number_in text)
 is_value forms.Format text = is_some (format_of text)
 is_value forms.Datum text = is_datum text
 is_value forms.Hex text = is_hex text

@@ -32,7 +32,8 @@ use Rattle.tinkey_words.specs.declared.words.rows.CommandName.{CommandName}
 use Rattle.tinkey_words.specs.declared.words.rows.CommandName.TheVariants as commands
 use Rattle.tinkey_words.specs.declared.words.rows.OptionName.{OptionName}
 use Rattle.tinkey_words.specs.declared.words.rows.OptionName.TheVariants as options
-use Rattle.tinkey_words.specs.Rows.{row_of, command_of, option_row, option_of, rival, same, takes, datum_limit, number_of, format_of, is_value}
+use Rattle.tink_base.specs.Decimal.{number_in}
+use Rattle.tinkey_words.specs.Rows.{row_of, command_of, option_row, option_of, rival, same, takes, datum_limit, format_of, is_value}
 
 -- What is asked.
 
@@ -108,7 +109,7 @@ or_zero (Some n) = n
 
 -- the number that an option gives, whose value is one
 abbrev pub number : Option (List ℕ) → ℕ
-number value = or_zero (number_of (text value))
+number value = or_zero (number_in (text value))
 
 -- a datum as it stands; one that is too long is none
 abbrev pub datum_as : List ℕ → List ℕ
@@ -147,7 +148,7 @@ known_lines = 1000
 -- the number of lines that an option gives, or where it isn't given, the known one
 abbrev pub lines_in : Option (List ℕ) → ℕ
 lines_in None = known_lines
-lines_in (Some value) = or_zero (number_of value)
+lines_in (Some value) = or_zero (number_in value)
 
 -- the form of a keyset, JSON where none is given
 abbrev pub known_form : Option Format → Format

@@ -9,9 +9,10 @@ mod rows;
 
 pub use rows::{DATUM_LIMIT, Format};
 use rows::{
-    CommandName, OPTION_COUNT, OptionName, command_named, format_named, is_value, number_named,
+    CommandName, OPTION_COUNT, OptionName, command_named, format_named, is_value,
     option_named, takes,
 };
+use tink_base::number_in;
 use tinkey_cmds::Command as Edit;
 
 /// How many lines a self-test has, where the words don't say it.
@@ -265,7 +266,7 @@ impl<'a> Options<'a> {
     fn number(&self, name: OptionName) -> u32
         ensures { result ≡ number ((seen_options self.now).values name) }
     {
-        match number_named(self.text(name)) {
+        match number_in(self.text(name)) {
             Some(number) => number,
             None => 0,
         }
@@ -277,7 +278,7 @@ impl<'a> Options<'a> {
     {
         match self.value(OptionName::Lines) {
             None => KNOWN_LINES,
-            Some(text) => match number_named(text) {
+            Some(text) => match number_in(text) {
                 Some(lines) => lines,
                 None => 0,
             },

@@ -4,7 +4,9 @@
 ghost use Rattle.std.specs.Prelude.{◌≡◌, ◌<◌};
 ghost use Rattle.std.specs.List.{list_all};
 ghost use Rattle.hex.specs.Hex.{is_hex_digit};
-ghost use Rattle.tinkey_words.specs.Rows.{row, row_of, command_of, option_row, option_of, rival, is_one_of, takes, number_of, format_of, is_hex, is_line_count, is_value, seen_row};
+ghost use Rattle.tinkey_words.specs.Rows.{row, row_of, command_of, option_row, option_of, rival, is_one_of, takes, format_of, is_hex, is_line_count, is_value, seen_row};
+
+use tink_base::number_in;
 
 /// A command by its name.
 #[derive(Clone, Copy)]
@@ -363,8 +365,8 @@ pub fn is_value(form: Form, text: &str) -> bool
     match form {
         Form::Text => true,
         Form::FileName => !text.is_empty(),
-        Form::Number => number_named(text).is_some(),
-        Form::LineCount => is_line_count(number_named(text)),
+        Form::Number => number_in(text).is_some(),
+        Form::LineCount => is_line_count(number_in(text)),
         Form::Format => format_named(text).is_some(),
         Form::Datum => text.len() <= DATUM_LIMIT,
         Form::Hex => is_hex(text),
@@ -414,17 +416,4 @@ pub fn format_named(text: &str) -> Option<Format>
     } else {
         None
     }
-}
-
-/// How many digits a number may have.
-const MOST_DIGITS: usize = 10;
-
-/// The number that the text is: 1 to 10 decimal digits, up to 4,294,967,295.
-pub fn number_named(text: &str) -> Option<u32>
-    ensures { result ≡ number_of text.now }
-{
-    if text.len() > MOST_DIGITS || !text.bytes().all(|b| b.is_ascii_digit()) {
-        return None;
-    }
-    text.parse::<u32>().ok()
 }
