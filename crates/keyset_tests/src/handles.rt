@@ -2,13 +2,13 @@
 
 ghost use Rattle.std.specs.Prelude.{◌≤◌, length};
 
-use crate::boxes::{gcm, hmac, hmac_prf, siv};
+use crate::boxes::{aead_under, daead_under, mac_under, prf_under};
 use crate::keysets::keyset_of;
 use crate::manager_answers::opened_text;
 use crate::rows::{bytes_in, count, holds};
 use key_msgs::Primitive;
 use keyset_model::Keyset;
-use managers::{AeadManager, DaeadManager, MacManager, Managers, PrfManager};
+use managers::{AeadManager, AeadScheme, DaeadManager, MacManager, MacScheme, Managers, PrfManager, PrfScheme};
 use std::alloc::Global;
 use std::test::Fail;
 use test_words::{bytes_of, cell, digits_of};
@@ -331,13 +331,13 @@ fn assert_table(alloc: Global, all: &Managers, table: &str, rows: usize) -> Resu
 fn a_keyset_answers_by_its_candidates(rt: HostRuntime) -> Result<(), Fail> {
     let alloc = rt.alloc();
     let mut aead: Vec<Box<dyn AeadManager>> = Vec::new(alloc);
-    aead.push(gcm(alloc, "g")?)?;
+    aead.push(aead_under(alloc, "g", AeadScheme::Gcm)?)?;
     let mut daead: Vec<Box<dyn DaeadManager>> = Vec::new(alloc);
-    daead.push(siv(alloc, "s")?)?;
+    daead.push(daead_under(alloc, "s")?)?;
     let mut mac: Vec<Box<dyn MacManager>> = Vec::new(alloc);
-    mac.push(hmac(alloc, "h")?)?;
+    mac.push(mac_under(alloc, "h", MacScheme::Hmac)?)?;
     let mut prf: Vec<Box<dyn PrfManager>> = Vec::new(alloc);
-    prf.push(hmac_prf(alloc, "p")?)?;
+    prf.push(prf_under(alloc, "p", PrfScheme::Hmac)?)?;
     let all = Managers::new(aead, daead, mac, prf)?;
     for (table, rows) in [(AEAD, 14), (MAC, 10), (DAEAD, 3), (PRF, 4)] {
         assert_table(alloc, &all, table, rows)?;

@@ -3,10 +3,10 @@
 
 ghost use Rattle.std.specs.Prelude.{◌≤◌, length};
 
-use crate::boxes::{cmac, cmac_prf, ctr_hmac, eax, gcm, hkdf_prf, hmac, hmac_prf, siv};
+use crate::boxes::{aead_under, daead_under, mac_under, prf_under};
 use crate::rows::{bytes_in, few, holds, holds_bytes, holds_text};
 use key_msgs::Primitive;
-use managers::{AeadManager, DaeadManager, MacManager, Managers, PrfManager};
+use managers::{AeadManager, AeadScheme, DaeadManager, MacManager, MacScheme, Managers, PrfManager, PrfScheme};
 use std::alloc::Global;
 use std::test::Fail;
 use test_words::{cell, digits_of, turned};
@@ -300,9 +300,9 @@ fn assert_prf(alloc: Global, manager: &dyn PrfManager, row: &str) -> Result<(), 
 fn managers_of_aeads_answer_their_standards(rt: HostRuntime) -> Result<(), Fail> {
     let alloc = rt.alloc();
     let mut aead: Vec<Box<dyn AeadManager>> = Vec::new(alloc);
-    aead.push(gcm(alloc, "AesGcmKey")?)?;
-    aead.push(eax(alloc, "AesEaxKey")?)?;
-    aead.push(ctr_hmac(alloc, "AesCtrHmacAeadKey")?)?;
+    aead.push(aead_under(alloc, "AesGcmKey", AeadScheme::Gcm)?)?;
+    aead.push(aead_under(alloc, "AesEaxKey", AeadScheme::Eax)?)?;
+    aead.push(aead_under(alloc, "AesCtrHmacAeadKey", AeadScheme::CtrHmac)?)?;
     let all = Managers::new(aead, Vec::new(alloc), Vec::new(alloc), Vec::new(alloc))?;
     for row in AEAD.lines() {
         let place = all.find(Primitive::Aead, cell(row, 1)?).ok_or("a manager")?;
@@ -315,7 +315,7 @@ fn managers_of_aeads_answer_their_standards(rt: HostRuntime) -> Result<(), Fail>
 fn the_manager_of_siv_answers_its_standard(rt: HostRuntime) -> Result<(), Fail> {
     let alloc = rt.alloc();
     let mut daead: Vec<Box<dyn DaeadManager>> = Vec::new(alloc);
-    daead.push(siv(alloc, "AesSivKey")?)?;
+    daead.push(daead_under(alloc, "AesSivKey")?)?;
     let all = Managers::new(Vec::new(alloc), daead, Vec::new(alloc), Vec::new(alloc))?;
     for row in DAEAD.lines() {
         let place = all
@@ -330,8 +330,8 @@ fn the_manager_of_siv_answers_its_standard(rt: HostRuntime) -> Result<(), Fail> 
 fn managers_of_macs_answer_their_standards(rt: HostRuntime) -> Result<(), Fail> {
     let alloc = rt.alloc();
     let mut mac: Vec<Box<dyn MacManager>> = Vec::new(alloc);
-    mac.push(hmac(alloc, "HmacKey")?)?;
-    mac.push(cmac(alloc, "AesCmacKey")?)?;
+    mac.push(mac_under(alloc, "HmacKey", MacScheme::Hmac)?)?;
+    mac.push(mac_under(alloc, "AesCmacKey", MacScheme::Cmac)?)?;
     let all = Managers::new(Vec::new(alloc), Vec::new(alloc), mac, Vec::new(alloc))?;
     for row in MAC.lines() {
         let place = all.find(Primitive::Mac, cell(row, 1)?).ok_or("a manager")?;
@@ -344,9 +344,9 @@ fn managers_of_macs_answer_their_standards(rt: HostRuntime) -> Result<(), Fail> 
 fn managers_of_prfs_answer_their_standards(rt: HostRuntime) -> Result<(), Fail> {
     let alloc = rt.alloc();
     let mut prf: Vec<Box<dyn PrfManager>> = Vec::new(alloc);
-    prf.push(hkdf_prf(alloc, "HkdfPrfKey")?)?;
-    prf.push(hmac_prf(alloc, "HmacPrfKey")?)?;
-    prf.push(cmac_prf(alloc, "AesCmacPrfKey")?)?;
+    prf.push(prf_under(alloc, "HkdfPrfKey", PrfScheme::Hkdf)?)?;
+    prf.push(prf_under(alloc, "HmacPrfKey", PrfScheme::Hmac)?)?;
+    prf.push(prf_under(alloc, "AesCmacPrfKey", PrfScheme::Cmac)?)?;
     let all = Managers::new(Vec::new(alloc), Vec::new(alloc), Vec::new(alloc), prf)?;
     for row in PRF.lines() {
         let place = all.find(Primitive::Prf, cell(row, 1)?).ok_or("a manager")?;
@@ -363,10 +363,10 @@ fn place(
     wanted: &str,
 ) -> Result<Option<Option<usize>>, Fail> {
     let mut aead: Vec<Box<dyn AeadManager>> = Vec::new(alloc);
-    aead.push(gcm(alloc, urls[0])?)?;
-    aead.push(eax(alloc, urls[1])?)?;
+    aead.push(aead_under(alloc, urls[0], AeadScheme::Gcm)?)?;
+    aead.push(aead_under(alloc, urls[1], AeadScheme::Eax)?)?;
     let mut mac: Vec<Box<dyn MacManager>> = Vec::new(alloc);
-    mac.push(hmac(alloc, urls[2])?)?;
+    mac.push(mac_under(alloc, urls[2], MacScheme::Hmac)?)?;
     match Managers::new(aead, Vec::new(alloc), mac, Vec::new(alloc)) {
         Ok(all) => Ok(Some(all.find(primitive, wanted))),
         Err(_) => Ok(None),

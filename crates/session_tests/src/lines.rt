@@ -7,8 +7,8 @@ ghost use Rattle.tinkey_session.specs.Keeping.{IsKept};
 
 use key_msgs::template_named;
 use managers::{
-    AeadManager, DaeadManager, GcmManager, HmacManager, HmacPrfManager, KeyTable, MacManager,
-    Managers, PrfManager, SivManager,
+    AeadManager, AeadScheme, DaeadManager, KeyTable, MacManager, MacScheme, Managers, PrfManager,
+    PrfScheme, StandardAead, StandardDaead, StandardMac, StandardPrf,
 };
 use std::alloc::Global;
 use std::process::Abort;
@@ -201,16 +201,16 @@ fn answers_lines_over_a_new_keyset(rt: HostRuntime) -> Result<(), Fail> {
     let alloc = rt.alloc();
     let mut aead: Vec<Box<dyn AeadManager>> = Vec::new(alloc);
     let gcm = String::from_str(alloc, "type.googleapis.com/google.crypto.tink.AesGcmKey")?;
-    aead.push(Box::new(alloc, GcmManager::new(gcm))?)?;
+    aead.push(Box::new(alloc, StandardAead::new(gcm, AeadScheme::Gcm))?)?;
     let mut daead: Vec<Box<dyn DaeadManager>> = Vec::new(alloc);
     let siv = String::from_str(alloc, "type.googleapis.com/google.crypto.tink.AesSivKey")?;
-    daead.push(Box::new(alloc, SivManager::new(siv))?)?;
+    daead.push(Box::new(alloc, StandardDaead::new(siv))?)?;
     let mut mac: Vec<Box<dyn MacManager>> = Vec::new(alloc);
     let hmac = String::from_str(alloc, "type.googleapis.com/google.crypto.tink.HmacKey")?;
-    mac.push(Box::new(alloc, HmacManager::new(hmac))?)?;
+    mac.push(Box::new(alloc, StandardMac::new(hmac, MacScheme::Hmac))?)?;
     let mut prf: Vec<Box<dyn PrfManager>> = Vec::new(alloc);
     let function = String::from_str(alloc, "type.googleapis.com/google.crypto.tink.HmacPrfKey")?;
-    prf.push(Box::new(alloc, HmacPrfManager::new(function))?)?;
+    prf.push(Box::new(alloc, StandardPrf::new(function, PrfScheme::Hmac))?)?;
     let Ok(all) = Managers::new(aead, daead, mac, prf) else {
         return Err("one URL twice".into());
     };

@@ -1,7 +1,7 @@
 //! Self-tests over managers of AEADs, and the lines that tell their counts.
 
 use key_msgs::KeyType;
-use managers::{AeadManager, CtrHmacManager, EaxManager, GcmManager, Managers};
+use managers::{AeadManager, AeadScheme, Managers, StandardAead};
 use std::alloc::Global;
 use std::str::from_utf8;
 use std::test::Fail;
@@ -17,11 +17,11 @@ fn counts_of(
     let mut aead: Vec<Box<dyn AeadManager>> = Vec::new(alloc);
     if has_managers {
         let gcm = String::from_str(alloc, KeyType::AesGcm.url())?;
-        aead.push(Box::new(alloc, GcmManager::new(gcm))?)?;
+        aead.push(Box::new(alloc, StandardAead::new(gcm, AeadScheme::Gcm))?)?;
         let eax = String::from_str(alloc, KeyType::AesEax.url())?;
-        aead.push(Box::new(alloc, EaxManager::new(eax))?)?;
+        aead.push(Box::new(alloc, StandardAead::new(eax, AeadScheme::Eax))?)?;
         let ctr_hmac = String::from_str(alloc, KeyType::AesCtrHmac.url())?;
-        aead.push(Box::new(alloc, CtrHmacManager::new(ctr_hmac))?)?;
+        aead.push(Box::new(alloc, StandardAead::new(ctr_hmac, AeadScheme::CtrHmac))?)?;
     }
     let no_daead = Vec::new(alloc);
     let no_mac = Vec::new(alloc);

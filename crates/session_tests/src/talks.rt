@@ -1,7 +1,7 @@
 //! Sessions over sources and sinks in memory, which move a few bytes at a time.
 
 use key_msgs::template_named;
-use managers::{AeadManager, GcmManager, Managers};
+use managers::{AeadManager, AeadScheme, Managers, StandardAead};
 use std::alloc::Global;
 use std::str::from_utf8;
 use std::test::Fail;
@@ -61,7 +61,7 @@ fn told(alloc: Global, all: &Managers, objects: Objects<'_>) -> Result<String, F
 fn gcm_alone(alloc: Global) -> Result<Managers, Fail> {
     let mut aead: Vec<Box<dyn AeadManager>> = Vec::new(alloc);
     let gcm = String::from_str(alloc, "type.googleapis.com/google.crypto.tink.AesGcmKey")?;
-    aead.push(Box::new(alloc, GcmManager::new(gcm))?)?;
+    aead.push(Box::new(alloc, StandardAead::new(gcm, AeadScheme::Gcm))?)?;
     match Managers::new(aead, Vec::new(alloc), Vec::new(alloc), Vec::new(alloc)) {
         Ok(all) => Ok(all),
         Err(_) => Err("one URL twice".into()),

@@ -10,9 +10,8 @@ ghost use Rattle.tinkey_host.specs.Program.{start_plan, IsStarted};
 
 use key_msgs::KeyType;
 use managers::{
-    AeadManager, CmacManager, CmacPrfManager, CtrHmacManager, DaeadManager, EaxManager, GcmManager,
-    HkdfPrfManager, HmacManager, HmacPrfManager, KeyList, MacManager, Managers, PrfManager,
-    SameUrl, SivManager,
+    AeadManager, AeadScheme, DaeadManager, KeyList, MacManager, MacScheme, Managers, PrfManager,
+    PrfScheme, SameUrl, StandardAead, StandardDaead, StandardMac, StandardPrf,
 };
 use std::alloc::Global;
 use tink_base::{Entropy, NoMemory, Sink, Source, Store};
@@ -68,11 +67,11 @@ fn with_prfs<S: Source, K: Sink, G: Sink, E: Entropy, D: Store>(
 {
     let mut prf: Vec<Box<dyn PrfManager>> = Vec::new(alloc);
     let hkdf = String::from_str(alloc, KeyType::HkdfPrf.url())?;
-    prf.push(Box::new(alloc, HkdfPrfManager::new(hkdf))?)?;
+    prf.push(Box::new(alloc, StandardPrf::new(hkdf, PrfScheme::Hkdf))?)?;
     let hmac = String::from_str(alloc, KeyType::HmacPrf.url())?;
-    prf.push(Box::new(alloc, HmacPrfManager::new(hmac))?)?;
+    prf.push(Box::new(alloc, StandardPrf::new(hmac, PrfScheme::Hmac))?)?;
     let cmac = String::from_str(alloc, KeyType::CmacPrf.url())?;
-    prf.push(Box::new(alloc, CmacPrfManager::new(cmac))?)?;
+    prf.push(Box::new(alloc, StandardPrf::new(cmac, PrfScheme::Cmac))?)?;
     with_aeads(alloc, words, prf, source, sink, diag, entropy, store)
 }
 
@@ -96,11 +95,11 @@ fn with_aeads<S: Source, K: Sink, G: Sink, E: Entropy, D: Store>(
 {
     let mut aead: Vec<Box<dyn AeadManager>> = Vec::new(alloc);
     let gcm = String::from_str(alloc, KeyType::AesGcm.url())?;
-    aead.push(Box::new(alloc, GcmManager::new(gcm))?)?;
+    aead.push(Box::new(alloc, StandardAead::new(gcm, AeadScheme::Gcm))?)?;
     let eax = String::from_str(alloc, KeyType::AesEax.url())?;
-    aead.push(Box::new(alloc, EaxManager::new(eax))?)?;
+    aead.push(Box::new(alloc, StandardAead::new(eax, AeadScheme::Eax))?)?;
     let ctr_hmac = String::from_str(alloc, KeyType::AesCtrHmac.url())?;
-    aead.push(Box::new(alloc, CtrHmacManager::new(ctr_hmac))?)?;
+    aead.push(Box::new(alloc, StandardAead::new(ctr_hmac, AeadScheme::CtrHmac))?)?;
     with_macs(alloc, words, prf, aead, source, sink, diag, entropy, store)
 }
 
@@ -126,9 +125,9 @@ fn with_macs<S: Source, K: Sink, G: Sink, E: Entropy, D: Store>(
 {
     let mut mac: Vec<Box<dyn MacManager>> = Vec::new(alloc);
     let hmac = String::from_str(alloc, KeyType::Hmac.url())?;
-    mac.push(Box::new(alloc, HmacManager::new(hmac))?)?;
+    mac.push(Box::new(alloc, StandardMac::new(hmac, MacScheme::Hmac))?)?;
     let cmac = String::from_str(alloc, KeyType::AesCmac.url())?;
-    mac.push(Box::new(alloc, CmacManager::new(cmac))?)?;
+    mac.push(Box::new(alloc, StandardMac::new(cmac, MacScheme::Cmac))?)?;
     with_daead(
         alloc, words, prf, aead, mac, source, sink, diag, entropy, store,
     )
@@ -158,7 +157,7 @@ fn with_daead<S: Source, K: Sink, G: Sink, E: Entropy, D: Store>(
 {
     let mut daead: Vec<Box<dyn DaeadManager>> = Vec::new(alloc);
     let siv = String::from_str(alloc, KeyType::AesSiv.url())?;
-    daead.push(Box::new(alloc, SivManager::new(siv))?)?;
+    daead.push(Box::new(alloc, StandardDaead::new(siv))?)?;
     run_over(
         alloc, words, aead, daead, mac, prf, source, sink, diag, entropy, store,
     )

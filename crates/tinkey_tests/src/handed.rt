@@ -4,7 +4,7 @@
 //! under the type URL `x`, and `hmac x` one of HMAC keys.
 
 use crate::objects::Outside;
-use managers::{AeadManager, GcmManager, HmacManager, MacManager, Managers};
+use managers::{AeadManager, AeadScheme, MacManager, MacScheme, Managers, StandardAead, StandardMac};
 use std::alloc::Global;
 use std::test::Fail;
 use tinkey_host::start;
@@ -58,9 +58,11 @@ fn managers_named(alloc: Global, name: &str) -> Result<Managers, Fail> {
     let mut aead: Vec<Box<dyn AeadManager>> = Vec::new(alloc);
     let mut mac: Vec<Box<dyn MacManager>> = Vec::new(alloc);
     if let Some(url) = name.strip_prefix("gcm ") {
-        aead.push(Box::new(alloc, GcmManager::new(String::from_str(alloc, url)?))?)?;
+        let manager = StandardAead::new(String::from_str(alloc, url)?, AeadScheme::Gcm);
+        aead.push(Box::new(alloc, manager)?)?;
     } else if let Some(url) = name.strip_prefix("hmac ") {
-        mac.push(Box::new(alloc, HmacManager::new(String::from_str(alloc, url)?))?)?;
+        let manager = StandardMac::new(String::from_str(alloc, url)?, MacScheme::Hmac);
+        mac.push(Box::new(alloc, manager)?)?;
     } else if name != "none" {
         return Err(Fail::new(format_args!("the managers {name}")));
     }
