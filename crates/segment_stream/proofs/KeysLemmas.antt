@@ -13,7 +13,7 @@ use Rattle.keyset_model.specs.Keyset.{Keys, is_primary, primary_of}
 use Rattle.keyset_model.specs.declared.record.Record.{Record}
 use Rattle.segment_stream.specs.declared.reading.StreamFault.{StreamFault}
 use Rattle.segment_stream.specs.declared.reading.StreamFault.TheVariants as why
-use Rattle.segment_stream.specs.StreamKeys.{GivesStreamKey, IsUnfit, Unfit, at_place, bad_key, not_stream, given_by, primary_key, given, key_in, refused, stream_key_of, unfit, unfit_record, unfit_records, largest_of, stream_keys}
+use Rattle.segment_stream.specs.StreamKeys.{GivesStreamKey, IsUnfit, StreamUnfit, at_place, bad_key, not_stream, given_by, primary_key, given, key_in, refused, stream_key_of, stream_unfit, unfit_record, unfit_records, largest_of, stream_keys}
 use Rattle.segment_stream.specs.Segments.{IsSound}
 use Rattle.segment_stream.specs.declared.key.StreamKey.{StreamKey}
 
@@ -25,7 +25,7 @@ rest_there records i r there =
     ∙ ap (λ (x : Record). x ∷ drop (suc i) records) (get_or_from_slice_get records i r r there))
 
 -- the first record from a place on that can't serve, and the keys of those from there on
-abbrev pub first_from : Keys → ℕ → Option (ℕ × Unfit)
+abbrev pub first_from : Keys → ℕ → Option (ℕ × StreamUnfit)
 first_from keys i = slice_get (unfit_records i (drop i keys.records)) 0
 
 abbrev pub keys_from : Keys → ℕ → List StreamKey
@@ -35,19 +35,19 @@ unfit_next : (i : ℕ) (r : Record) (rs : List Record) → unfit_record r ≡ No
     → slice_get (unfit_records i (r ∷ rs)) 0 ≡ slice_get (unfit_records (i + 1) rs) 0
 unfit_next i r rs none = rw none refl
 
-unfit_here : (i : ℕ) (r : Record) (rs : List Record) (why : Unfit) → unfit_record r ≡ Some why
+unfit_here : (i : ℕ) (r : Record) (rs : List Record) (why : StreamUnfit) → unfit_record r ≡ Some why
     → slice_get (unfit_records i (r ∷ rs)) 0 ≡ Some (i, why)
 unfit_here i r rs why is = rw is refl
 
-pub fit_more : (keys : Keys) (i : ℕ) (r : Record) → first_from keys i ≡ unfit keys
+pub fit_more : (keys : Keys) (i : ℕ) (r : Record) → first_from keys i ≡ stream_unfit keys
     → slice_get keys.records i ≡ Some r → unfit_record r ≡ None
-    → first_from keys (i + 1) ≡ unfit keys
+    → first_from keys (i + 1) ≡ stream_unfit keys
 fit_more keys i r first there fit =
     let here = rw (rest_there keys.records i r there) at first in
     sym (unfit_next i r (drop (i + 1) keys.records) fit) ∙ here
 
-pub fit_stops : (keys : Keys) (i : ℕ) (r : Record) (why : Unfit) → first_from keys i ≡ unfit keys
-    → slice_get keys.records i ≡ Some r → unfit_record r ≡ Some why → unfit keys ≡ Some (i, why)
+pub fit_stops : (keys : Keys) (i : ℕ) (r : Record) (why : StreamUnfit) → first_from keys i ≡ stream_unfit keys
+    → slice_get keys.records i ≡ Some r → unfit_record r ≡ Some why → stream_unfit keys ≡ Some (i, why)
 fit_stops keys i r why first there is =
     let here = rw (rest_there keys.records i r there) at first in
     sym here ∙ unfit_here i r (drop (i + 1) keys.records) why is
@@ -55,8 +55,8 @@ fit_stops keys i r why first there is =
 drop_past : (i : ℕ) (records : List Record) → length records ≤ i → drop i records ≡ []
 drop_past i records past = nil_from_length (drop i records) (omega (arith, length-drop i records))
 
-pub all_fit : (keys : Keys) (i : ℕ) → length keys.records ≤ i → first_from keys i ≡ unfit keys
-    → unfit keys ≡ None
+pub all_fit : (keys : Keys) (i : ℕ) → length keys.records ≤ i → first_from keys i ≡ stream_unfit keys
+    → stream_unfit keys ≡ None
 all_fit keys i all first = sym (rw (drop_past i keys.records all) at first)
 
 -- ---- what an ENABLED record gives, and what another
@@ -68,7 +68,7 @@ on_test r a e = rw e refl
 off_test : {A : Type 0} (b : Bool) (a : Option A) → b ≡ false → (if b then a else None) ≡ None
 off_test b a e = rw e refl
 
-pub unfit_is : (r : Record) (why : Unfit) → r.status ≡ 1 → stream_key_of r ≡ Err why
+pub unfit_is : (r : Record) (why : StreamUnfit) → r.status ≡ 1 → stream_key_of r ≡ Err why
     → unfit_record r ≡ Some why
 unfit_is r why e read = on_test r (refused (stream_key_of r)) e ∙ ap (λ x. refused x) read
 
@@ -124,8 +124,8 @@ key_off r e = off_test (r.status == 1) (given (stream_key_of r)) e
 
 -- the first record that can't serve, by what reading it gave
 pub refused_at : (keys : Keys) (i : ℕ) (r : Record) (fault : StreamFault)
-    → first_from keys i ≡ unfit keys → slice_get keys.records i ≡ Some r → r.status ≡ 1
-    → GivesStreamKey (Err fault) (stream_key_of r) → IsUnfit (at_place i fault) (unfit keys)
+    → first_from keys i ≡ stream_unfit keys → slice_get keys.records i ≡ Some r → r.status ≡ 1
+    → GivesStreamKey (Err fault) (stream_key_of r) → IsUnfit (at_place i fault) (stream_unfit keys)
 refused_at keys i r why.NotStream first there enabled read =
     fit_stops keys i r not_stream first there (unfit_is r not_stream enabled read)
 refused_at keys i r (why.BadKey rule) first there enabled read =

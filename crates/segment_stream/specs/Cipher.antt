@@ -1,6 +1,8 @@
 -- A cipher of segments: a stream's key with its associated data, whatever the kind of the key.
 use Rattle.std.specs.Prelude.{◌≡◌, ℕ, zero, suc, ◌+◌, ◌^◌, ◌<◌, ◌≤◌, List, length, drop, Bool, Option, Some, All}
 
+-- a key of streams, with the associated data, as the laws see it: sizes, and what each segment
+-- seals and opens to
 pub record SegmentCipher : Type 0 where
   -- bytes of a full segment, and of the header, which counts into the first one
   pub size : ℕ
@@ -13,6 +15,7 @@ pub record SegmentCipher : Type 0 where
   -- authenticate there
   pub opens : List ℕ → ℕ → Bool → List ℕ → Option (List ℕ)
 
+-- a number of eight bits
 abbrev pub IsByte : ℕ → Type 0
 IsByte b = b < 256
 

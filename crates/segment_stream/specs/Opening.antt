@@ -35,9 +35,11 @@ opened key taken ended = leading (opens_at key taken) 0 (settled key.size taken 
 abbrev pub is_decided : SegmentCipher → List ℕ → Bool → Bool
 is_decided key taken ended = ended || nat_lt key.size (length taken)
 
+-- the first segment opens in its place
 abbrev pub fits : SegmentCipher → List ℕ → Bool
 fits key taken = is_some (opens_at key taken 0)
 
+-- which key opens a stream, as far as the bytes taken decide it
 pub data Choice : Type 0 where
   -- a key before all that fit isn't decided
   undecided : Choice
@@ -52,14 +54,17 @@ choose (key ∷ keys) taken ended =
     (if fits key taken then chosen key else choose keys taken ended)
     else undecided
 
+-- the plaintexts of the leading segments that open under the key chosen
 abbrev pub released_by : Choice → List ℕ → Bool → List ℕ
 released_by undecided taken ended = []
 released_by no_key taken ended = []
 released_by (chosen key) taken ended = concat (opened key taken ended)
 
+-- what may be given out of the bytes taken, with the end seen or not
 abbrev pub released : List SegmentCipher → List ℕ → Bool → List ℕ
 released keys taken ended = released_by (choose keys taken ended) taken ended
 
+-- why a stream is refused
 pub data StreamRefusal : Type 0 where
   too_many : StreamRefusal
   -- the first segment that doesn't authenticate in its place
@@ -71,6 +76,7 @@ refusal_of followed settled opened =
     if nat_le most_segments followed && nat_le most_segments (opened + 1) then Some too_many
     else (if nat_lt opened settled then Some (failed opened) else None)
 
+-- the refusal that the bytes taken decide, by the key chosen
 abbrev pub decides_by : Choice → List ℕ → Bool → Option StreamRefusal
 decides_by undecided taken ended = None
 decides_by no_key taken ended = Some (failed 0)

@@ -64,6 +64,7 @@ pump_fault of_sealers.ReadFault = of_passes.ReadFault
 pump_fault of_sealers.WriteFault = of_passes.WriteFault
 pump_fault of_sealers.TooManySegments = of_passes.TooManySegments
 
+-- the answer of a sealing pump, among those of an opening one
 abbrev pub pump_result : Result (Unit {0}) SealPumpFault → Result (Unit {0}) OpenPumpFault
 pump_result (Ok done) = Ok done
 pump_result (Err fault) = Err (pump_fault fault)

@@ -17,6 +17,7 @@ pub record Part : Type 0 where
 abbrev pub opening_under : SegmentCipher → Part
 opening_under key = record { output = released_by (chosen key); refusal = decides_by (chosen key) }
 
+-- the stream opened under the first key that fits
 abbrev pub opening_any : List SegmentCipher → Part
 opening_any keys = record { output = released keys; refusal = decides keys }
 
@@ -28,6 +29,7 @@ sealing key header = record {
       key header taken;
 }
 
+-- a refusal as the opener answers it
 abbrev pub fault_of : StreamRefusal → OpenPumpFault
 fault_of too_many = fault.TooManySegments
 fault_of (failed number) = fault.StreamFailed number

@@ -8,6 +8,7 @@ use Rattle.segment_stream.specs.Cipher.{SegmentCipher}
 use Rattle.segment_stream.specs.Opening.{Choice, undecided, no_key, chosen, choose, opens_at}
 use Rattle.segment_stream.specs.Sealing.{plain_size}
 
+-- why a range is refused
 pub data RangeRefusal : Type 0 where
   stream_failed : (number : ℕ) → RangeRefusal
   past_end : RangeRefusal
@@ -20,6 +21,7 @@ plain_length key bytes = length bytes - key.header - (followed key.size bytes + 
 abbrev pub plain_start : SegmentCipher → ℕ → ℕ
 plain_start key i = i * plain_size key - key.header
 
+-- the number of the piece that holds the plaintext's byte at this offset
 abbrev pub piece_of : SegmentCipher → ℕ → ℕ
 piece_of key at = (at + key.header) / plain_size key
 
@@ -34,6 +36,8 @@ cut_range key from to run =
     (stream_failed (piece_of key from + length run))
     else Ok (take (to - from) (drop (from - plain_start key (piece_of key from)) (concat run)))
 
+-- the range under a key: the final piece has to open as the last, and each piece that covers the
+-- range in its place
 abbrev pub range_under : SegmentCipher → (bytes : List ℕ) (from to : ℕ)
     → Result (List ℕ) RangeRefusal
 range_under key bytes from to =
@@ -43,11 +47,13 @@ range_under key bytes from to =
     (covering key from to)))
     else Err (stream_failed (followed key.size bytes))
 
+-- the range under the key chosen
 abbrev pub range_by : Choice → (bytes : List ℕ) (from to : ℕ) → Result (List ℕ) RangeRefusal
 range_by undecided bytes from to = Err (stream_failed 0)
 range_by no_key bytes from to = Err (stream_failed 0)
 range_by (chosen key) bytes from to = range_under key bytes from to
 
+-- the plaintext's bytes `from` to `to`, or why there are none
 abbrev pub range_of : List SegmentCipher → (bytes : List ℕ) (from to : ℕ)
     → Result (List ℕ) RangeRefusal
 range_of keys bytes from to = range_by (choose keys bytes true) bytes from to

@@ -34,6 +34,7 @@ sealed_segments key header taken ended =
 abbrev pub sealed_behind : SegmentCipher → (header taken : List ℕ) → Bool → List ℕ
 sealed_behind key header taken ended = header ++ concat (sealed_segments key header taken ended)
 
+-- the stream of a plaintext as far as it was taken, with the end seen or not
 abbrev pub sealed : SegmentCipher → (random taken : List ℕ) → Bool → List ℕ
 sealed key random taken ended = sealed_behind key (header_of key random) taken ended
 
@@ -42,5 +43,6 @@ abbrev pub many_plain : SegmentCipher → (header taken : List ℕ) → Option S
 many_plain key header taken = if nat_le most_segments (followed (plain_size key) (header ++ taken))
     then Some too_many else None
 
+-- sealing is refused where the plaintext has too many segments
 abbrev pub seal_decides : SegmentCipher → (random taken : List ℕ) → Option StreamRefusal
 seal_decides key random taken = many_plain key (header_of key random) taken

@@ -29,13 +29,16 @@ use Rattle.segment_stream.specs.declared.segments.SegmentKeys.TheVariants as key
 abbrev pub header_size : StreamKey → ℕ
 header_size key = key.derived + 8
 
+-- bytes of a segment's tag
 abbrev pub tag_size_of : SegmentScheme → ℕ
 tag_size_of schemes.Gcm = 16
 tag_size_of (schemes.CtrHmac hash tag_size) = tag_size
 
+-- the salt in a header
 abbrev pub salt_of : StreamKey → List ℕ → List ℕ
 salt_of key header = take key.derived (drop 1 header)
 
+-- the seven bytes behind the salt
 abbrev pub nonce_prefix : StreamKey → List ℕ → List ℕ
 nonce_prefix key header = drop (key.derived + 1) header
 
@@ -50,6 +53,7 @@ keys_under (schemes.CtrHmac hash tag_size) key ad salt =
     keys_for.CtrHmac (take key.derived (material key ad salt (key.derived + 32))) hash
     (drop key.derived (material key ad salt (key.derived + 32))) tag_size
 
+-- the keys of a stream's segments, by its header
 abbrev pub keys_of : StreamKey → (ad header : List ℕ) → SegmentKeys
 keys_of key ad header = keys_under key.scheme key ad (salt_of key header)
 
@@ -82,6 +86,7 @@ abbrev pub tag_size_under : SegmentKeys → ℕ
 tag_size_under (keys_for.Gcm aes) = 16
 tag_size_under (keys_for.CtrHmac aes hash mac tag_size) = tag_size
 
+-- a tag is no longer than the digest it is cut from
 abbrev pub FitsHash : SegmentKeys → Type 0
 FitsHash (keys_for.Gcm aes) = Unit {0}
 FitsHash (keys_for.CtrHmac aes hash mac tag_size) = tag_size ≤ hash_size hash
@@ -96,6 +101,7 @@ cipher_of ad key = record {
   opens = λ header. opens_under (keys_of key ad header) (nonce_prefix key header);
 }
 
+-- keys of streams, each with these associated data
 abbrev pub ciphers_of : (ad : List ℕ) → List StreamKey → List SegmentCipher
 ciphers_of ad keys = map (cipher_of ad) keys
 

@@ -3,7 +3,7 @@
 ghost use Rattle.std.specs.Prelude.{◌≡◌, [], ◌∷◌, ◌++◌, ◌+◌, ◌≤◌, ◌<◌, ◌^◌, None, IfOk, IfErr, OnOk};
 ghost use Rattle.std.specs.List.{AllByRecursion};
 ghost use Rattle.segment_stream.specs.Segments.{IsSound};
-ghost use Rattle.segment_stream.specs.StreamKeys.{IsUnfit, at_place, largest_of, stream_keys, unfit};
+ghost use Rattle.segment_stream.specs.StreamKeys.{IsUnfit, at_place, largest_of, stream_keys, stream_unfit};
 ghost use Rattle.segment_stream.specs.KeysModel.{AreOf, AreSound};
 
 use crate::key::StreamKey;
@@ -67,8 +67,8 @@ impl StreamKeys {
     pub fn new(alloc: Global, keyset: &Keyset) -> Result<StreamKeys, StreamKeysFault>
         ensures keys { IfOk result (λ keys. AreOf keys keyset.now) }
         ensures sound { IfOk result AreSound }
-        ensures fit { OnOk result (unfit keyset.now ≡ None) }
-        ensures fault { IfErr result (λ fault. IsUnfit fault (unfit keyset.now)) }
+        ensures fit { OnOk result (stream_unfit keyset.now ≡ None) }
+        ensures fault { IfErr result (λ fault. IsUnfit fault (stream_unfit keyset.now)) }
     {
         let keys = read_all(alloc, keyset)?;
         match stream_key_of(alloc, keyset.primary_record()) {
@@ -146,8 +146,8 @@ fn add(keys: &mut Vec<StreamKey>, key: StreamKey) -> Result<(), NoMemory>
 fn read_all(alloc: Global, keyset: &Keyset) -> Result<Vec<StreamKey>, StreamKeysFault>
     ensures keys { IfOk result (λ keys. keys.items ≡ stream_keys keyset.now) }
     ensures sound { IfOk result (λ keys. AllByRecursion IsSound keys.items) }
-    ensures fit { OnOk result (unfit keyset.now ≡ None) }
-    ensures fault { IfErr result (λ fault. IsUnfit fault (unfit keyset.now)) }
+    ensures fit { OnOk result (stream_unfit keyset.now ≡ None) }
+    ensures fault { IfErr result (λ fault. IsUnfit fault (stream_unfit keyset.now)) }
 {
     let mut keys = Vec::new(alloc);
     for i in 0..keyset.len() {

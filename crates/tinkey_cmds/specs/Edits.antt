@@ -43,6 +43,7 @@ seen_by see (commands.Disable id) = Disable id
 seen_by see (commands.Destroy id) = Destroy id
 seen_by see (commands.Delete id) = Delete id
 
+-- the edit that a command of the code stands for
 abbrev pub seen_edit : Command Template → Edit
 seen_edit command = seen_by seen command
 
@@ -169,6 +170,7 @@ unfoldable pub without : (id : ℕ) → List Record → List Record
 without id [] = []
 without id (r ∷ later) = if has_id id r then later else r ∷ without id later
 
+-- a record with another status
 abbrev pub with_status : ℕ → Record → Record
 with_status status r = record r { status = status }
 
@@ -176,6 +178,7 @@ with_status status r = record r { status = status }
 abbrev pub destroyed : Record → Record
 destroyed r = record r { status = 3; url = []; value = []; material = 0 }
 
+-- a keyset with other records
 abbrev pub with_records : Keys → List Record → Keys
 with_records keys records = record keys { records = records }
 
@@ -216,6 +219,7 @@ unless_refused None effect random = effect random
 abbrev pub step : Keys → Edit → List ℕ → Option Stepped
 step keys edit random = unless_refused (refusal_of keys edit) (effect_of keys edit) random
 
+-- the keyset of this one record, primary
 abbrev pub alone : Record → Keys
 alone r = record { primary = r.id; records = r ∷ [] }
 

@@ -109,6 +109,7 @@ HasPrimary old (Rotate row) new =
     (r : Record) × (new.records ≡ old.records ++ r ∷ []) × (new.primary ≡ r.id)
 HasPrimary old edit new = new.primary ≡ old.primary
 
+-- So the primary id is after an accepted edit.
 abbrev pub EditsKeepThePrimary : Type 0
 EditsKeepThePrimary = (old new : Keys) (edit : Edit) (random : List ℕ) (s : Stepped)
     → step old edit random ≡ Some s → s.answer ≡ Ok new → HasPrimary old edit new

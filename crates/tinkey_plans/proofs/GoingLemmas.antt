@@ -36,6 +36,7 @@ use Rattle.tinkey_session.proofs.Options.{clash}
 use Rattle.tinkey_session.specs.Talking.{Stop, goes, wants, passes, long_line, many_lines, Talk, Limit}
 use Rattle.tinkey_plans.specs.Commands.{command_plan}
 use Rattle.tinkey_words.specs.Words.{Asked, self_test, Place, AskedEdit, AskedWork, to_seal, to_open, to_dseal, to_dopen, to_tag, to_verify, to_derive, primitive_for, create_keyset, edit_keyset, list_keyset, convert_keyset, list_key_templates, use_keyset, seal_stream, open_stream, session}
+use Rattle.tinkey_plans.proofs.EachLemmas.{AreAll, IsClosed, edit_each, fit_each, keyset_each, made_each, row_each, work_each}
 
 -- the refusals of its steps aren't Done
 abbrev IsProper : Plan → Type 0
@@ -128,52 +129,15 @@ done_exactly (exchanges exchange next) told proper =
 
 -- ---- the commands
 
--- the rest of a plan is so, whatever it takes
-abbrev AreProper : {A : Type 0} → (A → Plan) → Type 0
-AreProper {A} next = (value : A) → IsProper (next value)
+closed : IsClosed IsProper
+closed = record { ended = λ s stated. tt; drawn = λ kind give next all. all }
 
-with_keyset_proper : (r : Result Keys Refusal) (next : Keys → Plan) → AreProper next → IsProper (with_keyset r next)
-with_keyset_proper (Err (Wire at)) next proper = tt
-with_keyset_proper (Err (Fault fault)) next proper = tt
-with_keyset_proper (Ok keys) next proper = proper keys
+taken_proper : (file : Option (List ℕ)) (form : Format) (next : Keys → Plan) → AreAll IsProper next → IsProper (takes_keyset (record { file = file; form = form }) next)
+taken_proper (Some name) form next proper = (λ e. cc, λ e. cc, λ bytes. keyset_each IsProper closed form bytes next proper)
+taken_proper None form next proper = (λ e. cc, λ bytes. keyset_each IsProper closed form bytes next proper)
 
-with_json_proper : (r : Result Keys Json.Refusal) (next : Keys → Plan) → AreProper next → IsProper (with_json r next)
-with_json_proper (Err Json.NotJson) next proper = tt
-with_json_proper (Err (Json.Shape path)) next proper = tt
-with_json_proper (Err (Json.Fault fault)) next proper = tt
-with_json_proper (Ok keys) next proper = proper keys
-
-keyset_proper : (form : Format) (bytes : List ℕ) (next : Keys → Plan) → AreProper next → IsProper (keyset_in form bytes next)
-keyset_proper formats.Json bytes next proper = with_json_proper (reads_json bytes) next proper
-keyset_proper formats.Binary bytes next proper = with_keyset_proper (reads_binary bytes) next proper
-
-taken_proper : (file : Option (List ℕ)) (form : Format) (next : Keys → Plan) → AreProper next → IsProper (takes_keyset (record { file = file; form = form }) next)
-taken_proper (Some name) form next proper = (λ e. cc, λ e. cc, λ bytes. keyset_proper form bytes next proper)
-taken_proper None form next proper = (λ e. cc, λ bytes. keyset_proper form bytes next proper)
-
-no_row_proper : (b : Bool) → IsProper (if b then ends status.AsymmetricTemplate tt else ends status.UnknownTemplate tt)
-no_row_proper true = tt
-no_row_proper false = tt
-
-row_proper : (found : Option Row) (name : List ℕ) (next : Row → Plan) → AreProper next → IsProper (with_row found name next)
-row_proper (Some row) name next proper = proper row
-row_proper None name next proper = no_row_proper (is_asymmetric name)
-
-edit_proper : (asked : AskedEdit) (next : Edit → Plan) → AreProper next → IsProper (finds_edit asked next)
-edit_proper (Add name) next proper = row_proper (row_named name) name (λ row. next (Add row)) (λ row. proper (Add row))
-edit_proper (Rotate name) next proper = row_proper (row_named name) name (λ row. next (Rotate row)) (λ row. proper (Rotate row))
-edit_proper (Promote id) next proper = proper (Promote id)
-edit_proper (Enable id) next proper = proper (Enable id)
-edit_proper (Disable id) next proper = proper (Disable id)
-edit_proper (Destroy id) next proper = proper (Destroy id)
-edit_proper (Delete id) next proper = proper (Delete id)
-
-made_proper : {A : Type 0} (given : Result A CmdFault) (next : A → Plan) → AreProper next → IsProper (with_made given next)
-made_proper (Ok value) next proper = proper value
-made_proper (Err fault) next proper = tt
-
-draw_proper : (give : Draw Keys) (next : Keys → Plan) → AreProper next → IsProper (makes_keyset give next)
-draw_proper give next proper = λ given. made_proper given next proper
+draw_proper : (give : Draw Keys) (next : Keys → Plan) → AreAll IsProper next → IsProper (makes_keyset give next)
+draw_proper give next proper = λ given. made_each IsProper closed given next proper
 
 put_proper : (file : Option (List ℕ)) (output : List ℕ) → IsProper (puts file output)
 put_proper (Some name) output = λ e. cc
@@ -182,66 +146,38 @@ put_proper None output = tt
 out_proper : (out : Place) (keys : Keys) → IsProper (puts_keyset out keys)
 out_proper out keys = put_proper out.file _
 
-fit_proper : (found : Option (ℕ × Unfit)) (next : Plan) → IsProper next → IsProper (unless_unfit found next)
-fit_proper None next proper = proper
-fit_proper (Some (i, NoManager)) next proper = tt
-fit_proper (Some (i, BadKey rule)) next proper = tt
-fit_proper (Some (i, NotRaw)) next proper = tt
-
-opened_proper : (found : Option (List ℕ)) (next : List ℕ → Plan) → AreProper next → IsProper (with_opened found next)
-opened_proper None next proper = tt
-opened_proper (Some plain) next proper = proper plain
-
-verified_proper : (b : Bool) (next : List ℕ → Plan) → AreProper next → IsProper (with_verified b next)
-verified_proper true next proper = proper []
-verified_proper false next proper = tt
-
-derived_proper : (asked : ℕ) (found : Option (Result (List ℕ) ℕ)) (next : List ℕ → Plan) → AreProper next → IsProper (with_derived asked found next)
-derived_proper asked None next proper = proper []
-derived_proper asked (Some (Ok bytes)) next proper = proper bytes
-derived_proper asked (Some (Err greatest)) next proper = tt
-
-work_proper : (table : Table) (keys : Keys) (work : AskedWork) (input : List ℕ) (next : List ℕ → Plan) → AreProper next → IsProper (works table keys work input next)
-work_proper table keys (to_seal ad) input next proper = λ made. made_proper made next proper
-work_proper table keys (to_open ad) input next proper = opened_proper (open_answer keys table input ad) next proper
-work_proper table keys (to_dseal ad) input next proper = proper _
-work_proper table keys (to_dopen ad) input next proper = opened_proper (dopen_answer keys table input ad) next proper
-work_proper table keys to_tag input next proper = proper _
-work_proper table keys (to_verify tag) input next proper = verified_proper (verify_answer keys table tag input) next proper
-work_proper table keys (to_derive size) input next proper = derived_proper size (derive_answer keys table input size) next proper
-
 counts_proper : (r : Result Counts CmdFault) (lines : ℕ) → IsProper (tells_counts lines r writes)
 counts_proper (Ok n) lines = tt
 counts_proper (Err fault) lines = tt
 
 -- the keys of a keyset for streams
-stream_fit_proper : (found : Option (ℕ × streams.Unfit)) (next : Plan) → IsProper next → IsProper (streaming.unless_unfit found next)
+stream_fit_proper : (found : Option (ℕ × streams.StreamUnfit)) (next : Plan) → IsProper next → IsProper (streaming.unless_unfit found next)
 stream_fit_proper None next proper = proper
 stream_fit_proper (Some (i, streams.not_stream)) next proper = tt
 stream_fit_proper (Some (i, streams.bad_key rule)) next proper = tt
 
-stream_keys_proper : (found : Option KeysForStreams) (next : KeysForStreams → Plan) → AreProper next → IsProper (with_keys found next)
+stream_keys_proper : (found : Option KeysForStreams) (next : KeysForStreams → Plan) → AreAll IsProper next → IsProper (with_keys found next)
 stream_keys_proper None next proper = tt
 stream_keys_proper (Some keys) next proper = proper keys
 
 seals_proper : (ad : List ℕ) (keys : KeysForStreams) → IsProper (seals_stream keys ad)
-seals_proper ad keys = λ made. made_proper made _ (λ random. tt)
+seals_proper ad keys = λ made. made_each IsProper closed made _ (λ random. tt)
 
 saves_proper : (file : Option (List ℕ)) (form : Format) (keys : Keys) → IsProper (saves_as file form keys)
 saves_proper None form keys = tt
 saves_proper (Some name) form keys = λ e. cc
 
 commands_are_proper : (table : Table) (asked : Asked) → IsProper (command_plan table asked)
-commands_are_proper table (create_keyset name out) = row_proper (row_named name) name _ (λ row. draw_proper (first row) _ (out_proper out))
-commands_are_proper table (edit_keyset edit in' out) = edit_proper edit _ (λ edit. taken_proper in'.file in'.form _ (λ keys. draw_proper (step keys edit) _ (out_proper out)))
+commands_are_proper table (create_keyset name out) = row_each IsProper closed (row_named name) name _ (λ row. draw_proper (first row) _ (out_proper out))
+commands_are_proper table (edit_keyset edit in' out) = edit_each IsProper closed edit _ (λ edit. taken_proper in'.file in'.form _ (λ keys. draw_proper (step keys edit) _ (out_proper out)))
 commands_are_proper table (list_keyset in') = taken_proper in'.file in'.form _ (λ keys. tt)
 commands_are_proper table (convert_keyset in' out) = taken_proper in'.file in'.form _ (out_proper out)
 commands_are_proper table list_key_templates = tt
-commands_are_proper table (use_keyset name form work) = (λ e. cc, λ e. cc, λ bytes. keyset_proper form bytes _ (λ keys. fit_proper (unfit keys (primitive_for work) table) _ (λ e. cc, λ input. work_proper table keys work input _ (λ output. tt))))
-commands_are_proper table (seal_stream name form ad) = (λ e. cc, λ e. cc, λ bytes. keyset_proper form bytes _ (λ keys. stream_fit_proper (streams.unfit keys) _ (stream_keys_proper (keys_for keys) _ (seals_proper ad))))
-commands_are_proper table (open_stream name form ad) = (λ e. cc, λ e. cc, λ bytes. keyset_proper form bytes _ (λ keys. stream_fit_proper (streams.unfit keys) _ (stream_keys_proper (keys_for keys) _ (λ k. tt))))
+commands_are_proper table (use_keyset name form work) = (λ e. cc, λ e. cc, λ bytes. keyset_each IsProper closed form bytes _ (λ keys. fit_each IsProper closed (unfit keys (primitive_for work) table) _ (λ e. cc, λ input. work_each IsProper closed table keys work input _ (λ output. tt))))
+commands_are_proper table (seal_stream name form ad) = (λ e. cc, λ e. cc, λ bytes. keyset_each IsProper closed form bytes _ (λ keys. stream_fit_proper (streams.stream_unfit keys) _ (stream_keys_proper (keys_for keys) _ (seals_proper ad))))
+commands_are_proper table (open_stream name form ad) = (λ e. cc, λ e. cc, λ bytes. keyset_each IsProper closed form bytes _ (λ keys. stream_fit_proper (streams.stream_unfit keys) _ (stream_keys_proper (keys_for keys) _ (λ k. tt))))
 commands_are_proper table (self_test seed lines) = counts_proper (trial.self_test table seed lines) lines
-commands_are_proper table (session name form out) = (λ e. cc, λ e. cc, λ bytes. keyset_proper form bytes _ (λ keys. λ last. saves_proper out.file out.form last))
+commands_are_proper table (session name form out) = (λ e. cc, λ e. cc, λ bytes. keyset_each IsProper closed form bytes _ (λ keys. λ last. saves_proper out.file out.form last))
 
 pub commands_done_exactly : DoneExactly
 commands_done_exactly table asked told = done_exactly (command_plan table asked) told (commands_are_proper table asked)

@@ -6,3 +6,4 @@ pub mod ReportLemmas
 pub mod StepLemmas
 pub mod WholeLemmas
 pub mod GoingLemmas
+pub mod EachLemmas

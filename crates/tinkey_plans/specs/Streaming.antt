@@ -8,7 +8,7 @@ use Rattle.segment_stream.specs.KeysModel.{KeysForStreams}
 use Rattle.segment_stream.specs.Pumping.{sealing, opening_any}
 use Rattle.segment_stream.specs.Sealing.{header_of}
 use Rattle.segment_stream.specs.Segments.{cipher_of, ciphers_of}
-use Rattle.segment_stream.specs.StreamKeys.{Unfit, not_stream, bad_key, unfit, primary_key, stream_keys}
+use Rattle.segment_stream.specs.StreamKeys.{StreamUnfit, not_stream, bad_key, stream_unfit, primary_key, stream_keys}
 use Rattle.segment_stream.specs.declared.keys.StreamKeysFault.{StreamKeysFault}
 use Rattle.segment_stream.specs.declared.keys.StreamKeysFault.TheVariants as key_faults
 use Rattle.tinkey_cmds.specs.Draws.{fill}
@@ -19,7 +19,7 @@ use Rattle.tinkey_plans.specs.Plan.{Plan, ends, allocates, draws, sealings, pump
 use Rattle.tinkey_plans.specs.Steps.{loads_keyset, with_made}
 
 -- the rest goes on, or the record that gives no key for streams is refused
-abbrev pub unless_unfit : Option (ℕ × Unfit) → Plan → Plan
+abbrev pub unless_unfit : Option (ℕ × StreamUnfit) → Plan → Plan
 unless_unfit None next = next
 unless_unfit (Some (i, not_stream)) next = ends (status.NoManager i) tt
 unless_unfit (Some (i, bad_key rule)) next = ends (status.BadKey i rule) tt
@@ -37,7 +37,7 @@ with_keys (Some keys) next = next keys
 -- the keys for streams of the keyset in a file
 abbrev pub loads_stream_keys : List ℕ → Format → (KeysForStreams → Plan) → Plan
 loads_stream_keys name form next =
-    loads_keyset name form (λ keys. allocates (unless_unfit (unfit keys) (with_keys (keys_for keys) next)))
+    loads_keyset name form (λ keys. allocates (unless_unfit (stream_unfit keys) (with_keys (keys_for keys) next)))
 
 -- the input sealed under the primary key, behind a header of random bytes: salt and nonce prefix
 abbrev pub seals_stream : KeysForStreams → (ad : List ℕ) → Plan

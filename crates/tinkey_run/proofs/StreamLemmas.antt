@@ -13,7 +13,7 @@ use Rattle.segment_stream.specs.Pumping.{Pumps, ShowsFaults, sealing, opening_an
 use Rattle.segment_stream.specs.Pumping as pass
 use Rattle.segment_stream.specs.Sealing.{header_of, sealed_behind, many_plain}
 use Rattle.segment_stream.specs.Segments.{cipher_of, ciphers_of}
-use Rattle.segment_stream.specs.StreamKeys.{unfit, stream_keys, IsUnfit}
+use Rattle.segment_stream.specs.StreamKeys.{stream_unfit, stream_keys, IsUnfit}
 use Rattle.segment_stream.specs.declared.fault.OpenPumpFault.{OpenPumpFault}
 use Rattle.segment_stream.specs.declared.fault.OpenPumpFault.TheVariants as faults
 use Rattle.segment_stream.specs.declared.fault.SealPumpFault.{SealPumpFault}
@@ -36,7 +36,7 @@ use Rattle.tinkey_plans.proofs.StepLemmas.{passes_then, ends_there}
 -- The keys.
 
 abbrev fits : Keys → (KeysForStreams → Plan) → Plan
-fits keys next = allocates (unless_unfit (unfit keys) (with_keys (keys_for keys) next))
+fits keys next = allocates (unless_unfit (stream_unfit keys) (with_keys (keys_for keys) next))
 
 -- no keyset was loaded
 pub no_keyset : (name : List ℕ) (form : Format) (old new : World) (r : Result KeysForStreams Status) (s : Status) → IsErrAnd r (λ e. e ≡ s) → Passes {A = Keys} (loads_keyset name form) old (Err s) new → Passes (loads_stream_keys name form) old r new
@@ -48,17 +48,17 @@ keys_are keys those are =
     ∙ ap (λ (all : List StreamKey). Some (record { primary = those.primary; keys = all })) (sym are.0)
 
 -- each record gives one
-pub with_stream_keys : (name : List ℕ) (form : Format) (old mid : World) (keys : Keys) (those : KeysForStreams) → unfit keys ≡ None → AreOf those keys → Passes (loads_keyset name form) old (Ok keys) mid → Passes (loads_stream_keys name form) old (Ok those) mid
+pub with_stream_keys : (name : List ℕ) (form : Format) (old mid : World) (keys : Keys) (those : KeysForStreams) → stream_unfit keys ≡ None → AreOf those keys → Passes (loads_keyset name form) old (Ok keys) mid → Passes (loads_stream_keys name form) old (Ok those) mid
 with_stream_keys name form old mid keys those fit are one =
     passes_then (loads_keyset name form) fits old mid mid keys (Ok those) one (λ next s last run. inl (rw (fit, keys_are keys those are) run))
 
-unfit_ends : (keys : Keys) (fault : StreamKeysFault) (w : World) → IsUnfit fault (unfit keys) → (next : KeysForStreams → Plan) → Ends (fits keys next) w (stream_keys_refusal fault) w
+unfit_ends : (keys : Keys) (fault : StreamKeysFault) (w : World) → IsUnfit fault (stream_unfit keys) → (next : KeysForStreams → Plan) → Ends (fits keys next) w (stream_keys_refusal fault) w
 unfit_ends keys (key_faults.NotStream i) w is next = rw is (inl (refl, refl))
 unfit_ends keys (key_faults.BadKey i rule) w is next = rw is (inl (refl, refl))
 unfit_ends keys key_faults.NoMemory w is next = inr (refl, refl)
 
 -- some record gives none
-pub no_stream_keys : (name : List ℕ) (form : Format) (old mid : World) (keys : Keys) (fault : StreamKeysFault) → IsUnfit fault (unfit keys) → Passes (loads_keyset name form) old (Ok keys) mid → Passes {A = KeysForStreams} (loads_stream_keys name form) old (Err (stream_keys_refusal fault)) mid
+pub no_stream_keys : (name : List ℕ) (form : Format) (old mid : World) (keys : Keys) (fault : StreamKeysFault) → IsUnfit fault (stream_unfit keys) → Passes (loads_keyset name form) old (Ok keys) mid → Passes {A = KeysForStreams} (loads_stream_keys name form) old (Err (stream_keys_refusal fault)) mid
 no_stream_keys name form old mid keys fault is one =
     passes_then (loads_keyset name form) fits old mid mid keys (Err (stream_keys_refusal fault)) one (unfit_ends keys fault mid is)
 

@@ -5,7 +5,7 @@ use Rattle.managers.specs.Table.{Table}
 use Rattle.tink_spec.proofs.Moves.{drew_more, drew_nothing, gave_more, gave_nothing, took_more, took_nothing}
 use Rattle.tink_spec.specs.Outside.{SourceState, Drew, Gave, IsAtEnd, Rose, Stood, Took, TookPrefix}
 use Rattle.tinkey_session.proofs.FeedLemmas.{IsStart, fed_more, fed_over, front_behind, rose_later, stopped_more}
-use Rattle.tinkey_session.specs.Feeding.{Fed, Finished, InLine, InPiece, Outside, Start, Stopped, dry, full, Place, from, outside, past, torn}
+use Rattle.tinkey_session.specs.Feeding.{Fed, Finished, InLine, InPiece, Outside, Start, Stopped, dry, full, Point, from, outside, past, torn}
 use Rattle.tinkey_session.specs.Lines.{line_of}
 use Rattle.tinkey_session.specs.Serving.{Served, serve}
 use Rattle.tinkey_session.specs.Talking.{Limit, goes, passes, Talk, replied, last_line, finish, going, over, talk}
@@ -24,14 +24,14 @@ abbrev pub outside_of : Sides → Outside
 outside_of x = outside x.sink x.entropy
 
 -- so far each line that has ended was answered
-pub record Talking (table : Table) (keys : Keys) (at : Place) (old new : Sides) : Type 0 where
+pub record Talking (table : Table) (keys : Keys) (at : Point) (old new : Sides) : Type 0 where
   pub taken : List ℕ
   pub gave : Gave old.source new.source taken
   pub no_read_fault : Stood old.source.faults new.source.faults
   pub fed : Fed (begun keys) at (λ x. over table x taken) [] (outside_of old) (outside_of new)
 
 -- nothing was read
-pub talking_none : (table : Table) (keys : Keys) (at : Place) (old : Sides) → at.keys ≡ keys → at.line ≡ [] → at.count ≡ 0 → Talking table keys at old old
+pub talking_none : (table : Table) (keys : Keys) (at : Point) (old : Sides) → at.keys ≡ keys → at.line ≡ [] → at.count ≡ 0 → Talking table keys at old old
 unfolding over
 talking_none table keys at old same line count = record {
   taken = [];
@@ -49,7 +49,7 @@ talking_none table keys at old same line count = record {
 }
 
 -- one piece more
-pub talking_more : (table own : Table) (keys : Keys) (at last : Place) (piece : List ℕ) (old mid new : Sides) → own ≡ table → Talking table keys at old mid → Gave mid.source new.source piece → Stood mid.source.faults new.source.faults
+pub talking_more : (table own : Table) (keys : Keys) (at last : Point) (piece : List ℕ) (old mid new : Sides) → own ≡ table → Talking table keys at old mid → Gave mid.source new.source piece → Stood mid.source.faults new.source.faults
     → ((output : List ℕ) → Fed (from at) last (λ x. over own x piece) output (outside_of mid) (outside_of new)) → Talking table keys last old new
 talking_more table own keys at last piece old mid new same so gave stood fed = record {
   taken = so.taken ++ piece;
@@ -59,14 +59,14 @@ talking_more table own keys at last piece old mid new same so gave stood fed = r
 }
 
 -- what the session is at the end of the bytes taken
-ended_as : (table : Table) (keys : Keys) (at : Place) (taken drawn written more : List ℕ) → over table (begun keys [] drawn) taken ≡ from at written [] → talk table keys taken (drawn ++ more) true ≡ finish table true (from at written more)
+ended_as : (table : Table) (keys : Keys) (at : Point) (taken drawn written more : List ℕ) → over table (begun keys [] drawn) taken ≡ from at written [] → talk table keys taken (drawn ++ more) true ≡ finish table true (from at written more)
 ended_as table keys at taken drawn written more e = ap (finish table true) (fed_over table (begun keys) at taken [] drawn written more (begun_start keys) e)
 
 gave_all : (old mid new : SourceState) (taken : List ℕ) → Gave old mid taken → Gave mid new [] → Gave old new taken
 gave_all old mid new taken a b = subst (Gave old new) (append-nil taken) (gave_more old mid new taken [] a b)
 
 -- a read failed
-pub ends_unread : (table : Table) (keys : Keys) (at : Place) (old mid new : Sides) → Talking table keys at old mid → Gave mid.source new.source [] → Rose mid.source.faults new.source.faults → mid.sink ≡ new.sink → mid.entropy ≡ new.entropy
+pub ends_unread : (table : Table) (keys : Keys) (at : Point) (old mid new : Sides) → Talking table keys at old mid → Gave mid.source new.source [] → Rose mid.source.faults new.source.faults → mid.sink ≡ new.sink → mid.entropy ≡ new.entropy
     → Talks (talk table keys) (Err faults.ReadFault) old new
 ends_unread table keys at old mid new so gave rose sink entropy =
     let e = so.fed.is in
@@ -84,7 +84,7 @@ ends_unread table keys at old mid new so gave rose sink entropy =
     (ap (λ s. s.faults) (sym entropy) ∙ so.fed.no_draw_fault)
 
 -- the end was seen, and the last line answered
-ends_talked : (table : Table) (keys last : Keys) (at : Place) (old mid new : Sides) → Talking table keys at old mid → Gave mid.source new.source [] → Stood mid.source.faults new.source.faults → IsAtEnd new.source
+ends_talked : (table : Table) (keys last : Keys) (at : Point) (old mid new : Sides) → Talking table keys at old mid → Gave mid.source new.source [] → Stood mid.source.faults new.source.faults → IsAtEnd new.source
     → ((output : List ℕ) → Finished table (from at) last output (outside_of mid) (outside_of new)) → Talks (talk table keys) (Ok last) old new
 ends_talked table keys last at old mid new so gave stood end finished =
     let f = finished so.fed.written in
@@ -101,7 +101,7 @@ ends_talked table keys last at old mid new so gave stood end finished =
     (record { read = stood ∙ so.no_read_fault; write = f.no_write_fault ∙ so.fed.no_write_fault; draw = f.no_draw_fault ∙ so.fed.no_draw_fault })
 
 -- something of a piece ended it
-pub ends_stopped : (table own : Table) (keys : Keys) (at : Place) (piece : List ℕ) (fault : TalkFault) (old mid new : Sides) → own ≡ table → Talking table keys at old mid → Gave mid.source new.source piece → Stood mid.source.faults new.source.faults
+pub ends_stopped : (table own : Table) (keys : Keys) (at : Point) (piece : List ℕ) (fault : TalkFault) (old mid new : Sides) → own ≡ table → Talking table keys at old mid → Gave mid.source new.source piece → Stood mid.source.faults new.source.faults
     → ((output : List ℕ) → Stopped (from at) (λ x. over own x piece) (InPiece own (from at) piece output) output fault (outside_of mid) (outside_of new)) → Talks (talk table keys) (Err fault) old new
 ends_stopped table own keys at piece fault old mid new same so gave stood stopped =
     by (stopped_more table (begun keys) at so.taken piece [] (so.taken ++ piece) [] fault _ _ _ (begun_start keys) (sym (append-nil (so.taken ++ piece))) so.fed
@@ -138,7 +138,7 @@ last_passes table [] x limit is e = let k : goes ≡ passes limit = sym is ∙ e
 last_passes table (b ∷ bytes) x limit is e = replied_passes x (serve table x.keys (line_of x.line) x.random) limit e
 
 -- the end was seen, and the last line ended it
-ends_last : (table : Table) (keys : Keys) (at : Place) (fault : TalkFault) (old mid new : Sides) → Talking table keys at old mid → Gave mid.source new.source [] → Stood mid.source.faults new.source.faults → IsAtEnd new.source
+ends_last : (table : Table) (keys : Keys) (at : Point) (fault : TalkFault) (old mid new : Sides) → Talking table keys at old mid → Gave mid.source new.source [] → Stood mid.source.faults new.source.faults → IsAtEnd new.source
     → ((output : List ℕ) → Stopped (from at) (finish table true) InLine output fault (outside_of mid) (outside_of new)) → Talks (talk table keys) (Err fault) old new
 ends_last table keys at fault old mid new so gave stood end stopped = by (stopped so.fed.written)
   where
@@ -174,7 +174,7 @@ ends_last table keys at fault old mid new so gave stood end stopped = by (stoppe
         (record { read = read; write = no_write_fault ∙ so.fed.no_write_fault; draw = no_draw_fault ∙ so.fed.no_draw_fault })
 
 -- the end was seen
-pub ends_finished : (table own : Table) (keys : Keys) (at : Place) (r : Result Keys TalkFault) (old mid new : Sides) → own ≡ table → Talking table keys at old mid → Gave mid.source new.source [] → Stood mid.source.faults new.source.faults → IsAtEnd new.source
+pub ends_finished : (table own : Table) (keys : Keys) (at : Point) (r : Result Keys TalkFault) (old mid new : Sides) → own ≡ table → Talking table keys at old mid → Gave mid.source new.source [] → Stood mid.source.faults new.source.faults → IsAtEnd new.source
     → IfOk r (λ last. (output : List ℕ) → Finished own (from at) last output (outside_of mid) (outside_of new))
     → IfErr r (λ fault. (output : List ℕ) → Stopped (from at) (finish own true) InLine output fault (outside_of mid) (outside_of new))
     → Talks (talk table keys) r old new

@@ -8,7 +8,7 @@ use Rattle.tink_spec.proofs.Moves.{drew_more, drew_nothing, took_more, took_noth
 use Rattle.tink_spec.specs.Outside.{SinkState, EntropyState, Drew, Rose, Stood, Took, TookPrefix}
 use Rattle.tinkey_session.proofs.TalkLemmas.{byte_by, over-append, over-more, over-stopped, with_more}
 use Rattle.tinkey_session.specs.Answered.{DrewSome, Gives, IsUnanswered}
-use Rattle.tinkey_session.specs.Feeding.{Fed, Finished, InLine, InPiece, IsReplied, Outside, Start, Stopped, dry, full, Place, from, past, torn}
+use Rattle.tinkey_session.specs.Feeding.{Fed, Finished, InLine, InPiece, IsReplied, Outside, Start, Stopped, dry, full, Point, from, past, torn}
 use Rattle.tinkey_session.specs.Lines.{line_of}
 use Rattle.tinkey_session.specs.Serving.{Served, serve}
 use Rattle.tinkey_session.specs.Talking.{Limit, long_line, many_lines, Stop, goes, wants, passes, Talk, replied, line_ended, byte_taken, count_limit, line_limit, on_go, over, last_line, finish, going}
@@ -43,7 +43,7 @@ given : (gives : Gives) (text : List ℕ) (keys : Keys) (old new : EntropyState)
 given gives text keys old new r = ap gives (sym (append-nil r.answered.drawn)) ∙ r.answered.is []
 
 -- the line was answered, and its reply written
-pub fed_line : (table : Table) (old last : Place) (line text written output : List ℕ) (a b : Outside) → line ≡ old.line → written ≡ text → last.line ≡ [] → last.count ≡ old.count + 1
+pub fed_line : (table : Table) (old last : Point) (line text written output : List ℕ) (a b : Outside) → line ≡ old.line → written ≡ text → last.line ≡ [] → last.count ≡ old.count + 1
     → IsReplied (serve table old.keys (line_of line)) text last.keys a.entropy b.entropy → Took a.sink b.sink written → Stood a.sink.faults b.sink.faults
     → Fed (from old) last (line_ended table) output a b
 fed_line table old last line text written output a b is whole cleared counted so took stood =
@@ -60,7 +60,7 @@ fed_line table old last line text written output a b is whole cleared counted so
     }
 
 -- it was answered, but not all of the reply written
-pub torn_line : (table : Table) (old : Place) (keys : Keys) (line text written output : List ℕ) (a b : Outside) → line ≡ old.line → written ≡ text
+pub torn_line : (table : Table) (old : Point) (keys : Keys) (line text written output : List ℕ) (a b : Outside) → line ≡ old.line → written ≡ text
     → IsReplied (serve table old.keys (line_of line)) text keys a.entropy b.entropy → TookPrefix a.sink b.sink written → Rose a.sink.faults b.sink.faults
     → Stopped (from old) (line_ended table) InLine output faults.WriteFault a b
 torn_line table old keys line text written output a b is whole so took rose =
@@ -70,7 +70,7 @@ torn_line table old keys line text written output a b is whole so took rose =
     r.answered.stood rose
 
 -- it wants more random bytes
-pub dry_line : (table : Table) (old : Place) (line output : List ℕ) (a b : Outside) → line ≡ old.line → a.sink ≡ b.sink
+pub dry_line : (table : Table) (old : Point) (line output : List ℕ) (a b : Outside) → line ≡ old.line → a.sink ≡ b.sink
     → IsUnanswered (serve table old.keys (line_of line)) a.entropy b.entropy
     → Stopped (from old) (line_ended table) InLine output faults.EntropyFault a b
 dry_line table old line output a b is same so =
@@ -88,11 +88,11 @@ full_line takes start output a b same r =
 
 -- ---- a byte
 
-over_byte : (table : Table) (old : Place) (b : ℕ) (output drawn : List ℕ) → over table (from old output drawn) (b ∷ []) ≡ byte_taken table (from old output drawn) b
+over_byte : (table : Table) (old : Point) (b : ℕ) (output drawn : List ℕ) → over table (from old output drawn) (b ∷ []) ≡ byte_taken table (from old output drawn) b
 unfolding over
 over_byte table old b output drawn = refl
 
-by_tests : (table : Table) (old : Place) (b : ℕ) (output drawn : List ℕ) (many ends long : Bool) → nat_le count_limit old.count ≡ many → (b == 10) ≡ ends → nat_le line_limit (length old.line) ≡ long
+by_tests : (table : Table) (old : Point) (b : ℕ) (output drawn : List ℕ) (many ends long : Bool) → nat_le count_limit old.count ≡ many → (b == 10) ≡ ends → nat_le line_limit (length old.line) ≡ long
     → over table (from old output drawn) (b ∷ []) ≡ byte_by many ends long table (from old output drawn) b
 by_tests table old b output drawn many ends long m e l =
     over_byte table old b output drawn
@@ -100,10 +100,10 @@ by_tests table old b output drawn many ends long m e l =
     ∙ ap (λ t. byte_by many t (nat_le line_limit (length old.line)) table (from old output drawn) b) e
     ∙ ap (λ t. byte_by many ends t table (from old output drawn) b) l
 
-newline : (table : Table) (old : Place) (b : ℕ) (output drawn : List ℕ) → b ≡ 10 → old.count < count_limit → over table (from old output drawn) (b ∷ []) ≡ line_ended table (from old output drawn)
+newline : (table : Table) (old : Point) (b : ℕ) (output drawn : List ℕ) → b ≡ 10 → old.count < count_limit → over table (from old output drawn) (b ∷ []) ≡ line_ended table (from old output drawn)
 newline table old b output drawn is less = by_tests table old b output drawn false true (nat_le line_limit (length old.line)) (lt-leb _ _ less) (eq-eqb b 10 is) refl
 
-pub fed_newline : (table : Table) (old last : Place) (byte : ℕ) (output : List ℕ) (a b : Outside) → byte ≡ 10 → old.count < count_limit → Fed (from old) last (line_ended table) output a b → Fed (from old) last (λ x. over table x (byte ∷ [])) output a b
+pub fed_newline : (table : Table) (old last : Point) (byte : ℕ) (output : List ℕ) (a b : Outside) → byte ≡ 10 → old.count < count_limit → Fed (from old) last (line_ended table) output a b → Fed (from old) last (λ x. over table x (byte ∷ [])) output a b
 fed_newline table old last byte output a b is less fed = record {
   drawn = fed.drawn;
   written = fed.written;
@@ -127,34 +127,34 @@ stopped_as start takes other Leaves Others output fault a b same leaves (full dr
     full drawn part written is drew took (leaves drawn written inside) no_draw_fault no_write_fault
 
 -- memory is refused in front of a byte
-in_front : (table : Table) (old : Place) (bytes output : List ℕ) (drawn written : List ℕ) → InLine drawn written → InPiece table (from old) bytes output drawn written
+in_front : (table : Table) (old : Point) (bytes output : List ℕ) (drawn written : List ℕ) → InLine drawn written → InPiece table (from old) bytes output drawn written
 unfolding over
 in_front table old bytes output drawn written inside = record { first = []; more = bytes; whole = refl; goes' = refl; told = sym (append-nil output) ∙ ap (λ l. output ++ l) (sym inside.1) }
 
-pub stopped_newline : (table : Table) (old : Place) (byte : ℕ) (output : List ℕ) (fault : TalkFault) (a b : Outside) → byte ≡ 10 → old.count < count_limit → Stopped (from old) (line_ended table) InLine output fault a b
+pub stopped_newline : (table : Table) (old : Point) (byte : ℕ) (output : List ℕ) (fault : TalkFault) (a b : Outside) → byte ≡ 10 → old.count < count_limit → Stopped (from old) (line_ended table) InLine output fault a b
     → Stopped (from old) (λ x. over table x (byte ∷ [])) (InPiece table (from old) (byte ∷ []) output) output fault a b
 stopped_newline table old byte output fault a b is less stopped =
     stopped_as (from old) (line_ended table) (λ x. over table x (byte ∷ [])) InLine (InPiece table (from old) (byte ∷ []) output) output fault a b (λ drawn. newline table old byte output drawn is less) (in_front table old (byte ∷ []) output) stopped
 
 -- a byte past a limit
-stopped_past : (table : Table) (old : Place) (byte : ℕ) (output : List ℕ) (limit : Limit) (a : Outside) → over table (from old output []) (byte ∷ []) ≡ record (from old output []) { stop = passes limit }
+stopped_past : (table : Table) (old : Point) (byte : ℕ) (output : List ℕ) (limit : Limit) (a : Outside) → over table (from old output []) (byte ∷ []) ≡ record (from old output []) { stop = passes limit }
     → Stopped (from old) (λ x. over table x (byte ∷ [])) (InPiece table (from old) (byte ∷ []) output) output (limit_fault limit) a a
 stopped_past table old byte output limit a e =
     past [] [] limit refl (drew_nothing a.entropy) (took_nothing a.sink) (ap (λ x. x.stop) e) (ap (λ x. x.output) e ∙ sym (append-nil output)) (ap (λ x. x.random) e) refl refl
 
-pub stopped_many : (table : Table) (old : Place) (byte : ℕ) (output : List ℕ) (a : Outside) → count_limit ≤ old.count
+pub stopped_many : (table : Table) (old : Point) (byte : ℕ) (output : List ℕ) (a : Outside) → count_limit ≤ old.count
     → Stopped (from old) (λ x. over table x (byte ∷ [])) (InPiece table (from old) (byte ∷ []) output) output faults.TooManyLines a a
 stopped_many table old byte output a le = stopped_past table old byte output many_lines a (by_tests table old byte output [] true (byte == 10) (nat_le line_limit (length old.line)) (le-leb _ _ le) refl refl)
 
-pub stopped_long : (table : Table) (old : Place) (byte : ℕ) (output : List ℕ) (a : Outside) → old.count < count_limit → (byte == 10) ≡ false → line_limit ≤ length old.line
+pub stopped_long : (table : Table) (old : Point) (byte : ℕ) (output : List ℕ) (a : Outside) → old.count < count_limit → (byte == 10) ≡ false → line_limit ≤ length old.line
     → Stopped (from old) (λ x. over table x (byte ∷ [])) (InPiece table (from old) (byte ∷ []) output) output faults.LineTooLong a a
 stopped_long table old byte output a less other le = stopped_past table old byte output long_line a (by_tests table old byte output [] false false true (lt-leb _ _ less) other (le-leb _ _ le))
 
-pub full_byte : (table : Table) (old : Place) (byte : ℕ) (output : List ℕ) (a : Outside) → Stopped (from old) (λ x. over table x (byte ∷ [])) (InPiece table (from old) (byte ∷ []) output) output faults.NoMemory a a
+pub full_byte : (table : Table) (old : Point) (byte : ℕ) (output : List ℕ) (a : Outside) → Stopped (from old) (λ x. over table x (byte ∷ [])) (InPiece table (from old) (byte ∷ []) output) output faults.NoMemory a a
 full_byte table old byte output a = full [] [] [] refl (drew_nothing a.entropy) (took_nothing a.sink) (in_front table old (byte ∷ []) output [] [] (refl, refl)) refl refl
 
 -- a byte of the line
-pub fed_byte : (table : Table) (old last : Place) (byte : ℕ) (output : List ℕ) (a : Outside) → old.count < count_limit → (byte == 10) ≡ false → length old.line < line_limit
+pub fed_byte : (table : Table) (old last : Point) (byte : ℕ) (output : List ℕ) (a : Outside) → old.count < count_limit → (byte == 10) ≡ false → length old.line < line_limit
     → last.keys ≡ old.keys → last.count ≡ old.count → last.line ≡ old.line ++ byte ∷ []
     → Fed (from old) last (λ x. over table x (byte ∷ [])) output a a
 fed_byte table old last byte output a less other short keys count line = record {
@@ -210,21 +210,21 @@ over_grows table x (b ∷ bytes) = grows_twice _ _ _ (next_grows x.stop x (byte_
 abbrev pub IsStart : Start → Type 0
 IsStart start = (output drawn more : List ℕ) → start output (drawn ++ more) ≡ with_more more (start output drawn)
 
-pub start_seen : (old : Place) → IsStart (from old)
+pub start_seen : (old : Point) → IsStart (from old)
 start_seen old output drawn more = refl
 
-pub fed_over : (table : Table) (start : Start) (mid : Place) (p output drawn written more : List ℕ) → IsStart start → over table (start output drawn) p ≡ from mid written [] → over table (start output (drawn ++ more)) p ≡ from mid written more
+pub fed_over : (table : Table) (start : Start) (mid : Point) (p output drawn written more : List ℕ) → IsStart start → over table (start output drawn) p ≡ from mid written [] → over table (start output (drawn ++ more)) p ≡ from mid written more
 fed_over table start mid p output drawn written more is e =
     ap (λ x. over table x p) (is output drawn more)
     ∙ over-more table (start output drawn) more p (λ h. wants≢goes (sym h ∙ ap (λ x. x.stop) e))
     ∙ ap (with_more more) e
 
 -- the same, and then more bytes
-fed_then : (table : Table) (start : Start) (mid : Place) (p q output drawn written more : List ℕ) → IsStart start → over table (start output drawn) p ≡ from mid written [] → over table (start output (drawn ++ more)) (p ++ q) ≡ over table (from mid written more) q
+fed_then : (table : Table) (start : Start) (mid : Point) (p q output drawn written more : List ℕ) → IsStart start → over table (start output drawn) p ≡ from mid written [] → over table (start output (drawn ++ more)) (p ++ q) ≡ over table (from mid written more) q
 fed_then table start mid p q output drawn written more is e =
     over-append table (start output (drawn ++ more)) p q ∙ ap (λ x. over table x q) (fed_over table start mid p output drawn written more is e)
 
-pub fed_more : (table : Table) (start : Start) (mid last : Place) (p q output : List ℕ) (a b c : Outside) → IsStart start → Fed start mid (λ x. over table x p) output a b → ((told : List ℕ) → Fed (from mid) last (λ x. over table x q) told b c)
+pub fed_more : (table : Table) (start : Start) (mid last : Point) (p q output : List ℕ) (a b c : Outside) → IsStart start → Fed start mid (λ x. over table x p) output a b → ((told : List ℕ) → Fed (from mid) last (λ x. over table x q) told b c)
     → Fed start last (λ x. over table x (p ++ q)) output a c
 fed_more table start mid last p q output a b c is first behind =
     let second = behind (output ++ first.written) in
@@ -239,7 +239,7 @@ fed_more table start mid last p q output a b c is first behind =
           ∙ ap (λ l. from last l []) (append_assoc output first.written second.written);
     }
 
-stopped_at : (table : Table) (start : Start) (mid : Place) (p q r piece output drawn written more : List ℕ) → IsStart start → piece ≡ (p ++ q) ++ r → over table (start output drawn) p ≡ from mid written []
+stopped_at : (table : Table) (start : Start) (mid : Point) (p q r piece output drawn written more : List ℕ) → IsStart start → piece ≡ (p ++ q) ++ r → over table (start output drawn) p ≡ from mid written []
     → (over table (from mid written more) q).stop ≢ goes → over table (start output (drawn ++ more)) piece ≡ over table (from mid written more) q
 stopped_at table start mid p q r piece output drawn written more is whole e still =
     ap (over table (start output (drawn ++ more))) whole
@@ -258,7 +258,7 @@ front_behind a b c written bytes more took front = record {
 }
 
 -- a stop in the next bytes, whatever follows them
-pub stopped_more : (table : Table) (start : Start) (mid : Place) (p q r piece output : List ℕ) (fault : TalkFault) (a b c : Outside) → IsStart start → piece ≡ (p ++ q) ++ r
+pub stopped_more : (table : Table) (start : Start) (mid : Point) (p q r piece output : List ℕ) (fault : TalkFault) (a b c : Outside) → IsStart start → piece ≡ (p ++ q) ++ r
     → (first : Fed start mid (λ x. over table x p) output a b)
     → Stopped (from mid) (λ x. over table x q) (InPiece table (from mid) q (output ++ first.written)) (output ++ first.written) fault b c
     → Stopped start (λ x. over table x piece) (InPiece table start piece output) output fault a c
@@ -302,7 +302,7 @@ last_none : (table : Table) (line : List ℕ) (x : Talk) → length line ≡ 0 �
 last_none table [] x none = refl
 last_none table (b ∷ bytes) x none = absurd (omega (arith, none))
 
-pub finished_line : (table : Table) (old last : Place) (output : List ℕ) (a b : Outside) → 0 < length old.line → Fed (from old) last (line_ended table) output a b → Finished table (from old) last.keys output a b
+pub finished_line : (table : Table) (old last : Point) (output : List ℕ) (a b : Outside) → 0 < length old.line → Fed (from old) last (line_ended table) output a b → Finished table (from old) last.keys output a b
 finished_line table old last output a b some fed =
     let e = last_some table old.line (from old output fed.drawn) some ∙ fed.is in
     record {
@@ -318,7 +318,7 @@ finished_line table old last output a b some fed =
       last = ap (λ x. x.keys) e;
     }
 
-pub finished_none : (table : Table) (old : Place) (output : List ℕ) (a : Outside) → length old.line ≡ 0 → Finished table (from old) old.keys output a a
+pub finished_none : (table : Table) (old : Point) (output : List ℕ) (a : Outside) → length old.line ≡ 0 → Finished table (from old) old.keys output a a
 finished_none table old output a none =
     let e = last_none table old.line (from old output []) none in
     record {
@@ -334,13 +334,13 @@ finished_none table old output a none =
       last = ap (λ x. x.keys) e;
     }
 
-pub stopped_last : (table : Table) (old : Place) (output : List ℕ) (fault : TalkFault) (a b : Outside) → 0 < length old.line → Stopped (from old) (line_ended table) InLine output fault a b → Stopped (from old) (finish table true) InLine output fault a b
+pub stopped_last : (table : Table) (old : Point) (output : List ℕ) (fault : TalkFault) (a b : Outside) → 0 < length old.line → Stopped (from old) (line_ended table) InLine output fault a b → Stopped (from old) (finish table true) InLine output fault a b
 stopped_last table old output fault a b some stopped =
     stopped_as (from old) (line_ended table) (finish table true) InLine InLine output fault a b (λ drawn. last_some table old.line (from old output drawn) some) (λ drawn written inside. inside) stopped
 
 -- ---- a piece, byte by byte, under tables that are the same
 
-pub fed_none : (table : Table) (at : Place) (output : List ℕ) (a : Outside) → Fed (from at) at (λ x. over table x []) output a a
+pub fed_none : (table : Table) (at : Point) (output : List ℕ) (a : Outside) → Fed (from at) at (λ x. over table x []) output a a
 unfolding over
 fed_none table at output a = record {
   drawn = [];
@@ -352,18 +352,18 @@ fed_none table at output a = record {
   is = ap (λ l. from at l []) (sym (append-nil output));
 }
 
-pub fed_piece : (table own : Table) (old mid last : Place) (p q piece : List ℕ) (a b c : Outside) → own ≡ table → piece ≡ p ++ q → ((output : List ℕ) → Fed (from old) mid (λ x. over table x p) output a b) → ((output : List ℕ) → Fed (from mid) last (λ x. over own x q) output b c)
+pub fed_piece : (table own : Table) (old mid last : Point) (p q piece : List ℕ) (a b c : Outside) → own ≡ table → piece ≡ p ++ q → ((output : List ℕ) → Fed (from old) mid (λ x. over table x p) output a b) → ((output : List ℕ) → Fed (from mid) last (λ x. over own x q) output b c)
     → (output : List ℕ) → Fed (from old) last (λ x. over table x piece) output a c
 fed_piece table own old mid last p q piece a b c same whole first behind output =
     subst (λ l. Fed (from old) last (λ x. over table x l) output a c) (sym whole)
     (fed_more table (from old) mid last p q output a b c (start_seen old) (first output) (subst (λ t. (told : List ℕ) → Fed (from mid) last (λ x. over t x q) told b c) same behind))
 
-pub stopped_piece : (table own : Table) (old mid : Place) (p q r piece : List ℕ) (fault : TalkFault) (a b c : Outside) → own ≡ table → piece ≡ (p ++ q) ++ r → ((output : List ℕ) → Fed (from old) mid (λ x. over table x p) output a b)
+pub stopped_piece : (table own : Table) (old mid : Point) (p q r piece : List ℕ) (fault : TalkFault) (a b c : Outside) → own ≡ table → piece ≡ (p ++ q) ++ r → ((output : List ℕ) → Fed (from old) mid (λ x. over table x p) output a b)
     → ((output : List ℕ) → Stopped (from mid) (λ x. over own x q) (InPiece own (from mid) q output) output fault b c)
     → (output : List ℕ) → Stopped (from old) (λ x. over table x piece) (InPiece table (from old) piece output) output fault a c
 stopped_piece table own old mid p q r piece fault a b c same whole first behind output =
     stopped_more table (from old) mid p q r piece output fault a b c (start_seen old) whole (first output)
     (subst (λ t. Stopped (from mid) (λ x. over t x q) (InPiece t (from mid) q (output ++ (first output).written)) (output ++ (first output).written) fault b c) same (behind (output ++ (first output).written)))
 
-pub fed_all : (table : Table) (old last : Place) (p piece : List ℕ) (a b : Outside) → p ≡ piece → ((output : List ℕ) → Fed (from old) last (λ x. over table x p) output a b) → (output : List ℕ) → Fed (from old) last (λ x. over table x piece) output a b
+pub fed_all : (table : Table) (old last : Point) (p piece : List ℕ) (a b : Outside) → p ≡ piece → ((output : List ℕ) → Fed (from old) last (λ x. over table x p) output a b) → (output : List ℕ) → Fed (from old) last (λ x. over table x piece) output a b
 fed_all table old last p piece a b same fed = subst (λ l. (output : List ℕ) → Fed (from old) last (λ x. over table x l) output a b) same fed

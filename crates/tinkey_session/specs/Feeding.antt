@@ -1,6 +1,6 @@
 -- What becomes of a piece of a session's input, over the objects that answering lines moves.
 --
---   Place         how far the code has come
+--   Point         how far the code has come
 --   Fed, Stopped  the piece was taken, and the lines that end in it answered; or something of it
 --                 ended the session
 use Rattle.std.specs.Prelude.{◌≡◌, ℕ, ◌+◌, ◌*◌, List, [], ◌++◌, length, true}
@@ -22,6 +22,7 @@ pub record Outside : Type 0 where
   pub sink : SinkState
   pub entropy : EntropyState
 
+-- sink and entropy at one moment
 abbrev pub outside : SinkState → EntropyState → Outside
 outside sink entropy = record { sink = sink; entropy = entropy }
 
@@ -30,15 +31,17 @@ abbrev pub Start : Type 0
 Start = (output random : List ℕ) → Talk
 
 -- the keyset, the line so far, and the count of lines before it
-pub record Place : Type 0 where
+pub record Point : Type 0 where
   pub keys : Keys
   pub line : List ℕ
   pub count : ℕ
 
-abbrev pub place : (keys : Keys) (line : List ℕ) (count : ℕ) → Place
-place keys line count = record { keys = keys; line = line; count = count }
+-- where a session stands: keyset, line so far, lines before it
+abbrev pub point : (keys : Keys) (line : List ℕ) (count : ℕ) → Point
+point keys line count = record { keys = keys; line = line; count = count }
 
-abbrev pub from : Place → Start
+-- a session that goes on from there
+abbrev pub from : Point → Start
 from at output random = going at.keys at.line at.count output random
 
 -- It grows with each byte taken.
@@ -63,7 +66,7 @@ IsUnreplied gives line_faults.NoMemory old new = DrewSome old new
 
 -- Bytes were taken, and the replies to the lines among them written. What they do to a session is
 -- `takes`.
-pub record Fed (start : Start) (last : Place) (takes : Talk → Talk) (output : List ℕ)
+pub record Fed (start : Start) (last : Point) (takes : Talk → Talk) (output : List ℕ)
     (old new : Outside) : Type 0 where
   pub drawn : List ℕ
   pub written : List ℕ

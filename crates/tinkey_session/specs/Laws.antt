@@ -118,6 +118,7 @@ KeptOpenRaw = (old new : Keys) (r : Record) (plain ad random : List ℕ) (sealed
     → seal_answer old standard_table plain ad random ≡ Some sealed
     → (other : List ℕ) × (open_answer new standard_table sealed.bytes ad ≡ Some other)
 
+-- the same of sealing without an IV under a RAW key: it opens to some plaintext
 abbrev pub KeptDopenRaw : Type 0
 KeptDopenRaw = (old new : Keys) (r : Record) (plain ad sealed : List ℕ)
     → HasSameKey r new → primary_of old ≡ Some r → prefix_of r ≡ None

@@ -6,6 +6,7 @@ use Rattle.tinkey_session.specs.Lines.{Line, Seal, Dseal, Open, Dopen, Tag, Veri
 use Rattle.tinkey_session.specs.declared.line.Line.{Line as CodeLine}
 use Rattle.tinkey_session.specs.declared.line.Line.TheVariants as lines
 
+-- the line that one of the code stands for
 abbrev pub seen_line : CodeLine → Line
 seen_line (lines.Seal plain ad) = Seal plain ad
 seen_line (lines.Dseal plain ad) = Dseal plain ad
@@ -17,6 +18,7 @@ seen_line (lines.Derive size input) = Derive size input
 seen_line (lines.Edit edit) = Edit (seen_by (λ name. name.now) edit)
 seen_line lines.Bad = Bad
 
+-- a name, where there is one, as its bytes
 abbrev pub seen_name : Option (Bor (List ℕ)) → Option (List ℕ)
 seen_name name = option_map (λ name. name.now) name
 

@@ -33,6 +33,7 @@ pub record Served : Type 0 where
 
 -- ---- lines that leave the keyset
 
+-- a reply that leaves this keyset and these random bytes
 abbrev pub answered : Keys → (random : List ℕ) → Reply → Served
 answered keys random reply = record { reply = reply; keys = keys; left = random }
 
@@ -58,10 +59,12 @@ abbrev pub computed : {A : Type 0} → Keys → List ℕ → (A → Reply) → O
 computed keys random reply answer =
     option_map (λ value. answered keys random (reply value)) answer
 
+-- the reply to what opened, or did not
 abbrev pub opened_reply : Option (List ℕ) → Reply
 opened_reply (Some plain) = Gives plain
 opened_reply None = Refuses OpenFailed
 
+-- the reply to a tag that is right, or isn't
 abbrev pub verified_reply : Bool → Reply
 verified_reply true = Done
 verified_reply false = Refuses VerifyFailed
@@ -71,6 +74,7 @@ abbrev pub derived_reply : (size : ℕ) → Result (List ℕ) ℕ → Reply
 derived_reply size (Ok bytes) = Gives bytes
 derived_reply size (Err greatest) = Refuses (OutputTooLong size greatest)
 
+-- the reply with a sealing, behind which random bytes are left
 abbrev pub sealed_reply : Keys → Sealed → Served
 sealed_reply keys sealed = answered keys sealed.left (Gives sealed.bytes)
 
@@ -82,6 +86,7 @@ last_id [] = Done
 last_id (r ∷ []) = NewId r.id
 last_id (r ∷ s ∷ later) = last_id (s ∷ later)
 
+-- the reply to an accepted edit: a new id, where there is one
 abbrev pub edited_reply : Edit → Keys → Reply
 edited_reply (edits.Add row) keys = last_id keys.records
 edited_reply (edits.Rotate row) keys = last_id keys.records
@@ -92,9 +97,11 @@ abbrev pub edit_served : Edit → Keys → Result Keys CmdFault → (left : List
 edit_served edit keys (Ok edited) left = answered edited left (edited_reply edit edited)
 edit_served edit keys (Err fault) left = answered keys left (Refuses (EditRefused fault))
 
+-- the reply to an edit's step
 abbrev pub stepped : Edit → Keys → Stepped → Served
 stepped edit keys s = edit_served edit keys s.answer s.left
 
+-- an edit answered; none where random bytes run out
 abbrev pub edit_line : Keys → List ℕ → Edit → Option Served
 edit_line keys random edit = option_map (stepped edit keys) (step keys edit random)
 
@@ -104,6 +111,7 @@ template_or (Some row) asymmetric = Ok row
 template_or None true = Err AsymmetricTemplate
 template_or None false = Err UnknownTemplate
 
+-- the template of a name, or why there is none
 abbrev pub template_of : List ℕ → Result Row Refusal
 template_of name = template_or (row_named name) (is_asymmetric name)
 

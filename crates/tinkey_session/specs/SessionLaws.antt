@@ -51,6 +51,7 @@ SessionOpensRaw = (keys : Keys) (lines : List Line) (random plain ad sealed : Li
     → t.line ≡ Open sealed ad → HasSameKey r t.before
     → (other : List ℕ) × (t.reply ≡ Gives other)
 
+-- the same of sealing without an IV under a RAW key: the reply gives some plaintext
 abbrev pub SessionDopensRaw : Type 0
 SessionDopensRaw = (keys : Keys) (lines : List Line) (random plain ad sealed : List ℕ)
     (s t : Turn) (r : Record) → IsKeyset keys → HasTurns keys lines random s t

@@ -36,9 +36,11 @@ pub record IsTurns (table : Table) (keys : Keys) (taken random : List ℕ) (ende
   pub long : x.stop ≡ passes long_line → (line : List ℕ) × (rest : List (List ℕ))
       × (later ≡ line ∷ rest) × (line_limit < length line)
 
+-- a session over bytes is the turns of the lines among them
 abbrev pub TalkIsTurns : Type 0
 TalkIsTurns = (table : Table) (keys : Keys) (taken random : List ℕ) (ended : Bool)
     → IsTurns table keys taken random ended (talk table keys taken random ended)
 
+-- what a session over bytes settles stays so
 abbrev pub TalksAreSteady : Type 0
 TalksAreSteady = (table : Table) (keys : Keys) → IsSteady (talk table keys)

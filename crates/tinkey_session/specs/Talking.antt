@@ -81,6 +81,7 @@ abbrev pub last_line : Table → List ℕ → Talk → Talk
 last_line table [] x = x
 last_line table (b ∷ bytes) x = line_ended table x
 
+-- the session at the end of its input: a last line without newline counts
 abbrev pub finish : Table → (ended : Bool) → Talk → Talk
 finish table false x = x
 finish table true x = on_go x.stop x (last_line table x.line x)

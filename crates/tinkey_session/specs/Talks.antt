@@ -12,6 +12,7 @@ pub record Sides : Type 0 where
   pub sink : SinkState
   pub entropy : EntropyState
 
+-- source, sink and entropy at one moment
 abbrev pub sides : SourceState → SinkState → EntropyState → Sides
 sides source sink entropy = record { source = source; sink = sink; entropy = entropy }
 
@@ -32,6 +33,7 @@ pub record NoneRose (old new : Sides) : Type 0 where
   pub write : Stood old.sink.faults new.sink.faults
   pub draw : Stood old.entropy.faults new.entropy.faults
 
+-- the fault that tells a limit
 abbrev pub limit_fault : Limit → TalkFault
 limit_fault long_line = faults.LineTooLong
 limit_fault many_lines = faults.TooManyLines

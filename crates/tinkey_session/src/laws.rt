@@ -7,6 +7,7 @@ ghost use Rattle.tinkey_session.specs.Laws.{KeptDopen, KeptDopenRaw, KeptOpen, K
 ghost use Rattle.tinkey_session.specs.LineLaws.{FirstsDrawFew, LinesDrawFew, LinesDrawFronts, LinesOpen, LinesOpenRaw};
 ghost use Rattle.tinkey_session.specs.LineLaws.{RefusalsLeave, TellsNewId, WordsReadBack};
 ghost use Rattle.tinkey_cmds.specs.Edits.{Add, Rotate};
+ghost use Rattle.tinkey_cmds.specs.Laws.{EditsFollow, EditsLeaveOthers};
 ghost use Rattle.tinkey_session.specs.SessionLaws.{LinesGoOn, SessionGoesOn, SessionIsEdits, SessionVerifies};
 ghost use Rattle.tinkey_session.specs.SessionLaws.{SessionDopens, SessionDopensRaw, SessionOpens, SessionOpensRaw};
 ghost use Rattle.tinkey_session.specs.SessionLaws.{TurnIsEdits, TurnsAreLines, TurnsAreSpelled};
@@ -14,6 +15,7 @@ ghost use Rattle.tinkey_session.specs.TalkLaws.{TalkIsTurns, TalksAreSteady};
 
 use key_msgs::laws::made_is_valid;
 use managers::laws::{dopens_sealings, sealings_open};
+use tinkey_cmds::laws::{edits_follow, edits_leave_others};
 use wrapped_prims::laws::{same_key_dopens, same_key_opens, same_key_verifies};
 
 /// No record of a keyset is unfit under the standard table exactly where the keyset is sound: each
@@ -26,11 +28,19 @@ pub fn sound_usable()
 
 /// An accepted edit of a sound keyset is sound, for the same primitive, and a new keyset is sound
 /// for that of its template.
+///
+/// Each record of an edited keyset is an old one but for its status, an old one destroyed, or the one
+/// new record, whose id isn't 0 and was not in use; and a record that the edit doesn't name is as it was,
+/// in its place.
 pub fn sound_kept()
     ensures edits { EditsKeepSound }
     ensures firsts { FirstsAreSound }
+    ensures follow { EditsFollow }
+    ensures others { EditsLeaveOthers }
 {
     made_is_valid();
+    edits_follow();
+    edits_leave_others();
 }
 
 /// After any edits, accepted or refused, a keyset is one, and a sound one is sound for the same

@@ -2,8 +2,9 @@
 
 ghost use Rattle.std.specs.Prelude.{◌≡◌, ◌≤◌, ◌+◌, ℕ, List, [], ◌∷◌, length, true, IfOk, IfErr, IfSome, OnOk};
 ghost use Rattle.std.specs.List.{AllByRecursion};
+ghost use Rattle.tink_spec.specs.Outside.{StopsAtEnd};
 ghost use Rattle.keyset_model.specs.Keyset.{IsShort};
-ghost use Rattle.tinkey_session.specs.Feeding.{Fed, Finished, InLine, InPiece, IsReplied, IsUnreplied, Stopped, outside, place, progress};
+ghost use Rattle.tinkey_session.specs.Feeding.{Fed, Finished, InLine, InPiece, IsReplied, IsUnreplied, Stopped, outside, point, progress};
 ghost use Rattle.tinkey_session.specs.Keeping.{IsKept};
 ghost use Rattle.tinkey_session.specs.Lines.{line_of};
 ghost use Rattle.tinkey_session.specs.Serving.{serve};
@@ -60,7 +61,7 @@ struct TalkState<'m> {
 /// where a byte is past a limit: `LineTooLong` at a byte too many of a line, `TooManyLines` at a
 /// byte behind the last line that there may be. The replies to the lines before it were written
 /// then. Every other fault comes only where the object failed in this call. After any fault the
-/// keyset is gone, with what lines changed of it.
+/// keyset is gone, with what lines changed of it. Nothing is read after the end was answered.
 ///
 /// Memory is taken for one line, one reply, the keyset, and the keys that lines need of it.
 pub fn talk<S: Source, K: Sink, E: Entropy>(
@@ -76,6 +77,7 @@ pub fn talk<S: Source, K: Sink, E: Entropy>(
         (sides (S.state source.old) (K.state sink.old) (E.state entropy.old))
         (sides (S.state source.new) (K.state sink.new) (E.state entropy.new)) }
     ensures short { IfOk result (λ last. AllByRecursion IsShort last.records) }
+    ensures stops { StopsAtEnd (S.state source.old) (S.state source.new) }
 {
     let mut talk = TalkState {
         session: Session::new(keyset, managers),
@@ -123,7 +125,7 @@ fn take_piece<K: Sink, E: Entropy>(
     ensures less { OnOk result (progress talk.old.count talk.old.line.items + length piece.now ≤ progress talk.new.count talk.new.line.items) }
     ensures fed { OnOk result ((output : List ℕ) → Fed
         (going talk.old.session.keyset talk.old.line.items talk.old.count)
-        (place talk.new.session.keyset talk.new.line.items talk.new.count)
+        (point talk.new.session.keyset talk.new.line.items talk.new.count)
         (λ x. over (⟦<Managers as KeyTable>⟧.table talk.old.session.managers.now) x piece.now)
         output (outside (K.state sink.old) (E.state entropy.old))
         (outside (K.state sink.new) (E.state entropy.new))) }
@@ -169,7 +171,7 @@ fn take_byte<K: Sink, E: Entropy>(
     ensures less { OnOk result (progress talk.old.count talk.old.line.items + 1 ≤ progress talk.new.count talk.new.line.items) }
     ensures fed { OnOk result ((output : List ℕ) → Fed
         (going talk.old.session.keyset talk.old.line.items talk.old.count)
-        (place talk.new.session.keyset talk.new.line.items talk.new.count)
+        (point talk.new.session.keyset talk.new.line.items talk.new.count)
         (λ x. over (⟦<Managers as KeyTable>⟧.table talk.old.session.managers.now) x (byte ∷ []))
         output (outside (K.state sink.old) (E.state entropy.old))
         (outside (K.state sink.new) (E.state entropy.new))) }
@@ -221,7 +223,7 @@ fn take_line<K: Sink, E: Entropy>(
     ensures line { OnOk result (talk.new.line.items ≡ []) }
     ensures fed { OnOk result ((output : List ℕ) → Fed
         (going talk.old.session.keyset talk.old.line.items talk.old.count)
-        (place talk.new.session.keyset talk.new.line.items talk.new.count)
+        (point talk.new.session.keyset talk.new.line.items talk.new.count)
         (line_ended (⟦<Managers as KeyTable>⟧.table talk.old.session.managers.now))
         output (outside (K.state sink.old) (E.state entropy.old))
         (outside (K.state sink.new) (E.state entropy.new))) }

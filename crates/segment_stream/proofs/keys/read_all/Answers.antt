@@ -2,7 +2,7 @@ use Rattle.std.proofs.Common.{◌≡◌, ◌+◌, ◌++◌, refl, sym, ap, subst
 use Rattle.std.specs.Prelude.{◌==◌, List}
 use Rattle.std.specs.List.{AllByRecursion}
 use Rattle.segment_stream.specs.Segments.{IsSound}
-use Rattle.segment_stream.specs.StreamKeys.{IsUnfit, stream_keys, unfit}
+use Rattle.segment_stream.specs.StreamKeys.{IsUnfit, stream_keys, stream_unfit}
 use Rattle.segment_stream.specs.declared.keys.StreamKeysFault.{StreamKeysFault}
 use Rattle.segment_stream.specs.declared.key.StreamKey.{StreamKey}
 use Rattle.segment_stream.proofs.KeysLemmas.{all_fit, all_push, fit_is, fit_more, key_is, key_off, keys_all, keys_from, keys_more, keys_skip, other_status, refused_at, unfit_off}
@@ -10,7 +10,7 @@ use Rattle.segment_stream.proofs.keys.read_all.Goals as goal
 use Rattle.segment_stream.proofs.keys.read_all.Goals.{then-record-eq-ENABLED+in-Ok+in_ok-add-in-Ok, else-record-eq-ENABLED}
 
 pub loop-i-init : goal.loop-i-init
-unfolding stream_keys unfit
+unfolding stream_keys stream_unfit
 loop-i-init c = record {
   keys = ap (λ l. l ++ keys_from c.args.keyset.now 0) c.new-keys.ensures.items;
   sound = subst (λ (l : List StreamKey). AllByRecursion IsSound l) (sym c.new-keys.ensures.items) tt;
@@ -19,7 +19,7 @@ loop-i-init c = record {
 
 pub returns-in-Err-clause-fault : goal.returns-in-Err-clause-fault
 returns-in-Err-clause-fault c =
-    subst (λ (f : StreamKeysFault). IsUnfit f (unfit c.args.keyset.now)) (sym c.at_place.ensures)
+    subst (λ (f : StreamKeysFault). IsUnfit f (stream_unfit c.args.keyset.now)) (sym c.at_place.ensures)
     (refused_at c.args.keyset.now c.loop-i.i c.record_at-record.result.now c.in-Err.fault
     c.loop-i.invariant.fit c.record_at-record.ensures.record_there
     (omega (arith, c.if-record-eq-ENABLED.true)) c.in-Err.ensures.key)

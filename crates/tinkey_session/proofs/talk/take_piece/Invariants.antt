@@ -2,7 +2,7 @@ use Rattle.std.proofs.Common.{◌≡◌, ◌≤◌, ◌+◌, ◌-◌, List, ℕ,
 use Rattle.std.specs.List.{AllByRecursion}
 use Rattle.keyset_model.specs.Keyset.{IsShort}
 use Rattle.managers.specs.contracts.table.ManagersKeyTable.TheImpl.{ghosts}
-use Rattle.tinkey_session.specs.Feeding.{Fed, outside, place, progress}
+use Rattle.tinkey_session.specs.Feeding.{Fed, outside, point, progress}
 use Rattle.tinkey_session.specs.Keeping.{IsKept}
 use Rattle.tinkey_session.specs.Talking.{count_limit, going, line_limit, over}
 use Rattle.tinkey_session.proofs.talk.take_piece.Given as goal
@@ -16,7 +16,7 @@ invariant-loop-i g l = record {
   fits : length l.talk.line.items ≤ line_limit;
   table : (ghosts g.dyn-1 g.dyn-2 g.dyn-3 g.dyn-4).table l.talk.session.managers.now ≡ (ghosts g.dyn-1 g.dyn-2 g.dyn-3 g.dyn-4).table l.fn.talk.session.managers.now;
   less : progress l.fn.talk.count l.fn.talk.line.items + l.i ≤ progress l.talk.count l.talk.line.items;
-  fed : (output : List ℕ) → Fed (going l.fn.talk.session.keyset l.fn.talk.line.items l.fn.talk.count) (place l.talk.session.keyset l.talk.line.items l.talk.count)
+  fed : (output : List ℕ) → Fed (going l.fn.talk.session.keyset l.fn.talk.line.items l.fn.talk.count) (point l.talk.session.keyset l.talk.line.items l.talk.count)
       (λ x. over ((ghosts g.dyn-1 g.dyn-2 g.dyn-3 g.dyn-4).table l.fn.talk.session.managers.now) x (take l.i l.piece)) output
       (outside (g.K.Sink.state l.fn.sink) (g.E.Entropy.state l.fn.entropy)) (outside (g.K.Sink.state l.sink) (g.E.Entropy.state l.entropy));
 }

@@ -1,0 +1,102 @@
+-- What holds of a plan where it holds of its ends: the parts of which the commands' plans are made.
+use Rattle.std.proofs.Common.{inl, inr, ℕ, Bool, true, false, List, [], Option, Some, None, Result, Ok, Err}
+use Rattle.std.specs.Prelude.{if◌then◌else◌}
+use Rattle.key_msgs.specs.Templates.{Row, row_named, is_asymmetric}
+use Rattle.keyset_json.specs.Reading as Json
+use Rattle.keyset_json.specs.Reading.{reads_json}
+use Rattle.keyset_model.specs.Keyset.{Keys}
+use Rattle.keyset_model.specs.Reading.{Refusal, Wire, Fault, reads_binary}
+use Rattle.managers.specs.Table.{Table}
+use Rattle.tinkey_cmds.specs.Draws.{Draw}
+use Rattle.tinkey_cmds.specs.Edits.{Edit, Add, Rotate, Promote, Enable, Disable, Destroy, Delete, first, step}
+use Rattle.tinkey_cmds.specs.declared.command.CmdFault.{CmdFault}
+use Rattle.wrapped_prims.specs.Answers.{open_answer, dopen_answer, verify_answer, derive_answer}
+use Rattle.wrapped_prims.specs.Fitness.{Unfit, NoManager, BadKey, NotRaw, unfit}
+use Rattle.tinkey_plans.specs.declared.status.Status.TheVariants as status
+use Rattle.tinkey_words.specs.declared.words.rows.Format.{Format}
+use Rattle.tinkey_words.specs.declared.words.rows.Format.TheVariants as formats
+use Rattle.tinkey_plans.specs.Laws.{CommandsAreWhole}
+use Rattle.tinkey_plans.specs.Plan.{writes, Plan, ends}
+use Rattle.tinkey_plans.specs.Promises.{IsWhole}
+use Rattle.tinkey_plans.specs.Steps.{with_keyset, with_json, keyset_in, takes_keyset, with_row, finds_edit, with_made, makes_keyset, puts, puts_keyset}
+use Rattle.tinkey_plans.specs.Using.{unless_unfit, with_opened, with_verified, with_derived, works}
+use Rattle.tinkey_selftest.specs.Trial as trial
+use Rattle.tinkey_selftest.specs.declared.counts.Counts.{Counts}
+use Rattle.tinkey_plans.specs.SelfTesting.{tells_counts}
+use Rattle.tinkey_words.specs.Words.{self_test, Place, AskedEdit, AskedWork, to_seal, to_open, to_dseal, to_dopen, to_tag, to_verify, to_derive, primitive_for, create_keyset, edit_keyset, list_keyset, convert_keyset, list_key_templates, use_keyset, seal_stream, open_stream, session}
+use Rattle.tinkey_plans.specs.Plan.{IsStated, Made, Of, draws}
+use Rattle.tinkey_plans.specs.declared.status.Status.{Status}
+
+-- the rest of a plan is so, whatever it takes
+abbrev pub AreAll : {A : Type 0} → (Plan → Type 0) → (A → Plan) → Type 0
+AreAll {A} P next = (value : A) → P (next value)
+
+-- every end is so, and a plan that draws is so where all that follows is
+pub record IsClosed (P : Plan → Type 0) : Type 0 where
+  pub ended : (s : Status) (stated : IsStated s) → P (ends s stated)
+  pub drawn : (kind : Made) (give : Draw (Of kind)) (next : Result (Of kind) CmdFault → Plan)
+      → AreAll P next → P (draws kind give next)
+
+pub with_keyset_each : (P : Plan → Type 0) → IsClosed P → (r : Result Keys Refusal) (next : Keys → Plan) → AreAll P next → P (with_keyset r next)
+with_keyset_each P c (Err (Wire at)) next all = c.ended _ _
+with_keyset_each P c (Err (Fault fault)) next all = c.ended _ _
+with_keyset_each P c (Ok keys) next all = all keys
+
+pub with_json_each : (P : Plan → Type 0) → IsClosed P → (r : Result Keys Json.Refusal) (next : Keys → Plan) → AreAll P next → P (with_json r next)
+with_json_each P c (Err Json.NotJson) next all = c.ended _ _
+with_json_each P c (Err (Json.Shape path)) next all = c.ended _ _
+with_json_each P c (Err (Json.Fault fault)) next all = c.ended _ _
+with_json_each P c (Ok keys) next all = all keys
+
+pub keyset_each : (P : Plan → Type 0) → IsClosed P → (form : Format) (bytes : List ℕ) (next : Keys → Plan) → AreAll P next → P (keyset_in form bytes next)
+keyset_each P c formats.Json bytes next all = with_json_each P c (reads_json bytes) next all
+keyset_each P c formats.Binary bytes next all = with_keyset_each P c (reads_binary bytes) next all
+
+pub no_row_each : (P : Plan → Type 0) → IsClosed P → (b : Bool) → P (if b then ends status.AsymmetricTemplate tt else ends status.UnknownTemplate tt)
+no_row_each P c true = c.ended _ _
+no_row_each P c false = c.ended _ _
+
+pub row_each : (P : Plan → Type 0) → IsClosed P → (found : Option Row) (name : List ℕ) (next : Row → Plan) → AreAll P next → P (with_row found name next)
+row_each P c (Some row) name next all = all row
+row_each P c None name next all = no_row_each P c (is_asymmetric name)
+
+pub edit_each : (P : Plan → Type 0) → IsClosed P → (asked : AskedEdit) (next : Edit → Plan) → AreAll P next → P (finds_edit asked next)
+edit_each P c (Add name) next all = row_each P c (row_named name) name (λ row. next (Add row)) (λ row. all (Add row))
+edit_each P c (Rotate name) next all = row_each P c (row_named name) name (λ row. next (Rotate row)) (λ row. all (Rotate row))
+edit_each P c (Promote id) next all = all (Promote id)
+edit_each P c (Enable id) next all = all (Enable id)
+edit_each P c (Disable id) next all = all (Disable id)
+edit_each P c (Destroy id) next all = all (Destroy id)
+edit_each P c (Delete id) next all = all (Delete id)
+
+pub made_each : (P : Plan → Type 0) → IsClosed P → {A : Type 0} (given : Result A CmdFault) (next : A → Plan) → AreAll P next → P (with_made given next)
+made_each P c (Ok value) next all = all value
+made_each P c (Err fault) next all = c.ended _ _
+
+pub fit_each : (P : Plan → Type 0) → IsClosed P → (found : Option (ℕ × Unfit)) (next : Plan) → P next → P (unless_unfit found next)
+fit_each P c None next all = all
+fit_each P c (Some (i, NoManager)) next all = c.ended _ _
+fit_each P c (Some (i, BadKey rule)) next all = c.ended _ _
+fit_each P c (Some (i, NotRaw)) next all = c.ended _ _
+
+pub opened_each : (P : Plan → Type 0) → IsClosed P → (found : Option (List ℕ)) (next : List ℕ → Plan) → AreAll P next → P (with_opened found next)
+opened_each P c None next all = c.ended _ _
+opened_each P c (Some plain) next all = all plain
+
+pub verified_each : (P : Plan → Type 0) → IsClosed P → (b : Bool) (next : List ℕ → Plan) → AreAll P next → P (with_verified b next)
+verified_each P c true next all = all []
+verified_each P c false next all = c.ended _ _
+
+pub derived_each : (P : Plan → Type 0) → IsClosed P → (asked : ℕ) (found : Option (Result (List ℕ) ℕ)) (next : List ℕ → Plan) → AreAll P next → P (with_derived asked found next)
+derived_each P c asked None next all = all []
+derived_each P c asked (Some (Ok bytes)) next all = all bytes
+derived_each P c asked (Some (Err greatest)) next all = c.ended _ _
+
+pub work_each : (P : Plan → Type 0) → IsClosed P → (table : Table) (keys : Keys) (work : AskedWork) (input : List ℕ) (next : List ℕ → Plan) → AreAll P next → P (works table keys work input next)
+work_each P c table keys (to_seal ad) input next all = c.drawn _ _ _ (λ made. made_each P c made next all)
+work_each P c table keys (to_open ad) input next all = opened_each P c (open_answer keys table input ad) next all
+work_each P c table keys (to_dseal ad) input next all = all _
+work_each P c table keys (to_dopen ad) input next all = opened_each P c (dopen_answer keys table input ad) next all
+work_each P c table keys to_tag input next all = all _
+work_each P c table keys (to_verify tag) input next all = verified_each P c (verify_answer keys table tag input) next all
+work_each P c table keys (to_derive size) input next all = derived_each P c size (derive_answer keys table input size) next all
