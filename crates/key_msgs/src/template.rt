@@ -1,8 +1,10 @@
 //! The templates by which new keys are made.
 
-ghost use Rattle.std.specs.Prelude.{◌≡◌, length, Some, option_map, slice_get, IfOk, Contains};
+ghost use Rattle.std.specs.Prelude.{◌≡◌, ◌≢◌, ◌<◌, ◌≤◌, ℕ, [], length, Some, option_map, slice_get, IfOk, Contains};
 ghost use Rattle.key_msgs.specs.KeyTypes.{primitive_of_type, url_of_type};
-ghost use Rattle.key_msgs.specs.Templates.{templates, seen, seen_row, type_made, random_of, made, FindsTemplate, is_asymmetric};
+ghost use Rattle.key_msgs.specs.Keys.{type_of};
+ghost use Rattle.key_msgs.specs.declared.template.Recipe.TheVariants.{CtrHmac};
+ghost use Rattle.key_msgs.specs.Templates.{templates, seen, seen_row, type_made, random_of, made, made_by, FindsTemplate, is_asymmetric};
 
 use crate::{KeyKind, KeyType, Primitive};
 use std::alloc::Global;
@@ -94,19 +96,7 @@ impl Template {
     fn key_type(&self) -> KeyType
         ensures { result ≡ type_made (seen self.now) }
     {
-        match self.row().recipe {
-            Recipe::Gcm(_) => KeyType::AesGcm,
-            Recipe::Eax(_) => KeyType::AesEax,
-            Recipe::CtrHmac(_, _) => KeyType::AesCtrHmac,
-            Recipe::Siv => KeyType::AesSiv,
-            Recipe::Hmac(_, _, _) => KeyType::Hmac,
-            Recipe::Cmac => KeyType::AesCmac,
-            Recipe::HkdfPrf => KeyType::HkdfPrf,
-            Recipe::HmacPrf(_, _) => KeyType::HmacPrf,
-            Recipe::CmacPrf => KeyType::CmacPrf,
-            Recipe::GcmStream(_, _) => KeyType::GcmStream,
-            Recipe::CtrStream(_, _) => KeyType::CtrStream,
-        }
+        type_by(self.row().recipe)
     }
 
     /// The primitive of the keys that it makes.
@@ -141,6 +131,25 @@ impl Template {
         ensures { result.now ≡ url_of_type (type_made (seen self.now)) }
     {
         self.key_type().url()
+    }
+}
+
+/// The type of the keys that a recipe makes.
+fn type_by(recipe: Recipe) -> KeyType
+    ensures { result ≡ type_of (made_by recipe []) }
+{
+    match recipe {
+        Recipe::Gcm(_) => KeyType::AesGcm,
+        Recipe::Eax(_) => KeyType::AesEax,
+        Recipe::CtrHmac(_, _) => KeyType::AesCtrHmac,
+        Recipe::Siv => KeyType::AesSiv,
+        Recipe::Hmac(_, _, _) => KeyType::Hmac,
+        Recipe::Cmac => KeyType::AesCmac,
+        Recipe::HkdfPrf => KeyType::HkdfPrf,
+        Recipe::HmacPrf(_, _) => KeyType::HmacPrf,
+        Recipe::CmacPrf => KeyType::CmacPrf,
+        Recipe::GcmStream(_, _) => KeyType::GcmStream,
+        Recipe::CtrStream(_, _) => KeyType::CtrStream,
     }
 }
 
@@ -179,6 +188,20 @@ pub fn template_at(row: usize) -> Option<Template>
 fn row_at(row: usize) -> Option<TemplateRow>
     ensures { option_map seen_row result ≡ slice_get templates row }
 {
+    if row < 14 {
+        sealing_row(row)
+    } else if row < 24 {
+        tag_row(row)
+    } else {
+        stream_row(row)
+    }
+}
+
+/// The row of this place, where keys seal, deterministically or not.
+fn sealing_row(row: usize) -> Option<TemplateRow>
+    requires most { row < 14 }
+    ensures { option_map seen_row result ≡ slice_get templates row }
+{
     match row {
         0 => tink("AES128_GCM", Recipe::Gcm(16)),
         1 => raw("AES128_GCM_RAW", Recipe::Gcm(16)),
@@ -194,6 +217,17 @@ fn row_at(row: usize) -> Option<TemplateRow>
         11 => raw("AES256_CTR_HMAC_SHA256_RAW", Recipe::CtrHmac(32, 32)),
         12 => tink("AES256_SIV", Recipe::Siv),
         13 => raw("AES256_SIV_RAW", Recipe::Siv),
+        _ => None,
+    }
+}
+
+/// The row of this place, where keys tag or are pseudo-random functions.
+fn tag_row(row: usize) -> Option<TemplateRow>
+    requires least { 14 ≤ row }
+    requires most { row < 24 }
+    ensures { option_map seen_row result ≡ slice_get templates row }
+{
+    match row {
         14 => tink("HMAC_SHA256_128BITTAG", Recipe::Hmac(32, Hash::Sha256, 16)),
         15 => tink("HMAC_SHA256_256BITTAG", Recipe::Hmac(32, Hash::Sha256, 32)),
         16 => tink("HMAC_SHA512_128BITTAG", Recipe::Hmac(64, Hash::Sha512, 16)),
@@ -204,6 +238,16 @@ fn row_at(row: usize) -> Option<TemplateRow>
         21 => raw("HMAC_SHA256_PRF", Recipe::HmacPrf(32, Hash::Sha256)),
         22 => raw("HMAC_SHA512_PRF", Recipe::HmacPrf(64, Hash::Sha512)),
         23 => raw("AES_CMAC_PRF", Recipe::CmacPrf),
+        _ => None,
+    }
+}
+
+/// The row of this place, where keys are for streams, and none from 32 on.
+fn stream_row(row: usize) -> Option<TemplateRow>
+    requires least { 24 ≤ row }
+    ensures { option_map seen_row result ≡ slice_get templates row }
+{
+    match row {
         24 => raw("AES128_GCM_HKDF_4KB", Recipe::GcmStream(16, 4096)),
         25 => raw("AES128_GCM_HKDF_1MB", Recipe::GcmStream(16, 1_048_576)),
         26 => raw("AES256_GCM_HKDF_4KB", Recipe::GcmStream(32, 4096)),
@@ -275,76 +319,67 @@ pub fn make_key(alloc: Global, template: &Template, random: &[u8]) -> Result<Key
     ensures { IfOk result (λ key. key ≡ made (seen template.now) random.now) }
 {
     match template.row().recipe {
-        Recipe::Gcm(_) => {
-            let key = Bytes::copy(alloc, random)?;
-            Ok(KeyKind::AesGcm { key })
-        }
-        Recipe::Eax(_) => {
-            let key = Bytes::copy(alloc, random)?;
-            Ok(KeyKind::AesEax { key, iv_size: 16 })
-        }
-        Recipe::CtrHmac(size, tag_size) => {
-            let aes = Bytes::copy(alloc, &random[..size as usize])?;
-            let mac = Bytes::copy(alloc, &random[size as usize..])?;
-            Ok(KeyKind::AesCtrHmac {
-                aes,
-                iv_size: 16,
-                hash: Hash::Sha256,
-                mac,
-                tag_size,
-            })
-        }
-        Recipe::Siv => {
-            let key = Bytes::copy(alloc, random)?;
-            Ok(KeyKind::AesSiv { key })
-        }
-        Recipe::Hmac(_, hash, tag_size) => {
-            let key = Bytes::copy(alloc, random)?;
-            Ok(KeyKind::Hmac {
-                key,
-                hash,
-                tag_size,
-            })
-        }
-        Recipe::Cmac => {
-            let key = Bytes::copy(alloc, random)?;
-            Ok(KeyKind::AesCmac { key, tag_size: 16 })
-        }
-        Recipe::HkdfPrf => {
-            let key = Bytes::copy(alloc, random)?;
-            Ok(KeyKind::HkdfPrf {
-                key,
-                hash: Hash::Sha256,
-                salt: Bytes::own(Vec::new(alloc)),
-            })
-        }
-        Recipe::HmacPrf(_, hash) => {
-            let key = Bytes::copy(alloc, random)?;
-            Ok(KeyKind::HmacPrf { key, hash })
-        }
-        Recipe::CmacPrf => {
-            let key = Bytes::copy(alloc, random)?;
-            Ok(KeyKind::CmacPrf { key })
-        }
-        Recipe::GcmStream(derived, segment) => {
-            let key = Bytes::copy(alloc, random)?;
-            Ok(KeyKind::GcmStream {
-                key,
-                segment,
-                derived,
-                hash: Hash::Sha256,
-            })
-        }
-        Recipe::CtrStream(derived, segment) => {
-            let key = Bytes::copy(alloc, random)?;
-            Ok(KeyKind::CtrStream {
-                key,
-                segment,
-                derived,
-                hash: Hash::Sha256,
-                mac_hash: Hash::Sha256,
-                tag_size: 32,
-            })
-        }
+        Recipe::CtrHmac(size, tag_size) => make_ctr_hmac(alloc, size, tag_size, random),
+        recipe => Ok(make_single(alloc, recipe, Bytes::copy(alloc, random)?)),
+    }
+}
+
+/// The key of an AesCtrHmacAeadKey template: an AES-CTR key of this size, and behind it an HMAC key.
+fn make_ctr_hmac(
+    alloc: Global,
+    size: u32,
+    tag_size: u32,
+    random: &[u8],
+) -> Result<KeyKind, NoMemory>
+    requires size { size ≤ length random.now }
+    ensures { IfOk result (λ key. key ≡ made_by (CtrHmac size tag_size) random.now) }
+{
+    let (aes, mac) = random.split_at(size as usize);
+    Ok(KeyKind::AesCtrHmac {
+        aes: Bytes::copy(alloc, aes)?,
+        iv_size: 16,
+        hash: Hash::Sha256,
+        mac: Bytes::copy(alloc, mac)?,
+        tag_size,
+    })
+}
+
+/// The key of a template for keys of one key value, which is this one.
+fn make_single(alloc: Global, recipe: Recipe, key: Bytes) -> KeyKind
+    requires single { (size tag_size : ℕ) → recipe ≢ CtrHmac size tag_size }
+    ensures { result ≡ made_by recipe key }
+{
+    match recipe {
+        Recipe::Gcm(_) => KeyKind::AesGcm { key },
+        Recipe::Eax(_) => KeyKind::AesEax { key, iv_size: 16 },
+        Recipe::CtrHmac(_, _) => unreachable!(),
+        Recipe::Siv => KeyKind::AesSiv { key },
+        Recipe::Hmac(_, hash, tag_size) => KeyKind::Hmac {
+            key,
+            hash,
+            tag_size,
+        },
+        Recipe::Cmac => KeyKind::AesCmac { key, tag_size: 16 },
+        Recipe::HkdfPrf => KeyKind::HkdfPrf {
+            key,
+            hash: Hash::Sha256,
+            salt: Bytes::own(Vec::new(alloc)),
+        },
+        Recipe::HmacPrf(_, hash) => KeyKind::HmacPrf { key, hash },
+        Recipe::CmacPrf => KeyKind::CmacPrf { key },
+        Recipe::GcmStream(derived, segment) => KeyKind::GcmStream {
+            key,
+            segment,
+            derived,
+            hash: Hash::Sha256,
+        },
+        Recipe::CtrStream(derived, segment) => KeyKind::CtrStream {
+            key,
+            segment,
+            derived,
+            hash: Hash::Sha256,
+            mac_hash: Hash::Sha256,
+            tag_size: 32,
+        },
     }
 }

@@ -3,7 +3,8 @@
 ghost use Rattle.std.specs.Prelude.{◌≡◌, ◌<◌, ◌≤◌, ◌^◌, ◌+◌, ◌++◌, ℕ, length, IfOk, OnOk};
 ghost use Rattle.tink_spec.specs.Wire.{greatest_number};
 ghost use Rattle.proto_wire.specs.Written.{uint32, content, message, written, written_all};
-ghost use Rattle.key_msgs.specs.Keys.{type_of, contents_of};
+ghost use Rattle.key_msgs.specs.Contents.{nothing};
+ghost use Rattle.key_msgs.specs.Keys.{type_of, contents_of, hash_number};
 ghost use Rattle.key_msgs.specs.declared.key_type.KeyType.TheVariants as types;
 ghost use Rattle.key_msgs.specs.Writing.{if_field, hmac_entries, params_entries, params_entry, plain_entries, plain_written, mac_contents, written_by, value_of, IsShort, IsLayout};
 
@@ -13,34 +14,19 @@ use crate::message::Message;
 use crate::{KeyKind, KeyType, Layout};
 use proto_wire::Writer;
 use std::alloc::Global;
-use tink_base::NoMemory;
+use tink_base::{Bytes, Hash, NoMemory};
 
 /// What the message of a key holds.
 fn contents_of<'k>(key: &'k KeyKind) -> Message<'k>
     ensures { result ≡ contents_of key.now }
 {
-    let nothing = Message {
-        version: 0,
-        iv_size: 0,
-        segment: 0,
-        derived: 0,
-        hash: 0,
-        tag_size: 0,
-        salt: &[],
-        key: &[],
-        mac_hash: 0,
-        mac_tag_size: 0,
-        mac: &[],
-    };
     match key {
-        KeyKind::AesGcm { key } | KeyKind::AesSiv { key } | KeyKind::CmacPrf { key } => Message {
-            key: key.as_slice(),
-            ..nothing
-        },
+        KeyKind::AesGcm { key } | KeyKind::AesSiv { key } | KeyKind::CmacPrf { key } => with_key(
+            key.as_slice(),
+        ),
         KeyKind::AesEax { key, iv_size } => Message {
-            key: key.as_slice(),
             iv_size: *iv_size,
-            ..nothing
+            ..with_key(key.as_slice())
         },
         KeyKind::AesCtrHmac {
             aes,
@@ -49,51 +35,35 @@ fn contents_of<'k>(key: &'k KeyKind) -> Message<'k>
             mac,
             tag_size,
         } => Message {
-            key: aes.as_slice(),
             iv_size: *iv_size,
             mac_hash: hash_number(*hash),
             mac: mac.as_slice(),
             mac_tag_size: *tag_size,
-            ..nothing
+            ..with_key(aes.as_slice())
         },
         KeyKind::Hmac {
             key,
             hash,
             tag_size,
         } => Message {
-            key: key.as_slice(),
-            hash: hash_number(*hash),
             tag_size: *tag_size,
-            ..nothing
+            ..with_hash(key, *hash)
         },
         KeyKind::AesCmac { key, tag_size } => Message {
-            key: key.as_slice(),
             tag_size: *tag_size,
-            ..nothing
+            ..with_key(key.as_slice())
         },
         KeyKind::HkdfPrf { key, hash, salt } => Message {
-            key: key.as_slice(),
-            hash: hash_number(*hash),
             salt: salt.as_slice(),
-            ..nothing
+            ..with_hash(key, *hash)
         },
-        KeyKind::HmacPrf { key, hash } => Message {
-            key: key.as_slice(),
-            hash: hash_number(*hash),
-            ..nothing
-        },
+        KeyKind::HmacPrf { key, hash } => with_hash(key, *hash),
         KeyKind::GcmStream {
             key,
             segment,
             derived,
             hash,
-        } => Message {
-            key: key.as_slice(),
-            segment: *segment,
-            derived: *derived,
-            hash: hash_number(*hash),
-            ..nothing
-        },
+        } => with_segment(key, *segment, *derived, *hash),
         KeyKind::CtrStream {
             key,
             segment,
@@ -102,14 +72,51 @@ fn contents_of<'k>(key: &'k KeyKind) -> Message<'k>
             mac_hash,
             tag_size,
         } => Message {
-            key: key.as_slice(),
-            segment: *segment,
-            derived: *derived,
-            hash: hash_number(*hash),
             mac_hash: hash_number(*mac_hash),
             mac_tag_size: *tag_size,
-            ..nothing
+            ..with_segment(key, *segment, *derived, *hash)
         },
+    }
+}
+
+/// A message with a key value, and nothing beside it.
+fn with_key<'k>(key: &'k [u8]) -> Message<'k>
+    ensures { result ≡ record nothing { key = key.now } }
+{
+    Message {
+        version: 0,
+        iv_size: 0,
+        segment: 0,
+        derived: 0,
+        hash: 0,
+        tag_size: 0,
+        salt: &[],
+        key,
+        mac_hash: 0,
+        mac_tag_size: 0,
+        mac: &[],
+    }
+}
+
+/// A message with a key value and a hash function.
+fn with_hash<'k>(key: &'k Bytes, hash: Hash) -> Message<'k>
+    ensures { result ≡ record nothing { key = key.now; hash = hash_number hash } }
+{
+    Message {
+        hash: hash_number(hash),
+        ..with_key(key.as_slice())
+    }
+}
+
+/// The message of a key for streams, without what it holds of HMAC.
+fn with_segment<'k>(key: &'k Bytes, segment: u32, derived: u32, hash: Hash) -> Message<'k>
+    ensures { result ≡
+        record nothing { key = key.now; segment = segment; derived = derived; hash = hash_number hash } }
+{
+    Message {
+        segment,
+        derived,
+        ..with_hash(key, hash)
     }
 }
 
@@ -203,24 +210,23 @@ fn write_plain(alloc: Global, layout: Layout, message: &Message<'_>) -> Result<V
     }
 }
 
+/// What the message of the HMAC key beside a cipher holds.
+fn mac_message<'k>(message: &Message<'k>) -> Message<'k>
+    ensures { result ≡ mac_contents message.now }
+{
+    Message {
+        hash: message.mac_hash,
+        tag_size: message.mac_tag_size,
+        ..with_key(message.mac)
+    }
+}
+
 /// An AesCtrHmacAeadKey message.
 fn write_ctr_hmac(alloc: Global, message: &Message<'_>) -> Result<Vec<u8>, NoMemory>
     requires short { IsShort message.now }
     ensures { IfOk result (λ bytes. bytes.items ≡ written_by types.AesCtrHmac message.now) }
 {
-    let mac = Message {
-        version: 0,
-        iv_size: 0,
-        segment: 0,
-        derived: 0,
-        hash: message.mac_hash,
-        tag_size: message.mac_tag_size,
-        salt: &[],
-        key: message.mac,
-        mac_hash: 0,
-        mac_tag_size: 0,
-        mac: &[],
-    };
+    let mac = mac_message(message);
     let aes_key = write_plain(alloc, aes_ctr_layout(), message)?;
     let hmac_key = write_plain(alloc, fields_of_type(KeyType::Hmac), &mac)?;
     let mut writer = Writer::new(alloc);

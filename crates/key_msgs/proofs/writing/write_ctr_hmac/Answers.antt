@@ -10,4 +10,4 @@ message-requires-clause-length_bound c =
 pub message-requires-2-clause-length_bound : goal.message-requires-2-clause-length_bound
 message-requires-2-clause-length_bound c =
     rw (c.deref-2.ensures.value, c.in_ok-hmac_key.ensures.written)
-    (short-plain _ _ (omega arith) (omega (arith, ap (λ (m : Contents). length m.mac) c.message.view_is)))
+    (short-plain _ _ (omega (arith, ap (λ (m : Contents). length m.salt) c.mac_message-mac.ensures)) (omega (arith, ap (λ (m : Contents). length m.key) c.mac_message-mac.ensures)))

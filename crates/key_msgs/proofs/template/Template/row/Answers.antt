@@ -1,8 +1,8 @@
-use Rattle.std.proofs.Common.{◌≡◌, ◌<◌, Some, None, Option, ℕ, ◌∙◌, sym, ap, arith}
-use Rattle.std.specs.Prelude.{option_map, slice_get, length}
+use Rattle.std.proofs.Common.{◌≡◌, ◌<◌, Some, None, Option, ℕ, ◌∙◌, ap}
+use Rattle.std.specs.Prelude.{option_map, slice_get}
 use Rattle.std.proofs.lemmas.List.Elements.{Contains-get_or}
 use Rattle.std.proofs.lemmas.Option.{slice_get-get_or}
-use Rattle.key_msgs.specs.Templates.{Row, templates, seen, seen_row}
+use Rattle.key_msgs.specs.Templates.{templates, seen, seen_row}
 use Rattle.key_msgs.specs.declared.template.TemplateRow.{TemplateRow}
 use Rattle.key_msgs.proofs.template.Template.row.Goals as goal
 

@@ -1,7 +1,7 @@
 use Rattle.std.proofs.Common.{◌≤◌, arith, sym}
 use Rattle.std.proofs.lemmas.Option.{slice_get_past}
 use Rattle.key_msgs.specs.Templates.{templates}
-use Rattle.key_msgs.proofs.template.row_at.Goals as goal
+use Rattle.key_msgs.proofs.template.stream_row.Goals as goal
 
 pub returns-in_default : goal.returns-in_default
 returns-in_default c =
