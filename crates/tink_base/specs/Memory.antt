@@ -1,4 +1,4 @@
--- What a source, a sink, a store and an entropy in memory are, and what they tell.
+-- What a source, a sink, two stores and an entropy in memory are, and what they tell.
 use Rattle.std.specs.Prelude.{ℕ, ◌≤◌, ◌==◌, Bool, List, length, Some, refl}
 use Rattle.std.specs.Coded.{Coded, code_by, coded×, coded_ℕ, coded_list}
 use Rattle.std.specs.FinMap as map
@@ -34,6 +34,12 @@ pub record StoreInMemory : Type 0 where
   pub calls : ℕ
   pub faults : ℕ
 
+-- the files, how many bytes of a new one are kept, and how many faults there were
+pub record TornInMemory : Type 0 where
+  pub files : Files
+  pub keep : ℕ
+  pub faults : ℕ
+
 -- the bytes that are left, the numbers of the calls that fail, from 1, and how many calls and faults
 -- there were
 pub record EntropyInMemory : Type 0 where
@@ -51,6 +57,15 @@ store_code =
     (λ p. record { files = p.0; fails = p.1.0; calls = p.1.1.0; faults = p.1.1.1 })
     (λ _. refl)
 
+-- a torn store is kept in contracts as the tuple of its parts
+abbrev pub torn_code : Coded TornInMemory
+torn_code =
+    code_by (Files × (ℕ × ℕ))
+    (coded× (map.code (coded_list coded_ℕ) (coded_list coded_ℕ)) (coded× coded_ℕ coded_ℕ))
+    (λ s. (s.files, (s.keep, s.faults)))
+    (λ p. record { files = p.0; keep = p.1.0; faults = p.1.1 })
+    (λ _. refl)
+
 -- what a source in memory tells
 abbrev pub told_source : SourceInMemory → SourceState
 told_source s = record { left = Some s.left; faults = s.faults; ended = s.ended; late = s.late }
@@ -66,6 +81,10 @@ IsFull s = s.room ≤ length s.written
 -- what a store in memory tells
 abbrev pub told_store : StoreInMemory → StoreState
 told_store s = record { files = Some s.files; faults = s.faults }
+
+-- what a torn store tells
+abbrev pub told_torn : TornInMemory → StoreState
+told_torn s = record { files = Some s.files; faults = s.faults }
 
 -- it is steady exactly where no call is listed
 abbrev pub told_entropy : EntropyInMemory → EntropyState

@@ -74,6 +74,13 @@ impl MemStore {
         }
         None
     }
+
+    /// How often it has failed.
+    pub fn faults(&self) -> u64
+        ensures { result ≡ self.now.faults }
+    {
+        self.faults
+    }
 }
 
 impl Store for MemStore {

@@ -19,6 +19,7 @@ mod source;
 mod store;
 mod stream;
 mod text;
+mod torn;
 mod trials;
 
 pub use all::{ReadAllFault, read_all, write_all};
@@ -35,4 +36,5 @@ pub use source::Source;
 pub use store::{Created, Loaded, Store, StoreError};
 pub use stream::MemEntropy;
 pub use text::Text;
+pub use torn::TornStore;
 pub use trials::Trials;

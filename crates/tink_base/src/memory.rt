@@ -58,6 +58,13 @@ impl MemSource {
             late: 0,
         }
     }
+
+    /// How often it has failed.
+    pub fn faults(&self) -> u64
+        ensures { result ≡ self.now.faults }
+    {
+        self.faults
+    }
 }
 
 impl Source for MemSource {
@@ -180,6 +187,13 @@ impl MemSink {
         ensures { result.now ≡ self.now.written }
     {
         self.bytes.as_slice()
+    }
+
+    /// How often it has failed.
+    pub fn faults(&self) -> u64
+        ensures { result ≡ self.now.faults }
+    {
+        self.faults
     }
 }
 

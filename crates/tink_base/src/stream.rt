@@ -51,6 +51,13 @@ impl MemEntropy {
     {
         self.bytes.len() - self.at
     }
+
+    /// How often it has failed.
+    pub fn faults(&self) -> u64
+        ensures { result ≡ self.now.faults }
+    {
+        self.faults
+    }
 }
 
 impl Entropy for MemEntropy {
