@@ -83,7 +83,7 @@ length-decoded_bytes dec pad s =
     (weaker (scan_last dec pad (4 * q) s) _ _ (λ fin k. k (omega arith)) (scan_count dec pad (4 * q) (drop (4 * q) s) 0 0 (Ok no_leftover))) in
     omega (arith, last, length-drop (4 * q) s, length-groups_bytes dec s q, length-append (groups_bytes dec s q) (suffix_bytes dec pad (4 * q) s))
 
-abbrev IfSome : (List ℕ → Type 0) → Option (List ℕ) → Type 0
+abbrev pub IfSome : (List ℕ → Type 0) → Option (List ℕ) → Type 0
 IfSome P None = ⊤
 IfSome P (Some b) = P b
 
@@ -95,7 +95,7 @@ engine_short : (e : GeneralPurpose) (s : List ℕ) → IfSome (λ b. length b �
 unfolding decoded_of
 engine_short e s = outcome_short (length s) _ _ (length-decoded_bytes e.decode_table e.padding.value s)
 
-or_short : (P : List ℕ → Type 0) (a b : Option (List ℕ)) → IfSome P a → IfSome P b → IfSome P (option_or a b)
+pub or_short : (P : List ℕ → Type 0) (a b : Option (List ℕ)) → IfSome P a → IfSome P b → IfSome P (option_or a b)
 or_short P None b ha hb = hb
 or_short P (Some x) b ha hb = ha
 

@@ -2,7 +2,10 @@ pub mod Base64Lemmas
 pub mod NumberLemmas
 pub mod ReadingLemmas
 pub mod TextLemmas
+pub mod Utf8Lemmas
+pub mod ByteLemmas
 pub mod SizeLemmas
+pub mod StoredLemmas
 pub mod WritingLemmas
 pub mod PrintedLemmas
 pub mod BackLemmas

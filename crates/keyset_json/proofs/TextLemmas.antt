@@ -1,7 +1,8 @@
--- A text in a JSON value is no longer than the source of the value.
+-- What each text of a JSON value has, by what the source has where a string begins.
 --
---   Short n d    each text in the value d has at most n bytes
---   Strings n    so has each text among tokens
+--   GivesTexts P Rest    a string has P where Rest holds of its source, and Rest goes on from byte to byte
+--   Holds P d            each text in the value d has P
+--   Short n d            each has at most n bytes, where the source of the value has no more
 use Rattle.std.proofs.Common.{◌≡◌, ℕ, ◌+◌, ◌≤◌, ◌&&◌, ◌==◌, nat_lt, nat_eq, drop, Bool, true, false, cond, List, [], ◌∷◌, ◌++◌, length, Option, Some, None, option_map, option_and_then, refl, subst, arith}
 use Rattle.std.specs.Prelude.{⊤}
 use Rattle.std.specs.List.{AllByRecursion, starts_with}
@@ -20,16 +21,251 @@ use Rattle.json.specs.Tree.{json_tokens, items_tokens, members_tokens}
 use Rattle.json.proofs.Unique.Spelling.{value-json_tokens_back}
 use Rattle.serde_json.specs.Data.{Data, null, boolean, number, string, array, object, Items, no_items, item, Members, no_members, member, put}
 
+abbrev pub IfThere : {A : Type 0} → (A → Type 0) → Option A → Type 0
+IfThere P None = ⊤
+IfThere P (Some a) = P a
+
+-- what P says of each string, where Rest holds of the source from it on
+pub record GivesTexts (P Rest : List ℕ → Type 0) : Type 0 where
+  pub later : (x : ℕ) (xs : List ℕ) → Rest (x ∷ xs) → Rest xs
+  pub begins : (x : ℕ) (xs : List ℕ) → class x ≡ quote → Rest (x ∷ xs) → IfThere P (content plain xs)
+
 -- ---- lexemes
 
-abbrev pub ShortToken : ℕ → Token → Type 0
-ShortToken n (Token.string s) = length s ≤ n
-ShortToken n _ = ⊤
+abbrev TokenHolds : (List ℕ → Type 0) → Token → Type 0
+TokenHolds P (Token.string s) = P s
+TokenHolds P _ = ⊤
 
-abbrev ShortLexeme : ℕ → Lexeme → Type 0
-ShortLexeme n (token t) = ShortToken n t
-ShortLexeme n comma = ⊤
-ShortLexeme n colon = ⊤
+abbrev LexemeHolds : (List ℕ → Type 0) → Lexeme → Type 0
+LexemeHolds P (token t) = TokenHolds P t
+LexemeHolds P comma = ⊤
+LexemeHolds P colon = ⊤
+
+string_all : (P : List ℕ → Type 0) (read : Option (List ℕ)) → IfThere P read → TokenHolds P (string_token read)
+string_all P None h = tt
+string_all P (Some s) h = h
+
+-- no word is a string
+literal_all : (P : List ℕ → Type 0) (b : Bool) (t : Token) → TokenHolds P t → TokenHolds P (cond b t Token.bad)
+literal_all P true t h = h
+literal_all P false t h = tt
+
+number_all : (P : List ℕ → Type 0) (t : List ℕ) (rest : Option (List ℕ)) → TokenHolds P (number_before t rest)
+number_all P t None = tt
+number_all P t (Some rest) = literal_all P (ends_word rest) (Token.number _) tt
+
+either_all : (P : List ℕ → Type 0) (b : Bool) (s t : Token) → TokenHolds P s → TokenHolds P t → TokenHolds P (cond b s t)
+either_all P true s t hs ht = hs
+either_all P false s t hs ht = ht
+
+word_all : (P : List ℕ → Type 0) (t : List ℕ) → TokenHolds P (word t)
+unfolding word
+word_all P t =
+    either_all P (head t == ascii.lower_t) _ _ (literal_all P (starts_with nat_eq t ascii.true_text && ends_word (drop (length ascii.true_text) t)) (Token.boolean true) tt)
+    (either_all P (head t == ascii.lower_f) _ _ (literal_all P (starts_with nat_eq t ascii.false_text && ends_word (drop (length ascii.false_text) t)) (Token.boolean false) tt)
+    (either_all P (head t == ascii.lower_n) _ _ (literal_all P (starts_with nat_eq t ascii.null_text && ends_word (drop (length ascii.null_text) t)) Token.null tt)
+    (number_all P t (after_number t))))
+
+choice_all : (P : List ℕ → Type 0) (b : Bool) (l k : Lexeme) → LexemeHolds P l → LexemeHolds P k → LexemeHolds P (cond b l k)
+choice_all P true l k hl hk = hl
+choice_all P false l k hl hk = hk
+
+operator_all : (P : List ℕ → Type 0) (x : ℕ) → LexemeHolds P (operator_lexeme x)
+operator_all P x =
+    choice_all P (x == ascii.open_brace) (token Token.begin_object) _ tt (choice_all P (x == ascii.close_brace) (token Token.end_object) _ tt
+    (choice_all P (x == ascii.open_bracket) (token Token.begin_array) _ tt (choice_all P (x == ascii.close_bracket) (token Token.end_array) _ tt
+    (choice_all P (x == ascii.comma) comma colon tt tt))))
+
+byte_all : (P Rest : List ℕ → Type 0) (g : GivesTexts P Rest) (m : Mode) (c : Class) (x : ℕ) (xs : List ℕ) → class x ≡ c → Rest (x ∷ xs) → (k : Mode → List Lexeme) → ((next : Mode) → AllByRecursion (LexemeHolds P) (k next))
+    → AllByRecursion (LexemeHolds P) (lex_byte m c x xs k)
+byte_all P Rest g between quote x xs is h k later = (string_all P (content plain xs) (g.begins x xs is h), later in_string)
+byte_all P Rest g between backslash x xs is h k later = (tt, later in_word)
+byte_all P Rest g between operator x xs is h k later = (operator_all P x, later between)
+byte_all P Rest g between space x xs is h k later = later between
+byte_all P Rest g between other x xs is h k later = (word_all P (x ∷ xs), later in_word)
+byte_all P Rest g in_word quote x xs is h k later = later in_word
+byte_all P Rest g in_word backslash x xs is h k later = later in_word
+byte_all P Rest g in_word operator x xs is h k later = (operator_all P x, later between)
+byte_all P Rest g in_word space x xs is h k later = later between
+byte_all P Rest g in_word other x xs is h k later = later in_word
+byte_all P Rest g in_string quote x xs is h k later = later between
+byte_all P Rest g in_string backslash x xs is h k later = later in_escape
+byte_all P Rest g in_string operator x xs is h k later = later in_string
+byte_all P Rest g in_string space x xs is h k later = later in_string
+byte_all P Rest g in_string other x xs is h k later = later in_string
+byte_all P Rest g in_escape c x xs is h k later = later in_string
+
+lex_all : (P Rest : List ℕ → Type 0) (g : GivesTexts P Rest) (m : Mode) (xs : List ℕ) → Rest xs → AllByRecursion (LexemeHolds P) (lex m xs)
+unfolding lex
+lex_all P Rest g m [] h = tt
+lex_all P Rest g m (x ∷ xs) h = byte_all P Rest g m (class x) x xs refl h (λ next. lex next xs) (λ next. lex_all P Rest g next xs (g.later x xs h))
+
+-- ---- tokens
+
+allowed_all : (P : List ℕ → Type 0) (b : Bool) (t : Token) (k : Place → List Token) (next : Place) → TokenHolds P t → AllByRecursion (TokenHolds P) (k next)
+    → AllByRecursion (TokenHolds P) (if_allowed b t k next)
+allowed_all P true t k next h later = (h, later)
+allowed_all P false t k next h later = (tt, tt)
+
+placed_all : (P : List ℕ → Type 0) (p : Place) (t : Token) (b : Bool) (k : Place → List Token) → TokenHolds P t → ((next : Place) → AllByRecursion (TokenHolds P) (k next))
+    → AllByRecursion (TokenHolds P) (place_token p t b k)
+placed_all P p Token.begin_object b k h later = allowed_all P (may_begin p) Token.begin_object k fresh tt (later fresh)
+placed_all P p Token.end_object b k h later = allowed_all P (may_close p) Token.end_object k after_value tt (later after_value)
+placed_all P p Token.begin_array b k h later = allowed_all P (may_begin p) Token.begin_array k fresh tt (later fresh)
+placed_all P p Token.end_array b k h later = allowed_all P (may_close p) Token.end_array k after_value tt (later after_value)
+placed_all P p (Token.key s) b k h later = (tt, tt)
+placed_all P p (Token.string s) true k h later = allowed_all P (may_begin p) (Token.key s) k after_key tt (later after_key)
+placed_all P p (Token.string s) false k h later = allowed_all P (may_begin p) (Token.string s) k after_value h (later after_value)
+placed_all P p (Token.number s) b k h later = allowed_all P (may_begin p) (Token.number s) k after_value tt (later after_value)
+placed_all P p (Token.boolean v) b k h later = allowed_all P (may_begin p) (Token.boolean v) k after_value tt (later after_value)
+placed_all P p Token.null b k h later = allowed_all P (may_begin p) Token.null k after_value tt (later after_value)
+placed_all P p Token.bad b k h later = (tt, tt)
+
+punctuate_all : (P : List ℕ → Type 0) (p : Place) (ls : List Lexeme) → AllByRecursion (LexemeHolds P) ls → AllByRecursion (TokenHolds P) (punctuate p ls)
+unfolding punctuate
+punctuate_all P fresh [] h = tt
+punctuate_all P after_value [] h = tt
+punctuate_all P after_comma [] h = (tt, tt)
+punctuate_all P after_key [] h = (tt, tt)
+punctuate_all P fresh (token t ∷ ls) h = placed_all P fresh t (begins_colon ls) (λ next. punctuate next ls) h.0 (λ next. punctuate_all P next ls h.1)
+punctuate_all P after_value (token t ∷ ls) h = placed_all P after_value t (begins_colon ls) (λ next. punctuate next ls) h.0 (λ next. punctuate_all P next ls h.1)
+punctuate_all P after_comma (token t ∷ ls) h = placed_all P after_comma t (begins_colon ls) (λ next. punctuate next ls) h.0 (λ next. punctuate_all P next ls h.1)
+punctuate_all P after_key (token t ∷ ls) h = placed_all P after_key t (begins_colon ls) (λ next. punctuate next ls) h.0 (λ next. punctuate_all P next ls h.1)
+punctuate_all P fresh (comma ∷ ls) h = (tt, tt)
+punctuate_all P after_value (comma ∷ ls) h = punctuate_all P after_comma ls h.1
+punctuate_all P after_comma (comma ∷ ls) h = (tt, tt)
+punctuate_all P after_key (comma ∷ ls) h = (tt, tt)
+punctuate_all P fresh (colon ∷ ls) h = (tt, tt)
+punctuate_all P after_value (colon ∷ ls) h = (tt, tt)
+punctuate_all P after_comma (colon ∷ ls) h = (tt, tt)
+punctuate_all P after_key (colon ∷ ls) h = punctuate_all P fresh ls h.1
+
+tokens_all : (P Rest : List ℕ → Type 0) (g : GivesTexts P Rest) (text : List ℕ) → Rest text → AllByRecursion (TokenHolds P) (tokens text)
+tokens_all P Rest g text h = punctuate_all P fresh (lex between text) (lex_all P Rest g between text h)
+
+-- ---- JSON and its data
+
+abbrev mutual
+  JsonHolds : (List ℕ → Type 0) → json.Json → Type 0
+  JsonHolds P json.null = ⊤
+  JsonHolds P (json.boolean b) = ⊤
+  JsonHolds P (json.number s) = ⊤
+  JsonHolds P (json.string s) = P s
+  JsonHolds P (json.array js) = JsonsHold P js
+  JsonHolds P (json.object ms) = NamedHold P ms
+
+  JsonsHold : (List ℕ → Type 0) → json.Items → Type 0
+  JsonsHold P json.no_items = ⊤
+  JsonsHold P (json.item j js) = JsonHolds P j × JsonsHold P js
+
+  NamedHold : (List ℕ → Type 0) → json.Members → Type 0
+  NamedHold P json.no_members = ⊤
+  NamedHold P (json.member k j ms) = JsonHolds P j × NamedHold P ms
+
+abbrev mutual
+  pub Holds : (List ℕ → Type 0) → Data → Type 0
+  Holds P null = ⊤
+  Holds P (boolean b) = ⊤
+  Holds P (number m) = ⊤
+  Holds P (string s) = P s
+  Holds P (array ds) = ItemsHold P ds
+  Holds P (object ms) = MembersHold P ms
+
+  pub ItemsHold : (List ℕ → Type 0) → Items → Type 0
+  ItemsHold P no_items = ⊤
+  ItemsHold P (item d ds) = Holds P d × ItemsHold P ds
+
+  pub MembersHold : (List ℕ → Type 0) → Members → Type 0
+  MembersHold P no_members = ⊤
+  MembersHold P (member k d ms) = Holds P d × MembersHold P ms
+
+front_all : (P : Token → Type 0) (xs ys : List Token) → AllByRecursion P (xs ++ ys) → AllByRecursion P xs × AllByRecursion P ys
+front_all P [] ys h = (tt, h)
+front_all P (x ∷ xs) ys h = let rest = front_all P xs ys h.1 in ((h.0, rest.0), rest.1)
+
+mutual
+  json_all : (P : List ℕ → Type 0) (j : json.Json) → AllByRecursion (TokenHolds P) (json_tokens j) → JsonHolds P j
+  json_all P json.null h = tt
+  json_all P (json.boolean b) h = tt
+  json_all P (json.number s) h = tt
+  json_all P (json.string s) h = h.0
+  json_all P (json.array js) h = jsons_all P js h.1
+  json_all P (json.object ms) h = named_all P ms h.1
+
+  jsons_all : (P : List ℕ → Type 0) (js : json.Items) → AllByRecursion (TokenHolds P) (items_tokens js) → JsonsHold P js
+  jsons_all P json.no_items h = tt
+  jsons_all P (json.item j js) h = let both = front_all (TokenHolds P) (json_tokens j) (items_tokens js) h in (json_all P j both.0, jsons_all P js both.1)
+
+  named_all : (P : List ℕ → Type 0) (ms : json.Members) → AllByRecursion (TokenHolds P) (members_tokens ms) → NamedHold P ms
+  named_all P json.no_members h = tt
+  named_all P (json.member k j ms) h = let both = front_all (TokenHolds P) (json_tokens j) (members_tokens ms) h.1 in (json_all P j both.0, named_all P ms both.1)
+
+choose_all : (P : List ℕ → Type 0) (o : Ordering) (a b c : Members) → MembersHold P a → MembersHold P b → MembersHold P c → MembersHold P (match_ordering o a b c)
+choose_all P Less a b c ha hb hc = ha
+choose_all P Equal a b c ha hb hc = hb
+choose_all P Greater a b c ha hb hc = hc
+
+put_all : (P : List ℕ → Type 0) (k : List ℕ) (d : Data) (ms : Members) → Holds P d → MembersHold P ms → MembersHold P (put k d ms)
+put_all P k d no_members h hs = (h, tt)
+put_all P k d (member l e ms) h hs =
+    choose_all P _ (member k d (member l e ms)) (member l d ms) (member l e (put k d ms)) (h, hs) (h, hs.1) (hs.0, put_all P k d ms h hs.1)
+
+there_map : {A B : Type 0} (P : A → Type 0) (Q : B → Type 0) (f : A → B) → ((a : A) → P a → Q (f a)) → (o : Option A) → IfThere P o → IfThere Q (option_map f o)
+there_map P Q f h None is = tt
+there_map P Q f h (Some a) is = h a is
+
+pub there_then : {A B : Type 0} (P : A → Type 0) (Q : B → Type 0) (f : A → Option B) → ((a : A) → P a → IfThere Q (f a)) → (o : Option A) → IfThere P o → IfThere Q (option_and_then f o)
+there_then P Q f h None is = tt
+there_then P Q f h (Some a) is = h a is
+
+anything : {A : Type 0} (o : Option A) → IfThere (λ _. ⊤) o
+anything None = tt
+anything (Some a) = tt
+
+mutual
+  data_all : (P : List ℕ → Type 0) (j : json.Json) → JsonHolds P j → IfThere (Holds P) (of_json j)
+  data_all P json.null h = tt
+  data_all P (json.boolean b) h = tt
+  data_all P (json.number s) h = there_map (λ _. ⊤) (Holds P) number (λ a x. tt) (number_of s) (anything _)
+  data_all P (json.string s) h = h
+  data_all P (json.array js) h = there_map (ItemsHold P) (Holds P) array (λ a x. x) (of_items js) (items_all P js h)
+  data_all P (json.object ms) h = there_map (MembersHold P) (Holds P) object (λ a x. x) (of_members ms no_members) (members_all P ms no_members h tt)
+
+  items_all : (P : List ℕ → Type 0) (js : json.Items) → JsonsHold P js → IfThere (ItemsHold P) (of_items js)
+  items_all P json.no_items h = tt
+  items_all P (json.item j js) h =
+      there_then (Holds P) (ItemsHold P) (λ d. option_map (item d) (of_items js))
+      (λ d x. there_map (ItemsHold P) (ItemsHold P) (item d) (λ ds xs. (x, xs)) (of_items js) (items_all P js h.1)) (of_json j) (data_all P j h.0)
+
+  members_all : (P : List ℕ → Type 0) (ms : json.Members) (found : Members) → NamedHold P ms → MembersHold P found → IfThere (MembersHold P) (of_members ms found)
+  members_all P json.no_members found h hs = hs
+  members_all P (json.member k j ms) found h hs =
+      there_then (Holds P) (MembersHold P) (λ d. of_members ms (put k d found))
+      (λ d x. members_all P ms (put k d found) h.1 (put_all P k d found x hs)) (of_json j) (data_all P j h.0)
+
+last_all : (P : List ℕ → Type 0) (ts : List Token) (o : Option (json.Json × List Token)) → ((j : json.Json) (r : List Token) → o ≡ Some (j, r) → ts ≡ json_tokens j ++ r)
+    → AllByRecursion (TokenHolds P) ts → IfThere (JsonHolds P) (option_and_then (λ p. json.if_last p.0 p.1) o)
+last_all P ts None spelled h = tt
+last_all P ts (Some (j, [])) spelled h = json_all P j (front_all (TokenHolds P) (json_tokens j) [] (subst (AllByRecursion (TokenHolds P)) (spelled j [] refl) h)).0
+last_all P ts (Some (j, t ∷ r)) spelled h = tt
+
+-- the value that is read from a text
+pub value_all : (P Rest : List ℕ → Type 0) (g : GivesTexts P Rest) (text : List ℕ) (d : Data) → Rest text → read text ≡ Some d → Holds P d
+value_all P Rest g text d h is =
+    subst (IfThere (Holds P)) is
+    (there_then (JsonHolds P) (Holds P) of_json (λ j x. data_all P j x) _
+    (last_all P (tokens text) (json.value max_depth (tokens text)) (λ j r e. value-json_tokens_back max_depth (tokens text) r j e) (tokens_all P Rest g text h)))
+
+-- ---- a text is no longer than the source
+
+abbrev pub Short : ℕ → Data → Type 0
+Short n = Holds (λ s. length s ≤ n)
+
+abbrev pub ShortItems : ℕ → Items → Type 0
+ShortItems n = ItemsHold (λ s. length s ≤ n)
+
+abbrev pub ShortMembers : ℕ → Members → Type 0
+ShortMembers n = MembersHold (λ s. length s ≤ n)
 
 abbrev AtMost : ℕ → Option (List ℕ) → Type 0
 AtMost n None = ⊤
@@ -87,222 +323,18 @@ content_short (after_high h) (s ∷ u ∷ a ∷ b ∷ c ∷ d ∷ xs) =
     choice n ((s == 92) && (u == 117)) _ _ (next_of n _ (code_unit a b c d) (λ l. choice n (is_low_surrogate l) _ _
     (behind n _ (encode_utf8 (surrogate_pair h l)) _ (content_short plain xs) (omega (arith, length-encode_utf8 (surrogate_pair h l)))) tt)) tt
 
-string_short : (n m : ℕ) (read : Option (List ℕ)) → AtMost m read → m ≤ n → ShortToken n (string_token read)
-string_short n m None h le = tt
-string_short n m (Some s) h le = omega arith
+short_later : (n x : ℕ) (xs : List ℕ) → length (x ∷ xs) ≤ n → length xs ≤ n
+short_later n x xs h = omega arith
 
--- no word is a string
-literal_short : (n : ℕ) (b : Bool) (t : Token) → ShortToken n t → ShortToken n (cond b t Token.bad)
-literal_short n true t h = h
-literal_short n false t h = tt
+as_there : (n : ℕ) (read : Option (List ℕ)) → AtMost n read → IfThere (λ s. length s ≤ n) read
+as_there n None h = tt
+as_there n (Some s) h = h
 
-number_short : (n : ℕ) (t : List ℕ) (rest : Option (List ℕ)) → ShortToken n (number_before t rest)
-number_short n t None = tt
-number_short n t (Some rest) = literal_short n (ends_word rest) (Token.number _) tt
+short_texts : (n : ℕ) → GivesTexts (λ s. length s ≤ n) (λ xs. length xs ≤ n)
+short_texts n = record {
+  later = λ x xs h. short_later n x xs h;
+  begins = λ x xs is h. as_there n _ (wider n (length xs) (content plain xs) (content_short plain xs) (short_later n x xs h));
+}
 
-either_short : (n : ℕ) (b : Bool) (s t : Token) → ShortToken n s → ShortToken n t → ShortToken n (cond b s t)
-either_short n true s t hs ht = hs
-either_short n false s t hs ht = ht
-
-word_short : (n : ℕ) (t : List ℕ) → ShortToken n (word t)
-unfolding word
-word_short n t =
-    either_short n (head t == ascii.lower_t) _ _ (literal_short n (starts_with nat_eq t ascii.true_text && ends_word (drop (length ascii.true_text) t)) (Token.boolean true) tt)
-    (either_short n (head t == ascii.lower_f) _ _ (literal_short n (starts_with nat_eq t ascii.false_text && ends_word (drop (length ascii.false_text) t)) (Token.boolean false) tt)
-    (either_short n (head t == ascii.lower_n) _ _ (literal_short n (starts_with nat_eq t ascii.null_text && ends_word (drop (length ascii.null_text) t)) Token.null tt)
-    (number_short n t (after_number t))))
-
-choice_short : (n : ℕ) (b : Bool) (l k : Lexeme) → ShortLexeme n l → ShortLexeme n k → ShortLexeme n (cond b l k)
-choice_short n true l k hl hk = hl
-choice_short n false l k hl hk = hk
-
-operator_short : (n x : ℕ) → ShortLexeme n (operator_lexeme x)
-operator_short n x =
-    choice_short n (x == ascii.open_brace) (token Token.begin_object) _ tt (choice_short n (x == ascii.close_brace) (token Token.end_object) _ tt
-    (choice_short n (x == ascii.open_bracket) (token Token.begin_array) _ tt (choice_short n (x == ascii.close_bracket) (token Token.end_array) _ tt
-    (choice_short n (x == ascii.comma) comma colon tt tt))))
-
-byte_short : (n : ℕ) (m : Mode) (c : Class) (x : ℕ) (xs : List ℕ) → length xs ≤ n → (k : Mode → List Lexeme) → ((next : Mode) → AllByRecursion (ShortLexeme n) (k next))
-    → AllByRecursion (ShortLexeme n) (lex_byte m c x xs k)
-byte_short n between quote x xs h k later = (string_short n (length xs) (content plain xs) (content_short plain xs) h, later in_string)
-byte_short n between backslash x xs h k later = (tt, later in_word)
-byte_short n between operator x xs h k later = (operator_short n x, later between)
-byte_short n between space x xs h k later = later between
-byte_short n between other x xs h k later = (word_short n (x ∷ xs), later in_word)
-byte_short n in_word quote x xs h k later = later in_word
-byte_short n in_word backslash x xs h k later = later in_word
-byte_short n in_word operator x xs h k later = (operator_short n x, later between)
-byte_short n in_word space x xs h k later = later between
-byte_short n in_word other x xs h k later = later in_word
-byte_short n in_string quote x xs h k later = later between
-byte_short n in_string backslash x xs h k later = later in_escape
-byte_short n in_string operator x xs h k later = later in_string
-byte_short n in_string space x xs h k later = later in_string
-byte_short n in_string other x xs h k later = later in_string
-byte_short n in_escape c x xs h k later = later in_string
-
-lex_short : (n : ℕ) (m : Mode) (xs : List ℕ) → length xs ≤ n → AllByRecursion (ShortLexeme n) (lex m xs)
-unfolding lex
-lex_short n m [] h = tt
-lex_short n m (x ∷ xs) h = byte_short n m (class x) x xs (omega arith) (λ next. lex next xs) (λ next. lex_short n next xs (omega arith))
-
--- ---- tokens
-
-allowed_short : (n : ℕ) (b : Bool) (t : Token) (k : Place → List Token) (next : Place) → ShortToken n t → AllByRecursion (ShortToken n) (k next)
-    → AllByRecursion (ShortToken n) (if_allowed b t k next)
-allowed_short n true t k next h later = (h, later)
-allowed_short n false t k next h later = (tt, tt)
-
-placed_short : (n : ℕ) (p : Place) (t : Token) (b : Bool) (k : Place → List Token) → ShortToken n t → ((next : Place) → AllByRecursion (ShortToken n) (k next))
-    → AllByRecursion (ShortToken n) (place_token p t b k)
-placed_short n p Token.begin_object b k h later = allowed_short n (may_begin p) Token.begin_object k fresh tt (later fresh)
-placed_short n p Token.end_object b k h later = allowed_short n (may_close p) Token.end_object k after_value tt (later after_value)
-placed_short n p Token.begin_array b k h later = allowed_short n (may_begin p) Token.begin_array k fresh tt (later fresh)
-placed_short n p Token.end_array b k h later = allowed_short n (may_close p) Token.end_array k after_value tt (later after_value)
-placed_short n p (Token.key s) b k h later = (tt, tt)
-placed_short n p (Token.string s) true k h later = allowed_short n (may_begin p) (Token.key s) k after_key tt (later after_key)
-placed_short n p (Token.string s) false k h later = allowed_short n (may_begin p) (Token.string s) k after_value h (later after_value)
-placed_short n p (Token.number s) b k h later = allowed_short n (may_begin p) (Token.number s) k after_value tt (later after_value)
-placed_short n p (Token.boolean v) b k h later = allowed_short n (may_begin p) (Token.boolean v) k after_value tt (later after_value)
-placed_short n p Token.null b k h later = allowed_short n (may_begin p) Token.null k after_value tt (later after_value)
-placed_short n p Token.bad b k h later = (tt, tt)
-
-punctuate_short : (n : ℕ) (p : Place) (ls : List Lexeme) → AllByRecursion (ShortLexeme n) ls → AllByRecursion (ShortToken n) (punctuate p ls)
-unfolding punctuate
-punctuate_short n fresh [] h = tt
-punctuate_short n after_value [] h = tt
-punctuate_short n after_comma [] h = (tt, tt)
-punctuate_short n after_key [] h = (tt, tt)
-punctuate_short n fresh (token t ∷ ls) h = placed_short n fresh t (begins_colon ls) (λ next. punctuate next ls) h.0 (λ next. punctuate_short n next ls h.1)
-punctuate_short n after_value (token t ∷ ls) h = placed_short n after_value t (begins_colon ls) (λ next. punctuate next ls) h.0 (λ next. punctuate_short n next ls h.1)
-punctuate_short n after_comma (token t ∷ ls) h = placed_short n after_comma t (begins_colon ls) (λ next. punctuate next ls) h.0 (λ next. punctuate_short n next ls h.1)
-punctuate_short n after_key (token t ∷ ls) h = placed_short n after_key t (begins_colon ls) (λ next. punctuate next ls) h.0 (λ next. punctuate_short n next ls h.1)
-punctuate_short n fresh (comma ∷ ls) h = (tt, tt)
-punctuate_short n after_value (comma ∷ ls) h = punctuate_short n after_comma ls h.1
-punctuate_short n after_comma (comma ∷ ls) h = (tt, tt)
-punctuate_short n after_key (comma ∷ ls) h = (tt, tt)
-punctuate_short n fresh (colon ∷ ls) h = (tt, tt)
-punctuate_short n after_value (colon ∷ ls) h = (tt, tt)
-punctuate_short n after_comma (colon ∷ ls) h = (tt, tt)
-punctuate_short n after_key (colon ∷ ls) h = punctuate_short n fresh ls h.1
-
-tokens_short : (text : List ℕ) → AllByRecursion (ShortToken (length text)) (tokens text)
-tokens_short text = punctuate_short (length text) fresh (lex between text) (lex_short (length text) between text (omega arith))
-
--- ---- JSON and its data
-
-abbrev mutual
-  ShortJson : ℕ → json.Json → Type 0
-  ShortJson n json.null = ⊤
-  ShortJson n (json.boolean b) = ⊤
-  ShortJson n (json.number s) = ⊤
-  ShortJson n (json.string s) = length s ≤ n
-  ShortJson n (json.array js) = ShortJsons n js
-  ShortJson n (json.object ms) = ShortNamed n ms
-
-  ShortJsons : ℕ → json.Items → Type 0
-  ShortJsons n json.no_items = ⊤
-  ShortJsons n (json.item j js) = ShortJson n j × ShortJsons n js
-
-  ShortNamed : ℕ → json.Members → Type 0
-  ShortNamed n json.no_members = ⊤
-  ShortNamed n (json.member k j ms) = ShortJson n j × ShortNamed n ms
-
-abbrev mutual
-  pub Short : ℕ → Data → Type 0
-  Short n null = ⊤
-  Short n (boolean b) = ⊤
-  Short n (number m) = ⊤
-  Short n (string s) = length s ≤ n
-  Short n (array ds) = ShortItems n ds
-  Short n (object ms) = ShortMembers n ms
-
-  pub ShortItems : ℕ → Items → Type 0
-  ShortItems n no_items = ⊤
-  ShortItems n (item d ds) = Short n d × ShortItems n ds
-
-  pub ShortMembers : ℕ → Members → Type 0
-  ShortMembers n no_members = ⊤
-  ShortMembers n (member k d ms) = Short n d × ShortMembers n ms
-
-front_all : (P : Token → Type 0) (xs ys : List Token) → AllByRecursion P (xs ++ ys) → AllByRecursion P xs × AllByRecursion P ys
-front_all P [] ys h = (tt, h)
-front_all P (x ∷ xs) ys h = let rest = front_all P xs ys h.1 in ((h.0, rest.0), rest.1)
-
-mutual
-  json_short : (n : ℕ) (j : json.Json) → AllByRecursion (ShortToken n) (json_tokens j) → ShortJson n j
-  json_short n json.null h = tt
-  json_short n (json.boolean b) h = tt
-  json_short n (json.number s) h = tt
-  json_short n (json.string s) h = h.0
-  json_short n (json.array js) h = jsons_short n js h.1
-  json_short n (json.object ms) h = named_short n ms h.1
-
-  jsons_short : (n : ℕ) (js : json.Items) → AllByRecursion (ShortToken n) (items_tokens js) → ShortJsons n js
-  jsons_short n json.no_items h = tt
-  jsons_short n (json.item j js) h = let both = front_all (ShortToken n) (json_tokens j) (items_tokens js) h in (json_short n j both.0, jsons_short n js both.1)
-
-  named_short : (n : ℕ) (ms : json.Members) → AllByRecursion (ShortToken n) (members_tokens ms) → ShortNamed n ms
-  named_short n json.no_members h = tt
-  named_short n (json.member k j ms) h = let both = front_all (ShortToken n) (json_tokens j) (members_tokens ms) h.1 in (json_short n j both.0, named_short n ms both.1)
-
-choose_short : (n : ℕ) (o : Ordering) (a b c : Members) → ShortMembers n a → ShortMembers n b → ShortMembers n c → ShortMembers n (match_ordering o a b c)
-choose_short n Less a b c ha hb hc = ha
-choose_short n Equal a b c ha hb hc = hb
-choose_short n Greater a b c ha hb hc = hc
-
-put_short : (n : ℕ) (k : List ℕ) (d : Data) (ms : Members) → Short n d → ShortMembers n ms → ShortMembers n (put k d ms)
-put_short n k d no_members h hs = (h, tt)
-put_short n k d (member l e ms) h hs =
-    choose_short n _ (member k d (member l e ms)) (member l d ms) (member l e (put k d ms)) (h, hs) (h, hs.1) (hs.0, put_short n k d ms h hs.1)
-
-abbrev pub IfThere : {A : Type 0} → (A → Type 0) → Option A → Type 0
-IfThere P None = ⊤
-IfThere P (Some a) = P a
-
-there_map : {A B : Type 0} (P : A → Type 0) (Q : B → Type 0) (f : A → B) → ((a : A) → P a → Q (f a)) → (o : Option A) → IfThere P o → IfThere Q (option_map f o)
-there_map P Q f h None is = tt
-there_map P Q f h (Some a) is = h a is
-
-there_then : {A B : Type 0} (P : A → Type 0) (Q : B → Type 0) (f : A → Option B) → ((a : A) → P a → IfThere Q (f a)) → (o : Option A) → IfThere P o → IfThere Q (option_and_then f o)
-there_then P Q f h None is = tt
-there_then P Q f h (Some a) is = h a is
-
-anything : {A : Type 0} (o : Option A) → IfThere (λ _. ⊤) o
-anything None = tt
-anything (Some a) = tt
-
-mutual
-  data_short : (n : ℕ) (j : json.Json) → ShortJson n j → IfThere (Short n) (of_json j)
-  data_short n json.null h = tt
-  data_short n (json.boolean b) h = tt
-  data_short n (json.number s) h = there_map (λ _. ⊤) (Short n) number (λ a x. tt) (number_of s) (anything _)
-  data_short n (json.string s) h = h
-  data_short n (json.array js) h = there_map (ShortItems n) (Short n) array (λ a x. x) (of_items js) (items_short n js h)
-  data_short n (json.object ms) h = there_map (ShortMembers n) (Short n) object (λ a x. x) (of_members ms no_members) (members_short n ms no_members h tt)
-
-  items_short : (n : ℕ) (js : json.Items) → ShortJsons n js → IfThere (ShortItems n) (of_items js)
-  items_short n json.no_items h = tt
-  items_short n (json.item j js) h =
-      there_then (Short n) (ShortItems n) (λ d. option_map (item d) (of_items js))
-      (λ d x. there_map (ShortItems n) (ShortItems n) (item d) (λ ds xs. (x, xs)) (of_items js) (items_short n js h.1)) (of_json j) (data_short n j h.0)
-
-  members_short : (n : ℕ) (ms : json.Members) (found : Members) → ShortNamed n ms → ShortMembers n found → IfThere (ShortMembers n) (of_members ms found)
-  members_short n json.no_members found h hs = hs
-  members_short n (json.member k j ms) found h hs =
-      there_then (Short n) (ShortMembers n) (λ d. of_members ms (put k d found))
-      (λ d x. members_short n ms (put k d found) h.1 (put_short n k d found x hs)) (of_json j) (data_short n j h.0)
-
-last_short : (n : ℕ) (ts : List Token) (o : Option (json.Json × List Token)) → ((j : json.Json) (r : List Token) → o ≡ Some (j, r) → ts ≡ json_tokens j ++ r)
-    → AllByRecursion (ShortToken n) ts → IfThere (ShortJson n) (option_and_then (λ p. json.if_last p.0 p.1) o)
-last_short n ts None spelled h = tt
-last_short n ts (Some (j, [])) spelled h = json_short n j (front_all (ShortToken n) (json_tokens j) [] (subst (AllByRecursion (ShortToken n)) (spelled j [] refl) h)).0
-last_short n ts (Some (j, t ∷ r)) spelled h = tt
-
--- the value that is read from a text
 pub short_value : (text : List ℕ) (d : Data) → read text ≡ Some d → Short (length text) d
-short_value text d is =
-    let n = length text in
-    subst (IfThere (Short n)) is
-    (there_then (ShortJson n) (Short n) of_json (λ j x. data_short n j x) _
-    (last_short n (tokens text) (json.value max_depth (tokens text)) (λ j r e. value-json_tokens_back max_depth (tokens text) r j e) (tokens_short text)))
+short_value text d is = value_all _ _ (short_texts (length text)) text d (omega arith) is

@@ -5,4 +5,5 @@ pub mod Names
 pub mod Numbers
 pub mod Reading
 pub mod Steps
+pub mod Stored
 pub mod Writing

@@ -1,11 +1,13 @@
 -- A keyset in JSON, read. What a text means as JSON is the reading of the crate `serde_json`:
 -- `read` gives its value, and of a name that stands twice the last value.
 --
---   value_of     the value of a text, less one newline at its end
---   record_of    the record of an item of the list `key`
---   keys_of      the primary id and the records of a value, or the first member that isn't of its
---                form
---   reads_json   what the bytes give: a keyset, or why they give none
+--   without_newline   the bytes, less one newline at their end
+--   json_value        the value of a text
+--   record_of         the record of an item of the list `key`
+--   keys_of           the primary id and the records of a value, or the first member that isn't of
+--                     its form
+--   reads_json        what the bytes give: a keyset, or why they give none
+--   GivesKeyset       the answer of the call is that
 --
 -- Members are looked at in the order of the lines below. Places of keys are counted from 0.
 use Rattle.std.specs.Prelude.{◌≡◌, ℕ, ◌+◌, ◌-◌, List, [], ◌∷◌, length, take, slice_index, Bool, ◌&&◌, ◌==◌, nat_lt, Option, Some, None, Result, Ok, Err, if◌then◌else◌}
@@ -45,10 +47,11 @@ without_newline bytes = if ends_in_newline bytes then take (length bytes - 1) by
 unfoldable pub json_value : List ℕ → Option Data
 json_value bytes = if is_utf8 bytes then read bytes else None
 
--- a member of the keyset, and one of a key
+-- a member of the keyset
 abbrev pub of_keyset : Member → Path
 of_keyset m = record { key = None; member = m }
 
+-- a member of key i
 abbrev pub of_key : ℕ → Member → Path
 of_key i m = record { key = Some i; member = m }
 
