@@ -1,5 +1,4 @@
 pub mod Base64Lemmas
-pub mod NumberLemmas
 pub mod ReadingLemmas
 pub mod TextLemmas
 pub mod Utf8Lemmas

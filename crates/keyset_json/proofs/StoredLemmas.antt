@@ -23,7 +23,9 @@ use Rattle.keyset_json.specs.declared.member.Member.TheVariants as members
 use Rattle.keyset_json.specs.declared.member.Path.{Path}
 use Rattle.keyset_json.specs.Base64Text.{bytes_of_text}
 use Rattle.keyset_json.specs.Members.{name_of, field_name_of, unless_null, member_of}
-use Rattle.keyset_json.specs.Numbers.{within_32_bits, is_decimal, number_of_digits, number_of_num, uint32_of}
+use Rattle.keyset_json.specs.Numbers.{within_32_bits, number_of_num, uint32_of}
+use Rattle.tink_base.specs.Decimal.{number_in}
+use Rattle.tink_base.proofs.DecimalLemmas.{number_passes}
 use Rattle.keyset_json.specs.Reading.{◌>>=◌, of_key, of_keyset, or_at, given, field, bytes_of, object_of, record_of, records_of, records_in, keys_of, json_value, ends_in_newline, without_newline, without_fault, well_formed, of_value, reads_json}
 use Rattle.keyset_json.specs.Stored.{JsonIsShort, JsonIsStored}
 use Rattle.keyset_json.specs.Writing.{HasJsonBounds}
@@ -138,13 +140,12 @@ num_word (unsigned n) = word_within n
 num_word (negative z) = tt
 num_word (float x) = tt
 
-digits_word : (s : List ℕ) → IfThere IsWord (number_of_digits s)
-unfolding number_of_digits
-digits_word s = by_test (is_decimal s)
+digits_word : (s : List ℕ) → IfThere IsWord (number_in s)
+digits_word s = by_read (number_in s) refl
   where
-    by_test : (b : Bool) → IfThere IsWord (if b then within_32_bits (digits_value 10 s) else None)
-    by_test true = word_within (digits_value 10 s)
-    by_test false = tt
+    by_read : (o : Option ℕ) → number_in s ≡ o → IfThere IsWord o
+    by_read (Some n) is = let tests = number_passes s n is in rw⁻¹ tests.4 tests.3
+    by_read None is = tt
 
 data_word : (d : Data) → IfThere IsWord (uint32_of d)
 data_word null = tt

@@ -1,23 +1,13 @@
 -- Numbers of 32 bits and enums in JSON (the JSON mapping of proto3, less what it writes with a
 -- fraction or an exponent). What isn't of the form gives nothing.
-use Rattle.std.specs.Prelude.{ℕ, ◌^◌, nat_lt, nat_le, ◌&&◌, List, length, Bool, Option, Some, None, if◌then◌else◌}
-use Rattle.std.specs.Char.{is_ascii_digit}
-use Rattle.std.specs.List.{list_all}
-use Rattle.std.specs.Str.Parse.{digits_value}
+use Rattle.std.specs.Prelude.{ℕ, ◌^◌, nat_lt, List, Option, Some, None, if◌then◌else◌}
 use Rattle.serde_json.specs.Data.{Num, unsigned, negative, float, Data, null, boolean, number, string, array, object}
+use Rattle.tink_base.specs.Decimal.{number_in}
 use Rattle.keyset_json.specs.Names.{number_named}
 
 -- a number below 2^32
 abbrev pub within_32_bits : ℕ → Option ℕ
 within_32_bits n = if nat_lt n (2 ^ 32) then Some n else None
-
--- 1 to 10 decimal digits
-abbrev pub is_decimal : List ℕ → Bool
-is_decimal s = nat_lt 0 (length s) && nat_le (length s) 10 && list_all is_ascii_digit s
-
--- the number that 1 to 10 decimal digits write
-unfoldable pub number_of_digits : List ℕ → Option ℕ
-number_of_digits s = if is_decimal s then within_32_bits (digits_value 10 s) else None
 
 -- A whole number that is written in digits alone; `-0`, and what has a point or an exponent, is no
 -- such one to `serde_json`.
@@ -29,7 +19,7 @@ number_of_num (float x) = None
 -- a number, or its digits as a text
 abbrev pub uint32_of : Data → Option ℕ
 uint32_of (number n) = number_of_num n
-uint32_of (string s) = number_of_digits s
+uint32_of (string s) = number_in s
 uint32_of null = None
 uint32_of (boolean b) = None
 uint32_of (array ds) = None

@@ -13,12 +13,12 @@ use Rattle.keyset_json.specs.Reading.{json_value, without_newline, of_keyset, of
 use Rattle.keyset_json.specs.Writing.{data_value, key_value, keyset_value, json_of}
 use Rattle.keyset_json.specs.declared.member.Member.TheVariants as members
 use Rattle.keyset_json.specs.Base64Text.{bytes_of_text}
-use Rattle.keyset_json.specs.Numbers.{number_of_digits}
+use Rattle.tink_base.specs.Decimal.{number_in}
 use Rattle.base64.specs.GeneralPurpose.{decoded_of}
 
 -- what unfolds to compute the reading of a literal
 unfoldable json_examples : ⊤
-unfolding reads_json json_value without_newline keys_of records_of record_of member_of fault_of first_some first_without repeat_behind when chars is_utf8 digits name_of field_name_of serde_json_on_literals base64_on_literals bytes_of_text number_of_digits
+unfolding reads_json json_value without_newline keys_of records_of record_of member_of fault_of first_some first_without repeat_behind when chars is_utf8 digits name_of field_name_of serde_json_on_literals base64_on_literals bytes_of_text number_in
 json_examples = tt
 
 -- RFC 4648, section 10, and the same without padding
@@ -30,12 +30,12 @@ pub both_alphabets : bytes_of_text (codes "+_8=") ≡ None
 unfolding bytes_of_text first_some decoded_of base64_on_literals
 both_alphabets = refl
 
-pub leading_zeros : number_of_digits (codes "007") ≡ Some 7
-unfolding number_of_digits
+pub leading_zeros : number_in (codes "007") ≡ Some 7
+unfolding number_in
 leading_zeros = refl
 
-pub too_large : number_of_digits (codes "4294967296") ≡ None
-unfolding number_of_digits
+pub too_large : number_in (codes "4294967296") ≡ None
+unfolding number_in
 too_large = refl
 
 pub a_list : reads_json (codes "[]") ≡ Err (Shape (of_keyset members.Keyset))
