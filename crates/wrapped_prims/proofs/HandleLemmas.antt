@@ -6,41 +6,27 @@ use Rattle.std.proofs.lemmas.Option.{get_or_from_slice_get, same_Some, slice_get
 use Rattle.keyset_model.proofs.PrimaryLemmas.{well_formed-faultless}
 use Rattle.keyset_model.specs.Keyset.{Keys, is_enabled, primary_of}
 use Rattle.keyset_model.specs.declared.record.Record.{Record}
-use Rattle.key_msgs.specs.declared.primitive.Primitive.TheVariants.{Mac}
 use Rattle.std.specs.Option.{option_and_then}
-use Rattle.wrapped_prims.specs.Answers.{opened_by, verify_answer, primary_key}
+use Rattle.wrapped_prims.specs.Answers.{primary_key}
 use Rattle.key_msgs.specs.declared.primitive.Primitive.{Primitive}
 use Rattle.managers.specs.Table.{Table, entries_of}
-use Rattle.wrapped_prims.proofs.OpenLemmas.{KeptAs, count-IsOver, open_kept-IsOver, verify_kept-IsOver, kept_as, none_here, off, on}
+use Rattle.wrapped_prims.proofs.OpenLemmas.{KeptAs, count-raw, count-under, kept_as, none_here, off, on}
 use Rattle.wrapped_prims.proofs.PrefixLemmas.{one_with}
 use Rattle.wrapped_prims.specs.Candidates.{raw_count}
 use Rattle.wrapped_prims.specs.Fitness.{fault_of_record, key_of_record, unfit_from}
-use Rattle.wrapped_prims.specs.Held.{AreServed, open_kept, verify_kept, IsPrimary, IsServedBy, all_under, kept_of, kept_with}
+use Rattle.wrapped_prims.specs.Held.{IsPrimary, IsServedBy, kept_of, kept_raw, kept_under, kept_with}
 use Rattle.wrapped_prims.specs.Making.{IsOver}
 use Rattle.wrapped_prims.specs.declared.held.Held.{Held}
 use Rattle.wrapped_prims.specs.declared.held.Kept.{Kept}
 
 -- at most one key has the prefix
-pub few_trials : (table : Table) (p : Primitive) (keys : Keys) (held : Held) (bytes : List ℕ) (slots : List (Option Kept)) (before now : ℕ) → IsOver table p keys held → slots ≡ held.slots.items
-    → now ≤ before + length (all_under (Some (take 5 bytes)) slots) + length (all_under None slots)
-    → now ≤ before + (1 + raw_count keys)
-few_trials table p keys held bytes slots before now over same few =
-    let hinted = ap (λ slots. length (all_under (Some (take 5 bytes)) slots)) same ∙ count-IsOver table p keys held (Some (take 5 bytes)) over in
-    let raw = ap (λ slots. length (all_under None slots)) same ∙ count-IsOver table p keys held None over in
+pub few_trials : (table : Table) (p : Primitive) (keys : Keys) (held : Held) (bytes : List ℕ) (before now : ℕ) → IsOver table p keys held
+    → now ≤ before + length (kept_under (take 5 bytes) held) + length (kept_raw held) → now ≤ before + (1 + raw_count keys)
+few_trials table p keys held bytes before now over few =
+    let hinted = count-under table p keys held (take 5 bytes) over in
+    let raw = count-raw table p keys held over in
     let one = one_with keys.records (take 5 bytes) (well_formed-faultless keys over.faultless).own_ids over.words in
     omega (arith, few, hinted, raw, one)
-
--- what the kept keys open and verify
-pub opens : (table : Table) (p : Primitive) (keys : Keys) (held : Held) (bytes ad : List ℕ) (slots : List (Option Kept)) → IsOver table p keys held → slots ≡ held.slots.items
-    → open_kept p slots bytes ad ≡ opened_by p keys table bytes ad
-opens table p keys held bytes ad slots over same = ap (λ slots. open_kept p slots bytes ad) same ∙ open_kept-IsOver table p keys held bytes ad over
-
-pub verifies : (table : Table) (keys : Keys) (held : Held) (tag body : List ℕ) (slots : List (Option Kept)) → IsOver table Mac keys held → slots ≡ held.slots.items
-    → verify_kept slots tag body ≡ verify_answer keys table tag body
-verifies table keys held tag body slots over same = ap (λ slots. verify_kept slots tag body) same ∙ verify_kept-IsOver table keys held tag body over
-
-pub served : (table : Table) (p : Primitive) (keys : Keys) (held : Held) (slots : List (Option Kept)) → IsOver table p keys held → slots ≡ held.slots.items → AreServed table p slots
-served table p keys held slots over same = subst (AreServed table p) (sym same) over.served
 
 fit_at : (n : ℕ) (table : Table) (p : Primitive) (rs : List Record) (i : ℕ) (r : Record) → unfit_from n table p rs ≡ None → slice_get rs i ≡ Some r → fault_of_record table p r ≡ None
 fit_at n table p [] i r fit at = absurd (the_clash at)

@@ -1,7 +1,8 @@
 -- Records kept one after another.
-use Rattle.std.proofs.Common.{◌≡◌, ◌∙◌, sym, refl, ap, subst, ℕ, zero, suc, ◌+◌, Bool, true, false, ◌&&◌, cond, List, [], ◌∷◌, ◌++◌, map, drop, find, Option, Some, None, option_map, Ok, Err, Result, append_assoc, eqb-true, eq-eqb}
+use Rattle.std.proofs.Common.{◌≡◌, ◌∙◌, sym, refl, ap, subst, ℕ, zero, suc, ◌+◌, ◌≤◌, Bool, true, false, ◌&&◌, cond, List, [], ◌∷◌, ◌++◌, map, length, drop, find, Option, Some, None, option_map, Ok, Err, Result, append_assoc, append-nil, eqb-true, eq-eqb}
 use Rattle.std.specs.Result.{IsErrAnd, IfErr}
 use Rattle.std.proofs.lemmas.Bool.{and_parts, and_from}
+use Rattle.std.proofs.lemmas.List.{drop_all}
 use native.Mathlib.Numerals.{unary_clauses}
 use Rattle.std.specs.Prelude.{slice_get}
 use Rattle.std.specs.Option.{option_and_then}
@@ -9,17 +10,22 @@ use Rattle.std.specs.List.{AllByRecursion}
 use Rattle.std.proofs.lemmas.Option.{same_Some}
 use Rattle.key_msgs.specs.declared.key.KeyKind.{KeyKind}
 use Rattle.key_msgs.specs.declared.primitive.Primitive.{Primitive}
-use Rattle.keyset_model.specs.Keyset.{Keys, is_enabled, is_primary, primary_of}
+use Rattle.keyset_model.specs.Keyset.{Keys, fault_of, is_enabled, is_primary, primary_of}
 use Rattle.keyset_model.specs.declared.record.Record.{Record}
 use Rattle.managers.specs.Schemes.{key_under}
 use Rattle.managers.specs.Table.{Entry, Table, entries_of, place_of}
-use Rattle.wrapped_prims.specs.Candidates.{is_legacy, prefix_of}
+use Rattle.wrapped_prims.proofs.IndexLemmas.{indexed_first, indexed_last, indexed_noted, indexed_past}
+use Rattle.wrapped_prims.proofs.OpenLemmas.{KeptAs, kept_as, off, on}
+use Rattle.wrapped_prims.specs.Adding.{IsAdded, IsKept, IsOfNone, IsPlaced, IsPlacedBy, indexed_from}
+use Rattle.wrapped_prims.specs.Candidates.{is_legacy, prefix_of, same_prefix}
 use Rattle.wrapped_prims.specs.Fitness as fitness
-use Rattle.wrapped_prims.specs.Fitness.{NotRaw, Unfit, fault_of_record, first_of_three, or_later, prefix_fault, read_key, reading_of, unfit_from}
-use Rattle.wrapped_prims.specs.Held.{IsServed, IsServedBy, kept_of, kept_with}
-use Rattle.wrapped_prims.specs.Making.{HasWordId, IsCheckedBy, IsFaultOf, IsKeeping, IsKept}
+use Rattle.wrapped_prims.specs.Fitness.{NotRaw, Unfit, fault_of_record, first_of_three, or_later, prefix_fault, read_key, reading_of, unfit, unfit_from}
+use Rattle.wrapped_prims.specs.Held.{AreServed, IsServed, IsServedBy, kept_of, kept_with}
+use Rattle.wrapped_prims.specs.Making.{HasWordId, IsCheckedBy, IsFaultOf, IsKeeping, IsOver}
+use Rattle.wrapped_prims.specs.Prefixes.{places_from, places_of}
 use Rattle.wrapped_prims.specs.declared.handle.HandleFault.{HandleFault}
 use Rattle.wrapped_prims.specs.declared.handle.HandleFault.TheVariants as faults
+use Rattle.wrapped_prims.specs.declared.held.Held.{Held}
 use Rattle.wrapped_prims.specs.declared.held.Kept.{Kept}
 
 none_some : {X P : Type 0} (x : X) → None ≡ Some x → P
@@ -99,33 +105,101 @@ kept_here table p r i at key url value prefix f served last is =
 
 -- ---- one record after another
 
-fit_here : (table : Table) (p : Primitive) (records : List Record) (i : ℕ) (r : Record) (slots : List (Option Kept)) (why : Option Unfit)
-    → IsKept table p records (drop i records) i slots → slice_get records i ≡ Some r → fault_of_record table p r ≡ why
-    → unfit_from 0 table p records ≡ or_later i why (unfit_from (i + 1) table p (drop (i + 1) records))
-fit_here table p records i r slots why was at fault =
-    was.fit ∙ ap (unfit_from i table p) (drop_here records i r at)
-    ∙ ap (λ o. or_later i o (unfit_from (i + 1) table p (drop (i + 1) records))) fault
+fit_here : (table : Table) (p : Primitive) (keys : Keys) (i : ℕ) (r : Record) (held : Held) (why : Option Unfit)
+    → IsKept table p keys (drop i keys.records) i held → slice_get keys.records i ≡ Some r → fault_of_record table p r ≡ why
+    → unfit keys p table ≡ or_later i why (unfit_from (i + 1) table p (drop (i + 1) keys.records))
+fit_here table p keys i r held why was at fault =
+    was.fit ∙ ap (unfit_from i table p) (drop_here keys.records i r at)
+    ∙ ap (λ o. or_later i o (unfit_from (i + 1) table p (drop (i + 1) keys.records))) fault
 
-pub kept_more : (table : Table) (p : Primitive) (records : List Record) (i : ℕ) (r : Record) (slots : List (Option Kept)) (slot : Option Kept)
-    → IsKept table p records (drop i records) i slots → slice_get records i ≡ Some r → IsKeeping table p r i (Ok slot) → HasWordId r
-    → IsKept table p records (drop (i + 1) records) (i + 1) (slots ++ slot ∷ [])
-kept_more table p records i r slots slot was at keeping word = record {
-  fit = fit_here table p records i r slots None was at keeping.0;
-  kept = append_assoc slots (slot ∷ []) (map (kept_of table p) (drop (i + 1) records))
-      ∙ ap (λ s. slots ++ (s ∷ map (kept_of table p) (drop (i + 1) records))) keeping.1
-      ∙ ap (λ rest. slots ++ map (kept_of table p) rest) (sym (drop_here records i r at))
-      ∙ was.kept;
-  served = each_more (IsServed table p) slots slot was.served keeping.2;
-  words = λ later. was.words (subst (AllByRecursion HasWordId) (sym (drop_here records i r at)) (word, later));
+-- the place of a record is kept where it is looked for
+pub record IsFoundBehind (r : Record) (rs : List Record) (i : ℕ) (old new : Held) : Type 0 where
+  pub index : indexed_from i old.index.entries (r ∷ rs) ≡ indexed_from (i + 1) new.index.entries rs
+  pub raw : old.raw.items ++ places_from i None (r ∷ rs) ≡ new.raw.items ++ places_from (i + 1) None rs
+
+placed_off : (r : Record) (rs : List Record) (i : ℕ) (old new : Held) → is_enabled r ≡ false → IsPlaced None i old new → IsFoundBehind r rs i old new
+placed_off r rs i old new other placed = record {
+  index = indexed_past i old.index.entries r rs (ap (λ b. cond b (prefix_of r) None) other) ∙ ap (λ index. indexed_from (i + 1) index rs) (sym placed.0);
+  raw = ap (λ b. old.raw.items ++ cond (b && same_prefix (prefix_of r) None) (i ∷ places_from (i + 1) None rs) (places_from (i + 1) None rs)) other
+      ∙ ap (λ raw. raw ++ places_from (i + 1) None rs) (sym placed.1);
 }
 
-pub fault_here : (table : Table) (p : Primitive) (records : List Record) (i : ℕ) (r : Record) (slots : List (Option Kept)) (fault : HandleFault)
-    → IsKept table p records (drop i records) i slots → slice_get records i ≡ Some r → IsKeeping table p r i (Err fault)
-    → IsFaultOf (unfit_from 0 table p records) fault
-fault_here table p records i r slots (faults.NoManager j) was at keeping = fit_here table p records i r slots (Some (fitness.NoManager)) was at keeping.1 ∙ ap (λ k. Some (k, fitness.NoManager)) (sym keeping.0)
-fault_here table p records i r slots (faults.BadKey j rule) was at keeping = fit_here table p records i r slots (Some (fitness.BadKey rule)) was at keeping.1 ∙ ap (λ k. Some (k, fitness.BadKey rule)) (sym keeping.0)
-fault_here table p records i r slots (faults.NotRaw j) was at keeping = fit_here table p records i r slots (Some (fitness.NotRaw)) was at keeping.1 ∙ ap (λ k. Some (k, fitness.NotRaw)) (sym keeping.0)
-fault_here table p records i r slots faults.NoMemory was at keeping = tt
+placed_on : (r : Record) (rs : List Record) (i : ℕ) (old new : Held) (prefix : Option (List ℕ)) → is_enabled r ≡ true → prefix_of r ≡ prefix → IsPlacedBy prefix i old new → IsFoundBehind r rs i old new
+placed_on r rs i old new None enabled is placed = record {
+  index = indexed_past i old.index.entries r rs (ap (λ b. cond b (prefix_of r) None) enabled ∙ is) ∙ ap (λ index. indexed_from (i + 1) index rs) (sym placed.0);
+  raw = ap (λ b. old.raw.items ++ cond (b && same_prefix (prefix_of r) None) (i ∷ places_from (i + 1) None rs) (places_from (i + 1) None rs)) enabled
+      ∙ ap (λ o. old.raw.items ++ cond (same_prefix o None) (i ∷ places_from (i + 1) None rs) (places_from (i + 1) None rs)) is
+      ∙ sym (append_assoc old.raw.items (i ∷ []) (places_from (i + 1) None rs))
+      ∙ ap (λ raw. raw ++ places_from (i + 1) None rs) (sym placed.1);
+}
+placed_on r rs i old new (Some prefix) enabled is placed = record {
+  index = indexed_noted i old.index.entries r rs prefix (ap (λ b. cond b (prefix_of r) None) enabled ∙ is) placed.2 ∙ ap (λ index. indexed_from (i + 1) index rs) (sym placed.0);
+  raw = ap (λ b. old.raw.items ++ cond (b && same_prefix (prefix_of r) None) (i ∷ places_from (i + 1) None rs) (places_from (i + 1) None rs)) enabled
+      ∙ ap (λ o. old.raw.items ++ cond (same_prefix o None) (i ∷ places_from (i + 1) None rs) (places_from (i + 1) None rs)) is
+      ∙ ap (λ raw. raw ++ places_from (i + 1) None rs) (sym placed.1);
+}
+
+placed : (table : Table) (p : Primitive) (r : Record) (rs : List Record) (i : ℕ) (old new : Held) → KeptAs table p r → IsPlaced (kept_of table p r) i old new → IsFoundBehind r rs i old new
+placed table p r rs i old new (off e none) is = placed_off r rs i old new e (subst (λ slot. IsPlaced slot i old new) none is)
+placed table p r rs i old new (on at key e read some) is = placed_on r rs i old new (prefix_of r) e refl (subst (λ slot. IsPlaced slot i old new) some is)
+
+pub kept_more : (table : Table) (p : Primitive) (keys : Keys) (i : ℕ) (r : Record) (old new : Held) (slot : Option Kept)
+    → IsKept table p keys (drop i keys.records) i old → slice_get keys.records i ≡ Some r → IsKeeping table p r i (Ok slot) → HasWordId r → IsAdded slot i old new
+    → IsKept table p keys (drop (i + 1) keys.records) (i + 1) new
+kept_more table p keys i r old new slot was at keeping word added =
+    let rest = drop (i + 1) keys.records in
+    let here : drop i keys.records ≡ r ∷ rest = drop_here keys.records i r at in
+    let found : IsFoundBehind r rest i old new = placed table p r rest i old new (kept_as table p r keeping.0) (subst (λ s. IsPlaced s i old new) keeping.1 added.placed) in
+    record {
+      fit = fit_here table p keys i r old None was at keeping.0;
+      kept = ap (λ slots. slots ++ map (kept_of table p) rest) added.slots
+          ∙ append_assoc old.slots.items (slot ∷ []) (map (kept_of table p) rest)
+          ∙ ap (λ s. old.slots.items ++ (s ∷ map (kept_of table p) rest)) keeping.1
+          ∙ ap (λ rest. old.slots.items ++ map (kept_of table p) rest) (sym here)
+          ∙ was.kept;
+      index = sym found.index ∙ ap (indexed_from i old.index.entries) (sym here) ∙ was.index;
+      raw = sym found.raw ∙ ap (λ rest. old.raw.items ++ places_from i None rest) (sym here) ∙ was.raw;
+      primary = ap (slice_get keys.records) added.primary ∙ was.primary;
+      served = subst (AreServed table p) (sym added.slots) (each_more (IsServed table p) old.slots.items slot was.served keeping.2);
+      words = λ later. was.words (subst (AllByRecursion HasWordId) (sym here) (word, later));
+    }
+
+-- no record is held yet
+pub kept_first : (table : Table) (p : Primitive) (keys : Keys) (primary : ℕ) (held : Held) → IsOfNone primary held → slice_get keys.records primary ≡ primary_of keys → IsKept table p keys keys.records 0 held
+kept_first table p keys primary held none there = record {
+  fit = refl;
+  kept = ap (λ slots. slots ++ map (kept_of table p) keys.records) none.slots;
+  index = ap (λ index. indexed_from 0 index keys.records) none.index ∙ indexed_first keys.records;
+  raw = ap (λ raw. raw ++ places_of None keys.records) none.raw;
+  primary = ap (slice_get keys.records) none.primary ∙ there;
+  served = subst (AreServed table p) (sym none.slots) (λ i slot at. none_some slot at);
+  words = λ words. words;
+}
+
+-- all are
+pub kept_last : (table : Table) (p : Primitive) (keys : Keys) (n : ℕ) (held : Held) → fault_of keys ≡ None → length keys.records ≤ n → IsKept table p keys (drop n keys.records) n held → IsOver table p keys held
+kept_last table p keys n held faultless end kept = by (drop n keys.records) (drop_all n keys.records end) kept
+  where
+    by : (rest : List Record) → rest ≡ [] → IsKept table p keys rest n held → IsOver table p keys held
+    by [] none kept = record {
+      fit = kept.fit;
+      faultless = faultless;
+      kept = sym (append-nil held.slots.items) ∙ kept.kept;
+      primary = kept.primary;
+      index = sym (indexed_last n held.index.entries) ∙ kept.index;
+      raw = sym (append-nil held.raw.items) ∙ kept.raw;
+      served = kept.served;
+      words = kept.words tt;
+    }
+    by (r ∷ rest) some kept = absurd cc
+
+pub fault_here : (table : Table) (p : Primitive) (keys : Keys) (i : ℕ) (r : Record) (held : Held) (fault : HandleFault)
+    → IsKept table p keys (drop i keys.records) i held → slice_get keys.records i ≡ Some r → IsKeeping table p r i (Err fault)
+    → IsFaultOf (unfit keys p table) fault
+fault_here table p keys i r held (faults.NoManager j) was at keeping = fit_here table p keys i r held (Some (fitness.NoManager)) was at keeping.1 ∙ ap (λ k. Some (k, fitness.NoManager)) (sym keeping.0)
+fault_here table p keys i r held (faults.BadKey j rule) was at keeping = fit_here table p keys i r held (Some (fitness.BadKey rule)) was at keeping.1 ∙ ap (λ k. Some (k, fitness.BadKey rule)) (sym keeping.0)
+fault_here table p keys i r held (faults.NotRaw j) was at keeping = fit_here table p keys i r held (Some (fitness.NotRaw)) was at keeping.1 ∙ ap (λ k. Some (k, fitness.NotRaw)) (sym keeping.0)
+fault_here table p keys i r held faults.NoMemory was at keeping = tt
 
 pub fault_refused : {A : Type 0} (result : Result A HandleFault) (fault : HandleFault) (told : Option (ℕ × Unfit)) → IsErrAnd result (λ e. e ≡ fault) → IsFaultOf told fault → IfErr result (IsFaultOf told)
 fault_refused (Ok done) fault told same is = absurd same
@@ -141,8 +215,8 @@ id_primary keys p primary = eqb-true _ _ (and_parts _ _ (primary_id keys p prima
 
 pub primary_here : (keys : Keys) (p : Record) (i : ℕ) (r : Record) → primary_of keys ≡ Some p → find (is_primary keys.primary) (drop i keys.records) ≡ primary_of keys
     → slice_get keys.records i ≡ Some r → r.id ≡ p.id → r.status ≡ 1 → slice_get keys.records i ≡ primary_of keys
-primary_here keys p i r primary first at same on =
-    at ∙ sym (find_here (is_primary keys.primary) keys.records i r at (and_from _ _ (eq-eqb _ _ (same ∙ id_primary keys p primary)) (eq-eqb _ _ on))) ∙ first
+primary_here keys p i r primary first at same enabled =
+    at ∙ sym (find_here (is_primary keys.primary) keys.records i r at (and_from _ _ (eq-eqb _ _ (same ∙ id_primary keys p primary)) (eq-eqb _ _ enabled))) ∙ first
 
 pub primary_later : (keys : Keys) (p : Record) (i : ℕ) (r : Record) → primary_of keys ≡ Some p → find (is_primary keys.primary) (drop i keys.records) ≡ primary_of keys
     → slice_get keys.records i ≡ Some r → is_primary p.id r ≡ false → find (is_primary keys.primary) (drop (i + 1) keys.records) ≡ primary_of keys

@@ -1,4 +1,6 @@
 pub mod KeepLemmas
+pub mod PlaceLemmas
+pub mod IndexLemmas
 pub mod OpenLemmas
 pub mod PrefixLemmas
 pub mod HandleLemmas

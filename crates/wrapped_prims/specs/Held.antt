@@ -1,7 +1,7 @@
 -- What a handle keeps of each record, and what that opens and verifies.
-use Rattle.std.specs.Prelude.{◌≡◌, ℕ, List, [], ◌∷◌, Option, Some, None, if◌then◌else◌, Bool, is_some, drop, take, false, ◌||◌, slice_get}
+use Rattle.std.specs.Prelude.{◌≡◌, ◌==◌, ℕ, List, [], ◌∷◌, length, Option, Some, None, if◌then◌else◌, Bool, is_some, drop, take, false, ◌||◌, slice_get}
 use Rattle.std.specs.List.{filter_map}
-use Rattle.std.specs.Option.{option_and_then, option_map, option_or}
+use Rattle.std.specs.Option.{option_and_then, option_flatten, option_map, option_or}
 use Rattle.std.specs.Str.{bytes_eq}
 use Rattle.key_msgs.specs.declared.key.KeyKind.{KeyKind}
 use Rattle.key_msgs.specs.declared.primitive.Primitive.{Primitive}
@@ -12,8 +12,10 @@ use Rattle.managers.specs.Schemes.{IsAdmitted}
 use Rattle.managers.specs.Table.{Entry, Table, entries_of, place_of}
 use Rattle.managers.specs.Uses.{tag_of, tagged}
 use Rattle.wrapped_prims.specs.Answers.{opened_under, tried}
-use Rattle.wrapped_prims.specs.Candidates.{is_legacy, prefix_of, same_prefix}
+use Rattle.wrapped_prims.specs.Candidates.{is_legacy, prefix_of}
 use Rattle.wrapped_prims.specs.Fitness.{key_of_record}
+use Rattle.wrapped_prims.specs.Prefixes.{Index, places_under}
+use Rattle.wrapped_prims.specs.declared.held.Held.{Held}
 use Rattle.wrapped_prims.specs.declared.held.Kept.{Kept}
 
 -- the manager at that place admits the key
@@ -45,14 +47,25 @@ kept_of table primitive r =
     (place_of table primitive r.url)
     else None
 
--- the kept key, where it has this prefix, or none
-abbrev pub under : Option (List ℕ) → Option Kept → Option Kept
-under prefix None = None
-under prefix (Some kept) = if same_prefix kept.prefix prefix then Some kept else None
+-- what a look-up of these bytes gives. Other than five bytes are no prefix.
+abbrev pub places_at : List ℕ → Index → List ℕ
+places_at prefix index = if length prefix == 5 then places_under prefix index else []
 
--- the kept keys of this prefix, or of none, in order
-abbrev pub all_under : Option (List ℕ) → List (Option Kept) → List Kept
-all_under prefix slots = filter_map (under prefix) slots
+-- the key that is kept at a place
+abbrev pub kept_in : List (Option Kept) → ℕ → Option Kept
+kept_in slots place = option_flatten (slice_get slots place)
+
+-- those at some places, in order
+abbrev pub kept_at : List (Option Kept) → List ℕ → List Kept
+kept_at slots places = filter_map (kept_in slots) places
+
+-- those with a prefix, by the index
+abbrev pub kept_under : List ℕ → Held → List Kept
+kept_under prefix held = kept_at held.slots.items (places_at prefix held.index.entries)
+
+-- those with none
+abbrev pub kept_raw : Held → List Kept
+kept_raw held = kept_at held.slots.items held.raw.items
 
 -- the plaintext of the first key that opens the part
 abbrev pub open_with : Primitive → List ℕ → List ℕ → List Kept → Option (List ℕ)
@@ -61,10 +74,10 @@ open_with primitive part ad (kept ∷ later) =
     option_or (opened_under primitive part ad kept.key) (open_with primitive part ad later)
 
 -- by the keys of this prefix, and then by those of none
-abbrev pub open_kept : Primitive → List (Option Kept) → (bytes ad : List ℕ) → Option (List ℕ)
-open_kept primitive slots bytes ad =
-    option_or (open_with primitive (drop 5 bytes) ad (all_under (Some (take 5 bytes)) slots))
-    (open_with primitive bytes ad (all_under None slots))
+abbrev pub open_kept : Primitive → Held → (bytes ad : List ℕ) → Option (List ℕ)
+open_kept primitive held bytes ad =
+    option_or (open_with primitive (drop 5 bytes) ad (kept_under (take 5 bytes) held))
+    (open_with primitive bytes ad (kept_raw held))
 
 -- the count of trials after these keys were tried on the part
 abbrev pub tries_with : Primitive → List ℕ → List ℕ → List Kept → ℕ → ℕ
@@ -72,12 +85,12 @@ tries_with primitive part ad kept count =
     tried (λ k. is_some (opened_under primitive part ad k.key)) kept count
 
 -- and after those of the prefix, and where none of them opens, those of none
-abbrev pub tries_kept : Primitive → List (Option Kept) → (bytes ad : List ℕ) → ℕ → ℕ
-tries_kept primitive slots bytes ad count =
-    let first = all_under (Some (take 5 bytes)) slots in
+abbrev pub tries_kept : Primitive → Held → (bytes ad : List ℕ) → ℕ → ℕ
+tries_kept primitive held bytes ad count =
+    let first = kept_under (take 5 bytes) held in
     let later = tries_with primitive (drop 5 bytes) ad first count in
     if is_some (open_with primitive (drop 5 bytes) ad first) then later
-    else tries_with primitive bytes ad (all_under None slots) later
+    else tries_with primitive bytes ad (kept_raw held) later
 
 -- keys of these primitives open
 abbrev pub Opens : Primitive → Type 0
@@ -100,18 +113,18 @@ abbrev pub tag_tries_with : (tag body : List ℕ) → List Kept → ℕ → ℕ
 tag_tries_with tag body kept count = tried (λ k. bytes_eq tag (tag_with k body)) kept count
 
 -- and after those of the prefix, and where the tag is that of none of them, those of none
-abbrev pub tag_tries_kept : List (Option Kept) → (tag body : List ℕ) → ℕ → ℕ
-tag_tries_kept slots tag body count =
-    let first = all_under (Some (take 5 tag)) slots in
+abbrev pub tag_tries_kept : Held → (tag body : List ℕ) → ℕ → ℕ
+tag_tries_kept held tag body count =
+    let first = kept_under (take 5 tag) held in
     let later = tag_tries_with (drop 5 tag) body first count in
     if verify_with (drop 5 tag) body first then later
-    else tag_tries_with tag body (all_under None slots) later
+    else tag_tries_with tag body (kept_raw held) later
 
 -- by the keys of this prefix, and then by those of none
-abbrev pub verify_kept : List (Option Kept) → (tag body : List ℕ) → Bool
-verify_kept slots tag body =
-    verify_with (drop 5 tag) body (all_under (Some (take 5 tag)) slots)
-    || verify_with tag body (all_under None slots)
+abbrev pub verify_kept : Held → (tag body : List ℕ) → Bool
+verify_kept held tag body =
+    verify_with (drop 5 tag) body (kept_under (take 5 tag) held)
+    || verify_with tag body (kept_raw held)
 
 -- what is kept is the primary record's key
 pub record IsPrimary (table : Table) (primitive : Primitive) (keys : Keys) (kept : Kept) : Type 0 where

@@ -1,5 +1,5 @@
 -- The laws of what keysets answer, over the definitions alone.
-use Rattle.std.specs.Prelude.{◌≡◌, ℕ, List, Some, None, true, slice_get}
+use Rattle.std.specs.Prelude.{◌≡◌, ℕ, List, map, Option, Some, None, true, slice_get}
 use Rattle.std.specs.List.{AllByRecursion}
 use Rattle.key_msgs.specs.declared.key.KeyKind.{KeyKind}
 use Rattle.key_msgs.specs.declared.primitive.Primitive.{Primitive}
@@ -9,9 +9,10 @@ use Rattle.keyset_model.specs.declared.record.Record.{Record}
 use Rattle.managers.specs.Laws.{IsFor}
 use Rattle.managers.specs.Table.{Table}
 use Rattle.wrapped_prims.specs.Answers.{Sealed, dopen_answer, dseal_answer, open_answer, seal_answer, tag_answer, verify_answer}
-use Rattle.wrapped_prims.specs.Candidates.{prefix_of}
+use Rattle.wrapped_prims.specs.Candidates.{enabled_with, prefix_of}
 use Rattle.wrapped_prims.specs.Fitness.{key_of_record}
 use Rattle.wrapped_prims.specs.Making.{HasWordId}
+use Rattle.wrapped_prims.specs.Prefixes.{places_of, places_under, prefix_index}
 
 -- no fault of a keyset holds, and ids are numbers of 32 bits
 pub record IsKeyset (keys : Keys) : Type 0 where
@@ -23,6 +24,17 @@ abbrev pub OnePrefix : Type 0
 OnePrefix = (keys : Keys) (i j : ℕ) (r s : Record) (prefix : List ℕ) → IsKeyset keys
     → slice_get keys.records i ≡ Some r → slice_get keys.records j ≡ Some s
     → prefix_of r ≡ Some prefix → prefix_of s ≡ Some prefix → i ≡ j
+
+-- the records at the places that have a prefix, or none, are the ENABLED records with it, in order
+abbrev pub PlacesGive : Type 0
+PlacesGive = (prefix : Option (List ℕ)) (records : List Record)
+    → map (slice_get records) (places_of prefix records) ≡ map Some (enabled_with prefix records)
+
+-- a look-up in the index of a keyset gives the places that have the prefix. So the first five bytes of
+-- some bytes give those of the candidates before the RAW ones.
+abbrev pub IndexFinds : Type 0
+IndexFinds = (prefix : List ℕ) (records : List Record)
+    → places_under prefix (prefix_index records) ≡ places_of (Some prefix) records
 
 -- the second record is ENABLED, with all that makes the key of the first
 pub record IsSameKey (r s : Record) : Type 0 where

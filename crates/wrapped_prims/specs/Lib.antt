@@ -1,3 +1,4 @@
+pub mod Adding
 pub mod Answers
 pub mod Candidates
 pub mod Deriving
@@ -5,5 +6,6 @@ pub mod Fitness
 pub mod Held
 pub mod Laws
 pub mod Making
+pub mod Prefixes
 pub mod Sealing
 pub mod Trying

@@ -1,5 +1,5 @@
 -- What making a handle says.
-use Rattle.std.specs.Prelude.{◌≡◌, ◌<◌, ◌^◌, ℕ, ◌++◌, List, map, Option, Some, None, Result, Ok, Err, slice_get}
+use Rattle.std.specs.Prelude.{◌≡◌, ◌<◌, ◌^◌, ℕ, List, map, Option, Some, None, Result, Ok, Err, slice_get}
 use Rattle.std.specs.List.{AllByRecursion}
 use Rattle.key_msgs.specs.declared.key.KeyKind.{KeyKind}
 use Rattle.key_msgs.specs.declared.primitive.Primitive.{Primitive}
@@ -8,9 +8,10 @@ use Rattle.keyset_model.specs.declared.record.Record.{Record}
 use Rattle.managers.specs.Schemes.{IsReading, key_under}
 use Rattle.managers.specs.Table.{Entry, Table}
 use Rattle.managers.specs.declared.interfaces.CheckFault.{CheckFault}
-use Rattle.wrapped_prims.specs.Fitness.{Unfit, fault_of_record, unfit, unfit_from}
+use Rattle.wrapped_prims.specs.Fitness.{Unfit, fault_of_record, unfit}
 use Rattle.wrapped_prims.specs.Fitness as fitness
 use Rattle.wrapped_prims.specs.Held.{AreServed, IsServed, kept_of}
+use Rattle.wrapped_prims.specs.Prefixes.{places_of, prefix_index}
 use Rattle.wrapped_prims.specs.declared.handle.HandleFault.{HandleFault}
 use Rattle.wrapped_prims.specs.declared.handle.HandleFault.TheVariants as faults
 use Rattle.wrapped_prims.specs.declared.held.Held.{Held}
@@ -33,6 +34,8 @@ pub record IsOver (table : Table) (primitive : Primitive) (keys : Keys) (held : 
   pub faultless : fault_of keys ≡ None
   pub kept : held.slots.items ≡ map (kept_of table primitive) keys.records
   pub primary : slice_get keys.records held.primary ≡ primary_of keys
+  pub index : held.index.entries ≡ prefix_index keys.records
+  pub raw : held.raw.items ≡ places_of None keys.records
   pub served : AreServed table primitive held.slots.items
   pub words : AllByRecursion HasWordId keys.records
 
@@ -53,12 +56,3 @@ IsKeeping table primitive r i (Err (faults.BadKey j rule)) =
 IsKeeping table primitive r i (Err (faults.NotRaw j)) =
     (j ≡ i) × (fault_of_record table primitive r ≡ Some fitness.NotRaw)
 IsKeeping table primitive r i (Err faults.NoMemory) = Unit {0}
-
--- the records before `rest` can serve, and are kept
-pub record IsKept (table : Table) (primitive : Primitive) (records rest : List Record) (i : ℕ)
-    (slots : List (Option Kept)) : Type 0 where
-  pub fit : unfit_from 0 table primitive records ≡ unfit_from i table primitive rest
-  pub kept :
-      slots ++ map (kept_of table primitive) rest ≡ map (kept_of table primitive) records
-  pub served : AreServed table primitive slots
-  pub words : AllByRecursion HasWordId rest → AllByRecursion HasWordId records

@@ -2,19 +2,23 @@
 
 ghost use Rattle.std.specs.Prelude.{◌≡◌, ◌<◌, ◌^◌, ◌≢◌, ℕ, length, Some, None, if◌then◌else◌, IfOk, IfErr, slice_get};
 ghost use Rattle.key_msgs.specs.declared.primitive.Primitive.TheVariants.{Stream};
+ghost use Rattle.keyset_model.specs.Keyset.{Keys};
 ghost use Rattle.managers.specs.Table.{entries_of};
 ghost use Rattle.wrapped_prims.specs.Fitness.{NotRaw, prefix_fault, unfit};
 ghost use Rattle.wrapped_prims.specs.Held.{IsServedBy};
 ghost use Rattle.wrapped_prims.specs.Making.{HasWordId, IsCheckedBy, IsFaultOf, IsKeeping, IsOver};
+ghost use Rattle.wrapped_prims.specs.Prefixes.{prefix_index};
 
 use crate::held::{Held, Kept, prefix, primary_place};
+use crate::places::Places;
+use indexmap::IndexMap;
 use key_msgs::{KeyKind, Primitive, Rule};
 use keyset_model::{Keyset, Record};
 use managers::{
     AeadManager, CheckFault, DaeadManager, KeyManager, KeyTable, MacManager, Managers, PrfManager,
 };
-use std::alloc::{AllocFailed, Global};
-use tink_base::{ENABLED, LEGACY, RAW};
+use std::alloc::Global;
+use tink_base::{ENABLED, LEGACY, NoMemory, RAW};
 
 /// Why a keyset can't serve for a primitive under some managers. The first ENABLED record with a
 /// fault is told, by its place in the keyset from 0, with the first of its faults in this order.
@@ -30,12 +34,12 @@ pub enum HandleFault {
     NoMemory,
 }
 
-impl<T: Drop> From<AllocFailed<T>> for HandleFault {
-    ghost use Rattle.wrapped_prims.specs.declared.handle.HandleFault.TheVariants.{NoMemory};
+impl From<NoMemory> for HandleFault {
+    ghost use Rattle.wrapped_prims.specs.declared.handle.HandleFault.TheVariants as faults;
 
-    ghost from_gives = { λ _ e. e ≡ NoMemory };
+    ghost from_gives = { λ _ fault. fault ≡ faults.NoMemory };
 
-    fn from(_error: AllocFailed<T>) -> HandleFault {
+    fn from(_error: NoMemory) -> HandleFault {
         HandleFault::NoMemory
     }
 }
@@ -139,15 +143,15 @@ impl<'m> Handle<'m> {
             ≡ ⟦<Managers as KeyTable>⟧.table managers.now) }
         ensures primitive { IfOk result (λ h. h.primitive ≡ primitive) }
     {
-        let primary = primary_place(keyset);
-        let mut slots = Vec::new(alloc);
+        let mut held = Held::new(alloc, primary_place(keyset));
         for i in 0..keyset.len() {
-            slots.push(keep(managers, alloc, primitive, i, keyset.record_at(i))?)?;
+            let slot = keep(managers, alloc, primitive, i, keyset.record_at(i))?;
+            held.add(alloc, i, slot)?;
         }
         Ok(Handle {
             managers,
             primitive,
-            held: Held { slots, primary },
+            held,
         })
     }
 
@@ -156,5 +160,17 @@ impl<'m> Handle<'m> {
         ensures { result ≡ self.now.primitive }
     {
         self.primitive
+    }
+
+    /// The output prefixes of the ENABLED records that have one, each once and in the order of their first
+    /// records. Beside each stand the places in the keyset, counted from 0 and in its order, of the
+    /// ENABLED records with that prefix. No memory is taken.
+    pub fn prefixes(&self) -> &IndexMap<[u8; 5], Places>
+        ensures { (keys : Keys)
+            → IsOver (⟦<Managers as KeyTable>⟧.table self.now.managers.now) self.now.primitive keys
+            self.now.held
+            → result.now.entries ≡ prefix_index keys.records }
+    {
+        &self.held.index
     }
 }

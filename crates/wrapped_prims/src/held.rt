@@ -1,14 +1,21 @@
 //! What a handle keeps of a keyset.
 
-ghost use Rattle.std.specs.Prelude.{◌≡◌, ◌<◌, ◌^◌, ◌∷◌, None, slice_get, take, drop};
+ghost use Rattle.std.specs.Prelude.{◌≡◌, ◌<◌, ◌^◌, [], ◌∷◌, None, OnOk, slice_get, take, drop};
+ghost use Rattle.std.specs.HashMap.{IsUnique};
 ghost use Rattle.std.specs.Int.{to_be_bytes, w32};
+ghost use Rattle.std.specs.Str.{bytes_eq};
 ghost use Rattle.keyset_model.specs.Keyset.{fault_of, primary_of};
+ghost use Rattle.wrapped_prims.specs.Adding.{IsAdded, IsOfNone, noted};
 ghost use Rattle.wrapped_prims.specs.Candidates.{prefix_of};
+ghost use Rattle.wrapped_prims.specs.Held.{places_at};
 ghost use Rattle.wrapped_prims.specs.Making.{HasWordId};
 
+use crate::places::Places;
+use indexmap::IndexMap;
 use key_msgs::KeyKind;
 use keyset_model::{Keyset, Record};
-use tink_base::{ENABLED, RAW, TINK};
+use std::alloc::Global;
+use tink_base::{ENABLED, NoMemory, RAW, TINK};
 
 /// The key of an ENABLED record, with the place of its manager.
 #[derive(Drop)]
@@ -19,12 +26,84 @@ pub(crate) struct Kept {
     pub(crate) key: KeyKind,
 }
 
-/// What is kept of each record of a keyset, at the record's own place, and the place of the primary
-/// record. Nothing is kept of a record that isn't ENABLED.
+/// What is kept of each record of a keyset, at the record's own place. Nothing is kept of a record that
+/// isn't ENABLED.
 #[derive(Drop)]
 pub(crate) struct Held {
     pub(crate) slots: Vec<Option<Kept>>,
+    /// The places of the kept keys that have a prefix, by that prefix.
+    pub(crate) index: IndexMap<[u8; 5], Places>,
+    /// The places of the kept keys that have none.
+    pub(crate) raw: Vec<usize>,
+    /// The place of the primary record.
     pub(crate) primary: usize,
+}
+
+impl Held {
+    /// Of no records yet.
+    pub(crate) fn new(alloc: Global, primary: usize) -> Held
+        ensures { IsOfNone primary result }
+    {
+        Held {
+            slots: Vec::new(alloc),
+            index: IndexMap::new(alloc),
+            raw: Vec::new(alloc),
+            primary,
+        }
+    }
+
+    /// Adds what is kept of the next record, which has this place.
+    pub(crate) fn add(
+        &mut self,
+        alloc: Global,
+        place: usize,
+        slot: Option<Kept>,
+    ) -> Result<(), NoMemory>
+        ensures { OnOk result (IsAdded slot place self.old self.new) }
+    {
+        if let Some(kept) = &slot {
+            match kept.prefix {
+                Some(prefix) => note(alloc, &mut self.index, prefix, place)?,
+                None => self.raw.push(place)?,
+            }
+        }
+        self.slots.push(slot)?;
+        Ok(())
+    }
+
+    /// The places of the keys with this prefix, in the order of the keyset. Other than five bytes are no
+    /// prefix.
+    pub(crate) fn places(&self, prefix: &[u8]) -> &[usize]
+        ensures { result.now ≡ places_at prefix.now self.now.index.entries }
+    {
+        match <[u8; 5]>::try_from(prefix) {
+            Ok(own) => match self.index.get(&own) {
+                Some(places) => places.as_slice(),
+                None => &[],
+            },
+            Err(_) => &[],
+        }
+    }
+}
+
+// Notes a place under a prefix, behind those that are there.
+fn note(
+    alloc: Global,
+    index: &mut IndexMap<[u8; 5], Places>,
+    prefix: [u8; 5],
+    place: usize,
+) -> Result<(), NoMemory>
+    ensures noted { OnOk result (index.new.entries ≡ noted prefix place index.old.entries) }
+    ensures unique { OnOk result (IsUnique bytes_eq index.old) }
+{
+    if let Some(places) = index.get_mut(&prefix) {
+        places.push(place)?;
+        return Ok(());
+    }
+    let mut places = Places::new(alloc);
+    places.push(place)?;
+    index.insert(prefix, places)?;
+    Ok(())
 }
 
 // A first byte, and the id as four bytes, the highest first.

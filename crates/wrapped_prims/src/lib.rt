@@ -7,9 +7,11 @@ mod held;
 pub mod laws;
 mod making;
 mod opening;
+mod places;
 mod sealing;
 mod trying;
 
 pub use handle::{Handle, HandleFault};
 pub use making::DeriveFault;
+pub use places::Places;
 pub use sealing::SealFault;

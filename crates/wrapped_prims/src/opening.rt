@@ -47,7 +47,7 @@ impl Handle<'_> {
             self.managers,
             alloc,
             Primitive::Aead,
-            &self.held.slots,
+            &self.held,
             bytes,
             ad,
             trials,
@@ -88,7 +88,7 @@ impl Handle<'_> {
             self.managers,
             alloc,
             Primitive::Daead,
-            &self.held.slots,
+            &self.held,
             bytes,
             ad,
             trials,
@@ -115,6 +115,6 @@ impl Handle<'_> {
             → IsOver (⟦<Managers as KeyTable>⟧.table self.now.managers.now) Mac keys self.now.held
             → trials.new ≤ trials.old + (1 + raw_count keys) }
     {
-        verify_all(self.managers, &self.held.slots, tag, body, trials)
+        verify_all(self.managers, &self.held, tag, body, trials)
     }
 }

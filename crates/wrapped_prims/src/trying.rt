@@ -1,31 +1,19 @@
 //! Opening and verifying with kept keys: those of a prefix, and then those of none.
 
-ghost use Rattle.std.specs.Prelude.{◌≡◌, ◌+◌, ◌^◌, ◌≤◌, length, IfOk, Some, None, drop, option_copied, option_map, option_to_list, slice_get, take};
+ghost use Rattle.std.specs.Prelude.{◌≡◌, ◌+◌, ◌^◌, ◌≤◌, length, IfOk, option_map, option_to_list, slice_get, take};
 ghost use Rattle.std.specs.Str.{bytes_eq};
 ghost use Rattle.key_msgs.specs.declared.primitive.Primitive.TheVariants.{Mac};
 ghost use Rattle.managers.specs.Table.{entries_of};
 ghost use Rattle.managers.specs.Uses.{tag_of, tagged};
 ghost use Rattle.wrapped_prims.specs.Answers.{opened_under};
-ghost use Rattle.wrapped_prims.specs.Candidates.{same_prefix};
 ghost use Rattle.tink_spec.specs.Outside.{next};
-ghost use Rattle.wrapped_prims.specs.Held.{AreServed, IsServed, IsServedBy, Opens, all_under, open_kept, open_with, tag_tries_kept, tag_tries_with, tag_with, tries_kept, tries_with, under, verify_kept, verify_with};
+ghost use Rattle.wrapped_prims.specs.Held.{AreServed, IsServedBy, Opens, kept_at, kept_in, kept_raw, kept_under, open_kept, open_with, tag_tries_kept, tag_tries_with, tag_with, tries_kept, tries_with, verify_kept, verify_with};
 
-use crate::held::{Kept, cut_prefix};
+use crate::held::{Held, Kept, cut_prefix};
 use key_msgs::Primitive;
 use managers::{AeadManager, DaeadManager, KeyTable, MacManager, Managers};
 use std::alloc::Global;
 use tink_base::{NoMemory, Trials};
-
-// Whether the key has this prefix, or none.
-fn is_under(kept: &Kept, prefix: Option<&[u8]>) -> bool
-    ensures { result ≡ same_prefix kept.now.prefix (option_copied prefix.entry) }
-{
-    match (&kept.prefix, prefix) {
-        (None, None) => true,
-        (Some(own), Some(prefix)) => own.as_slice() == prefix,
-        _ => false,
-    }
-}
 
 // One trial of a key.
 fn try_key(
@@ -59,48 +47,13 @@ fn try_key(
     }
 }
 
-// Tries what is kept of one record, if it has this prefix, or none.
-fn try_slot(
-    managers: &Managers,
-    alloc: Global,
-    primitive: Primitive,
-    slot: &Option<Kept>,
-    prefix: Option<&[u8]>,
-    part: &[u8],
-    ad: &[u8],
-    trials: &mut Trials,
-) -> Result<Option<Vec<u8>>, NoMemory>
-    requires opens { Opens primitive }
-    requires served { IsServed (⟦<Managers as KeyTable>⟧.table managers.now) primitive slot.now }
-    requires part_bound { length part.now ≤ 2 ^ 30 + 96 }
-    requires ad_bound { length ad.now ≤ 2 ^ 30 }
-    ensures opened { IfOk result (λ plain. option_map (λ text. text.items) plain
-        ≡ open_with primitive part.now ad.now
-        (option_to_list (under (option_copied prefix.entry) slot.now))) }
-    ensures tries { IfOk result (λ _. trials.new ≡ tries_with primitive part.now ad.now
-        (option_to_list (under (option_copied prefix.entry) slot.now)) trials.old) }
-    ensures few { trials.new
-        ≤ trials.old + length (option_to_list (under (option_copied prefix.entry) slot.now)) }
-{
-    match slot {
-        Some(kept) => {
-            if is_under(kept, prefix) {
-                try_key(managers, alloc, primitive, kept, part, ad, trials)
-            } else {
-                Ok(None)
-            }
-        }
-        None => Ok(None),
-    }
-}
-
-// Tries the kept keys with this prefix, or with none, in order.
-fn try_under(
+// Tries the key that is kept at this place.
+fn try_at(
     managers: &Managers,
     alloc: Global,
     primitive: Primitive,
     slots: &[Option<Kept>],
-    prefix: Option<&[u8]>,
+    place: usize,
     part: &[u8],
     ad: &[u8],
     trials: &mut Trials,
@@ -110,15 +63,40 @@ fn try_under(
     requires part_bound { length part.now ≤ 2 ^ 30 + 96 }
     requires ad_bound { length ad.now ≤ 2 ^ 30 }
     ensures opened { IfOk result (λ plain. option_map (λ text. text.items) plain
-        ≡ open_with primitive part.now ad.now
-        (all_under (option_copied prefix.entry) slots.now)) }
+        ≡ open_with primitive part.now ad.now (option_to_list (kept_in slots.now place))) }
     ensures tries { IfOk result (λ _. trials.new ≡ tries_with primitive part.now ad.now
-        (all_under (option_copied prefix.entry) slots.now) trials.old) }
-    ensures few { trials.new
-        ≤ trials.old + length (all_under (option_copied prefix.entry) slots.now) }
+        (option_to_list (kept_in slots.now place)) trials.old) }
+    ensures few { trials.new ≤ trials.old + length (option_to_list (kept_in slots.now place)) }
 {
-    for slot in slots {
-        if let Some(plain) = try_slot(managers, alloc, primitive, slot, prefix, part, ad, trials)? {
+    match slots.get(place) {
+        Some(Some(kept)) => try_key(managers, alloc, primitive, kept, part, ad, trials),
+        Some(None) | None => Ok(None),
+    }
+}
+
+// Tries the keys that are kept at these places, in order.
+fn try_places(
+    managers: &Managers,
+    alloc: Global,
+    primitive: Primitive,
+    slots: &[Option<Kept>],
+    places: &[usize],
+    part: &[u8],
+    ad: &[u8],
+    trials: &mut Trials,
+) -> Result<Option<Vec<u8>>, NoMemory>
+    requires opens { Opens primitive }
+    requires served { AreServed (⟦<Managers as KeyTable>⟧.table managers.now) primitive slots.now }
+    requires part_bound { length part.now ≤ 2 ^ 30 + 96 }
+    requires ad_bound { length ad.now ≤ 2 ^ 30 }
+    ensures opened { IfOk result (λ plain. option_map (λ text. text.items) plain
+        ≡ open_with primitive part.now ad.now (kept_at slots.now places.now)) }
+    ensures tries { IfOk result (λ _. trials.new ≡ tries_with primitive part.now ad.now
+        (kept_at slots.now places.now) trials.old) }
+    ensures few { trials.new ≤ trials.old + length (kept_at slots.now places.now) }
+{
+    for place in places {
+        if let Some(plain) = try_at(managers, alloc, primitive, slots, *place, part, ad, trials)? {
             return Ok(Some(plain));
         }
     }
@@ -130,61 +108,55 @@ pub(crate) fn try_all(
     managers: &Managers,
     alloc: Global,
     primitive: Primitive,
-    slots: &[Option<Kept>],
+    held: &Held,
     bytes: &[u8],
     ad: &[u8],
     trials: &mut Trials,
 ) -> Result<Option<Vec<u8>>, NoMemory>
     requires opens { Opens primitive }
-    requires served { AreServed (⟦<Managers as KeyTable>⟧.table managers.now) primitive slots.now }
+    requires served { AreServed (⟦<Managers as KeyTable>⟧.table managers.now) primitive
+        held.now.slots.items }
     requires bytes_bound { length bytes.now ≤ 2 ^ 30 + 96 }
     requires ad_bound { length ad.now ≤ 2 ^ 30 }
     ensures opened { IfOk result (λ plain. option_map (λ text. text.items) plain
-        ≡ open_kept primitive slots.now bytes.now ad.now) }
+        ≡ open_kept primitive held.now bytes.now ad.now) }
     ensures tries { IfOk result (λ _. trials.new
-        ≡ tries_kept primitive slots.now bytes.now ad.now trials.old) }
-    ensures few { trials.new ≤ trials.old + length (all_under (Some (take 5 bytes.now)) slots.now)
-        + length (all_under None slots.now) }
+        ≡ tries_kept primitive held.now bytes.now ad.now trials.old) }
+    ensures few { trials.new ≤ trials.old + length (kept_under (take 5 bytes.now) held.now)
+        + length (kept_raw held.now) }
 {
-    let (hint, rest) = cut_prefix(bytes);
-    let first = try_under(
-        managers,
-        alloc,
-        primitive,
-        slots,
-        Some(hint),
-        rest,
-        ad,
-        trials,
-    )?;
+    let slots = held.slots.as_slice();
+    let raw = held.raw.as_slice();
+    let (prefix, rest) = cut_prefix(bytes);
+    let places = held.places(prefix);
+    let first = try_places(managers, alloc, primitive, slots, places, rest, ad, trials)?;
     if first.is_some() {
         return Ok(first);
     }
-    let plain = try_under(managers, alloc, primitive, slots, None, bytes, ad, trials)?;
+    let plain = try_places(managers, alloc, primitive, slots, raw, bytes, ad, trials)?;
     Ok(plain)
 }
 
-// Whether the tag of the body under what is kept is this one, if it has this prefix, or none.
-fn verify_slot(
+// Whether the tag of the body under the key that is kept at this place is this one.
+fn verify_at(
     managers: &Managers,
-    slot: &Option<Kept>,
-    prefix: Option<&[u8]>,
+    slots: &[Option<Kept>],
+    place: usize,
     tag: &[u8],
     body: &[u8],
     trials: &mut Trials,
 ) -> bool
-    requires served { IsServed (⟦<Managers as KeyTable>⟧.table managers.now) Mac slot.now }
+    requires served { AreServed (⟦<Managers as KeyTable>⟧.table managers.now) Mac slots.now }
     requires body_bound { length body.now ≤ 2 ^ 30 }
-    ensures verified { result ≡ verify_with tag.now body.now
-        (option_to_list (under (option_copied prefix.entry) slot.now)) }
+    ensures verified { result
+        ≡ verify_with tag.now body.now (option_to_list (kept_in slots.now place)) }
     ensures tries { trials.new ≡ tag_tries_with tag.now body.now
-        (option_to_list (under (option_copied prefix.entry) slot.now)) trials.old }
-    ensures few { trials.new
-        ≤ trials.old + length (option_to_list (under (option_copied prefix.entry) slot.now)) }
+        (option_to_list (kept_in slots.now place)) trials.old }
+    ensures few { trials.new ≤ trials.old + length (option_to_list (kept_in slots.now place)) }
 {
-    match slot {
-        Some(kept) => is_under(kept, prefix) && verify_key(managers, kept, tag, body, trials),
-        None => false,
+    match slots.get(place) {
+        Some(Some(kept)) => verify_key(managers, kept, tag, body, trials),
+        Some(None) | None => false,
     }
 }
 
@@ -207,26 +179,24 @@ fn verify_key(
         .verify(&kept.key, tag, body, kept.is_legacy, trials)
 }
 
-// Tries the tag under the kept keys with this prefix, or with none, in order.
-fn verify_under(
+// Tries the tag under the keys that are kept at these places, in order.
+fn verify_places(
     managers: &Managers,
     slots: &[Option<Kept>],
-    prefix: Option<&[u8]>,
+    places: &[usize],
     tag: &[u8],
     body: &[u8],
     trials: &mut Trials,
 ) -> bool
     requires served { AreServed (⟦<Managers as KeyTable>⟧.table managers.now) Mac slots.now }
     requires body_bound { length body.now ≤ 2 ^ 30 }
-    ensures verified { result ≡ verify_with tag.now body.now
-        (all_under (option_copied prefix.entry) slots.now) }
-    ensures tries { trials.new ≡ tag_tries_with tag.now body.now
-        (all_under (option_copied prefix.entry) slots.now) trials.old }
-    ensures few { trials.new
-        ≤ trials.old + length (all_under (option_copied prefix.entry) slots.now) }
+    ensures verified { result ≡ verify_with tag.now body.now (kept_at slots.now places.now) }
+    ensures tries { trials.new
+        ≡ tag_tries_with tag.now body.now (kept_at slots.now places.now) trials.old }
+    ensures few { trials.new ≤ trials.old + length (kept_at slots.now places.now) }
 {
-    for slot in slots {
-        if verify_slot(managers, slot, prefix, tag, body, trials) {
+    for place in places {
+        if verify_at(managers, slots, *place, tag, body, trials) {
             return true;
         }
     }
@@ -236,21 +206,25 @@ fn verify_under(
 /// Tries the tag under the keys with the prefix at its front, and then under those with none.
 pub(crate) fn verify_all(
     managers: &Managers,
-    slots: &[Option<Kept>],
+    held: &Held,
     tag: &[u8],
     body: &[u8],
     trials: &mut Trials,
 ) -> bool
-    requires served { AreServed (⟦<Managers as KeyTable>⟧.table managers.now) Mac slots.now }
+    requires served { AreServed (⟦<Managers as KeyTable>⟧.table managers.now) Mac
+        held.now.slots.items }
     requires body_bound { length body.now ≤ 2 ^ 30 }
-    ensures verified { result ≡ verify_kept slots.now tag.now body.now }
-    ensures tries { trials.new ≡ tag_tries_kept slots.now tag.now body.now trials.old }
-    ensures few { trials.new ≤ trials.old + length (all_under (Some (take 5 tag.now)) slots.now)
-        + length (all_under None slots.now) }
+    ensures verified { result ≡ verify_kept held.now tag.now body.now }
+    ensures tries { trials.new ≡ tag_tries_kept held.now tag.now body.now trials.old }
+    ensures few { trials.new ≤ trials.old + length (kept_under (take 5 tag.now) held.now)
+        + length (kept_raw held.now) }
 {
-    let (hint, rest) = cut_prefix(tag);
-    if verify_under(managers, slots, Some(hint), rest, body, trials) {
+    let slots = held.slots.as_slice();
+    let raw = held.raw.as_slice();
+    let (prefix, rest) = cut_prefix(tag);
+    let places = held.places(prefix);
+    if verify_places(managers, slots, places, rest, body, trials) {
         return true;
     }
-    verify_under(managers, slots, None, tag, body, trials)
+    verify_places(managers, slots, raw, tag, body, trials)
 }

@@ -1,6 +1,6 @@
 use Rattle.std.proofs.Common.{drop}
 use Rattle.managers.specs.Table.{Table, entries_by}
-use Rattle.wrapped_prims.specs.Making.{IsKept}
+use Rattle.wrapped_prims.specs.Adding.{IsKept}
 use Rattle.wrapped_prims.proofs.handle.Handle.new.Given as goal
 
 abbrev pub invariant-loop-i : goal.invariant-loop-i
@@ -11,4 +11,4 @@ invariant-loop-i g l =
       mac = entries_by (λ b. (goal.MacManager-dyn g (b.vtable, b.value)).KeyManager.url b.value) (λ b. (goal.MacManager-dyn g (b.vtable, b.value)).KeyManager.scheme b.value) l.managers.mac.items;
       prf = entries_by (λ b. (goal.PrfManager-dyn g (b.vtable, b.value)).KeyManager.url b.value) (λ b. (goal.PrfManager-dyn g (b.vtable, b.value)).KeyManager.scheme b.value) l.managers.prf.items;
     } in
-    IsKept table l.primitive l.keyset.records (drop l.i l.keyset.records) l.i l.slots.items
+    IsKept table l.primitive l.keyset (drop l.i l.keyset.records) l.i l.held
