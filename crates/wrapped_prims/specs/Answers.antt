@@ -104,9 +104,11 @@ abbrev pub opened_by : Primitive → Keys → Table → (bytes ad : List ℕ) �
 opened_by primitive keys table bytes ad =
     first_some (map (opened table primitive ad) (candidates keys bytes))
 
+-- that of sealed bytes, with their associated data
 abbrev pub open_answer : Keys → Table → (bytes ad : List ℕ) → Option (List ℕ)
 open_answer keys table bytes ad = opened_by Aead keys table bytes ad
 
+-- that of bytes that were sealed without an IV
 abbrev pub dopen_answer : Keys → Table → (bytes ad : List ℕ) → Option (List ℕ)
 dopen_answer keys table bytes ad = opened_by Daead keys table bytes ad
 

@@ -10,9 +10,11 @@ use Rattle.std.specs.Str.{bytes_eq}
 use Rattle.keyset_model.specs.Keyset.{Keys, is_enabled}
 use Rattle.keyset_model.specs.declared.record.Record.{Record}
 
+-- its output prefix type is RAW, so nothing stands in front of its outputs
 abbrev pub is_raw : Record → Bool
 is_raw r = r.prefix == 3
 
+-- it is LEGACY, whose tags are those of the body and one byte 0
 abbrev pub is_legacy : Record → Bool
 is_legacy r = r.prefix == 2
 

@@ -21,6 +21,7 @@ abbrev pub reading_of : Table → Primitive → Record → Option (Result KeyKin
 reading_of table primitive r =
     option_map (λ scheme. key_under scheme r.value) (scheme_at table primitive r.url)
 
+-- the key that was read, where there is one
 abbrev pub read_key : Option (Result KeyKind Rule) → Option KeyKind
 read_key None = None
 read_key (Some (Ok key)) = Some key
