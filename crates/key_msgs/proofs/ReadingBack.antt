@@ -19,9 +19,9 @@ use Rattle.key_msgs.specs.Contents.{Contents, nothing}
 use Rattle.key_msgs.specs.KeyTypes.{layout_of, aes_ctr_fields, hmac_fields}
 use Rattle.key_msgs.specs.Keys.{type_of, contents_of, hash_number, key_from}
 use Rattle.key_msgs.specs.Reading.{plain, ctr_hmac, contents_in, formed, unless_broken, checked, key_of}
-use Rattle.key_msgs.specs.Writing.{if_field, hmac_entries, params_entries, params_entry, plain_entries, plain_written, value_of, IsShort, AreNumbers, IsLayout, KeysReadBack}
+use Rattle.key_msgs.specs.Writing.{if_field, hmac_entries, params_entries, params_entry, plain_entries, plain_written, value_of, ListsWithin, AreNumbers, IsLayout, KeysReadBack}
 use Rattle.key_msgs.proofs.ReadingLemmas.{message_gives}
-use Rattle.key_msgs.proofs.WritingLemmas.{length-hmac, length-params, short-plain}
+use Rattle.key_msgs.proofs.WritingLemmas.{length-hmac, length-params, length-plain}
 
 -- ---- what is written can be
 
@@ -41,20 +41,20 @@ number-is number value most below = if_field-are number (uint32 number value) (�
 hmac-are : (m : Contents) → AreNumbers m → AreWritable (hmac_entries m)
 hmac-are m held = (((lit< tt, lit≤ tt), held.mac_hash), (((lit< tt, lit≤ tt), held.mac_tag_size), tt))
 
-params-are : (layout : Layout) (m : Contents) → IsLayout layout → AreNumbers m → IsShort m → AreWritable (params_entries layout m)
-params-are layout m laid held short =
+params-are : (layout : Layout) (m : Contents) → IsLayout layout → AreNumbers m → ListsWithin (2 ^ 31) m → AreWritable (params_entries layout m)
+params-are layout m laid held lists =
     both-are _ _ (number-is layout.iv_size m.iv_size laid.iv_size held.iv_size)
     (both-are _ _ (number-is layout.segment m.segment laid.segment held.segment)
     (both-are _ _ (number-is layout.derived m.derived laid.derived held.derived)
     (both-are _ _ (number-is layout.hash m.hash laid.hash held.hash)
     (both-are _ _ (number-is layout.tag_size m.tag_size laid.tag_size held.tag_size)
-    (both-are _ _ (if_field-are layout.salt (content layout.salt m.salt) (λ least. ((least, laid.salt), omega arith)))
+    (both-are _ _ (if_field-are layout.salt (content layout.salt m.salt) (λ least. ((least, laid.salt), omega (arith, lists.salt))))
     (if_field-are layout.hmac_params (message layout.hmac_params (written_all (hmac_entries m))) (λ least. ((least, laid.hmac_params), omega (arith, length-hmac m)))))))))
 
-plain-are : (layout : Layout) (m : Contents) → IsLayout layout → AreNumbers m → IsShort m → AreWritable (plain_entries layout m)
-plain-are layout m laid held short =
-    let key : IsWritable (content layout.key_value m.key) = ((laid.least, laid.key_value), omega arith) in
-    let params : AreWritable (params_entry layout m) = if_field-are layout.params (message layout.params (written_all (params_entries layout m))) (λ least. ((least, laid.params), omega (arith, length-params layout m))) in
+plain-are : (layout : Layout) (m : Contents) → IsLayout layout → AreNumbers m → ListsWithin (2 ^ 31) m → AreWritable (plain_entries layout m)
+plain-are layout m laid held lists =
+    let key : IsWritable (content layout.key_value m.key) = ((laid.least, laid.key_value), omega (arith, lists.key)) in
+    let params : AreWritable (params_entry layout m) = if_field-are layout.params (message layout.params (written_all (params_entries layout m))) (λ least. ((least, laid.params), omega (arith, length-params layout m, lists.salt))) in
     elim (leb_tells (suc layout.key_value) layout.params) [
       | inl is ↦ rw is.0 (key, params)
       | inr other ↦ rw other.0 (both-are (params_entry layout m) (content layout.key_value m.key ∷ []) params (key, tt))
@@ -103,14 +103,14 @@ plain-back layout entries params hmac m at is held params_are hmac_are =
     (ap (λ (l : List ℕ). Ok (record m { mac = l })) is.mac)
 
 plain-key : (type : KeyType) (m : Contents) (hmac : List Entry) → ((fields : List WireField) → contents_in type fields ≡ plain (layout_of type) fields) → IsLayout (layout_of type)
-    → IsReadAs (layout_of type) (plain_entries (layout_of type) m) (params_entries (layout_of type) m) hmac m → AreWritable hmac → AreNumbers m → IsShort m
+    → IsReadAs (layout_of type) (plain_entries (layout_of type) m) (params_entries (layout_of type) m) hmac m → AreWritable hmac → AreNumbers m → ListsWithin (2 ^ 31) m
     → key_of type (plain_written (layout_of type) m) ≡ checked type m
 unfolding plain_written
-plain-key type m hmac same laid is hmac_are held short =
+plain-key type m hmac same laid is hmac_are held lists =
     let layout = layout_of type in
     let entries = plain_entries layout m in
-    message_gives type (written_all entries) (fields_of_all 0 entries) m (cut-all 0 entries (plain-are layout m laid held short))
-    (ap (λ (r : Result Contents ℕ). formed r) (same (fields_of_all 0 entries) ∙ plain-back layout entries (params_entries layout m) hmac m 0 is held (params-are layout m laid held short) hmac_are))
+    message_gives type (written_all entries) (fields_of_all 0 entries) m (cut-all 0 entries (plain-are layout m laid held lists))
+    (ap (λ (r : Result Contents ℕ). formed r) (same (fields_of_all 0 entries) ∙ plain-back layout entries (params_entries layout m) hmac m 0 is held (params-are layout m laid held lists) hmac_are))
 
 -- ---- AES-CTR-HMAC
 
@@ -131,18 +131,17 @@ abbrev aes_contents : List ℕ → ℕ → Contents
 aes_contents key iv_size = record nothing { key = key; iv_size = iv_size }
 
 ctr-key : (aes : List ℕ) (iv_size mac_hash : ℕ) (mac : List ℕ) (tag_size : ℕ) (m : Contents) → m ≡ record nothing { key = aes; iv_size = iv_size; mac_hash = mac_hash; mac = mac; mac_tag_size = tag_size }
-    → length aes < 2 ^ 29 → length mac < 2 ^ 29 → iv_size < 2 ^ 32 → mac_hash < 2 ^ 32 → tag_size < 2 ^ 32
+    → length aes ≤ 2 ^ 31 → length mac ≤ 2 ^ 31 → iv_size < 2 ^ 32 → mac_hash < 2 ^ 32 → tag_size < 2 ^ 32
     → key_of types.AesCtrHmac (written_all (message 2 (plain_written aes_ctr_fields (aes_contents aes iv_size)) ∷ message 3 (plain_written hmac_fields (record nothing { hash = mac_hash; tag_size = tag_size; key = mac })) ∷ [])) ≡ checked types.AesCtrHmac m
 unfolding plain_written
 ctr-key aes iv_size mac_hash mac tag_size m is aes_short mac_short iv_below hash_below tag_below =
     let first = aes_contents aes iv_size in
     let second : Contents = record nothing { hash = mac_hash; tag_size = tag_size; key = mac } in
     let zero : 0 < 2 ^ 32 = lit< tt in
-    let none : 0 < 2 ^ 29 = lit< tt in
     let first_held : AreNumbers first = record { version = zero; iv_size = iv_below; segment = zero; derived = zero; hash = zero; tag_size = zero; mac_hash = zero; mac_tag_size = zero } in
     let second_held : AreNumbers second = record { version = zero; iv_size = zero; segment = zero; derived = zero; hash = hash_below; tag_size = tag_below; mac_hash = zero; mac_tag_size = zero } in
-    let first_short : IsShort first = (aes_short, none, none) in
-    let second_short : IsShort second = (mac_short, none, none) in
+    let first_short : ListsWithin (2 ^ 31) first = record { key = aes_short; salt = lit≤ tt; mac = lit≤ tt } in
+    let second_short : ListsWithin (2 ^ 31) second = record { key = mac_short; salt = lit≤ tt; mac = lit≤ tt } in
     let first_entries = plain_entries aes_ctr_fields first in
     let second_entries = plain_entries hmac_fields second in
     let entries = message 2 (written_all first_entries) ∷ message 3 (written_all second_entries) ∷ [] in
@@ -159,7 +158,7 @@ ctr-key aes iv_size mac_hash mac tag_size m is aes_short mac_short iv_below hash
     let version = number-back 1 0 entries 0 refl zero in
     let read : ctr_hmac (fields_of_all 0 entries) ≡ Ok m = ctr-back (fields_of_all 0 entries) _ _ first second version aes_message.1 aes_plain mac_message.1 mac_plain ∙ ap (λ (c : Contents). Ok c) (sym is) in
     message_gives types.AesCtrHmac (written_all entries) (fields_of_all 0 entries) m
-    (cut-all 0 entries (((lit< tt, lit≤ tt), short-plain aes_ctr_fields first none aes_short), (((lit< tt, lit≤ tt), short-plain hmac_fields second none mac_short), tt)))
+    (cut-all 0 entries (((lit< tt, lit≤ tt), omega (arith, length-plain aes_ctr_fields first)), (((lit< tt, lit≤ tt), omega (arith, length-plain hmac_fields second)), tt)))
     (ap (λ (r : Result Contents ℕ). formed r) read)
 
 -- ---- every kind
@@ -185,53 +184,53 @@ from-back (kinds.GcmStream key segment derived hash) = rw (hash-back hash) refl
 from-back (kinds.CtrStream key segment derived hash mac_hash tag_size) = rw (hash-back hash, hash-back mac_hash) refl
 
 abbrev IsReadKey : KeyKind → Type 0
-IsReadKey key = AreNumbers (contents_of key) → IsShort (contents_of key) → key_of (type_of key) (value_of key) ≡ checked (type_of key) (contents_of key)
+IsReadKey key = AreNumbers (contents_of key) → ListsWithin (2 ^ 31) (contents_of key) → key_of (type_of key) (value_of key) ≡ checked (type_of key) (contents_of key)
 
 read-back : (key : KeyKind) → IsReadKey key
 unfolding plain_written
-read-back (kinds.AesGcm key) held short =
+read-back (kinds.AesGcm key) held lists =
     plain-key types.AesGcm (contents_of (kinds.AesGcm key)) [] (λ fields. refl)
     (record { params = lit≤ tt; iv_size = lit≤ tt; segment = lit≤ tt; derived = lit≤ tt; hash = lit≤ tt; tag_size = lit≤ tt; salt = lit≤ tt; hmac_params = lit≤ tt; least = lit< tt; key_value = lit≤ tt })
-    (record { version = refl; params = refl; iv_size = refl; segment = refl; derived = refl; hash = refl; tag_size = refl; salt = refl; hmac = refl; mac_hash = refl; mac_tag_size = refl; key = refl; mac = refl }) tt held short
-read-back (kinds.AesEax key iv_size) held short =
+    (record { version = refl; params = refl; iv_size = refl; segment = refl; derived = refl; hash = refl; tag_size = refl; salt = refl; hmac = refl; mac_hash = refl; mac_tag_size = refl; key = refl; mac = refl }) tt held lists
+read-back (kinds.AesEax key iv_size) held lists =
     plain-key types.AesEax (contents_of (kinds.AesEax key iv_size)) [] (λ fields. refl)
     (record { params = lit≤ tt; iv_size = lit≤ tt; segment = lit≤ tt; derived = lit≤ tt; hash = lit≤ tt; tag_size = lit≤ tt; salt = lit≤ tt; hmac_params = lit≤ tt; least = lit< tt; key_value = lit≤ tt })
-    (record { version = refl; params = refl; iv_size = refl; segment = refl; derived = refl; hash = refl; tag_size = refl; salt = refl; hmac = refl; mac_hash = refl; mac_tag_size = refl; key = refl; mac = refl }) tt held short
-read-back (kinds.AesCtrHmac aes iv_size hash mac tag_size) held short =
-    ctr-key aes iv_size (hash_number hash) mac tag_size (contents_of (kinds.AesCtrHmac aes iv_size hash mac tag_size)) refl short.0 short.2 held.iv_size held.mac_hash held.mac_tag_size
-read-back (kinds.AesSiv key) held short =
+    (record { version = refl; params = refl; iv_size = refl; segment = refl; derived = refl; hash = refl; tag_size = refl; salt = refl; hmac = refl; mac_hash = refl; mac_tag_size = refl; key = refl; mac = refl }) tt held lists
+read-back (kinds.AesCtrHmac aes iv_size hash mac tag_size) held lists =
+    ctr-key aes iv_size (hash_number hash) mac tag_size (contents_of (kinds.AesCtrHmac aes iv_size hash mac tag_size)) refl lists.key lists.mac held.iv_size held.mac_hash held.mac_tag_size
+read-back (kinds.AesSiv key) held lists =
     plain-key types.AesSiv (contents_of (kinds.AesSiv key)) [] (λ fields. refl)
     (record { params = lit≤ tt; iv_size = lit≤ tt; segment = lit≤ tt; derived = lit≤ tt; hash = lit≤ tt; tag_size = lit≤ tt; salt = lit≤ tt; hmac_params = lit≤ tt; least = lit< tt; key_value = lit≤ tt })
-    (record { version = refl; params = refl; iv_size = refl; segment = refl; derived = refl; hash = refl; tag_size = refl; salt = refl; hmac = refl; mac_hash = refl; mac_tag_size = refl; key = refl; mac = refl }) tt held short
-read-back (kinds.Hmac key hash tag_size) held short =
+    (record { version = refl; params = refl; iv_size = refl; segment = refl; derived = refl; hash = refl; tag_size = refl; salt = refl; hmac = refl; mac_hash = refl; mac_tag_size = refl; key = refl; mac = refl }) tt held lists
+read-back (kinds.Hmac key hash tag_size) held lists =
     plain-key types.Hmac (contents_of (kinds.Hmac key hash tag_size)) [] (λ fields. refl)
     (record { params = lit≤ tt; iv_size = lit≤ tt; segment = lit≤ tt; derived = lit≤ tt; hash = lit≤ tt; tag_size = lit≤ tt; salt = lit≤ tt; hmac_params = lit≤ tt; least = lit< tt; key_value = lit≤ tt })
-    (record { version = refl; params = refl; iv_size = refl; segment = refl; derived = refl; hash = refl; tag_size = refl; salt = refl; hmac = refl; mac_hash = refl; mac_tag_size = refl; key = refl; mac = refl }) tt held short
-read-back (kinds.AesCmac key tag_size) held short =
+    (record { version = refl; params = refl; iv_size = refl; segment = refl; derived = refl; hash = refl; tag_size = refl; salt = refl; hmac = refl; mac_hash = refl; mac_tag_size = refl; key = refl; mac = refl }) tt held lists
+read-back (kinds.AesCmac key tag_size) held lists =
     plain-key types.AesCmac (contents_of (kinds.AesCmac key tag_size)) [] (λ fields. refl)
     (record { params = lit≤ tt; iv_size = lit≤ tt; segment = lit≤ tt; derived = lit≤ tt; hash = lit≤ tt; tag_size = lit≤ tt; salt = lit≤ tt; hmac_params = lit≤ tt; least = lit< tt; key_value = lit≤ tt })
-    (record { version = refl; params = refl; iv_size = refl; segment = refl; derived = refl; hash = refl; tag_size = refl; salt = refl; hmac = refl; mac_hash = refl; mac_tag_size = refl; key = refl; mac = refl }) tt held short
-read-back (kinds.HkdfPrf key hash salt) held short =
+    (record { version = refl; params = refl; iv_size = refl; segment = refl; derived = refl; hash = refl; tag_size = refl; salt = refl; hmac = refl; mac_hash = refl; mac_tag_size = refl; key = refl; mac = refl }) tt held lists
+read-back (kinds.HkdfPrf key hash salt) held lists =
     plain-key types.HkdfPrf (contents_of (kinds.HkdfPrf key hash salt)) [] (λ fields. refl)
     (record { params = lit≤ tt; iv_size = lit≤ tt; segment = lit≤ tt; derived = lit≤ tt; hash = lit≤ tt; tag_size = lit≤ tt; salt = lit≤ tt; hmac_params = lit≤ tt; least = lit< tt; key_value = lit≤ tt })
-    (record { version = refl; params = refl; iv_size = refl; segment = refl; derived = refl; hash = refl; tag_size = refl; salt = refl; hmac = refl; mac_hash = refl; mac_tag_size = refl; key = refl; mac = refl }) tt held short
-read-back (kinds.HmacPrf key hash) held short =
+    (record { version = refl; params = refl; iv_size = refl; segment = refl; derived = refl; hash = refl; tag_size = refl; salt = refl; hmac = refl; mac_hash = refl; mac_tag_size = refl; key = refl; mac = refl }) tt held lists
+read-back (kinds.HmacPrf key hash) held lists =
     plain-key types.HmacPrf (contents_of (kinds.HmacPrf key hash)) [] (λ fields. refl)
     (record { params = lit≤ tt; iv_size = lit≤ tt; segment = lit≤ tt; derived = lit≤ tt; hash = lit≤ tt; tag_size = lit≤ tt; salt = lit≤ tt; hmac_params = lit≤ tt; least = lit< tt; key_value = lit≤ tt })
-    (record { version = refl; params = refl; iv_size = refl; segment = refl; derived = refl; hash = refl; tag_size = refl; salt = refl; hmac = refl; mac_hash = refl; mac_tag_size = refl; key = refl; mac = refl }) tt held short
-read-back (kinds.CmacPrf key) held short =
+    (record { version = refl; params = refl; iv_size = refl; segment = refl; derived = refl; hash = refl; tag_size = refl; salt = refl; hmac = refl; mac_hash = refl; mac_tag_size = refl; key = refl; mac = refl }) tt held lists
+read-back (kinds.CmacPrf key) held lists =
     plain-key types.CmacPrf (contents_of (kinds.CmacPrf key)) [] (λ fields. refl)
     (record { params = lit≤ tt; iv_size = lit≤ tt; segment = lit≤ tt; derived = lit≤ tt; hash = lit≤ tt; tag_size = lit≤ tt; salt = lit≤ tt; hmac_params = lit≤ tt; least = lit< tt; key_value = lit≤ tt })
-    (record { version = refl; params = refl; iv_size = refl; segment = refl; derived = refl; hash = refl; tag_size = refl; salt = refl; hmac = refl; mac_hash = refl; mac_tag_size = refl; key = refl; mac = refl }) tt held short
-read-back (kinds.GcmStream key segment derived hash) held short =
+    (record { version = refl; params = refl; iv_size = refl; segment = refl; derived = refl; hash = refl; tag_size = refl; salt = refl; hmac = refl; mac_hash = refl; mac_tag_size = refl; key = refl; mac = refl }) tt held lists
+read-back (kinds.GcmStream key segment derived hash) held lists =
     plain-key types.GcmStream (contents_of (kinds.GcmStream key segment derived hash)) [] (λ fields. refl)
     (record { params = lit≤ tt; iv_size = lit≤ tt; segment = lit≤ tt; derived = lit≤ tt; hash = lit≤ tt; tag_size = lit≤ tt; salt = lit≤ tt; hmac_params = lit≤ tt; least = lit< tt; key_value = lit≤ tt })
-    (record { version = refl; params = refl; iv_size = refl; segment = refl; derived = refl; hash = refl; tag_size = refl; salt = refl; hmac = refl; mac_hash = refl; mac_tag_size = refl; key = refl; mac = refl }) tt held short
-read-back (kinds.CtrStream key segment derived hash mac_hash tag_size) held short =
+    (record { version = refl; params = refl; iv_size = refl; segment = refl; derived = refl; hash = refl; tag_size = refl; salt = refl; hmac = refl; mac_hash = refl; mac_tag_size = refl; key = refl; mac = refl }) tt held lists
+read-back (kinds.CtrStream key segment derived hash mac_hash tag_size) held lists =
     plain-key types.CtrStream (contents_of (kinds.CtrStream key segment derived hash mac_hash tag_size)) (hmac_entries (contents_of (kinds.CtrStream key segment derived hash mac_hash tag_size))) (λ fields. refl)
     (record { params = lit≤ tt; iv_size = lit≤ tt; segment = lit≤ tt; derived = lit≤ tt; hash = lit≤ tt; tag_size = lit≤ tt; salt = lit≤ tt; hmac_params = lit≤ tt; least = lit< tt; key_value = lit≤ tt })
-    (record { version = refl; params = refl; iv_size = refl; segment = refl; derived = refl; hash = refl; tag_size = refl; salt = refl; hmac = refl; mac_hash = refl; mac_tag_size = refl; key = refl; mac = refl }) (hmac-are _ held) held short
+    (record { version = refl; params = refl; iv_size = refl; segment = refl; derived = refl; hash = refl; tag_size = refl; salt = refl; hmac = refl; mac_hash = refl; mac_tag_size = refl; key = refl; mac = refl }) (hmac-are _ held) held lists
 
 pub keys-back : KeysReadBack
-keys-back key valid held short =
-    read-back key held short ∙ ap (λ (broken : Option Rule). unless_broken broken (key_from (type_of key) (contents_of key))) valid ∙ from-back key
+keys-back key valid held lists =
+    read-back key held lists ∙ ap (λ (broken : Option Rule). unless_broken broken (key_from (type_of key) (contents_of key))) valid ∙ from-back key

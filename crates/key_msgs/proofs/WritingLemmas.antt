@@ -1,11 +1,12 @@
 -- What is written of a key, and how long it is.
-use Rattle.std.proofs.Common.{◌≡◌, ◌∙◌, ap, sym, refl, ℕ, suc, ◌+◌, ◌<◌, ◌≤◌, ◌^◌, List, [], ◌∷◌, ◌++◌, length, arith, inl, inr}
+use Rattle.std.proofs.Common.{◌≡◌, ◌∙◌, ap, sym, refl, ℕ, suc, ◌+◌, ◌<◌, ◌≤◌, List, [], ◌∷◌, ◌++◌, length, arith, inl, inr}
 use Rattle.std.proofs.lemmas.Bool.Decides.{leb_tells, eqb_tells}
 use Rattle.std.proofs.lemmas.List.{append_assoc, append-nil, length-append}
 use Rattle.proto_wire.specs.Written.{Entry, uint32, content, message, written, written_all}
 use Rattle.proto_wire.proofs.Writing.{written_all-append, size_of, length-written}
 use Rattle.key_msgs.specs.declared.layout.Layout.{Layout}
 use Rattle.key_msgs.specs.Contents.{Contents}
+use Rattle.key_msgs.specs.KeyTypes.{aes_ctr_fields}
 use Rattle.key_msgs.specs.Writing.{if_field, hmac_entries, params_entries, params_entry, plain_written}
 
 pub length-if_field : (number : ℕ) (entry : Entry) → length (written_all (if_field number entry)) ≤ 20 + size_of entry
@@ -70,8 +71,12 @@ length-plain layout m =
       | inr other ↦ omega (arith, ap length (params-before layout m (omega (arith, other.1))), length-append (written_all (params_entry layout m)) (written (content layout.key_value m.key)), length-if_field layout.params (message layout.params payload), length-written (content layout.key_value m.key), length-params layout m)
     ]
 
-pub short-plain : (layout : Layout) (m : Contents) → length m.salt < 2 ^ 29 → length m.key < 2 ^ 29 → length (plain_written layout m) < 2 ^ 31
-short-plain layout m salt key = omega (arith, length-plain layout m)
+-- an AES-CTR key has no salt, whatever the contents have
+pub length-aes : (m : Contents) → length (plain_written aes_ctr_fields m) ≤ 240 + length m.key
+unfolding plain_written
+length-aes m =
+    let without : length (plain_written aes_ctr_fields m) ≤ 240 + 0 + length m.key = length-plain aes_ctr_fields (record m { salt = [] }) in
+    omega (arith, without)
 
 -- ---- what a writer has in the end
 

@@ -1,7 +1,7 @@
 -- What the messages of key types hold (Tink, *.proto), apart from where they hold it.
 --
 --   Contents   the known fields of a key message, those of its inner messages among them
---   Layout     the field numbers of a message that has one key value
+--   nothing    those of a message that has none
 use Rattle.std.specs.Prelude.{ℕ, List, []}
 
 -- the known fields of a key message, those of its inner messages among them; 0 and no byte stand

@@ -1,8 +1,12 @@
 -- The key types (Tink, *.proto): for each its message's name, its primitive and its fields.
 --
+--   row_of        the table of these
+--   aes_ctr_fields, hmac_fields   the fields of the messages inside AesCtrHmacAeadKey
+--   all_types     the eleven key types
 --   type_of_url   the key type of a type URL
---   Layout        the field numbers of a message with one key value; 0 is no number of a field, so
---                 it stands for a field that the message doesn't have
+--
+-- The fields are the field numbers of a message with one key value; 0 is no number of a field, so it
+-- stands for a field that the message doesn't have.
 use Rattle.std.specs.Prelude.{ℕ, List, [], ◌∷◌, ◌++◌, Option, find, codes}
 use Rattle.std.specs.Str.{bytes_eq}
 use Rattle.key_msgs.specs.declared.key_type.KeyType.{KeyType}

@@ -1,7 +1,8 @@
 -- Which contents of a key message are valid (Tink's proto files say which fields there are; the
 -- sizes are those that this program takes).
 --
---   fits           what each rule asks of the contents, by key type
+--   hash_fits .. segment_fits   what each rule asks of the contents, by key type
+--   keeps          the contents keep the rule
 --   first_broken   the first of the rules that the contents break, in the order of the rules
 use Rattle.std.specs.Prelude.{ℕ, ◌+◌, ◌^◌, List, [], ◌∷◌, length, Bool, true, not, ◌==◌, ◌&&◌, ◌||◌, nat_lt, nat_le, Option, Some, None, is_some, find}
 use Rattle.tink_base.specs.Hash.{hash_of_number, hash_size}

@@ -2,7 +2,10 @@
 --
 --   plain_written   a message with one key value, by its field numbers
 --   value_of        the message of a key
---   KeysReadBack    it reads back to the key
+--   ListsWithin     its lists have at most so many bytes each
+--   AreNumbers      its numbers have 32 bits
+--   KeysReadBack    the message reads back to the key
+--   IsLayout        what the field numbers of a message are
 use Rattle.std.specs.Prelude.{◌≡◌, ℕ, ◌<◌, ◌≤◌, ◌^◌, List, [], ◌∷◌, ◌++◌, length, Ok, ◌==◌, nat_lt, if◌then◌else◌}
 use Rattle.tink_spec.specs.Wire.{greatest_number}
 use Rattle.proto_wire.specs.Written.{Entry, uint32, content, message, written_all}
@@ -62,9 +65,11 @@ written_by type m = plain_written (layout_of type) m
 abbrev pub value_of : KeyKind → List ℕ
 value_of key = written_by (type_of key) (contents_of key)
 
--- fewer than 2 ^ 29 bytes in each field, so that each message can be written
-abbrev pub IsShort : Contents → Type 0
-IsShort m = (length m.key < 2 ^ 29) × (length m.salt < 2 ^ 29) × (length m.mac < 2 ^ 29)
+-- each list of bytes has at most so many of them
+pub record ListsWithin (size : ℕ) (m : Contents) : Type 0 where
+  pub key : length m.key ≤ size
+  pub salt : length m.salt ≤ size
+  pub mac : length m.mac ≤ size
 
 -- numbers of 32 bits, as the fields of messages are
 pub record AreNumbers (m : Contents) : Type 0 where
@@ -77,10 +82,11 @@ pub record AreNumbers (m : Contents) : Type 0 where
   pub mac_hash : m.mac_hash < 2 ^ 32
   pub mac_tag_size : m.mac_tag_size < 2 ^ 32
 
--- The message of a valid key reads back to that key, under the key's own type.
+-- The message of a valid key, with lists of at most 2 ^ 31 bytes each, reads back to that key, under the
+-- key's own type.
 abbrev pub KeysReadBack : Type 0
-KeysReadBack = (key : KeyKind) → IsValid key → AreNumbers (contents_of key) → IsShort (contents_of key) →
-    key_of (type_of key) (value_of key) ≡ Ok key
+KeysReadBack = (key : KeyKind) → IsValid key → AreNumbers (contents_of key)
+    → ListsWithin (2 ^ 31) (contents_of key) → key_of (type_of key) (value_of key) ≡ Ok key
 
 -- field numbers, or 0
 pub record IsLayout (layout : Layout) : Type 0 where

@@ -3,8 +3,8 @@
 ghost use Rattle.key_msgs.specs.Templates.{MadeKeysAreValid};
 ghost use Rattle.key_msgs.specs.Writing.{KeysReadBack};
 
-/// The message of a key that keeps the rules, with lists of fewer than 2^29 bytes, reads back to that
-/// key under the key's own type.
+/// The message of a key that keeps the rules, with lists of at most 2^31 bytes each, reads back to
+/// that key under the key's own type.
 pub fn key_back()
     ensures { KeysReadBack }
 {}

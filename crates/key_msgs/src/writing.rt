@@ -6,7 +6,7 @@ ghost use Rattle.proto_wire.specs.Written.{uint32, content, message, written, wr
 ghost use Rattle.key_msgs.specs.Contents.{nothing};
 ghost use Rattle.key_msgs.specs.Keys.{type_of, contents_of, hash_number};
 ghost use Rattle.key_msgs.specs.declared.key_type.KeyType.TheVariants as types;
-ghost use Rattle.key_msgs.specs.Writing.{if_field, hmac_entries, params_entries, params_entry, plain_entries, plain_written, mac_contents, written_by, value_of, IsShort, IsLayout};
+ghost use Rattle.key_msgs.specs.Writing.{if_field, hmac_entries, params_entries, params_entry, plain_entries, plain_written, mac_contents, written_by, value_of, ListsWithin, IsLayout};
 
 use crate::key::hash_number;
 use crate::layout::{aes_ctr_layout, fields_of_type};
@@ -176,7 +176,7 @@ fn write_hmac_params(alloc: Global, message: &Message<'_>) -> Result<Vec<u8>, No
 /// The message `params`.
 fn write_params(alloc: Global, layout: Layout, message: &Message<'_>) -> Result<Vec<u8>, NoMemory>
     requires layout { IsLayout layout }
-    requires short { IsShort message.now }
+    requires lists_bound { ListsWithin (2 ^ 30) message.now }
     ensures { IfOk result (λ bytes. bytes.items ≡ written_all (params_entries layout message.now)) }
 {
     let mut writer = Writer::new(alloc);
@@ -194,7 +194,7 @@ fn write_params(alloc: Global, layout: Layout, message: &Message<'_>) -> Result<
 /// A message with one key value, by its field numbers.
 fn write_plain(alloc: Global, layout: Layout, message: &Message<'_>) -> Result<Vec<u8>, NoMemory>
     requires layout { IsLayout layout }
-    requires short { IsShort message.now }
+    requires lists_bound { ListsWithin (2 ^ 30) message.now }
     ensures written { IfOk result (λ bytes. bytes.items ≡ plain_written layout message.now) }
 {
     let params = write_params(alloc, layout, message)?;
@@ -223,7 +223,7 @@ fn mac_message<'k>(message: &Message<'k>) -> Message<'k>
 
 /// An AesCtrHmacAeadKey message.
 fn write_ctr_hmac(alloc: Global, message: &Message<'_>) -> Result<Vec<u8>, NoMemory>
-    requires short { IsShort message.now }
+    requires lists_bound { ListsWithin (2 ^ 30) message.now }
     ensures { IfOk result (λ bytes. bytes.items ≡ written_by types.AesCtrHmac message.now) }
 {
     let mac = mac_message(message);
@@ -238,10 +238,10 @@ fn write_ctr_hmac(alloc: Global, message: &Message<'_>) -> Result<Vec<u8>, NoMem
 /// Writes the message of a key: its fields by number, without those that are 0 or empty and without
 /// its version, which is 0, and with all inner messages, also those with no bytes.
 ///
-/// The key values and the salt have to have fewer than 2^29 bytes each, so that the sizes of all inner
-/// messages are below 2^31. An error says that memory was refused.
+/// The key values and the salt have at most 2^30 bytes each, so that each inner message has fewer than
+/// 2^31. An error says that memory was refused.
 pub fn write_key(alloc: Global, key: &KeyKind) -> Result<Vec<u8>, NoMemory>
-    requires short { IsShort (contents_of key.now) }
+    requires lists_bound { ListsWithin (2 ^ 30) (contents_of key.now) }
     ensures { IfOk result (λ bytes. bytes.items ≡ value_of key.now) }
 {
     let message = contents_of(key);

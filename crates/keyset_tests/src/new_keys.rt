@@ -1,7 +1,7 @@
 //! New keys of the templates, as `protoc --encode` 3.21.12 writes them from Tink's message
 //! definitions, and read back.
 
-ghost use Rattle.std.specs.Prelude.{◌≡◌, ◌<◌, ◌^◌, length};
+ghost use Rattle.std.specs.Prelude.{◌≡◌, ◌≤◌, ◌^◌, length};
 ghost use Rattle.key_msgs.specs.Templates.{seen, random_of};
 
 use crate::key_rules::outcome;
@@ -35,7 +35,7 @@ fn written(
     random: &[u8],
 ) -> Result<(Vec<u8>, &'static str), NoMemory>
     requires size { length random.now ≡ random_of (seen template.now) }
-    requires short { length random.now < 2 ^ 29 }
+    requires random_bound { length random.now ≤ 2 ^ 30 }
 {
     let key = make_key(alloc, template, random)?;
     let bytes = write_key(alloc, &key)?;

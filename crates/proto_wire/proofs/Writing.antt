@@ -145,7 +145,7 @@ number-spells at number value is below = record {
   spelled = varint_of-spells value (omega arith);
 }
 
-bytes-spells : (at number : ℕ) (of : List ℕ) → IsFieldNumber number → length of < 2 ^ 31 → SpellsField (bytes_field number of) (bytes_from at number of)
+bytes-spells : (at number : ℕ) (of : List ℕ) → IsFieldNumber number → length of < 2 ^ 64 → SpellsField (bytes_field number of) (bytes_from at number of)
 bytes-spells at number of is below = record {
   tag = tag_of number 2;
   behind = varint_of (length of) ++ of;
@@ -153,7 +153,7 @@ bytes-spells at number of is below = record {
   least = is.0;
   most = is.1;
   tagged = varint_of-spells (number * 8 + 2) (omega (arith, is.1));
-  spelled = (varint_of (length of), varint_of-spells (length of) (omega arith), refl, refl);
+  spelled = (varint_of (length of), varint_of-spells (length of) below, refl, refl);
 }
 
 field-cut : (at : ℕ) (spelling rest : List ℕ) (field : WireField) → field.at ≡ at → SpellsField spelling field → cut at (spelling ++ rest) ≡ joined (Ok (field ∷ [])) (cut (at + length spelling) rest)

@@ -81,11 +81,12 @@ fields_of_all at (entry ∷ entries) =
 abbrev pub IsFieldNumber : ℕ → Type 0
 IsFieldNumber number = (0 < number) × (number ≤ greatest_number)
 
--- what can be written
+-- what is cut back once it is written: the number is that of a field, a value has 32 bits, and a
+-- length is one that a varint says
 abbrev pub IsWritable : Entry → Type 0
 IsWritable (uint32 number value) = IsFieldNumber number × (value < 2 ^ 32)
-IsWritable (content number of) = IsFieldNumber number × (length of < 2 ^ 31)
-IsWritable (message number payload) = IsFieldNumber number × (length payload < 2 ^ 31)
+IsWritable (content number of) = IsFieldNumber number × (length of < 2 ^ 64)
+IsWritable (message number payload) = IsFieldNumber number × (length payload < 2 ^ 64)
 
 -- The varint of a number stands for it, and no varint that stands for it is shorter.
 abbrev pub VarintsAreShort : Type 0

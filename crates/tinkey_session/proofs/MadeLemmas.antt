@@ -3,7 +3,7 @@ use Rattle.std.proofs.Common.{◌≡◌, ◌∙◌, refl, sym, ap, ℕ, ◌^◌,
 use Rattle.std.specs.Option.{option_and_then, option_map}
 use Rattle.std.specs.Result.{result_err}
 use Rattle.std.proofs.lemmas.Bool.{and_parts, ltb-true}
-use Rattle.key_msgs.proofs.Made.{made-short}
+use Rattle.key_msgs.proofs.Made.{made-within}
 use Rattle.key_msgs.proofs.ReadingBack.{keys-back}
 use Rattle.key_msgs.specs.Contents.{Contents}
 use Rattle.key_msgs.specs.KeyTypes.{primitive_of_type, type_of_url, url_of_type}
@@ -90,7 +90,7 @@ made-read law row random is size =
     let most = most_random row is in
     let valid : IsValid (made row random) = each-contains (λ x. (bytes : List ℕ) → length bytes ≡ random_of x → IsValid (made x bytes)) templates row law is random size in
     ap (λ type. key_of type (value_of (made row random))) (sym (made_type row.recipe random))
-    ∙ keys-back (made row random) valid (made_are_numbers row random is) (made-short row.recipe random (omega (arith, most, size)))
+    ∙ keys-back (made row random) valid (made_are_numbers row random is) (made-within (2 ^ 31) row.recipe random (omega (arith, most, size)))
 
 pub made_key : MadeKeysAreValid → (row : Row) (id : ℕ) (random : List ℕ) → IsTemplate row → length random ≡ random_of row
     → IsKeyFor (primitive_of_type (type_made row)) (record_of row id random)

@@ -1,5 +1,5 @@
 -- What edits and sessions keep of stored records: the messages that templates make are bytes.
-use Rattle.std.proofs.Common.{◌≡◌, inl, inr, refl, sym, subst, ℕ, zero, suc, ◌+◌, ◌*◌, ◌/◌, ◌%◌, ◌^◌, ◌<◌, ◌==◌, true, false, cond, ltb, nat_lt, List, [], ◌∷◌, ◌++◌, length, take, drop, Option, Some, None, Result, Ok, Err, arith, lit<}
+use Rattle.std.proofs.Common.{◌≡◌, inl, inr, refl, sym, subst, ℕ, zero, suc, ◌+◌, ◌*◌, ◌/◌, ◌%◌, ◌^◌, ◌<◌, ◌==◌, true, false, cond, ltb, nat_lt, List, [], ◌∷◌, ◌++◌, length, take, drop, Option, Some, None, Result, Ok, Err, arith, lit≤, lit<}
 use Rattle.std.specs.Prelude.{IfOk, slice_index}
 use Rattle.std.specs.List.{AllByRecursion}
 use Rattle.std.specs.Option.{option_and_then}
@@ -8,13 +8,13 @@ use Rattle.std.proofs.lemmas.List.{length-take-le}
 use Rattle.std.proofs.lemmas.List.Elements.{All-drop, All-from_recursion, All-take, recursion_from_All}
 use Rattle.std.proofs.lemmas.Option.{same_Some}
 use Rattle.proto_wire.specs.Written.{Entry, bytes_field, content, groups_of, message, number_field, tag_of, uint32, varint_of, written, written_all}
-use Rattle.key_msgs.proofs.Made.{made-short}
-use Rattle.key_msgs.proofs.WritingLemmas.{length-hmac, length-params, short-plain}
+use Rattle.key_msgs.proofs.Made.{made-within}
+use Rattle.key_msgs.proofs.WritingLemmas.{length-hmac, length-params, length-plain}
 use Rattle.key_msgs.specs.Contents.{Contents}
 use Rattle.key_msgs.specs.KeyTypes.{aes_ctr_fields, hmac_fields, layout_of}
 use Rattle.key_msgs.specs.Keys.{contents_of, type_of}
 use Rattle.key_msgs.specs.Templates.{Row, made, made_by, random_of}
-use Rattle.key_msgs.specs.Writing.{AreNumbers, IsShort, hmac_entries, mac_contents, params_entries, plain_entries, plain_written, value_of, written_by}
+use Rattle.key_msgs.specs.Writing.{AreNumbers, ListsWithin, hmac_entries, mac_contents, params_entries, plain_entries, plain_written, value_of, written_by}
 use Rattle.key_msgs.specs.declared.key_type.KeyType.{KeyType}
 use Rattle.key_msgs.specs.declared.key_type.KeyType.TheVariants as types
 use Rattle.key_msgs.specs.declared.layout.Layout.{Layout}
@@ -115,16 +115,16 @@ bytes-all (entry ∷ entries) h = bytes-append (written entry) (written_all entr
 -- contents whose numbers have 32 bits, and whose bytes are bytes, and not many
 record IsWhole (m : Contents) : Type 0 where
   numbers : AreNumbers m
-  short : IsShort m
+  lists : ListsWithin (2 ^ 30) m
   key : AreBytes m.key
   salt : AreBytes m.salt
   mac : AreBytes m.mac
 
 plain_key : (number : ℕ) (m : Contents) → number < 2 ^ 32 → IsWhole m → IsPlain (content number m.key)
-plain_key number m n h = (n, omega (arith, h.short.0), h.key)
+plain_key number m n h = (n, omega (arith, h.lists.key), h.key)
 
 plain_params : (number : ℕ) (layout : Layout) (m : Contents) → number < 2 ^ 32 → IsWhole m → AllByRecursion IsPlain (params_entries layout m) → IsPlain (message number (written_all (params_entries layout m)))
-plain_params number layout m n h each = (n, omega (arith, length-params layout m, h.short.1), bytes-all (params_entries layout m) each)
+plain_params number layout m n h each = (n, omega (arith, length-params layout m, h.lists.salt), bytes-all (params_entries layout m) each)
 
 plain_hmac : (m : Contents) → IsWhole m → IsPlain (message 4 (written_all (hmac_entries m)))
 plain_hmac m h = (lit< tt, omega (arith, length-hmac m), bytes-all (hmac_entries m) ((lit< tt, h.numbers.mac_hash), ((lit< tt, h.numbers.mac_tag_size), tt)))
@@ -146,7 +146,7 @@ whole_mac m h =
     let none : 0 < 2 ^ 32 = lit< tt in
     record {
       numbers = record { version = none; iv_size = none; segment = none; derived = none; hash = h.numbers.mac_hash; tag_size = h.numbers.mac_tag_size; mac_hash = none; mac_tag_size = none };
-      short = (h.short.2, lit< tt, lit< tt);
+      lists = record { key = h.lists.mac; salt = lit≤ tt; mac = lit≤ tt };
       key = h.mac;
       salt = tt;
       mac = tt;
@@ -155,10 +155,8 @@ whole_mac m h =
 bytes-ctr_hmac : (m : Contents) → IsWhole m → AreBytes (written_by types.AesCtrHmac m)
 bytes-ctr_hmac m h =
     let mac = whole_mac m h in
-    let aes_short = short-plain aes_ctr_fields m h.short.1 h.short.0 in
-    let mac_short = short-plain hmac_fields (mac_contents m) mac.short.1 mac.short.0 in
     bytes-all (message 2 (plain_written aes_ctr_fields m) ∷ message 3 (plain_written hmac_fields (mac_contents m)) ∷ [])
-    ((lit< tt, omega (arith, aes_short), bytes-aes m h), ((lit< tt, omega (arith, mac_short), bytes-hmac (mac_contents m) mac), tt))
+    ((lit< tt, omega (arith, length-plain aes_ctr_fields m, h.lists.key, h.lists.salt), bytes-aes m h), ((lit< tt, omega (arith, length-plain hmac_fields (mac_contents m), mac.lists.key), bytes-hmac (mac_contents m) mac), tt))
 
 bytes-of_type : (type : KeyType) (m : Contents) → IsWhole m → AreBytes (written_by type m)
 bytes-of_type types.AesGcm m h = bytes-plain (layout_of types.AesGcm) m (plain_key 3 m (lit< tt) h, tt)
@@ -170,7 +168,7 @@ bytes-of_type types.Hmac m h = bytes-hmac m h
 bytes-of_type types.AesCmac m h = bytes-plain (layout_of types.AesCmac) m
     (plain_key 2 m (lit< tt) h, (plain_params 3 (layout_of types.AesCmac) m (lit< tt) h ((lit< tt, h.numbers.tag_size), tt), tt))
 bytes-of_type types.HkdfPrf m h = bytes-plain (layout_of types.HkdfPrf) m
-    (plain_params 2 (layout_of types.HkdfPrf) m (lit< tt) h ((lit< tt, h.numbers.hash), ((lit< tt, omega (arith, h.short.1), h.salt), tt)), (plain_key 3 m (lit< tt) h, tt))
+    (plain_params 2 (layout_of types.HkdfPrf) m (lit< tt) h ((lit< tt, h.numbers.hash), ((lit< tt, omega (arith, h.lists.salt), h.salt), tt)), (plain_key 3 m (lit< tt) h, tt))
 bytes-of_type types.HmacPrf m h = bytes-plain (layout_of types.HmacPrf) m
     (plain_params 2 (layout_of types.HmacPrf) m (lit< tt) h ((lit< tt, h.numbers.hash), tt), (plain_key 3 m (lit< tt) h, tt))
 bytes-of_type types.CmacPrf m h = bytes-plain (layout_of types.CmacPrf) m (plain_key 2 m (lit< tt) h, tt)
@@ -212,7 +210,7 @@ bytes-made row random is size h =
     let parts : HasBytes m = made_bytes row.recipe random h in
     bytes-of_type (type_of (made row random)) m (record {
       numbers = made_are_numbers row random is;
-      short = made-short row.recipe random (omega (arith, most, size));
+      lists = made-within (2 ^ 30) row.recipe random (omega (arith, most, size));
       key = parts.0;
       salt = parts.1;
       mac = parts.2;

@@ -1,6 +1,6 @@
-use Rattle.key_msgs.proofs.Made.{made-short}
+use Rattle.key_msgs.proofs.Made.{made-within}
 use Rattle.keyset_tests.proofs.new_keys.written.Goals as goal
 use Rattle.key_msgs.specs.Templates.{seen}
 
 pub write_key-requires : goal.write_key-requires
-write_key-requires c = rw c.in_ok-key.ensures (record { short = made-short (seen c.args.template.now).recipe c.args.random.now c.requires.short })
+write_key-requires c = rw c.in_ok-key.ensures (record { lists_bound = made-within (2 ^ 30) (seen c.args.template.now).recipe c.args.random.now c.requires.random_bound })

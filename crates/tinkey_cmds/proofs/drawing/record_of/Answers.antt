@@ -1,17 +1,17 @@
 -- A template's key is short.
-use Rattle.std.proofs.Common.{◌∙◌, ap, ◌<◌, ◌^◌, length, arith, subst, sym}
+use Rattle.std.proofs.Common.{◌∙◌, ap, ◌≤◌, ◌^◌, length, arith, subst, sym}
 use Rattle.key_msgs.specs.Keys.{contents_of}
 use Rattle.key_msgs.specs.Templates.{seen}
-use Rattle.key_msgs.specs.Writing.{IsShort, value_of}
-use Rattle.key_msgs.proofs.Made.{made-short}
+use Rattle.key_msgs.specs.Writing.{ListsWithin, value_of}
+use Rattle.key_msgs.proofs.Made.{made-within}
 use Rattle.tinkey_cmds.proofs.Kept.{most_random, sizes_made}
 use Rattle.tinkey_cmds.proofs.drawing.record_of.Goals as goal
 
 pub write_key-requires : goal.write_key-requires
 write_key-requires c =
     let row = seen c.args.template.now in
-    let few : length c.args.random.now < 2 ^ 29 = omega (arith, c.requires.size, most_random row c.requires.template) in
-    record { short = subst (λ key. IsShort (contents_of key)) (sym c.in_ok-key.ensures) (made-short row.recipe c.args.random.now few) }
+    let few : length c.args.random.now ≤ 2 ^ 30 = omega (arith, c.requires.size, most_random row c.requires.template) in
+    record { lists_bound = subst (λ key. ListsWithin (2 ^ 30) (contents_of key)) (sym c.in_ok-key.ensures) (made-within (2 ^ 30) row.recipe c.args.random.now few) }
 
 pub returns-clause-sizes : goal.returns-clause-sizes
 returns-clause-sizes c =
