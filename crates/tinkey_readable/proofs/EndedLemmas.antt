@@ -42,7 +42,8 @@ use Rattle.tinkey_plans.proofs.FaultLemmas.{went, Went, of_fault, of_limit}
 use Rattle.tinkey_words.specs.Words.{Place}
 use Rattle.tinkey_readable.specs.Readable.{AreReadable, HasReplies, SessionsAreReadable, turns_of}
 use Rattle.tinkey_readable.specs.Runs.{read_in}
-use Rattle.tinkey_readable.proofs.ReadableLemmas.{none_replied, read_keyset}
+use Rattle.tinkey_readable.proofs.ReadableLemmas.{none_replied}
+use Rattle.tinkey_readable.proofs.RunLemmas.{read_keyset}
 use Rattle.tinkey_readable.proofs.RunLemmas.{ok_of}
 
 -- ---- the lines of the first bytes of an input

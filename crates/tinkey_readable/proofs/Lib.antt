@@ -1,7 +1,7 @@
 pub mod EndedLemmas
 pub mod LineRunLemmas
 pub mod ReachLemmas
-pub mod ReadIdLemmas
 pub mod ReadableLemmas
 pub mod RunLemmas
 pub mod ReadBytesLemmas
+pub mod WrittenBytesLemmas

@@ -7,11 +7,11 @@ use Rattle.key_msgs.specs.declared.primitive.Primitive.{Primitive}
 use Rattle.key_msgs.specs.declared.primitive.Primitive.TheVariants.{Aead, Daead, Mac}
 use Rattle.keyset_model.specs.Keyset.{Keys, primary_of}
 use Rattle.keyset_model.specs.declared.record.Record.{Record}
+use Rattle.keyset_model.specs.Writing.{ReadKeysFit}
 use Rattle.managers.specs.Standard.{standard_table}
 use Rattle.managers.specs.Table.{Table}
 use Rattle.tinkey_session.proofs.Options.{clash, map_some}
 use Rattle.tinkey_session.proofs.TurnLemmas.{edited_on, handle_cases, reached}
-use Rattle.tinkey_session.specs.HeldLaws.{AreStored}
 use Rattle.tinkey_session.specs.Laws.{EditedIsKeyset, EditedIsSound, IsEdited, KeptDopen, KeptDopenRaw, KeptOpen, KeptOpenRaw, KeptTag, SoundIsUsable}
 use Rattle.tinkey_session.specs.Lines.{Line}
 use Rattle.tinkey_session.specs.Serving.{cannot_serve, Served, answered, by_handle, computed, opened_reply, sealed_reply, serve, unless_unfit, verified_reply}
@@ -29,7 +29,7 @@ use Rattle.tinkey_words.specs.Words.{Asked, AskedWork, create_keyset, edit_keyse
 use Rattle.tinkey_readable.specs.LineRuns.{HasTurn, IsRead, IsReadSomehow, MadeDopens, MadeDopensRaw, MadeOpens, MadeOpensRaw, MadeVerifies, WasMade, asks, by_line, by_run, done_reply}
 use Rattle.tinkey_readable.specs.Runs.{Does, IsDone, RunStep, Written, keyset_of}
 use Rattle.tinkey_readable.proofs.ReachLemmas.{IsDoneAnswer}
-use Rattle.tinkey_readable.proofs.RunLemmas.{Started, dsealed_by, each_of, finished, led, opens_so, read_faultless, sealed_by, started, still_fit, tagged_by, verifies_so}
+use Rattle.tinkey_readable.proofs.RunLemmas.{Started, done_within, dsealed_by, finished, hands_within, led, opens_so, read_keyset, sealed_by, started, still_fit, tagged_by, verifies_so}
 
 -- ---- the replies of lines
 
@@ -100,23 +100,20 @@ session_does table told old new (seal_stream name form ad) is does = absurd is
 session_does table told old new (open_stream name form ad) is does = absurd is
 session_does table told old new (self_test seed lines) is does = absurd is
 
-stored_keyset : (written : Written) (keys : Keys) → keyset_of written ≡ Some keys → AreStored keys → IsKeyset keys
-stored_keyset written keys read stored = record { faultless = read_faultless written keys read; words = each_of keys.records (λ r s. s.held.id) stored }
-
-origin : RunStep → SessionIsEdits → EditedIsKeyset → (work : AskedWork) (input output : List ℕ) (r : Record) (after : Written) (Makes : Keys → Type 0)
+origin : ReadKeysFit → RunStep → SessionIsEdits → EditedIsKeyset → (work : AskedWork) (input output : List ℕ) (r : Record) (after : Written) (Makes : Keys → Type 0)
     → ((old : Keys) (told : Told) → IsKeyset old → Started work old told output → told.input ≡ input → Makes old)
     → ((keys : Keys) (random : List ℕ) (x : Served) → serve standard_table keys (asks work input) random ≡ Some x → x.reply ≡ Gives output → (unfit keys (primitive_for work) standard_table ≡ None) × Makes keys)
     → WasMade work input output r after → Origin (primitive_for work) Makes r after
-origin law sessions keyset work input output r after Makes of_run of_line (by_run runs before old lead told was same primary) =
-    let l = led law sessions standard_table runs before after old lead.are lead.bytes lead.read lead.stored in
-    let k = stored_keyset before old lead.read lead.stored in
+origin fit law sessions keyset work input output r after Makes of_run of_line (by_run runs before old lead told was same primary) =
+    let l = led law sessions standard_table runs before after old lead.are lead.bytes lead.holds lead.read in
+    let k = read_keyset fit before.form before.bytes old (done_within work before told output was) lead.read in
     let b = started work before old told output lead.read was in
     record { old = old; last = l.new; lies = l.read; edited = l.edited; keyset = k; primary = primary; fit = b.fit; makes = of_run old told k b same }
-origin law sessions keyset work input output r after Makes of_run of_line (by_line run runs before old lead is t has line reply primary) =
+origin fit law sessions keyset work input output r after Makes of_run of_line (by_line run runs before old lead is t has line reply primary) =
     let between = lead.are.0 in
     let hands = lead.are.1 in
-    let step' = law standard_table run before between old hands lead.bytes.0 lead.read lead.stored in
-    let l = led law sessions standard_table runs between after step'.new lead.are.2 lead.bytes.1 step'.read step'.stored in
+    let step' = law standard_table run before between old hands lead.bytes.0 lead.holds lead.read in
+    let l = led law sessions standard_table runs between after step'.new lead.are.2 lead.bytes.1 step'.holds step'.read in
     let there = subst (λ k. slice_get (turns standard_table k (asked_in run.told.input) run.told.random) has.place ≡ Some t) (same_Some _ _ (sym has.read ∙ lead.read)) has.there in
     let at = reached standard_table (asked_in run.told.input) old run.told.random has.place t there in
     let does = session_does standard_table run.told old step'.new run.asked is step'.does in
@@ -128,7 +125,7 @@ origin law sessions keyset work input output r after Makes of_run of_line (by_li
       last = l.new;
       lies = l.read;
       edited = edited_on t.before step'.new l.new behind l.edited;
-      keyset = keyset old t.before at.edited (stored_keyset before old lead.read lead.stored);
+      keyset = keyset old t.before at.edited (read_keyset fit before.form before.bytes old (hands_within standard_table run before between hands) lead.read);
       primary = primary;
       fit = made.0;
       makes = made.1;
@@ -184,9 +181,9 @@ record MakesSeal (plain ad sealed : List ℕ) (keys : Keys) : Type 0 where
   is : seal_answer keys standard_table plain ad random ≡ Some made
   bytes : made.bytes ≡ sealed
 
-seal_origin : RunStep → SessionIsEdits → EditedIsKeyset → (ad plain sealed : List ℕ) (r : Record) (after : Written) → WasMade (to_seal ad) plain sealed r after → Origin Aead (MakesSeal plain ad sealed) r after
+seal_origin : ReadKeysFit → RunStep → SessionIsEdits → EditedIsKeyset → (ad plain sealed : List ℕ) (r : Record) (after : Written) → WasMade (to_seal ad) plain sealed r after → Origin Aead (MakesSeal plain ad sealed) r after
 unfolding serve
-seal_origin law sessions keyset ad plain sealed r after was = origin law sessions keyset (to_seal ad) plain sealed r after (MakesSeal plain ad sealed)
+seal_origin read_fit law sessions keyset ad plain sealed r after was = origin read_fit law sessions keyset (to_seal ad) plain sealed r after (MakesSeal plain ad sealed)
     (λ old told k b same. let s = sealed_by old ad told sealed b in record { random = told.random; made = s.0; is = ap (λ i. seal_answer old standard_table i ad told.random) (sym same) ∙ s.1; bytes = s.2 })
     (λ keys random x e is.
     let g = gave Aead keys random (option_map (sealed_reply keys) (seal_answer keys standard_table plain ad random)) x sealed e is in
@@ -203,16 +200,16 @@ open_answers Is new sealed ad plain is e = record {
   of_line = λ random x fit served. answer_is Aead new random _ x fit served ∙ ap opened_reply e;
 }
 
-pub made_opens : RunStep → SessionIsEdits → SoundIsUsable Aead → EditedIsSound → EditedIsKeyset → KeptOpen → MadeOpens
-made_opens law sessions usable sound keyset kept ad plain sealed prefix r after is was =
-    let o = seal_origin law sessions keyset ad plain sealed r after was in
+pub made_opens : ReadKeysFit → RunStep → SessionIsEdits → SoundIsUsable Aead → EditedIsSound → EditedIsKeyset → KeptOpen → MadeOpens
+made_opens read_fit law sessions usable sound keyset kept ad plain sealed prefix r after is was =
+    let o = seal_origin read_fit law sessions keyset ad plain sealed r after was in
     let m = o.makes in
     is_read (to_open ad) sealed plain r after (reads (to_open ad) sealed (λ other. other ≡ plain) r after usable sound keyset o (λ new edited same.
     open_answers (λ other. other ≡ plain) new sealed ad plain refl (ap (λ c. open_answer new standard_table c ad) (sym m.bytes) ∙ kept o.old new r prefix plain ad m.random m.made o.keyset edited same o.primary is m.is)))
 
-pub made_opens_raw : RunStep → SessionIsEdits → SoundIsUsable Aead → EditedIsSound → EditedIsKeyset → KeptOpenRaw → MadeOpensRaw
-made_opens_raw law sessions usable sound keyset kept ad plain sealed r after is was =
-    let o = seal_origin law sessions keyset ad plain sealed r after was in
+pub made_opens_raw : ReadKeysFit → RunStep → SessionIsEdits → SoundIsUsable Aead → EditedIsSound → EditedIsKeyset → KeptOpenRaw → MadeOpensRaw
+made_opens_raw read_fit law sessions usable sound keyset kept ad plain sealed r after is was =
+    let o = seal_origin read_fit law sessions keyset ad plain sealed r after was in
     let m = o.makes in
     is_read_somehow (to_open ad) sealed r after (reads (to_open ad) sealed (λ other. Unit {0}) r after usable sound keyset o (λ new edited same.
     let opened = kept o.old new r plain ad m.random m.made same o.primary is m.is in
@@ -220,9 +217,9 @@ made_opens_raw law sessions usable sound keyset kept ad plain sealed r after is 
 
 -- ---- seals without an IV
 
-dseal_origin : FitKeysetsAnswer → RunStep → SessionIsEdits → EditedIsKeyset → (ad plain sealed : List ℕ) (r : Record) (after : Written) → WasMade (to_dseal ad) plain sealed r after → Origin Daead (λ keys. dseal_answer keys standard_table plain ad ≡ Some sealed) r after
+dseal_origin : FitKeysetsAnswer → ReadKeysFit → RunStep → SessionIsEdits → EditedIsKeyset → (ad plain sealed : List ℕ) (r : Record) (after : Written) → WasMade (to_dseal ad) plain sealed r after → Origin Daead (λ keys. dseal_answer keys standard_table plain ad ≡ Some sealed) r after
 unfolding serve
-dseal_origin fits law sessions keyset ad plain sealed r after was = origin law sessions keyset (to_dseal ad) plain sealed r after (λ keys. dseal_answer keys standard_table plain ad ≡ Some sealed)
+dseal_origin fits read_fit law sessions keyset ad plain sealed r after was = origin read_fit law sessions keyset (to_dseal ad) plain sealed r after (λ keys. dseal_answer keys standard_table plain ad ≡ Some sealed)
     (λ old told k b same. ap (λ i. dseal_answer old standard_table i ad) (sym same) ∙ dsealed_by fits old ad told sealed k b)
     (λ keys random x e is. computed_gave Daead keys random (dseal_answer keys standard_table plain ad) sealed x e is)
     was
@@ -236,24 +233,24 @@ dopen_answers Is new sealed ad plain is e = record {
   of_line = λ random x fit served. answer_is Daead new random _ x fit served ∙ ap opened_reply e;
 }
 
-pub made_dopens : FitKeysetsAnswer → RunStep → SessionIsEdits → SoundIsUsable Daead → EditedIsSound → EditedIsKeyset → KeptDopen → MadeDopens
-made_dopens fits law sessions usable sound keyset kept ad plain sealed prefix r after is was =
-    let o = dseal_origin fits law sessions keyset ad plain sealed r after was in
+pub made_dopens : FitKeysetsAnswer → ReadKeysFit → RunStep → SessionIsEdits → SoundIsUsable Daead → EditedIsSound → EditedIsKeyset → KeptDopen → MadeDopens
+made_dopens fits read_fit law sessions usable sound keyset kept ad plain sealed prefix r after is was =
+    let o = dseal_origin fits read_fit law sessions keyset ad plain sealed r after was in
     is_read (to_dopen ad) sealed plain r after (reads (to_dopen ad) sealed (λ other. other ≡ plain) r after usable sound keyset o (λ new edited same.
     dopen_answers (λ other. other ≡ plain) new sealed ad plain refl (kept o.old new r prefix plain ad sealed o.keyset edited same o.primary is o.makes)))
 
-pub made_dopens_raw : FitKeysetsAnswer → RunStep → SessionIsEdits → SoundIsUsable Daead → EditedIsSound → EditedIsKeyset → KeptDopenRaw → MadeDopensRaw
-made_dopens_raw fits law sessions usable sound keyset kept ad plain sealed r after is was =
-    let o = dseal_origin fits law sessions keyset ad plain sealed r after was in
+pub made_dopens_raw : FitKeysetsAnswer → ReadKeysFit → RunStep → SessionIsEdits → SoundIsUsable Daead → EditedIsSound → EditedIsKeyset → KeptDopenRaw → MadeDopensRaw
+made_dopens_raw fits read_fit law sessions usable sound keyset kept ad plain sealed r after is was =
+    let o = dseal_origin fits read_fit law sessions keyset ad plain sealed r after was in
     is_read_somehow (to_dopen ad) sealed r after (reads (to_dopen ad) sealed (λ other. Unit {0}) r after usable sound keyset o (λ new edited same.
     let opened = kept o.old new r plain ad sealed same o.primary is o.makes in
     dopen_answers (λ other. Unit {0}) new sealed ad opened.0 tt opened.1))
 
 -- ---- tags
 
-tag_origin : FitKeysetsAnswer → RunStep → SessionIsEdits → EditedIsKeyset → (tag body : List ℕ) (r : Record) (after : Written) → WasMade to_tag body tag r after → Origin Mac (λ keys. tag_answer keys standard_table body ≡ Some tag) r after
+tag_origin : FitKeysetsAnswer → ReadKeysFit → RunStep → SessionIsEdits → EditedIsKeyset → (tag body : List ℕ) (r : Record) (after : Written) → WasMade to_tag body tag r after → Origin Mac (λ keys. tag_answer keys standard_table body ≡ Some tag) r after
 unfolding serve
-tag_origin fits law sessions keyset tag body r after was = origin law sessions keyset to_tag body tag r after (λ keys. tag_answer keys standard_table body ≡ Some tag)
+tag_origin fits read_fit law sessions keyset tag body r after was = origin read_fit law sessions keyset to_tag body tag r after (λ keys. tag_answer keys standard_table body ≡ Some tag)
     (λ old told k b same. ap (λ i. tag_answer old standard_table i) (sym same) ∙ tagged_by fits old told tag k b)
     (λ keys random x e is. computed_gave Mac keys random (tag_answer keys standard_table body) tag x e is)
     was
@@ -267,8 +264,8 @@ verify_answers new tag body e = record {
   of_line = λ random x fit served. answer_is Mac new random _ x fit served ∙ ap verified_reply e;
 }
 
-pub made_verifies : FitKeysetsAnswer → RunStep → SessionIsEdits → SoundIsUsable Mac → EditedIsSound → EditedIsKeyset → KeptTag → MadeVerifies
-made_verifies fits law sessions usable sound keyset kept tag body r after was =
-    let o = tag_origin fits law sessions keyset tag body r after was in
+pub made_verifies : FitKeysetsAnswer → ReadKeysFit → RunStep → SessionIsEdits → SoundIsUsable Mac → EditedIsSound → EditedIsKeyset → KeptTag → MadeVerifies
+made_verifies fits read_fit law sessions usable sound keyset kept tag body r after was =
+    let o = tag_origin fits read_fit law sessions keyset tag body r after was in
     is_read (to_verify tag) body [] r after (reads (to_verify tag) body (λ other. other ≡ []) r after usable sound keyset o (λ new edited same.
     verify_answers new tag body (kept o.old new r tag body edited same o.primary o.makes)))

@@ -1,9 +1,10 @@
 -- What an answer that is Done says of its steps, and that it comes where they go on.
-use Rattle.std.proofs.Common.{arith, ◌≡◌, ◌∙◌, sym, refl, ap, ℕ, ◌+◌, ◌≤◌, Bool, true, false, cond, List, [], length, nat_le, Option, Some, None, Result, Ok, Err}
+use Rattle.std.proofs.Common.{arith, ◌≡◌, ◌∙◌, sym, refl, ap, subst, ℕ, ◌+◌, ◌≤◌, Bool, true, false, cond, List, [], length, nat_le, Option, Some, None, Result, Ok, Err}
 use Rattle.std.specs.Prelude.{drop, if◌then◌else◌}
 use Rattle.std.specs.FinMap as map
 use Rattle.std.specs.Option.{option_and_then}
 use Rattle.std.specs.Result.{result_ok}
+use Rattle.std.proofs.lemmas.Bool.{leb-true}
 use Rattle.std.proofs.lemmas.Bool.Decides.{nat_tests}
 use Rattle.std.proofs.lemmas.Cmp.{eq_by_cmp_equiv, nat_list_cmp_total}
 use Rattle.key_msgs.specs.Templates.{Row, is_asymmetric, row_named}
@@ -44,6 +45,10 @@ went_done : (b : Bool) (went long : Answer) → (long.status ≡ status.Done →
 went_done true went long other done = refl
 went_done false went long other done = absurd (other done)
 
+went_test : (b : Bool) (went long : Answer) → (long.status ≡ status.Done → ⊥) → (if b then went else long).status ≡ status.Done → b ≡ true
+went_test true went long other done = refl
+went_test false went long other done = absurd (other done)
+
 went_on : (b : Bool) (went long : Answer) → b ≡ true → (if b then went else long) ≡ went
 went_on b went long is = ap (λ (x : Bool). if x then went else long) is
 
@@ -67,6 +72,12 @@ loaded_done found bytes limit absent long next is other done =
     let e = ap (λ f. load_answer f limit absent long next) is in
     e ∙ went_done (nat_le (length bytes) limit) (next bytes) long other (ap (λ (a : Answer). a.status) (sym e) ∙ done)
 
+loaded_within : (found : Option (List ℕ)) (bytes : List ℕ) (limit : ℕ) (absent long : Answer) (next : List ℕ → Answer) → found ≡ Some bytes → (long.status ≡ status.Done → ⊥) → (load_answer found limit absent long next).status ≡ status.Done
+    → length bytes ≤ limit
+loaded_within found bytes limit absent long next is other done =
+    let e = ap (λ f. load_answer f limit absent long next) is in
+    leb-true (length bytes) limit (went_test (nat_le (length bytes) limit) (next bytes) long other (ap (λ (a : Answer). a.status) (sym e) ∙ done))
+
 pub load_reached : (name : List ℕ) (form : Format) (bytes : List ℕ) (keys : Keys) (next : Keys → Plan) (told : Told) → map.get told.files name ≡ Some bytes → read_in form bytes ≡ Some keys → length bytes ≤ keyset_limit
     → answer (loads_keyset name form next) told ≡ answer (next keys) told
 load_reached name form bytes keys next told there e within =
@@ -78,6 +89,11 @@ pub load_done : (name : List ℕ) (form : Format) (bytes : List ℕ) (keys : Key
 load_done name form bytes keys next told there e done =
     loaded_done (map.get told.files name) bytes keyset_limit (refused told status.InMissing) (refused told status.KeysetTooLong) (λ b. answer (keyset_in form b next) told) there (λ h. absurd (cc)) done
     ∙ keyset_reached form bytes keys next told e
+
+-- what was loaded is within the limit
+pub load_within : (name : List ℕ) (form : Format) (bytes : List ℕ) (next : Keys → Plan) (told : Told) → map.get told.files name ≡ Some bytes → IsDoneAnswer (answer (loads_keyset name form next) told) → length bytes ≤ keyset_limit
+load_within name form bytes next told there done =
+    loaded_within (map.get told.files name) bytes keyset_limit (refused told status.InMissing) (refused told status.KeysetTooLong) (λ b. answer (keyset_in form b next) told) there (λ h. absurd (cc)) done
 
 -- the told that is left behind a keyset: the input is gone where that was the keyset
 abbrev pub behind : Option (List ℕ) → Told → Told
@@ -97,6 +113,17 @@ taken_done place bytes keys next told there e done = by_file place.file there do
     by_file : (file : Option (List ℕ)) → bytes_at file told.files told.input ≡ Some bytes → IsDoneAnswer (answer (keyset_at file place.form next) told) → answer (keyset_at file place.form next) told ≡ answer (next keys) (behind file told)
     by_file (Some name) there done = load_done name place.form bytes keys next told there e done
     by_file None there done = let same : told.input ≡ bytes = cc in read_done place.form keys next told (ap (read_in place.form) same ∙ e) done
+
+-- what was taken is within the limit
+pub taken_within : (place : Place) (bytes : List ℕ) (next : Keys → Plan) (told : Told) → bytes_at place.file told.files told.input ≡ Some bytes → IsDoneAnswer (answer (takes_keyset place next) told) → length bytes ≤ keyset_limit
+taken_within place bytes next told there done = by_file place.file there done
+  where
+    by_file : (file : Option (List ℕ)) → bytes_at file told.files told.input ≡ Some bytes → IsDoneAnswer (answer (keyset_at file place.form next) told) → length bytes ≤ keyset_limit
+    by_file (Some name) there done = load_within name place.form bytes next told there done
+    by_file None there done =
+        let same : told.input ≡ bytes = cc in
+        let all = went_test (nat_le (length told.input) keyset_limit) (answer (keyset_in place.form told.input next) (record told { input = [] })) (record (refused told status.KeysetTooLong) { input = Some (drop (keyset_limit + 1) told.input) }) (λ h. absurd (cc)) done in
+        subst (λ b. length b ≤ keyset_limit) same (leb-true (length told.input) keyset_limit all)
 
 -- ---- an edit
 
@@ -203,6 +230,9 @@ used_done table name form work bytes keys told there e done =
       fit = fit;
       goes_on = l ∙ f ∙ input_done table keys work told (ap (λ (a : Answer). a.status) (sym f) ∙ d);
     }
+
+pub used_within : (table : Table) (name : List ℕ) (form : Format) (work : AskedWork) (bytes : List ℕ) (told : Told) → map.get told.files name ≡ Some bytes → IsDoneAnswer (answer (use_output table name form work writes) told) → length bytes ≤ keyset_limit
+used_within table name form work bytes told there done = load_within name form bytes (λ k. handles table (primitive_for work) k (λ fit. work_behind table k work)) told there done
 
 pub used_reached : (table : Table) (name : List ℕ) (form : Format) (work : AskedWork) (bytes : List ℕ) (keys : Keys) (told : Told) → map.get told.files name ≡ Some bytes → read_in form bytes ≡ Some keys → length bytes ≤ keyset_limit
     → unfit keys (primitive_for work) table ≡ None → length told.input ≤ input_limit

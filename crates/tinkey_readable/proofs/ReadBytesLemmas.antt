@@ -1,6 +1,6 @@
--- What is read of bytes in the binary form is held by the types: its values are bytes too.
-use Rattle.std.proofs.Common.{◌≡◌, ◌∙◌, ap, refl, sym, subst, ℕ, ◌+◌, ◌==◌, Bool, true, false, List, [], ◌∷◌, ◌++◌, length, arith, Option, Some, None, Ok, Err, Result}
-use Rattle.std.specs.Prelude.{filter, fold}
+-- What is read of bytes is held by the types: in the binary form its values are bytes too.
+use Rattle.std.proofs.Common.{◌≡◌, ap, refl, sym, subst, ℕ, suc, ◌+◌, ◌<◌, ◌==◌, Bool, true, false, List, [], ◌∷◌, ◌++◌, length, arith, Option, Some, None, Ok, Err, Result}
+use Rattle.std.specs.Prelude.{filter, fold, slice_index}
 use Rattle.std.specs.List.{AllByRecursion, filter_map}
 use Rattle.std.specs.Result.{result_ok}
 use Rattle.tink_spec.specs.Wire.{Payload, varint, eight, bytes, four, WireField, SpellsField, IsCutInto, cut}
@@ -8,12 +8,17 @@ use Rattle.tink_spec.specs.Messages.{is_bytes, of_number, first_other, unless_at
 use Rattle.proto_wire.proofs.Cuts.{cut-spells}
 use Rattle.keyset_model.specs.declared.keyset.KeysetFault.{KeysetFault}
 use Rattle.keyset_model.specs.declared.record.Record.{Record}
-use Rattle.keyset_model.specs.Keyset.{Keys, fault_of, unless_fault}
+use Rattle.keyset_json.specs.Reading.{reads_json}
+use Rattle.keyset_json.specs.Stored.{JsonIsShort, JsonIsStored}
+use Rattle.keyset_json.specs.Writing.{HasJsonBounds}
+use Rattle.keyset_model.specs.Keyset.{IsShort, Keys, fault_of, unless_fault}
 use Rattle.keyset_model.specs.Reading.{record_of, key_of, fault_at, keys_in, without_fault, well_formed, reads_binary}
 use Rattle.keyset_model.specs.Writing.{HasWireBounds, ReadKeysFit}
-use Rattle.tinkey_session.specs.HeldLaws.{AreBytes, IsStored}
+use Rattle.tinkey_session.specs.HeldLaws.{AreBytes, AreStored, IsStored}
 use Rattle.tinkey_readable.proofs.RunLemmas.{ok_of}
-use Rattle.tinkey_readable.specs.Runs.{BinaryIsStored, read_in}
+use Rattle.tinkey_readable.specs.Runs.{ReadIsStored, read_in}
+use Rattle.tinkey_words.specs.declared.words.rows.Format.{Format}
+use Rattle.tinkey_words.specs.declared.words.rows.Format.TheVariants as formats
 
 -- ---- answers, taken apart
 
@@ -166,11 +171,26 @@ read-bytes source keys all read =
     let parts = unless-ok (fault_at fields.0) _ keys fields.2 in
     subst (λ (k : Keys). AllByRecursion HasByteValue k.records) parts.1 (keys-bytes (of_number 2 fields.0) (kept HasBytes (λ field. field.number == 2) fields.0 each))
 
+-- bytes by their places, one after another
+bytes_from : (value : List ℕ) → ((i : ℕ) → slice_index value i < 256) → AreBytes value
+bytes_from [] h = tt
+bytes_from (b ∷ value) h = (h 0, bytes_from value (λ i. h (suc i)))
+
 stored_both : (rs : List Record) → AllByRecursion HasWireBounds rs → AllByRecursion HasByteValue rs → AllByRecursion IsStored rs
 stored_both [] held all = tt
 stored_both (r ∷ rs) held all = (record { held = held.0; bytes = all.0 }, stored_both rs held.1 all.1)
 
-pub binary_is_stored : ReadKeysFit → BinaryIsStored
-binary_is_stored fit written keys binary all within e =
-    let read = ok_of (reads_binary written.bytes) keys (sym (ap (λ form. read_in form written.bytes) binary) ∙ e) in
-    stored_both keys.records (fit written.bytes keys (omega (arith, within)) read).1 (read-bytes written.bytes keys all read)
+held_by_json : (rs : List Record) → AllByRecursion HasJsonBounds rs → AllByRecursion IsShort rs → AllByRecursion IsStored rs
+held_by_json [] held short = tt
+held_by_json (r ∷ rs) held short = (record { held = record { id = held.0.id; utf8 = held.0.utf8; short = short.0 }; bytes = bytes_from r.value held.0.bytes }, held_by_json rs held.1 short.1)
+
+pub read_is_stored : ReadKeysFit → JsonIsStored → JsonIsShort → ReadIsStored
+read_is_stored fit stored short written keys holds within e = by_form written.form e
+  where
+    by_form : (form : Format) → read_in form written.bytes ≡ Some keys → AreStored keys
+    by_form formats.Json e =
+        let read = ok_of (reads_json written.bytes) keys e in
+        held_by_json keys.records (stored written.bytes keys read).2 (short written.bytes keys (omega (arith, within)) read)
+    by_form formats.Binary e =
+        let read = ok_of (reads_binary written.bytes) keys e in
+        stored_both keys.records (fit written.bytes keys (omega (arith, within)) read).1 (read-bytes written.bytes keys holds read)

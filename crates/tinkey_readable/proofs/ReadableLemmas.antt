@@ -1,12 +1,9 @@
 -- What a run of a session wrote, and what of it is readable.
-use Rattle.std.proofs.Common.{◌≡◌, ◌≢◌, ◌∙◌, sym, refl, ap, subst, ℕ, ◌≤◌, Bool, true, false, List, [], ◌++◌, length, nat_le, append-nil, Option, Some, None, arith}
+use Rattle.std.proofs.Common.{◌≡◌, ◌≢◌, ◌∙◌, sym, refl, ap, subst, ℕ, Bool, true, false, List, [], ◌++◌, length, nat_le, append-nil, Option, Some, None, arith}
 use Rattle.std.specs.Prelude.{if◌then◌else◌, map as each}
 use Rattle.std.specs.FinMap as map
-use Rattle.std.specs.List.{AllByRecursion}
 use Rattle.std.proofs.lemmas.Bool.Decides.{nat_tests}
-use Rattle.keyset_json.specs.Reading.{reads_json}
 use Rattle.keyset_model.specs.Keyset.{Keys}
-use Rattle.keyset_model.specs.Reading.{reads_binary}
 use Rattle.keyset_model.specs.Writing.{ReadKeysFit}
 use Rattle.managers.specs.Standard.{standard_table}
 use Rattle.managers.specs.Table.{Table}
@@ -17,11 +14,9 @@ use Rattle.tinkey_session.specs.SessionLaws.{HasTurns, SessionDopens, SessionDop
 use Rattle.tinkey_session.specs.TalkLaws.{TalkIsTurns}
 use Rattle.tinkey_session.specs.Talking.{Stop, goes, wants, passes, long_line, many_lines, Talk, talk}
 use Rattle.wrapped_prims.specs.Laws.{IsKeyset}
-use Rattle.wrapped_prims.specs.Making.{HasWordId}
 use Rattle.tinkey_plans.specs.declared.status.Status.{Status}
 use Rattle.tinkey_plans.specs.declared.status.Status.TheVariants as status
 use Rattle.tinkey_words.specs.declared.words.rows.Format.{Format}
-use Rattle.tinkey_words.specs.declared.words.rows.Format.TheVariants as formats
 use Rattle.tinkey_plans.specs.Commands.{asked_plan}
 use Rattle.tinkey_plans.specs.Ends.{World}
 use Rattle.tinkey_plans.specs.Plan.{Told, Answer, answer, create_answer, IsStated, refused, talk_answer}
@@ -32,8 +27,7 @@ use Rattle.tinkey_plans.specs.Session.{holds_session, saves, saves_as}
 use Rattle.tinkey_plans.specs.Steps.{keyset_limit, keyset_in, loads_keyset, written_in}
 use Rattle.tinkey_words.specs.Words.{Place}
 use Rattle.tinkey_readable.proofs.ReachLemmas.{keyset_reached}
-use Rattle.tinkey_readable.proofs.ReadIdLemmas.{json_words}
-use Rattle.tinkey_readable.proofs.RunLemmas.{each_of, ok_of, read_faultless}
+use Rattle.tinkey_readable.proofs.RunLemmas.{read_keyset}
 
 -- a stated status is no fault of the entropy or of the sink
 not_fault : (s : Status) → IsStated s → s ≡ status.EntropyFault → ⊥
@@ -68,15 +62,6 @@ none_readable = record {
   dopens_raw = λ s t r plain ad sealed x. none_among s t x;
   verifies = λ s t r tag body x. none_among s t x;
 }
-
--- ---- the keyset that was read
-
-read_words : ReadKeysFit → (form : Format) (bytes : List ℕ) (keys : Keys) → length bytes ≤ keyset_limit → read_in form bytes ≡ Some keys → AllByRecursion HasWordId keys.records
-read_words fit formats.Json bytes keys within e = json_words bytes keys (ok_of (reads_json bytes) keys e)
-read_words fit formats.Binary bytes keys within e = each_of keys.records (λ r b. b.id) (fit bytes keys (omega (arith, within)) (ok_of (reads_binary bytes) keys e)).1
-
-pub read_keyset : ReadKeysFit → (form : Format) (bytes : List ℕ) (keys : Keys) → length bytes ≤ keyset_limit → read_in form bytes ≡ Some keys → IsKeyset keys
-read_keyset fit form bytes keys within e = record { faultless = read_faultless (record { bytes = bytes; form = form }) keys e; words = read_words fit form bytes keys within e }
 
 -- ---- the answer of a session
 

@@ -1,5 +1,5 @@
 -- Runs that hand a keyset on: what one does, and what is readable after many.
-use Rattle.std.proofs.Common.{◌≡◌, ◌∙◌, sym, refl, ap, subst, ℕ, ◌<◌, ◌≤◌, ◌^◌, Bool, true, false, cond, List, [], ◌∷◌, ◌++◌, length, map as each, append-nil, Option, Some, None, option_map, Result, Ok, Err}
+use Rattle.std.proofs.Common.{◌≡◌, ◌∙◌, sym, refl, ap, subst, arith, ℕ, ◌<◌, ◌≤◌, ◌^◌, Bool, true, false, cond, List, [], ◌∷◌, ◌++◌, length, map as each, append-nil, Option, Some, None, option_map, Result, Ok, Err}
 use Rattle.std.specs.Prelude.{find, IsSome}
 use Rattle.std.specs.FinMap as map
 use Rattle.std.specs.List.{AllByRecursion}
@@ -10,12 +10,13 @@ use Rattle.key_msgs.specs.declared.primitive.Primitive.{Primitive}
 use Rattle.key_msgs.specs.declared.primitive.Primitive.TheVariants.{Aead, Daead, Mac}
 use Rattle.keyset_json.specs.Reading.{reads_json}
 use Rattle.keyset_json.specs.Reading as json
-use Rattle.keyset_json.specs.Writing.{JsonBack}
+use Rattle.keyset_json.specs.Writing.{JsonBack, json_of}
+use Rattle.keyset_json.proofs.StoredLemmas.{json_is_stored}
 use Rattle.keyset_model.specs.Keyset.{Keys, built, fault_of, is_primary, primary_of, unless_fault}
 use Rattle.keyset_model.specs.Reading.{reads_binary}
 use Rattle.keyset_model.specs.Reading as binary
 use Rattle.keyset_model.specs.WellFormed.{FaultlessKeysets}
-use Rattle.keyset_model.specs.Writing.{BinaryBack}
+use Rattle.keyset_model.specs.Writing.{BinaryBack, ReadKeysFit}
 use Rattle.keyset_model.specs.declared.keyset.KeysetFault.{KeysetFault}
 use Rattle.keyset_model.specs.declared.record.Record.{Record}
 use Rattle.managers.specs.Standard.{standard_table}
@@ -28,7 +29,7 @@ use Rattle.tinkey_session.proofs.Options.{clash, no_truth, then_some}
 use Rattle.tinkey_session.proofs.StoredLemmas.{byte_there}
 use Rattle.tinkey_session.proofs.TurnLemmas.{edited_on, template_there}
 use Rattle.tinkey_session.specs.Serving.{template_or}
-use Rattle.tinkey_session.specs.HeldLaws.{AreStored, EditsKeepStored, IsStored, SessionsKeepStored}
+use Rattle.tinkey_session.specs.HeldLaws.{AreBytes, AreStored, EditsKeepStored, IsStored, SessionsKeepStored}
 use Rattle.tinkey_session.specs.Laws.{EditedIsKeyset, EditedIsSound, IsEdited, KeptDopen, KeptDopenRaw, KeptOpen, KeptOpenRaw, KeptTag, SoundIsUsable, after}
 use Rattle.tinkey_session.specs.Lines.{line_of}
 use Rattle.tinkey_session.specs.Session.{Remains, asked_in, lines_of, remains}
@@ -37,6 +38,7 @@ use Rattle.tinkey_session.specs.SessionLaws.{SessionIsEdits}
 use Rattle.tinkey_session.specs.TalkLaws.{TalkIsTurns}
 use Rattle.wrapped_prims.specs.Answers.{Sealed, dopen_answer, dseal_answer, open_answer, seal_answer, tag_answer, verify_answer}
 use Rattle.wrapped_prims.specs.Laws.{HasSameKey, IsKeyset}
+use Rattle.wrapped_prims.specs.Making.{HasWordId}
 use Rattle.wrapped_prims.specs.Fitness.{unfit}
 use Rattle.tinkey_plans.specs.declared.status.Status.TheVariants as status
 use Rattle.tinkey_words.specs.declared.words.rows.Format.{Format}
@@ -44,12 +46,13 @@ use Rattle.tinkey_words.specs.declared.words.rows.Format.TheVariants as formats
 use Rattle.tinkey_plans.specs.Commands.{command_plan}
 use Rattle.tinkey_plans.specs.Plan.{Told, Answer, answer, writes, draw_answer, refused, talk_answer}
 use Rattle.tinkey_plans.specs.Session.{holds_session, saves, saves_as}
-use Rattle.tinkey_readable.specs.Runs.{Handing, hands_on, session_handing, AreRuns, DrawsBytes, Does, Gives, IsDone, LeadOn, Run, RunStep, RunsDopen, RunsDopenRaw, RunsOpen, RunsOpenRaw, RunsVerify, WasDone, Written, bytes_at, edit_of, keyset_of, read_in}
+use Rattle.tinkey_readable.specs.Runs.{Handing, hands_on, session_handing, AreRuns, DrawsBytes, Does, Gives, HandsOn, HoldsBytes, IsDone, LeadOn, ReadIsStored, Run, RunStep, RunsDopen, RunsDopenRaw, RunsOpen, RunsOpenRaw, RunsVerify, WasDone, Written, bytes_at, edit_of, keyset_of, read_in}
 use Rattle.tinkey_plans.specs.Laws.{FitKeysetsAnswer}
-use Rattle.tinkey_plans.specs.Steps.{input_limit, takes_keyset, makes_keyset, puts_keyset, with_made, written_in}
+use Rattle.tinkey_plans.specs.Steps.{input_limit, keyset_limit, takes_keyset, makes_keyset, puts_keyset, with_made, written_in}
 use Rattle.tinkey_plans.specs.Using.{as_drawn, made_bytes, with_opened, with_verified, works}
 use Rattle.tinkey_words.specs.Words.{Asked, AskedEdit, AskedWork, Place, create_keyset, edit_keyset, list_keyset, convert_keyset, list_key_templates, use_keyset, seal_stream, open_stream, self_test, session, to_seal, to_open, to_dseal, to_dopen, to_tag, to_verify, primitive_for}
-use Rattle.tinkey_readable.proofs.ReachLemmas.{load_done, IsDoneAnswer, behind, found_edit, made_done, put_done, taken_done, used_done, used_reached}
+use Rattle.tinkey_readable.proofs.ReachLemmas.{load_done, load_within, IsDoneAnswer, behind, found_edit, made_done, put_done, taken_done, taken_within, used_done, used_reached, used_within}
+use Rattle.tinkey_readable.proofs.WrittenBytesLemmas.{written_bytes}
 
 -- ---- what is read is a keyset
 
@@ -96,11 +99,18 @@ read_faultless written keys e = by_form written.form e
     by_form formats.Json e = read_json_keyset written.bytes keys (ok_of (reads_json written.bytes) keys e)
     by_form formats.Binary e = read_binary_keyset written.bytes keys (ok_of (reads_binary written.bytes) keys e)
 
--- ---- what is written is read back
-
 pub each_of : {A : Type 0} {P Q : A → Type 0} (xs : List A) → ((x : A) → P x → Q x) → AllByRecursion P xs → AllByRecursion Q xs
 each_of [] f all = tt
 each_of (x ∷ xs) f all = (f x all.0, each_of xs f all.1)
+
+read_words : ReadKeysFit → (form : Format) (bytes : List ℕ) (keys : Keys) → length bytes ≤ keyset_limit → read_in form bytes ≡ Some keys → AllByRecursion HasWordId keys.records
+read_words fit formats.Json bytes keys within e = each_of keys.records (λ r b. b.id) (json_is_stored bytes keys (ok_of (reads_json bytes) keys e)).2
+read_words fit formats.Binary bytes keys within e = each_of keys.records (λ r b. b.id) (fit bytes keys (omega (arith, within)) (ok_of (reads_binary bytes) keys e)).1
+
+pub read_keyset : ReadKeysFit → (form : Format) (bytes : List ℕ) (keys : Keys) → length bytes ≤ keyset_limit → read_in form bytes ≡ Some keys → IsKeyset keys
+read_keyset fit form bytes keys within e = record { faultless = read_faultless (record { bytes = bytes; form = form }) keys e; words = read_words fit form bytes keys within e }
+
+-- ---- what is written is read back
 
 found_each : (P : Record → Type 0) (test : Record → Bool) (xs : List Record) (x : Record) → find test xs ≡ Some x → AllByRecursion P xs → P x
 found_each P test [] x e all = clash e
@@ -115,8 +125,11 @@ primary_word law keys faultless stored =
     let r = found_each IsStored (is_primary keys.primary) keys.records there.0 there.1 stored in
     subst (λ n. n < 2 ^ 32) there.2 r.held.id
 
+json_back : FaultlessKeysets → JsonBack → (keys : Keys) → fault_of keys ≡ None → AreStored keys → reads_json (json_of keys) ≡ Ok keys
+json_back law json keys faultless stored = json keys faultless (primary_word law keys faultless stored) (each_of keys.records (λ r s. record { id = s.held.id; utf8 = s.held.utf8; bytes = byte_there r.value s.bytes }) stored)
+
 pub written_back : FaultlessKeysets → BinaryBack → JsonBack → (form : Format) (keys : Keys) → fault_of keys ≡ None → AreStored keys → read_in form (written_in form keys) ≡ Some keys
-written_back law binary json formats.Json keys faultless stored = ap result_ok (json keys faultless (primary_word law keys faultless stored) (each_of keys.records (λ r s. record { id = s.held.id; utf8 = s.held.utf8; bytes = byte_there r.value s.bytes }) stored))
+written_back law binary json formats.Json keys faultless stored = ap result_ok (json_back law json keys faultless stored)
 written_back law binary json formats.Binary keys faultless stored = ap result_ok (binary keys faultless (each_of keys.records (λ r s. record { id = s.held.id; utf8 = s.held.utf8; short = s.held.short }) stored))
 
 -- ---- one run
@@ -144,6 +157,7 @@ given law binary json table run old new out after form put is faultless stored d
   read = subst (λ f. read_in f after.bytes ≡ Some new) form (ap (read_in out.form) (same_Some _ _ (sym put ∙ is)) ∙ written_back law binary json out.form new faultless stored);
   does = does;
   stored = stored;
+  holds = subst AreBytes (same_Some _ _ (sym is ∙ put)) (written_bytes out.form new ((law new).0 faultless) (primary_word law new faultless stored) stored (json_back law json new faultless stored));
 }
 
 behind_random : (file : Option (List ℕ)) (told : Told) → (behind file told).random ≡ told.random
@@ -285,9 +299,33 @@ by_asked law binary json keeps keeps_stored turns sessions edited keep_sessions 
 by_asked law binary json keeps keeps_stored turns sessions edited keep_sessions table (open_stream name form' ad) told before after old h e done form read put_form put random is stored = clash e
 by_asked law binary json keeps keeps_stored turns sessions edited keep_sessions table (self_test seed lines) told before after old h e done form read put_form put random is stored = clash e
 
-pub run_step : FaultlessKeysets → BinaryBack → JsonBack → EditsKeepKeysets → EditsKeepStored → TalkIsTurns → SessionIsEdits → EditedIsKeyset → SessionsKeepStored → RunStep
-run_step law binary json keeps keeps_stored turns sessions edited keep_sessions table run before after old h random is stored =
-    by_asked law binary json keeps keeps_stored turns sessions edited keep_sessions table run.asked run.told before after old h.handing h.hands h.done h.read_form h.read h.put_form h.put random is stored
+-- what it read is within the limit
+asked_within : (table : Table) (asked : Asked) (told : Told) (bytes : List ℕ) (h : Handing) → hands_on asked ≡ Some h → IsDoneAnswer (answer (command_plan table asked) told)
+    → bytes_at h.taken.file told.files told.input ≡ Some bytes → length bytes ≤ keyset_limit
+asked_within table (edit_keyset edit in' out) told bytes h e done read =
+    let f = found_edit edit (λ e. takes_keyset in' (λ keys. makes_keyset (step keys e) (puts_keyset out))) told done in
+    taken_within in' bytes (λ keys. makes_keyset (step keys f.edit) (puts_keyset out)) told (ap (λ (x : Handing). bytes_at x.taken.file told.files told.input) (same_Some _ _ e) ∙ read) (ap (λ (a : Answer). a.status) (sym f.goes_on) ∙ done)
+asked_within table (convert_keyset in' out) told bytes h e done read = taken_within in' bytes (puts_keyset out) told (ap (λ (x : Handing). bytes_at x.taken.file told.files told.input) (same_Some _ _ e) ∙ read) done
+asked_within table (session name form out) told bytes h e done read = by_file out.file e
+  where
+    by_file : (f : Option (List ℕ)) → session_handing name form out f ≡ Some h → length bytes ≤ keyset_limit
+    by_file None e = clash e
+    by_file (Some file) e = load_within name form bytes (holds_session table out) told (ap (λ (x : Handing). bytes_at x.taken.file told.files told.input) (same_Some _ _ e) ∙ read) done
+asked_within table (create_keyset template out) told bytes h e done read = clash e
+asked_within table (list_keyset in') told bytes h e done read = clash e
+asked_within table list_key_templates told bytes h e done read = clash e
+asked_within table (use_keyset name form work) told bytes h e done read = clash e
+asked_within table (seal_stream name form ad) told bytes h e done read = clash e
+asked_within table (open_stream name form ad) told bytes h e done read = clash e
+asked_within table (self_test seed lines) told bytes h e done read = clash e
+
+pub hands_within : (table : Table) (run : Run) (before after : Written) → HandsOn table run before after → length before.bytes ≤ keyset_limit
+hands_within table run before after h = asked_within table run.asked run.told before.bytes h.handing h.hands h.done h.read
+
+pub run_step : FaultlessKeysets → BinaryBack → JsonBack → EditsKeepKeysets → EditsKeepStored → TalkIsTurns → SessionIsEdits → EditedIsKeyset → SessionsKeepStored → ReadIsStored → RunStep
+run_step law binary json keeps keeps_stored turns sessions edited keep_sessions read_stored table run before after old h random holds is =
+    by_asked law binary json keeps keeps_stored turns sessions edited keep_sessions table run.asked run.told before after old h.handing h.hands h.done h.read_form h.read h.put_form h.put random is
+    (read_stored before old holds (hands_within table run before after h) is)
 
 -- ---- many runs
 
@@ -318,11 +356,11 @@ no_edits : (old : Keys) → IsEdited old old
 unfolding after
 no_edits old = record { edits = []; asked = tt; last = refl }
 
-pub led : RunStep → SessionIsEdits → (table : Table) (runs : List Run) (before after : Written) (old : Keys) → AreRuns table runs before after → AllByRecursion DrawsBytes runs → keyset_of before ≡ Some old → AreStored old → Led old after
-led law sessions table [] before after old are bytes is stored = record { new = old; read = ap keyset_of (sym are) ∙ is; edited = no_edits old }
-led law sessions table (run ∷ later) before after old (between, hands, are) bytes is stored =
-    let step' = law table run before between old hands bytes.0 is stored in
-    let rest = led law sessions table later between after step'.new are bytes.1 step'.read step'.stored in
+pub led : RunStep → SessionIsEdits → (table : Table) (runs : List Run) (before after : Written) (old : Keys) → AreRuns table runs before after → AllByRecursion DrawsBytes runs → HoldsBytes before → keyset_of before ≡ Some old → Led old after
+led law sessions table [] before after old are bytes holds is = record { new = old; read = ap keyset_of (sym are) ∙ is; edited = no_edits old }
+led law sessions table (run ∷ later) before after old (between, hands, are) bytes holds is =
+    let step' = law table run before between old hands bytes.0 holds is in
+    let rest = led law sessions table later between after step'.new are bytes.1 step'.holds step'.read in
     record {
       new = rest.new;
       read = rest.read;
@@ -338,12 +376,12 @@ record Ends (runs : List Run) (before after : Written) (r : Record) (old new : K
   read : keyset_of before ≡ Some old
   read_again : keyset_of after ≡ Some new
 
-lead_ends : RunStep → SessionIsEdits → (runs : List Run) (before after : Written) (r : Record) (x : LeadOn runs before after r) → Ends runs before after r x.old x.new
-lead_ends law sessions runs before after r x =
-    let l = led law sessions standard_table runs before after x.old x.are x.bytes x.read x.stored in
+lead_ends : ReadKeysFit → RunStep → SessionIsEdits → (runs : List Run) (before after : Written) (r : Record) → length before.bytes ≤ keyset_limit → (x : LeadOn runs before after r) → Ends runs before after r x.old x.new
+lead_ends fit law sessions runs before after r within x =
+    let l = led law sessions standard_table runs before after x.old x.are x.bytes x.holds x.read in
     record {
       edited = subst (λ k. IsEdited x.old k) (same_Some _ _ (sym l.read ∙ x.read_again)) l.edited;
-      keyset = record { faultless = read_faultless before x.old x.read; words = each_of x.old.records (λ r s. s.held.id) x.stored };
+      keyset = read_keyset fit before.form before.bytes x.old within x.read;
       primary = x.primary;
       same = x.same;
       read = x.read;
@@ -371,6 +409,10 @@ started work written old told output is was =
       status' = ap (λ (a : Answer). a.status) (sym u.goes_on) ∙ was.done;
       gave = ap (λ (a : Answer). a.output) (sym u.goes_on) ∙ was.gave;
     }
+
+-- the keyset that it was done over is within the limit
+pub done_within : (work : AskedWork) (written : Written) (told : Told) (output : List ℕ) → WasDone work written told output → length written.bytes ≤ keyset_limit
+done_within work written told output was = used_within standard_table was.name written.form work written.bytes told was.lies was.done
 
 -- work over the last one is done, where its keys answer so
 pub finished : (work : AskedWork) (written : Written) (new : Keys) (input output : List ℕ) → keyset_of written ≡ Some new → unfit new (primitive_for work) standard_table ≡ None
@@ -400,18 +442,18 @@ made_some None some = no_truth some
 pub opens_so : (o : Option (List ℕ)) (plain : List ℕ) (told : Told) → o ≡ Some plain → (IsDoneAnswer (answer (with_opened o writes) told)) × ((answer (with_opened o writes) told).output ≡ plain)
 opens_so o plain told is = rw is (refl, refl)
 
-pub runs_open : RunStep → SessionIsEdits → SoundIsUsable Aead → EditedIsSound → EditedIsKeyset → KeptOpen → RunsOpen
-runs_open law sessions usable sound keyset kept runs before after r prefix ad sealed told x is was =
-    let e = lead_ends law sessions runs before after r x in
+pub runs_open : ReadKeysFit → RunStep → SessionIsEdits → SoundIsUsable Aead → EditedIsSound → EditedIsKeyset → KeptOpen → RunsOpen
+runs_open read_fit law sessions usable sound keyset kept runs before after r prefix ad sealed told x is was =
+    let e = lead_ends read_fit law sessions runs before after r (done_within (to_seal ad) before told sealed was) x in
     let b = started (to_seal ad) before x.old told sealed e.read was in
     let s = sealed_by x.old ad told sealed b in
     let opened = kept x.old x.new r prefix told.input ad told.random s.0 e.keyset e.edited e.same e.primary is s.1 in
     finished (to_open ad) after x.new sealed told.input e.read_again (still_fit Aead usable sound keyset x.old x.new e.keyset e.edited b.fit)
     (λ t. opens_so (open_answer x.new standard_table sealed ad) told.input t (ap (λ c. open_answer x.new standard_table c ad) (sym s.2) ∙ opened))
 
-pub runs_open_raw : RunStep → SessionIsEdits → SoundIsUsable Aead → EditedIsSound → EditedIsKeyset → KeptOpenRaw → RunsOpenRaw
-runs_open_raw law sessions usable sound keyset kept runs before after r ad sealed told x is was =
-    let e = lead_ends law sessions runs before after r x in
+pub runs_open_raw : ReadKeysFit → RunStep → SessionIsEdits → SoundIsUsable Aead → EditedIsSound → EditedIsKeyset → KeptOpenRaw → RunsOpenRaw
+runs_open_raw read_fit law sessions usable sound keyset kept runs before after r ad sealed told x is was =
+    let e = lead_ends read_fit law sessions runs before after r (done_within (to_seal ad) before told sealed was) x in
     let b = started (to_seal ad) before x.old told sealed e.read was in
     let s = sealed_by x.old ad told sealed b in
     let opened = kept x.old x.new r told.input ad told.random s.0 e.same e.primary is s.1 in (
@@ -431,17 +473,17 @@ tagged_by fit old told output is x =
     let m = made_some (tag_answer old standard_table told.input) (fit.tag standard_table old told.input (record { faultless = is.faultless; fit = x.fit })) in
     m.1 ∙ ap Some (sym (ap made_bytes m.1) ∙ x.gave)
 
-pub runs_dopen : FitKeysetsAnswer → RunStep → SessionIsEdits → SoundIsUsable Daead → EditedIsSound → EditedIsKeyset → KeptDopen → RunsDopen
-runs_dopen fits law sessions usable sound keyset kept runs before after r prefix ad sealed told x is was =
-    let e = lead_ends law sessions runs before after r x in
+pub runs_dopen : FitKeysetsAnswer → ReadKeysFit → RunStep → SessionIsEdits → SoundIsUsable Daead → EditedIsSound → EditedIsKeyset → KeptDopen → RunsDopen
+runs_dopen fits read_fit law sessions usable sound keyset kept runs before after r prefix ad sealed told x is was =
+    let e = lead_ends read_fit law sessions runs before after r (done_within (to_dseal ad) before told sealed was) x in
     let b = started (to_dseal ad) before x.old told sealed e.read was in
     let opened = kept x.old x.new r prefix told.input ad sealed e.keyset e.edited e.same e.primary is (dsealed_by fits x.old ad told sealed e.keyset b) in
     finished (to_dopen ad) after x.new sealed told.input e.read_again (still_fit Daead usable sound keyset x.old x.new e.keyset e.edited b.fit)
     (λ t. opens_so (dopen_answer x.new standard_table sealed ad) told.input t opened)
 
-pub runs_dopen_raw : FitKeysetsAnswer → RunStep → SessionIsEdits → SoundIsUsable Daead → EditedIsSound → EditedIsKeyset → KeptDopenRaw → RunsDopenRaw
-runs_dopen_raw fits law sessions usable sound keyset kept runs before after r ad sealed told x is was =
-    let e = lead_ends law sessions runs before after r x in
+pub runs_dopen_raw : FitKeysetsAnswer → ReadKeysFit → RunStep → SessionIsEdits → SoundIsUsable Daead → EditedIsSound → EditedIsKeyset → KeptDopenRaw → RunsDopenRaw
+runs_dopen_raw fits read_fit law sessions usable sound keyset kept runs before after r ad sealed told x is was =
+    let e = lead_ends read_fit law sessions runs before after r (done_within (to_dseal ad) before told sealed was) x in
     let b = started (to_dseal ad) before x.old told sealed e.read was in
     let opened = kept x.old x.new r told.input ad sealed e.same e.primary is (dsealed_by fits x.old ad told sealed e.keyset b) in (
       opened.0,
@@ -453,9 +495,9 @@ runs_dopen_raw fits law sessions usable sound keyset kept runs before after r ad
 pub verifies_so : (b : Bool) (told : Told) → b ≡ true → (IsDoneAnswer (answer (with_verified b writes) told)) × ((answer (with_verified b writes) told).output ≡ [])
 verifies_so b told is = rw is (refl, refl)
 
-pub runs_verify : FitKeysetsAnswer → RunStep → SessionIsEdits → SoundIsUsable Mac → EditedIsSound → EditedIsKeyset → KeptTag → RunsVerify
-runs_verify fits law sessions usable sound keyset kept runs before after r tag told x was =
-    let e = lead_ends law sessions runs before after r x in
+pub runs_verify : FitKeysetsAnswer → ReadKeysFit → RunStep → SessionIsEdits → SoundIsUsable Mac → EditedIsSound → EditedIsKeyset → KeptTag → RunsVerify
+runs_verify fits read_fit law sessions usable sound keyset kept runs before after r tag told x was =
+    let e = lead_ends read_fit law sessions runs before after r (done_within to_tag before told tag was) x in
     let b = started to_tag before x.old told tag e.read was in
     let verified = kept x.old x.new r tag told.input e.edited e.same e.primary (tagged_by fits x.old told tag e.keyset b) in
     finished (to_verify tag) after x.new told.input [] e.read_again (still_fit Mac usable sound keyset x.old x.new e.keyset e.edited b.fit)

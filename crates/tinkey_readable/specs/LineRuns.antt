@@ -9,7 +9,6 @@ use Rattle.std.specs.List.{AllByRecursion}
 use Rattle.keyset_model.specs.Keyset.{Keys, primary_of}
 use Rattle.keyset_model.specs.declared.record.Record.{Record}
 use Rattle.managers.specs.Standard.{standard_table}
-use Rattle.tinkey_session.specs.HeldLaws.{AreStored}
 use Rattle.tinkey_session.specs.Lines.{Line, Seal, Open, Dseal, Dopen, Tag, Verify, Derive}
 use Rattle.tinkey_session.specs.Session.{Turn, asked_in, turns}
 use Rattle.tinkey_session.specs.declared.reply.Reply.{Reply}
@@ -18,7 +17,7 @@ use Rattle.wrapped_prims.specs.Candidates.{prefix_of}
 use Rattle.wrapped_prims.specs.Laws.{HasSameKey}
 use Rattle.tinkey_plans.specs.Laws.{IsSession}
 use Rattle.tinkey_plans.specs.Plan.{Told}
-use Rattle.tinkey_readable.specs.Runs.{AreRuns, DrawsBytes, IsDone, Run, WasDone, Written, keyset_of}
+use Rattle.tinkey_readable.specs.Runs.{AreRuns, DrawsBytes, HoldsBytes, IsDone, Run, WasDone, Written, keyset_of}
 use Rattle.tinkey_words.specs.Words.{AskedWork, to_seal, to_open, to_dseal, to_dopen, to_tag, to_verify, to_derive}
 
 -- the line of a session that asks for this work on this input
@@ -43,12 +42,12 @@ pub record HasTurn (told : Told) (written : Written) (t : Turn) : Type 0 where
   pub place : ℕ
   pub there : slice_get (turns standard_table keys (asked_in told.input) told.random) place ≡ Some t
 
--- runs, of which each reads what the one before put out, from a keyset that the types hold
+-- runs, of which each reads what the one before put out, from this keyset on
 pub record Lead (runs : List Run) (before after : Written) (old : Keys) : Type 0 where
   pub are : AreRuns standard_table runs before after
   pub bytes : AllByRecursion DrawsBytes runs
+  pub holds : HoldsBytes before
   pub read : keyset_of before ≡ Some old
-  pub stored : AreStored old
 
 -- By this work this output was made of this input, by the key of this primary record: by a run of the
 -- command over a keyset, or by a line of a session that hands the keyset on. From there runs have led

@@ -1,9 +1,10 @@
 -- Runs of the program, one after another, that hand a keyset on.
 --
---   hands_on     where a command takes a keyset, and where it puts one
---   AreRuns      each run reads what the one before put out, and is answered Done
---   RunStep      what one of them does to the keyset
---   RunsOpen ..  what was sealed or tagged before them opens or verifies after them
+--   ReadIsStored   what is read is held to what the types of a record hold
+--   hands_on       where a command takes a keyset, and where it puts one
+--   AreRuns        each run reads what the one before put out, and is answered Done
+--   RunStep        what one of them does to the keyset
+--   RunsOpen ..    what was sealed or tagged before them opens or verifies after them
 use Rattle.std.specs.Prelude.{◌≡◌, ℕ, ◌<◌, ◌≤◌, List, [], ◌∷◌, length, Option, Some, None, Ok}
 use Rattle.std.specs.FinMap as map
 use Rattle.std.specs.List.{AllByRecursion}
@@ -44,12 +45,15 @@ pub record Written : Type 0 where
 abbrev pub keyset_of : Written → Option Keys
 keyset_of written = read_in written.form written.bytes
 
--- A keyset that is read of bytes in the binary form, within the limit, is held to what the types of
--- its records hold.
-abbrev pub BinaryIsStored : Type 0
-BinaryIsStored = (written : Written) (keys : Keys) → written.form ≡ formats.Binary
-    → AreBytes written.bytes → length written.bytes ≤ keyset_limit
-    → keyset_of written ≡ Some keys → AreStored keys
+-- what lies there are bytes, as in any file and any input: each is below 256
+abbrev pub HoldsBytes : Written → Type 0
+HoldsBytes written = AreBytes written.bytes
+
+-- A keyset that is read of bytes, in either form and within the limit, is held to what the types of its
+-- records hold.
+abbrev pub ReadIsStored : Type 0
+ReadIsStored = (written : Written) (keys : Keys) → HoldsBytes written
+    → length written.bytes ≤ keyset_limit → keyset_of written ≡ Some keys → AreStored keys
 
 -- the bytes of the file of this name, or where none is named, these
 abbrev pub bytes_at : Option (List ℕ) → Files → (stream : List ℕ) → Option (List ℕ)
@@ -127,19 +131,20 @@ Does table told old new (session name form out) =
     (m : Remains) × (remains table old (asked_in told.input) told.random ≡ Some m) × (m.keys ≡ new)
 Does table told old new _ = ⊥
 
--- a run gave this keyset of that one, and what the types of records hold was kept
+-- a run gave this keyset of that one, in bytes, and it is held to what the types of its records hold
 pub record Gives (table : Table) (run : Run) (old : Keys) (after : Written) : Type 0 where
   pub new : Keys
   pub read : keyset_of after ≡ Some new
   pub does : Does table run.told old new run.asked
   pub stored : AreStored new
+  pub holds : HoldsBytes after
 
 -- What such a run puts out is read back, in its own form: it is the keyset that the run read, after
 -- the run's accepted edits.
 abbrev pub RunStep : Type 0
 RunStep = (table : Table) (run : Run) (before after : Written) (old : Keys)
     → HandsOn table run before after → DrawsBytes run
-    → keyset_of before ≡ Some old → AreStored old
+    → HoldsBytes before → keyset_of before ≡ Some old
     → Gives table run old after
 
 -- ---- many runs
@@ -148,9 +153,9 @@ RunStep = (table : Table) (run : Run) (before after : Written) (old : Keys)
 pub record LeadOn (runs : List Run) (before after : Written) (r : Record) : Type 0 where
   pub are : AreRuns standard_table runs before after
   pub bytes : AllByRecursion DrawsBytes runs
+  pub holds : HoldsBytes before
   pub old : Keys
   pub read : keyset_of before ≡ Some old
-  pub stored : AreStored old
   pub primary : primary_of old ≡ Some r
   pub new : Keys
   pub read_again : keyset_of after ≡ Some new

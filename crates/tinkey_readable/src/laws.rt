@@ -4,9 +4,9 @@ ghost use Rattle.keyset_json.specs.Writing.{JsonBack};
 ghost use Rattle.keyset_model.specs.Writing.{BinaryBack};
 ghost use Rattle.tinkey_readable.specs.LineRuns.{MadeDopens, MadeDopensRaw, MadeOpens, MadeOpensRaw, MadeVerifies};
 ghost use Rattle.tinkey_readable.specs.Readable.{AnswersAreReadable, SessionsAreReadable};
-ghost use Rattle.tinkey_readable.specs.Runs.{BinaryIsStored, RunStep, RunsDopen, RunsDopenRaw, RunsOpen, RunsOpenRaw, RunsVerify};
+ghost use Rattle.tinkey_readable.specs.Runs.{ReadIsStored, RunStep, RunsDopen, RunsDopenRaw, RunsOpen, RunsOpenRaw, RunsVerify};
 
-use keyset_json::laws::json_back;
+use keyset_json::laws::{json_back, json_is_stored};
 use keyset_model::laws::{binary_back, faultless_keysets, read_keysets_fit};
 use tinkey_cmds::laws::edits_keep_keysets;
 use tinkey_plans::laws::fit_keysets_answer;
@@ -25,12 +25,13 @@ pub fn forms_back()
     json_back();
 }
 
-/// A keyset that is read in the binary form holds what the types of a record hold it to. So in that
-/// form this need not be asked of the keyset that a first run reads, but that its bytes are bytes.
-pub fn binary_is_stored()
-    ensures { BinaryIsStored }
+/// A keyset that is read, in either form, holds what the types of a record hold it to: ids of 32 bits,
+/// URLs that are text, and values of bytes, short enough to be written.
+pub fn read_is_stored()
+    ensures { ReadIsStored }
 {
     read_keysets_fit();
+    json_is_stored();
 }
 
 /// What a run that hands a keyset on puts out is read back in its own form: it is the keyset that
@@ -46,6 +47,7 @@ pub fn run_step()
     talk_is_turns();
     session_is_edits();
     edited_kept();
+    read_is_stored();
 }
 
 /// What was sealed over a keyset opens after any runs that hand the keyset on, with its associated
@@ -59,6 +61,7 @@ pub fn kept_runs()
     ensures verify { RunsVerify }
 {
     run_step();
+    read_keysets_fit();
     fit_keysets_answer();
     session_is_edits();
     sound_usable();
@@ -80,6 +83,7 @@ pub fn kept_lines()
     ensures verify { MadeVerifies }
 {
     run_step();
+    read_keysets_fit();
     fit_keysets_answer();
     session_is_edits();
     sound_usable();

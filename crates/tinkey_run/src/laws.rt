@@ -8,7 +8,7 @@ pub use tinkey_plans::laws::{
     commands_are_whole, done_exactly, fit_keysets_answer, self_tests_tell,
 };
 pub use tinkey_readable::laws::{
-    binary_is_stored, forms_back, kept_lines, kept_runs, run_step, sessions_are_readable,
+    forms_back, kept_lines, kept_runs, read_is_stored, run_step, sessions_are_readable,
 };
 pub use tinkey_session::laws::{kept_open, kept_tag, sound_kept, sound_usable};
 pub use tinkey_words::laws::{places_are_decided, words_are_spelled};

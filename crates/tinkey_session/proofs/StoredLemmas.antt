@@ -90,7 +90,7 @@ bytes-field number of n short h = bytes-append (tag_of number 2) (varint_of (len
     (bytes-append (varint_of (length of)) of (bytes-varint (length of) (omega arith)) h)
 
 -- an entry with numbers of 32 bits, and bytes
-abbrev IsPlain : Entry → Type 0
+abbrev pub IsPlain : Entry → Type 0
 IsPlain (uint32 number value) = (number < 2 ^ 32) × (value < 2 ^ 32)
 IsPlain (content number of) = (number < 2 ^ 32) × (length of < 2 ^ 32) × AreBytes of
 IsPlain (message number payload) = (number < 2 ^ 32) × (length payload < 2 ^ 32) × AreBytes payload
@@ -106,7 +106,7 @@ bytes-written (content number of) h = elim (length of == 0) as (λ b. AreBytes (
 ]
 bytes-written (message number payload) h = bytes-field number payload h.0 h.1 h.2
 
-bytes-all : (entries : List Entry) → AllByRecursion IsPlain entries → AreBytes (written_all entries)
+pub bytes-all : (entries : List Entry) → AllByRecursion IsPlain entries → AreBytes (written_all entries)
 bytes-all [] h = tt
 bytes-all (entry ∷ entries) h = bytes-append (written entry) (written_all entries) (bytes-written entry h.0) (bytes-all entries h.1)
 
