@@ -3,13 +3,14 @@ use Rattle.std.proofs.Common.{◌≡◌, refl, [], ◌∷◌, ◌++◌, codes}
 use Rattle.std.specs.Prelude.{⊤}
 use Rattle.std.specs.Str.{chars, is_utf8}
 use Rattle.hex.proofs.OnLiterals.{hex_on_literals}
+use Rattle.tink_base.specs.Decimal.{number_in}
 use Rattle.tinkey_cmds.specs.Edits.{Add, Rotate, Promote, Enable, Disable, Destroy, Delete}
 use Rattle.tinkey_session.specs.Lines.{Seal, Dseal, Open, Dopen, Tag, Verify, Derive, Edit, Bad, line_of}
 use Rattle.tinkey_session.specs.Session.{lines_of}
 
 -- what unfolds to read a line that is a literal
 unfoldable pub line_on_literals : ⊤
-unfolding line_of is_utf8 chars hex_on_literals lib.Utf8.encode
+unfolding line_of number_in is_utf8 chars hex_on_literals lib.Utf8.encode
 line_on_literals = tt
 
 -- each form, and what its words may be
