@@ -1,3 +1,4 @@
+use Rattle.std.proofs.Common.{◌^◌}
 use Rattle.key_msgs.proofs.Made.{made-within}
 use Rattle.keyset_tests.proofs.new_keys.written.Goals as goal
 use Rattle.key_msgs.specs.Templates.{seen}
