@@ -31,10 +31,11 @@ pub record IsWithin (size : ℕ) (record' : Record) : Type 0 where
   pub url : length record'.url ≤ size
   pub value : length record'.value ≤ size
 
--- What can be written: URL and value have at most 2 ^ 30 bytes together, so that the sizes of all
--- messages with them are below 2 ^ 31. A keyset read from at most 2 ^ 29 bytes has such records.
+-- What can be written: URL and value have together at most 256 bytes less than 2 ^ 31, so that each
+-- message with them, and with the numbers beside them, has fewer than 2 ^ 31. A keyset read from at
+-- most 2 ^ 30 bytes has such records.
 abbrev pub IsShort : Record → Type 0
-IsShort r = length r.url + length r.value ≤ 2 ^ 30
+IsShort r = length r.url + length r.value + 256 ≤ 2 ^ 31
 
 -- the status and the output prefix type have names
 pub record IsKnown (record' : Record) : Type 0 where
@@ -43,9 +44,11 @@ pub record IsKnown (record' : Record) : Type 0 where
   pub least_prefix : 1 ≤ record'.prefix
   pub most_prefix : record'.prefix ≤ 4
 
+-- the status is ENABLED
 abbrev pub is_enabled : Record → Bool
 is_enabled r = r.status == 1
 
+-- the status is DESTROYED
 abbrev pub is_destroyed : Record → Bool
 is_destroyed r = r.status == 3
 
@@ -89,6 +92,7 @@ primary_of keys = find (is_primary keys.primary) keys.records
 unfoldable pub first_without : (Record → Bool) → List Record → Option ℕ
 first_without test records = position (λ r. not (test r)) records
 
+-- two places, the later one last
 abbrev pub pair_with : ℕ → ℕ → ℕ × ℕ
 pair_with j i = (i, j)
 
@@ -109,6 +113,7 @@ first_some (option ∷ later) = option_or option (first_some later)
 unfoldable pub when : {A : Type 0} → Bool → A → Option A
 when test value = if test then Some value else None
 
+-- the fault that the records of these two places have one id
 abbrev pub duplicate : ℕ × ℕ → KeysetFault
 duplicate places = faults.DuplicateId places.0 places.1
 

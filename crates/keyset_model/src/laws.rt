@@ -10,12 +10,12 @@ pub fn faultless_keysets()
 {}
 
 /// The binary form of keys without a fault reads back to them, where ids are below 2^32, URLs are
-/// UTF-8, and URL and value of each record have at most 2^30 bytes together.
+/// UTF-8, and URL and value of each record have at most 2^32 bytes together.
 pub fn binary_back()
     ensures { BinaryBack }
 {}
 
-/// Keys that are read of at most 2^29 bytes have no fault and the bounds of `binary_back`, so what
+/// Keys that are read of at most 2^32 bytes have no fault and the bounds of `binary_back`, so what
 /// is written of them reads back.
 pub fn read_keysets_fit()
     ensures { ReadKeysFit }

@@ -85,15 +85,14 @@ impl<T: Drop> From<AllocFailed<T>> for ReadError {
 ///
 /// `Wire` comes exactly where the bytes can't be cut into fields, a known field has another wire
 /// type than its own, or a type URL isn't UTF-8. `Fault` comes exactly where the message is read
-/// and has that fault first. No URL and no value has more bytes than `bytes`, so what was read from
-/// at most 2^29 bytes can be written.
+/// and has that fault first. No URL and no value has more bytes than `bytes`, and what was read can be
+/// written.
 pub fn read_binary(alloc: Global, bytes: &[u8]) -> Result<Keyset, ReadError>
     requires size_bound { length bytes.now ≤ 2 ^ 30 }
     ensures keyset { GivesKeyset result (reads_binary bytes.now) }
     ensures within { IfOk result (λ keyset.
         AllByRecursion (IsWithin (length bytes.now)) keyset.records) }
-    ensures short { length bytes.now ≤ 2 ^ 29 → IfOk result (λ keyset.
-        AllByRecursion IsShort keyset.records) }
+    ensures short { IfOk result (λ keyset. AllByRecursion IsShort keyset.records) }
 {
     let message = fields(alloc, bytes, 0, bytes.len())?;
     let records = read_records(alloc, bytes, &message)?;

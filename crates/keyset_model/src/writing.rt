@@ -17,8 +17,9 @@ use tink_base::NoMemory;
 /// Writes the binary form of a keyset, a `Keyset` message of tink.proto: fields by number, without
 /// those that are 0 or empty. A record without URL, value and material has no key data.
 ///
-/// URL and value of each record have at most 2^30 bytes together. An error says that memory was
-/// refused.
+/// A keyset's records have URLs and values of at most 2^30 bytes each. Here those of a record have
+/// together at most 256 less than 2^31, so that each message has fewer than 2^31 bytes. An error says
+/// that memory was refused.
 pub fn write_binary(alloc: Global, keyset: &Keyset) -> Result<Vec<u8>, NoMemory>
     requires short { AllByRecursion IsShort keyset.now.records }
     ensures { IfOk result (λ bytes. bytes.items ≡ binary_of keyset.now) }

@@ -115,7 +115,7 @@ kept-held = record {
   new = λ row records r is new. record {
     id = new.free.word;
     utf8 = ap (λ x. is_utf8 x.url) new.made ∙ text_url row is;
-    short = kept-short.new row records r is new;
+    short = omega (arith, kept-short.new row records r is new);
   };
 }
 

@@ -10,7 +10,7 @@ pub fn edits_keep_keysets()
 {}
 
 /// An accepted edit keeps the bounds of records, and the record of a new keyset has them: ids of 32
-/// bits, URLs that are text, and at most 2^30 bytes of URL and value.
+/// bits, URLs that are text, and at most 2^32 bytes of URL and value together.
 pub fn edits_keep_bounds()
     ensures edits { EditsKeepBounds }
     ensures firsts { FirstsHaveBounds }

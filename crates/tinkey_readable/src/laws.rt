@@ -16,7 +16,9 @@ use tinkey_session::laws::{
     sound_usable, stored_kept, talk_is_turns,
 };
 
-/// What is written of a keyset without a fault, in either form, reads back to it.
+/// What is written of a keyset without a fault, in either form, reads back to it: in the binary form
+/// where URL and value of each record have at most 2^32 bytes together, as two lists of 2^31 have, and
+/// in JSON however many they have.
 pub fn forms_back()
     ensures binary { BinaryBack }
     ensures json { JsonBack }

@@ -1,6 +1,6 @@
 -- What the types of a record hold it to, and that edits and sessions keep it.
 --
---   IsStored    a record of a keyset that code can hold and write
+--   IsStored    a record of a keyset that code can hold
 --   AreStored   a keyset of such records
 use Rattle.std.specs.Prelude.{◌≡◌, ℕ, ◌<◌, List, Some, Ok}
 use Rattle.std.specs.List.{AllByRecursion}
@@ -18,8 +18,8 @@ use Rattle.tinkey_session.specs.Session.{Remains, remains}
 abbrev pub AreBytes : List ℕ → Type 0
 AreBytes bytes = AllByRecursion (λ b. b < 256) bytes
 
--- what the types of a record hold it to: an id of 32 bits, a URL that is text, URL and value short
--- enough to be written, and a value of bytes
+-- what the types of a record hold it to: an id of 32 bits, a URL that is text, at most 2 ^ 32 bytes of
+-- URL and value together, and a value of bytes
 pub record IsStored (r : Record) : Type 0 where
   pub held : HasWireBounds r
   pub bytes : AreBytes r.value

@@ -54,7 +54,7 @@ struct TalkState<'m> {
 }
 
 /// Answers each line of an input over a keyset, under these managers, and then gives the keyset that
-/// the last line left. A record's URL and value have at most 2^30 bytes together.
+/// the last line left. A record's URL and value have together at most 256 bytes less than 2^31.
 ///
 /// A line ends with a newline, and a last one without it counts where it isn't empty. Before each
 /// read the replies to all lines that have ended were written. The session ends before its input

@@ -1,7 +1,8 @@
-use Rattle.std.proofs.Common.{◌∙◌, ap, sym}
+use Rattle.std.proofs.Common.{◌∙◌, ap, sym, arith}
 use Rattle.proto_wire.specs.Fields.{seen_all}
 use Rattle.keyset_model.specs.Reading.{without_fault}
 use Rattle.keyset_model.proofs.ReadingLemmas.{whole, primary_never_fails, keyset_handed_on, cut_fails, reading_fails, builds}
+use Rattle.keyset_model.proofs.ReadBounds.{read-short}
 use Rattle.keyset_model.proofs.reading.read_binary.Goals as goal
 
 pub returns-in_err-message-clause-keyset : goal.returns-in_err-message-clause-keyset
@@ -27,3 +28,9 @@ pub returns-clause-keyset : goal.returns-clause-keyset
 returns-clause-keyset c =
     builds c.args.bytes.now _ _ _ (rw whole at c.in_ok-message.ensures.cut) (c.in_ok-primary.ensures c.args.bytes.now) c.in_ok-records.ensures.records
     ∙ ap without_fault (sym c.in_ok-keyset.ensures)
+
+pub returns-clause-short : goal.returns-clause-short
+returns-clause-short c =
+    read-short c.args.bytes.now _ (omega arith)
+    (builds c.args.bytes.now _ _ _ (rw whole at c.in_ok-message.ensures.cut) (c.in_ok-primary.ensures c.args.bytes.now) c.in_ok-records.ensures.records
+    ∙ ap without_fault (sym c.in_ok-keyset.ensures))

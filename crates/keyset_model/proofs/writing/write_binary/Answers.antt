@@ -11,7 +11,7 @@ use Rattle.keyset_model.proofs.writing.write_binary.Goals as goal
 pub message-requires-clause-length_bound : goal.message-requires-clause-length_bound
 message-requires-clause-length_bound c =
     let r = c.record_at.result.now in
-    let short : length r.url + length r.value ≤ 2 ^ 30 = all_at IsShort c.args.keyset.now.records c.loop-i.i r c.requires.short c.record_at.ensures.record_there in
+    let short : length r.url + length r.value + 256 ≤ 2 ^ 31 = all_at IsShort c.args.keyset.now.records c.loop-i.i r c.requires.short c.record_at.ensures.record_there in
     rw (c.deref.ensures.value, c.in_ok-key.ensures) (omega (arith, length-record r))
 
 pub loop-i-preserved : goal.loop-i-preserved
