@@ -14,7 +14,7 @@ use Rattle.keyset_model.specs.declared.keyset.KeysetFault.{KeysetFault}
 use Rattle.keyset_model.specs.declared.record.Record.{Record}
 use Rattle.keyset_model.specs.Keyset.{Keys, IsShort, fault_of, unless_fault}
 use Rattle.keyset_model.specs.Reading.{record_of, key_of, fault_at, keys_in, without_fault, well_formed, reads_binary}
-use Rattle.keyset_model.specs.Writing.{ReadKeysFit}
+use Rattle.keyset_model.specs.Writing.{ReadKeysFit, ReadWithin}
 
 -- ---- answers, taken apart
 
@@ -234,3 +234,6 @@ read-fits source keys few read =
 -- what was read can be written
 pub read-short : (source : List ℕ) (keys : Keys) → length source ≤ 2 ^ 30 → reads_binary source ≡ Ok keys → AllByRecursion IsShort keys.records
 read-short source keys few read = each keys.records (λ r is. omega (arith, is.sizes)) (read-bounds source keys read).1
+
+pub read-within : ReadWithin
+read-within source keys read = each keys.records (λ r is. is.sizes) (read-bounds source keys read).1

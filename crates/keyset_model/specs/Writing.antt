@@ -7,6 +7,7 @@
 --   HasWireBounds    what a record is held to, so that it is read back
 --   BinaryBack       the binary form reads back to the keyset
 --   ReadKeysFit      the records that were read are held to that
+--   ReadWithin       and have no more bytes than they were read of
 use Rattle.std.specs.Prelude.{◌≡◌, ℕ, ◌+◌, ◌<◌, ◌≤◌, ◌^◌, true, List, [], ◌∷◌, ◌++◌, length, map, None, Ok, if◌then◌else◌}
 use Rattle.std.specs.List.{AllByRecursion}
 use Rattle.std.specs.Str.{is_utf8}
@@ -63,3 +64,8 @@ BinaryBack = (keys : Keys) → fault_of keys ≡ None → AllByRecursion HasWire
 abbrev pub ReadKeysFit : Type 0
 ReadKeysFit = (bytes : List ℕ) (keys : Keys) → length bytes ≤ 2 ^ 32 → reads_binary bytes ≡ Ok keys
     → (fault_of keys ≡ None) × AllByRecursion HasWireBounds keys.records
+
+-- URL and value of a record that is read have together no more bytes than what it is read of.
+abbrev pub ReadWithin : Type 0
+ReadWithin = (bytes : List ℕ) (keys : Keys) → reads_binary bytes ≡ Ok keys
+    → AllByRecursion (λ r. length r.url + length r.value ≤ length bytes) keys.records

@@ -1,7 +1,7 @@
 //! Laws of the definitions. These functions do nothing: their contracts are the laws.
 
 ghost use Rattle.keyset_model.specs.WellFormed.{FaultlessKeysets};
-ghost use Rattle.keyset_model.specs.Writing.{BinaryBack, ReadKeysFit};
+ghost use Rattle.keyset_model.specs.Writing.{BinaryBack, ReadKeysFit, ReadWithin};
 
 /// Records are without a fault exactly where they are 1 to 1,000, each of them known and with its
 /// key data, with ids that differ, and a primary one that is there and ENABLED.
@@ -19,4 +19,9 @@ pub fn binary_back()
 /// is written of them reads back.
 pub fn read_keysets_fit()
     ensures { ReadKeysFit }
+{}
+
+/// URL and value of each record that is read have together no more bytes than what they are read of.
+pub fn read_within_source()
+    ensures { ReadWithin }
 {}
