@@ -1,0 +1,197 @@
+//! What the handle of a keyset takes: to make it, and to open bytes under one of its keys.
+
+ghost use Rattle.std.specs.Prelude.{◌≤◌, length, IfOk};
+ghost use Rattle.key_msgs.specs.declared.primitive.Primitive.TheVariants.{Aead};
+ghost use Rattle.keyset_model.specs.Keyset.{Keys};
+ghost use Rattle.wrapped_prims.specs.Making.{IsOver};
+
+use crate::clock::Stopwatch;
+use key_msgs::Primitive;
+use keyset_model::{Keyset, read_binary};
+use managers::{AeadManager, GcmManager, KeyTable, Managers};
+use std::alloc::Global;
+use std::io::{self, ErrorKind};
+use tink_base::Trials;
+use wrapped_prims::Handle;
+
+/// What is timed, in the order in which it is printed.
+pub const TASKS: [(&str, Task); 4] = [
+    ("handle-make", Task::Make),
+    ("handle-open-first", Task::OpenFirst),
+    ("handle-open-middle", Task::OpenMiddle),
+    ("handle-open-last", Task::OpenLast),
+];
+
+/// How many keys a keyset has at the most.
+pub const MOST_KEYS: usize = 100_000;
+
+/// The least key id, from which on ids have four bytes as varints.
+const LEAST_ID: u32 = 1 << 21;
+
+/// What comes before the key id in a record of an AES-GCM key of 16 zero bytes with the URL `g`, and
+/// behind it: ENABLED, and TINK.
+const BEFORE: &[u8] =
+    b"\x12\x24\x0a\x19\x0a\x01g\x12\x12\x1a\x10\0\0\0\0\0\0\0\0\0\0\0\0\0\0\0\0\x18\x01\x10\x01\x18";
+
+const BEHIND: &[u8] = b"\x20\x01";
+
+/// An IV of zeros, and the tag of no text under it: case 1 of the appendix of AES-GCM's authors.
+const SEALED: &[u8] =
+    b"\0\0\0\0\0\0\0\0\0\0\0\0\x58\xe2\xfc\xce\xfa\x7e\x30\x61\x36\x7f\x1d\x57\xa4\xe7\x45\x5a";
+
+/// What is done to a keyset of so many keys, each with a prefix of its own.
+#[derive(Clone, Copy)]
+pub enum Task {
+    /// Its handle is made.
+    Make,
+    /// What the first key sealed is opened.
+    OpenFirst,
+    /// What the key in the middle sealed is opened.
+    OpenMiddle,
+    /// What the last key sealed is opened.
+    OpenLast,
+}
+
+impl Task {
+    /// The task of this name.
+    pub fn named(name: &str) -> Option<Task> {
+        for (known, task) in TASKS {
+            if known == name {
+                return Some(task);
+            }
+        }
+        None
+    }
+
+    // The place of the key that sealed what is opened.
+    fn place(self, keys: usize) -> usize {
+        match self {
+            Task::Make | Task::OpenFirst => 0,
+            Task::OpenMiddle => keys / 2,
+            Task::OpenLast => keys.saturating_sub(1),
+        }
+    }
+}
+
+// The key id of a place.
+fn id_at(place: usize) -> u32 {
+    LEAST_ID + (place % MOST_KEYS) as u32
+}
+
+// A key id as a varint.
+fn push_id(out: &mut Vec<u8>, id: u32) -> io::Result<()> {
+    for shift in [0, 7, 14] {
+        out.push(((id >> shift) & 0x7f) as u8 | 0x80)?;
+    }
+    out.push(((id >> 21) & 0x7f) as u8)?;
+    Ok(())
+}
+
+// The keyset of so many keys, the first of which is primary.
+fn keyset_of(alloc: Global, keys: usize) -> io::Result<Keyset> {
+    let mut out = Vec::new(alloc);
+    out.push(0x08)?;
+    push_id(&mut out, id_at(0))?;
+    for place in 0..keys {
+        out.extend_from_slice(BEFORE)?;
+        push_id(&mut out, id_at(place))?;
+        out.extend_from_slice(BEHIND)?;
+    }
+    if out.len() > 1 << 30 {
+        return Err(ErrorKind::InvalidInput.into());
+    }
+    match read_binary(alloc, &out) {
+        Ok(keyset) => Ok(keyset),
+        Err(_) => Err(ErrorKind::InvalidInput.into()),
+    }
+}
+
+// What the key of this place seals no text to.
+fn sealed_by(alloc: Global, place: usize) -> io::Result<Vec<u8>>
+    ensures few { IfOk result (λ out. length out.items ≤ 1000) }
+{
+    let mut out = Vec::new(alloc);
+    out.push(1)?;
+    out.extend_from_slice(&id_at(place).to_be_bytes())?;
+    out.extend_from_slice(SEALED)?;
+    if out.len() > 1000 {
+        return Err(ErrorKind::InvalidInput.into());
+    }
+    Ok(out)
+}
+
+// Makes the handle over and over.
+fn time_making(
+    rt: &HostRuntime,
+    keyset: &Keyset,
+    managers: &Managers,
+    milliseconds: u32,
+) -> io::Result<()> {
+    let mut watch = Stopwatch::start(rt, milliseconds)?;
+    for _ in 0..u32::MAX {
+        for _ in 0..16 {
+            drop(Handle::new(rt.alloc(), keyset, managers, Primitive::Aead));
+        }
+        if watch.is_over(rt, 16)? {
+            break;
+        }
+    }
+    watch.print(rt, 0)
+}
+
+// How many keys are tried to open these bytes.
+fn tried(alloc: Global, handle: &Handle<'_>, sealed: &[u8]) -> u64
+    requires over { (keys : Keys)
+        × IsOver (⟦<Managers as KeyTable>⟧.table handle.now.managers.now) Aead keys handle.now.held }
+    requires few { length sealed.now ≤ 1000 }
+{
+    let mut trials = Trials::new();
+    drop(handle.open(alloc, sealed, &[], &mut trials));
+    trials.spent()
+}
+
+// Opens the bytes over and over.
+fn time_opening(
+    rt: &HostRuntime,
+    handle: &Handle<'_>,
+    sealed: &[u8],
+    milliseconds: u32,
+) -> io::Result<()>
+    requires over { (keys : Keys)
+        × IsOver (⟦<Managers as KeyTable>⟧.table handle.now.managers.now) Aead keys handle.now.held }
+    requires few { length sealed.now ≤ 1000 }
+{
+    let mut watch = Stopwatch::start(rt, milliseconds)?;
+    let mut last = 0;
+    for _ in 0..u32::MAX {
+        for _ in 0..16 {
+            last = tried(rt.alloc(), handle, sealed);
+        }
+        if watch.is_over(rt, 16)? {
+            break;
+        }
+    }
+    watch.print(rt, last)
+}
+
+/// Does the task over and over for so long, and prints how often in how many nanoseconds, and how many
+/// keys were tried in the last opening.
+pub fn time(rt: &HostRuntime, task: Task, keys: usize, milliseconds: u32) -> io::Result<()> {
+    let alloc = rt.alloc();
+    let keyset = keyset_of(alloc, keys)?;
+    let sealed = sealed_by(alloc, task.place(keys))?;
+    let mut aead: Vec<Box<dyn AeadManager>> = Vec::new(alloc);
+    aead.push(Box::new(alloc, GcmManager::new(String::from_str(alloc, "g")?))?)?;
+    let Ok(all) = Managers::new(aead, Vec::new(alloc), Vec::new(alloc), Vec::new(alloc)) else {
+        return Err(ErrorKind::InvalidInput.into());
+    };
+    let Ok(handle) = Handle::new(alloc, &keyset, &all, Primitive::Aead) else {
+        return Err(ErrorKind::InvalidInput.into());
+    };
+    match task {
+        Task::Make => time_making(rt, &keyset, &all, milliseconds),
+        Task::OpenFirst | Task::OpenMiddle | Task::OpenLast => {
+            time_opening(rt, &handle, &sealed, milliseconds)
+        }
+    }
+}
