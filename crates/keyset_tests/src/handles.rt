@@ -65,8 +65,19 @@ one byte too many|84868808;01 03 84868808 p FUN|derive|4869205468657265|21|Outpu
 a prefix|84868808;01 01 84868808 p FUN|derive||00|NotRaw(0)
 a broken key first|84868808;01 03 84868808 p FUN;01 01 01 p 00|derive||00|BadKey(1, Form)";
 
+// The output prefixes of ENABLED records by hand from Tink's wire format, each with the places of its
+// records. Nothing is given.
+const PREFIXES: &str = "\
+one TINK key|84868808;01 01 84868808 g ZERO|prefixes|||0101020304 [0]
+a CRUNCHY key with id 0|01;01 04 00 g ZERO;01 03 01 g ZERO|prefixes|||0000000000 [0]
+each prefix type|01;01 03 01 g ZERO;01 01 02 g ZERO;01 02 03 g ZERO;01 04 04 g ZERO|prefixes|||0100000002 [1], 0000000003 [2], 0000000004 [3]
+ENABLED records alone|84868808;02 01 01 g ZERO;03 04 02 g ZERO;01 01 84868808 g ZERO;02 03 03 g ZERO|prefixes|||0101020304 [2]
+the keyset's order|02;01 01 ffffffff0f g ZERO;01 01 02 g ZERO;01 01 01 g ZERO|prefixes|||01ffffffff [0], 0100000002 [1], 0100000001 [2]
+RAW keys|01;01 03 01 g ZERO;01 03 02 g ZERO|prefixes|||";
+
 // Key messages that have a name in the tables.
-const NAMED: [(&str, &str); 3] = [
+const NAMED: [(&str, &str); 4] = [
+    ("ZERO", "1a1000000000000000000000000000000000"),
     (
         "KEY",
         "1204080310101a140b0b0b0b0b0b0b0b0b0b0b0b0b0b0b0b0b0b0b0b",
@@ -271,6 +282,21 @@ fn derive_text(
     }
 }
 
+// Each prefix of the index in digits, with its places.
+fn prefixes_text(alloc: Global, all: &Managers, keyset: &Keyset) -> Result<String, Fail> {
+    let handle = match Handle::new(alloc, keyset, all, Primitive::Aead) {
+        Ok(handle) => handle,
+        Err(fault) => return Ok(format!(in alloc; "{fault:?}")?),
+    };
+    let mut text = String::new(alloc);
+    for (prefix, places) in handle.prefixes() {
+        let before = if text.is_empty() { "" } else { ", " };
+        let digits = digits_of(alloc, prefix)?;
+        text = format!(in alloc; "{text}{before}{digits} {:?}", places.as_slice())?;
+    }
+    Ok(text)
+}
+
 #[derive(Clone, Copy)]
 enum Work {
     Seal,
@@ -280,9 +306,10 @@ enum Work {
     Tag,
     Verify,
     Derive,
+    Prefixes,
 }
 
-const WORKS: [(&str, Work); 7] = [
+const WORKS: [(&str, Work); 8] = [
     ("seal", Work::Seal),
     ("open", Work::Open),
     ("dseal", Work::Dseal),
@@ -290,6 +317,7 @@ const WORKS: [(&str, Work); 7] = [
     ("tag", Work::Tag),
     ("verify", Work::Verify),
     ("derive", Work::Derive),
+    ("prefixes", Work::Prefixes),
 ];
 
 fn work_in(row: &str) -> Result<Work, Fail> {
@@ -315,6 +343,7 @@ fn answer(alloc: Global, all: &Managers, row: &str) -> Result<String, Fail> {
         Work::Tag => tag_text(alloc, all, &keyset, &first),
         Work::Verify => verify_text(alloc, all, &keyset, &first, &second),
         Work::Derive => derive_text(alloc, all, &keyset, &first, &second),
+        Work::Prefixes => prefixes_text(alloc, all, &keyset),
     }
 }
 
@@ -339,7 +368,7 @@ fn a_keyset_answers_by_its_candidates(rt: HostRuntime) -> Result<(), Fail> {
     let mut prf: Vec<Box<dyn PrfManager>> = Vec::new(alloc);
     prf.push(prf_under(alloc, "p", PrfScheme::Hmac)?)?;
     let all = Managers::new(aead, daead, mac, prf)?;
-    for (table, rows) in [(AEAD, 14), (MAC, 10), (DAEAD, 3), (PRF, 4)] {
+    for (table, rows) in [(AEAD, 14), (MAC, 10), (DAEAD, 3), (PRF, 4), (PREFIXES, 6)] {
         assert_table(alloc, &all, table, rows)?;
     }
     Ok(())
