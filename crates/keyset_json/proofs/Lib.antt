@@ -3,6 +3,7 @@ pub mod ReadingLemmas
 pub mod TextLemmas
 pub mod Utf8Lemmas
 pub mod ByteLemmas
+pub mod MemberLemmas
 pub mod SizeLemmas
 pub mod StoredLemmas
 pub mod WritingLemmas

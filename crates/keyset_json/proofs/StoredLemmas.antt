@@ -1,11 +1,7 @@
 -- A keyset that is read of JSON is held to what the types of its records hold.
 use Rattle.std.proofs.Common.{◌≡◌, ◌∙◌, ℕ, ◌+◌, ◌-◌, ◌<◌, ◌^◌, Bool, true, false, List, [], ◌∷◌, ◌++◌, length, take, slice_index, nat_lt, Option, Some, None, Result, Ok, Err, refl, sym, ap, subst, arith}
-use Rattle.std.proofs.Common.{Ordering, Less, Equal, Greater}
 use Rattle.std.specs.Prelude.{⊤, if◌then◌else◌}
-use Rattle.std.specs.Cmp.Lexicographic.{slice_cmp}
 use Rattle.std.specs.List.{AllByRecursion}
-use Rattle.std.specs.Option.{option_or}
-use Rattle.std.specs.Ordering.{match_ordering, nat_cmp}
 use Rattle.std.specs.Str.{IsUtf8, is_utf8}
 use Rattle.std.specs.Str.Parse.{digits_value}
 use Rattle.std.proofs.Math.Seq.{take-length}
@@ -13,16 +9,15 @@ use Rattle.std.proofs.lemmas.Bool.{and_parts, eqb-true, ltb-true}
 use Rattle.std.proofs.lemmas.List.{take_more}
 use Rattle.std.proofs.lemmas.Str.{IsUtf8-from_is_utf8, IsUtf8-nil, is_utf8-from_IsUtf8}
 use Rattle.base64.specs.GeneralPurpose.{IsBytes}
-use Rattle.serde_json.specs.Data.{Num, unsigned, negative, float, Data, null, boolean, number, string, array, object, Items, no_items, item, Members, no_members, member}
-use Rattle.serde_json.specs.Find.{get, get_member, as_str, as_array}
+use Rattle.serde_json.specs.Data.{Num, unsigned, negative, float, Data, null, boolean, number, string, array, object, Items, no_items, item}
+use Rattle.serde_json.specs.Find.{as_str, as_array}
 use Rattle.serde_json.specs.Read.{read}
 use Rattle.keyset_model.specs.declared.keyset.KeysetFault.{KeysetFault}
 use Rattle.keyset_model.specs.Keyset.{Keys, fault_of, unless_fault}
-use Rattle.keyset_json.specs.declared.member.Member.{Member}
 use Rattle.keyset_json.specs.declared.member.Member.TheVariants as members
 use Rattle.keyset_json.specs.declared.member.Path.{Path}
 use Rattle.keyset_json.specs.Base64Text.{bytes_of_text}
-use Rattle.keyset_json.specs.Members.{name_of, field_name_of, unless_null, member_of}
+use Rattle.keyset_json.specs.Members.{member_of}
 use Rattle.keyset_json.specs.Numbers.{within_32_bits, number_of_num, uint32_of}
 use Rattle.tink_base.specs.Decimal.{number_in}
 use Rattle.tink_base.proofs.DecimalLemmas.{number_passes}
@@ -30,98 +25,11 @@ use Rattle.keyset_json.specs.Reading.{◌>>=◌, of_key, of_keyset, or_at, given
 use Rattle.keyset_json.specs.Stored.{JsonIsShort, JsonIsStored}
 use Rattle.keyset_json.specs.Writing.{HasJsonBounds}
 use Rattle.keyset_json.proofs.ByteLemmas.{AreBytes, bytes_append, bytes_held, utf8_bytes}
+use Rattle.keyset_json.proofs.MemberLemmas.{IfRead, any_read, array_all, at_all, field_all, next_read, object_all, str_all}
 use Rattle.keyset_json.proofs.ReadingLemmas.{material_at, status_at, prefix_at}
 use Rattle.keyset_json.proofs.SizeLemmas.{short_of, within_source}
-use Rattle.keyset_json.proofs.TextLemmas.{Holds, ItemsHold, MembersHold, IfThere}
+use Rattle.keyset_json.proofs.TextLemmas.{Holds, ItemsHold, IfThere}
 use Rattle.keyset_json.proofs.Utf8Lemmas.{utf8_value}
-
--- ---- the texts of members
-
-module _ (P : List ℕ → Type 0) where
-  pick_all : (o : Ordering) (a b c : Option Data) → IfThere (Holds P) a → IfThere (Holds P) b → IfThere (Holds P) c → IfThere (Holds P) (match_ordering o a b c)
-  pick_all Less a b c ha hb hc = ha
-  pick_all Equal a b c ha hb hc = hb
-  pick_all Greater a b c ha hb hc = hc
-
-  member_all : (k : List ℕ) (ms : Members) → MembersHold P ms → IfThere (Holds P) (get_member k ms)
-  member_all k no_members h = tt
-  member_all k (member l e ms) h = pick_all (slice_cmp nat_cmp k l) _ (Some e) _ (member_all k ms h.1) h.0 (member_all k ms h.1)
-
-  get_all : (k : List ℕ) (d : Data) → Holds P d → IfThere (Holds P) (get k d)
-  get_all k null h = tt
-  get_all k (boolean b) h = tt
-  get_all k (number m) h = tt
-  get_all k (string s) h = tt
-  get_all k (array ds) h = tt
-  get_all k (object ms) h = member_all k ms h
-
-  or_all : (a b : Option Data) → IfThere (Holds P) a → IfThere (Holds P) b → IfThere (Holds P) (option_or a b)
-  or_all None b ha hb = hb
-  or_all (Some d) b ha hb = ha
-
-  null_all : (o : Option Data) → IfThere (Holds P) o → IfThere (Holds P) (unless_null o)
-  null_all None h = tt
-  null_all (Some null) h = tt
-  null_all (Some (boolean b)) h = h
-  null_all (Some (number m)) h = h
-  null_all (Some (string s)) h = h
-  null_all (Some (array ds)) h = h
-  null_all (Some (object ms)) h = h
-
-  found_all : (m : Member) (d : Data) → Holds P d → IfThere (Holds P) (member_of m d)
-  unfolding member_of
-  found_all m d h = null_all _ (or_all _ _ (get_all (name_of m) d h) (get_all (field_name_of m) d h))
-
-  object_all : (d : Data) → Holds P d → IfThere (Holds P) (object_of d)
-  object_all null h = tt
-  object_all (boolean b) h = tt
-  object_all (number m) h = tt
-  object_all (string s) h = tt
-  object_all (array ds) h = tt
-  object_all (object ms) h = h
-
-  str_all : (d : Data) → Holds P d → IfThere P (as_str d)
-  str_all null h = tt
-  str_all (boolean b) h = tt
-  str_all (number m) h = tt
-  str_all (string s) h = h
-  str_all (array ds) h = tt
-  str_all (object ms) h = tt
-
-  array_all : (d : Data) → Holds P d → IfThere (ItemsHold P) (as_array d)
-  array_all null h = tt
-  array_all (boolean b) h = tt
-  array_all (number m) h = tt
-  array_all (string s) h = tt
-  array_all (array ds) h = h
-  array_all (object ms) h = tt
-
--- ---- steps
-
-abbrev IfRead : {A : Type 0} → (A → Type 0) → Result A Path → Type 0
-IfRead P (Ok a) = P a
-IfRead P (Err p) = ⊤
-
-at_all : {A : Type 0} (Q : A → Type 0) (path : Path) (o : Option A) → IfThere Q o → IfRead Q (or_at path o)
-at_all Q path None h = tt
-at_all Q path (Some a) h = h
-
-field_all : {A : Type 0} (P : List ℕ → Type 0) (Q : A → Type 0) (form : Data → Option A) (missing : A) (path : Path) (d : Data) → Q missing
-    → ((e : Data) → Holds P e → IfThere Q (form e)) → Holds P d → IfRead Q (field form missing path d)
-field_all P Q form missing path d none some h = given_all (member_of path.member d) (found_all P path.member d h)
-  where
-    given_all : (o : Option Data) → IfThere (Holds P) o → IfRead Q (given form missing path o)
-    given_all None x = none
-    given_all (Some e) x = at_all Q path (form e) (some e x)
-
-next_read : {A B : Type 0} (Q : A → Type 0) (R : B → Type 0) (read : Result A Path) (next : A → Result B Path) → IfRead Q read → ((a : A) → Q a → IfRead R (next a))
-    → IfRead R (read >>= next)
-next_read Q R (Ok a) next h then' = then' a h
-next_read Q R (Err p) next h then' = tt
-
-any_read : {A : Type 0} (read : Result A Path) → IfRead (λ _. ⊤) read
-any_read (Ok a) = tt
-any_read (Err p) = tt
 
 -- ---- numbers
 
