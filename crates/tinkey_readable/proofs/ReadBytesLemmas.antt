@@ -182,7 +182,7 @@ stored_both (r ∷ rs) held all = (record { held = held.0; bytes = all.0 }, stor
 
 held_by_json : (rs : List Record) → AllByRecursion HasJsonBounds rs → AllByRecursion IsShort rs → AllByRecursion IsStored rs
 held_by_json [] held short = tt
-held_by_json (r ∷ rs) held short = (record { held = record { id = held.0.id; utf8 = held.0.utf8; short = short.0 }; bytes = bytes_from r.value held.0.bytes }, held_by_json rs held.1 short.1)
+held_by_json (r ∷ rs) held short = (record { held = record { id = held.0.id; utf8 = held.0.utf8; short = (let s = short.0 in omega (arith, s)) }; bytes = bytes_from r.value held.0.bytes }, held_by_json rs held.1 short.1)
 
 pub read_is_stored : ReadKeysFit → JsonIsStored → JsonIsShort → ReadIsStored
 read_is_stored fit stored short written keys holds within e = by_form written.form e
