@@ -24,16 +24,17 @@ use Rattle.tinkey_selftest.specs.Trial as trial
 use Rattle.tinkey_selftest.specs.declared.counts.Counts.{Counts}
 use Rattle.tinkey_plans.specs.SelfTesting.{tells_counts}
 use Rattle.tinkey_words.specs.Words.{self_test, Place, AskedEdit, AskedWork, to_seal, to_open, to_dseal, to_dopen, to_tag, to_verify, to_derive, primitive_for, create_keyset, edit_keyset, list_keyset, convert_keyset, list_key_templates, use_keyset, seal_stream, open_stream, session}
-use Rattle.tinkey_plans.specs.Plan.{IsStated, Made, Of, draws}
+use Rattle.tinkey_plans.specs.Plan.{IsStated, Made, Of, allocates, draws}
 use Rattle.tinkey_plans.specs.declared.status.Status.{Status}
 
 -- the rest of a plan is so, whatever it takes
 abbrev pub AreAll : {A : Type 0} → (Plan → Type 0) → (A → Plan) → Type 0
 AreAll {A} P next = (value : A) → P (next value)
 
--- every end is so, and a plan that draws is so where all that follows is
+-- every end is so, and a plan that allocates or draws is so where all that follows is
 pub record IsClosed (P : Plan → Type 0) : Type 0 where
   pub ended : (s : Status) (stated : IsStated s) → P (ends s stated)
+  pub allocated : (next : Plan) → P next → P (allocates next)
   pub drawn : (kind : Made) (give : Draw (Of kind)) (next : Result (Of kind) CmdFault → Plan)
       → AreAll P next → P (draws kind give next)
 
@@ -49,8 +50,8 @@ with_json_each P c (Err (Json.Fault fault)) next all = c.ended _ _
 with_json_each P c (Ok keys) next all = all keys
 
 pub keyset_each : (P : Plan → Type 0) → IsClosed P → (form : Format) (bytes : List ℕ) (next : Keys → Plan) → AreAll P next → P (keyset_in form bytes next)
-keyset_each P c formats.Json bytes next all = with_json_each P c (reads_json bytes) next all
-keyset_each P c formats.Binary bytes next all = with_keyset_each P c (reads_binary bytes) next all
+keyset_each P c formats.Json bytes next all = c.allocated _ (with_json_each P c (reads_json bytes) next all)
+keyset_each P c formats.Binary bytes next all = c.allocated _ (with_keyset_each P c (reads_binary bytes) next all)
 
 pub no_row_each : (P : Plan → Type 0) → IsClosed P → (b : Bool) → P (if b then ends status.AsymmetricTemplate tt else ends status.UnknownTemplate tt)
 no_row_each P c true = c.ended _ _
@@ -93,10 +94,10 @@ derived_each P c asked (Some (Ok bytes)) next all = all bytes
 derived_each P c asked (Some (Err greatest)) next all = c.ended _ _
 
 pub work_each : (P : Plan → Type 0) → IsClosed P → (table : Table) (keys : Keys) (work : AskedWork) (input : List ℕ) (next : List ℕ → Plan) → AreAll P next → P (works table keys work input next)
-work_each P c table keys (to_seal ad) input next all = c.drawn _ _ _ (λ made. made_each P c made next all)
-work_each P c table keys (to_open ad) input next all = opened_each P c (open_answer keys table input ad) next all
-work_each P c table keys (to_dseal ad) input next all = all _
-work_each P c table keys (to_dopen ad) input next all = opened_each P c (dopen_answer keys table input ad) next all
-work_each P c table keys to_tag input next all = all _
-work_each P c table keys (to_verify tag) input next all = verified_each P c (verify_answer keys table tag input) next all
-work_each P c table keys (to_derive size) input next all = derived_each P c size (derive_answer keys table input size) next all
+work_each P c table keys (to_seal ad) input next all = c.allocated _ (c.drawn _ _ _ (λ made. c.allocated _ (made_each P c made next all)))
+work_each P c table keys (to_open ad) input next all = c.allocated _ (opened_each P c (open_answer keys table input ad) next all)
+work_each P c table keys (to_dseal ad) input next all = c.allocated _ (all _)
+work_each P c table keys (to_dopen ad) input next all = c.allocated _ (opened_each P c (dopen_answer keys table input ad) next all)
+work_each P c table keys to_tag input next all = c.allocated _ (all _)
+work_each P c table keys (to_verify tag) input next all = c.allocated _ (verified_each P c (verify_answer keys table tag input) next all)
+work_each P c table keys (to_derive size) input next all = c.allocated _ (derived_each P c size (derive_answer keys table input size) next all)

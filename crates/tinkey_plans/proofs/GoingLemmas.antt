@@ -130,7 +130,7 @@ done_exactly (exchanges exchange next) told proper =
 -- ---- the commands
 
 closed : IsClosed IsProper
-closed = record { ended = λ s stated. tt; drawn = λ kind give next all. all }
+closed = record { ended = λ s stated. tt; allocated = λ next all. all; drawn = λ kind give next all. all }
 
 taken_proper : (file : Option (List ℕ)) (form : Format) (next : Keys → Plan) → AreAll IsProper next → IsProper (takes_keyset (record { file = file; form = form }) next)
 taken_proper (Some name) form next proper = (λ e. cc, λ e. cc, λ bytes. keyset_each IsProper closed form bytes next proper)

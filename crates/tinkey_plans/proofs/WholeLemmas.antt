@@ -27,7 +27,7 @@ use Rattle.tinkey_plans.specs.SelfTesting.{tells_counts}
 use Rattle.tinkey_words.specs.Words.{self_test, Place, AskedEdit, AskedWork, to_seal, to_open, to_dseal, to_dopen, to_tag, to_verify, to_derive, primitive_for, create_keyset, edit_keyset, list_keyset, convert_keyset, list_key_templates, use_keyset, seal_stream, open_stream, session}
 
 closed : IsClosed IsWhole
-closed = record { ended = λ s stated. tt; drawn = λ kind give next all. all }
+closed = record { ended = λ s stated. tt; allocated = λ next all. all; drawn = λ kind give next all. all }
 
 taken_whole : (file : Option (List ℕ)) (form : Format) (next : Keys → Plan) → AreAll IsWhole next → IsWhole (takes_keyset (record { file = file; form = form }) next)
 taken_whole (Some name) form next whole = λ bytes. keyset_each IsWhole closed form bytes next whole
