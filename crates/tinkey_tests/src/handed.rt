@@ -7,27 +7,34 @@ use crate::objects::Outside;
 use managers::{AeadManager, AeadScheme, MacManager, MacScheme, Managers, StandardAead, StandardMac};
 use std::alloc::Global;
 use std::test::Fail;
+use tink_base::Store;
 use tinkey_host::start;
 use tinkey_run::{Status, run};
 
 /// Runs the words over these objects, under the managers of this name. The answer is the exit code
 /// and the status, as `2 Usage(0)`.
-pub(crate) fn run_under(
+pub(crate) fn run_under<D: Store>(
     alloc: Global,
     name: &str,
     words: &[String],
     outside: &mut Outside,
+    store: &mut D,
 ) -> Result<String, Fail> {
     let status = if name == "program" {
-        run_program(alloc, words, outside)
+        run_program(alloc, words, outside, store)
     } else {
-        run_with(alloc, words, &managers_named(alloc, name)?, outside)
+        run_with(alloc, words, &managers_named(alloc, name)?, outside, store)
     };
     Ok(format!(in alloc; "{} {status:?}", status.code())?)
 }
 
 /// Runs the words as the program does.
-fn run_program(alloc: Global, words: &[String], outside: &mut Outside) -> Status {
+fn run_program<D: Store>(
+    alloc: Global,
+    words: &[String],
+    outside: &mut Outside,
+    store: &mut D,
+) -> Status {
     start(
         alloc,
         words,
@@ -35,12 +42,18 @@ fn run_program(alloc: Global, words: &[String], outside: &mut Outside) -> Status
         &mut outside.sink,
         &mut outside.diag,
         &mut outside.entropy,
-        &mut outside.store,
+        store,
     )
 }
 
 /// Runs the words under these managers.
-fn run_with(alloc: Global, words: &[String], managers: &Managers, outside: &mut Outside) -> Status {
+fn run_with<D: Store>(
+    alloc: Global,
+    words: &[String],
+    managers: &Managers,
+    outside: &mut Outside,
+    store: &mut D,
+) -> Status {
     run(
         alloc,
         words,
@@ -49,7 +62,7 @@ fn run_with(alloc: Global, words: &[String], managers: &Managers, outside: &mut 
         &mut outside.sink,
         &mut outside.diag,
         &mut outside.entropy,
-        &mut outside.store,
+        store,
     )
 }
 

@@ -129,6 +129,8 @@ const PAIRS: &str = "words: list-keyset
 
 shows | input | status | line
 primaryKeyId, and key | `{'key':{},'primaryKeyId':[]}` | 3 Shape(Path { key: None, member: PrimaryKeyId }) | tinkey: bad JSON member primaryKeyId
+a primaryKeyId of 33 bits, and a key that is a number | `{'primaryKeyId':4294967296,'key':5}` | 3 Shape(Path { key: None, member: PrimaryKeyId }) | tinkey: bad JSON member primaryKeyId
+a primaryKeyId of eleven digits, and a key that is a number | `{'primaryKeyId':'00000000001','key':5}` | 3 Shape(Path { key: None, member: PrimaryKeyId }) | tinkey: bad JSON member primaryKeyId
 key, where primaryKeyId has the name of its field | `{'key':{},'primary_key_id':7}` | 3 Shape(Path { key: None, member: Key }) | tinkey: bad JSON member key
 primaryKeyId by the name of its field | `{'key':{},'primary_key_id':[]}` | 3 Shape(Path { key: None, member: PrimaryKeyId }) | tinkey: bad JSON member primaryKeyId
 keyData, and status | `{'key':[{'status':'','keyData':0}]}` | 3 Shape(Path { key: Some(0), member: KeyData }) | tinkey: bad JSON member keyData of key 0
@@ -149,7 +151,7 @@ a number with zeros in front | `{'primaryKeyId':007}` | 3 NotJson | tinkey: not 
 
 #[test]
 fn names_the_first_member_of_a_wrong_form(rt: HostRuntime) -> Result<(), Fail> {
-    run_table(rt.alloc(), PAIRS, 17)
+    run_table(rt.alloc(), PAIRS, 19)
 }
 
 // The text of 236 bytes, with spaces behind it; and lists of empty objects, each with its comma.

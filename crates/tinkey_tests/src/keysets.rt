@@ -37,7 +37,7 @@ pub(crate) fn run_by_keyset(alloc: Global, row: &Row<'_>) -> Result<(), Fail> {
 /// output prefix type, id, URL and message, as `07; ENABLED RAW 07 @AesGcmKey 1a10 16x00`. Ids are
 /// varints in hexadecimal, and `@` stands for what all of Tink's type URLs begin with. A cell without
 /// `;` stays as it is.
-fn file_cell(alloc: Global, cell: &str) -> Result<String, Fail> {
+pub(crate) fn file_cell(alloc: Global, cell: &str) -> Result<String, Fail> {
     match cell.split_once(';') {
         None => Ok(String::from_str(alloc, cell)?),
         Some((primary, keys)) => keyset_cell(alloc, primary, keys),

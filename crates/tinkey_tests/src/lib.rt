@@ -17,6 +17,8 @@ mod edits;
 #[cfg(test)]
 mod enabling;
 #[cfg(test)]
+mod failing;
+#[cfg(test)]
 mod faults;
 #[cfg(test)]
 mod handed;
@@ -38,6 +40,8 @@ mod published;
 mod records;
 #[cfg(test)]
 mod rows;
+#[cfg(test)]
+mod segments;
 #[cfg(test)]
 mod selftests;
 #[cfg(test)]

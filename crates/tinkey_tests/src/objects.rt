@@ -3,7 +3,7 @@
 use crate::handed::run_under;
 use std::alloc::Global;
 use std::test::Fail;
-use tink_base::{MemEntropy, MemSink, MemSource, MemStore};
+use tink_base::{MemEntropy, MemSink, MemSource, MemStore, TornStore};
 
 /// What a run is over.
 #[derive(Drop)]
@@ -12,7 +12,8 @@ pub(crate) struct Objects<'a> {
     pub(crate) managers: &'a str,
     /// How many bytes the objects move at a time, at least 1.
     pub(crate) piece: usize,
-    /// The call that fails: its name, and its number among those of this name, from 1.
+    /// The call that fails: its name, and its number among those of this name, from 1; or `torn` and
+    /// how many bytes a new file keeps.
     pub(crate) fails: (&'a str, u64),
     /// The bytes of the file `k`, where there is one.
     pub(crate) file: Option<&'a [u8]>,
@@ -23,17 +24,16 @@ pub(crate) struct Objects<'a> {
 }
 
 /// The names of the calls that can fail: reads, writes, writes of the diagnostic line, calls of the
-/// store, and fills with random bytes; and `none`.
-pub(crate) const CALLS: [&str; 6] = ["read", "write", "line", "store", "fill", "none"];
+/// store, and fills with random bytes; `torn`, where each new file breaks off; and `none`.
+pub(crate) const CALLS: [&str; 7] = ["read", "write", "line", "store", "fill", "torn", "none"];
 
-/// The objects themselves.
+/// The objects themselves, but for the store.
 #[derive(Drop)]
 pub(crate) struct Outside {
     pub(crate) source: MemSource,
     pub(crate) sink: MemSink,
     pub(crate) diag: MemSink,
     pub(crate) entropy: MemEntropy,
-    pub(crate) store: MemStore,
 }
 
 /// How a run ended.
@@ -48,6 +48,16 @@ pub(crate) struct Outcome {
     pub(crate) made: Option<Vec<u8>>,
     /// How many random bytes were drawn.
     pub(crate) drawn: usize,
+    /// How often an object failed.
+    pub(crate) faults: u64,
+}
+
+/// What a run left in the store: the files `k` and `n`, and how often it failed.
+#[derive(Clone, Copy)]
+struct Left<'a> {
+    file: Option<&'a [u8]>,
+    made: Option<&'a [u8]>,
+    faults: u64,
 }
 
 /// Runs the words over these objects.
@@ -56,16 +66,54 @@ pub(crate) fn run_over(
     words: &[String],
     objects: Objects<'_>,
 ) -> Result<Outcome, Fail> {
+    if objects.fails.0 == "torn" {
+        run_torn(alloc, words, objects)
+    } else {
+        run_whole(alloc, words, objects)
+    }
+}
+
+/// Runs the words over a store that fails at the call told.
+fn run_whole(alloc: Global, words: &[String], objects: Objects<'_>) -> Result<Outcome, Fail> {
     let managers = objects.managers;
     let file = objects.file;
     let given = objects.random.len();
+    let mut store = MemStore::new(alloc, calls(alloc, objects.fails, "store")?);
+    if let Some(bytes) = file {
+        store.put("k", bytes)?;
+    }
     let mut outside = outside_of(alloc, objects)?;
-    let status = run_under(alloc, managers, words, &mut outside)?;
-    assert_kept(&outside.store, file)?;
-    outcome_of(alloc, status, &outside, given)
+    let status = run_under(alloc, managers, words, &mut outside, &mut store)?;
+    let left = Left {
+        file: store.get("k"),
+        made: store.get("n"),
+        faults: store.faults(),
+    };
+    assert_kept(file, left.file)?;
+    outcome_of(alloc, status, &outside, given, left)
 }
 
-/// The objects of a run.
+/// Runs the words over a store that keeps so many bytes of a new file.
+fn run_torn(alloc: Global, words: &[String], objects: Objects<'_>) -> Result<Outcome, Fail> {
+    let managers = objects.managers;
+    let file = objects.file;
+    let given = objects.random.len();
+    let mut store = TornStore::new(alloc, objects.fails.1 as usize);
+    if let Some(bytes) = file {
+        store.put("k", bytes)?;
+    }
+    let mut outside = outside_of(alloc, objects)?;
+    let status = run_under(alloc, managers, words, &mut outside, &mut store)?;
+    let left = Left {
+        file: store.get("k"),
+        made: store.get("n"),
+        faults: store.faults(),
+    };
+    assert_kept(file, left.file)?;
+    outcome_of(alloc, status, &outside, given, left)
+}
+
+/// The objects of a run, but for the store.
 fn outside_of(alloc: Global, objects: Objects<'_>) -> Result<Outside, Fail> {
     let fails = objects.fails;
     let piece = objects.piece.max(1);
@@ -77,19 +125,9 @@ fn outside_of(alloc: Global, objects: Objects<'_>) -> Result<Outside, Fail> {
     Ok(Outside {
         sink: MemSink::new(alloc, room, piece, calls(alloc, fails, "write")?)?,
         diag: MemSink::new(alloc, 256, piece, calls(alloc, fails, "line")?)?,
-        store: store_of(alloc, objects.file, calls(alloc, fails, "store")?)?,
         source: MemSource::new(objects.input, piece, calls(alloc, fails, "read")?),
         entropy: MemEntropy::new(objects.random, calls(alloc, fails, "fill")?),
     })
-}
-
-/// The store with the file `k`, where there is one.
-fn store_of(alloc: Global, file: Option<&[u8]>, fails: Vec<u64>) -> Result<MemStore, Fail> {
-    let mut store = MemStore::new(alloc, fails);
-    if let Some(bytes) = file {
-        store.put("k", bytes)?;
-    }
-    Ok(store)
 }
 
 /// The calls of this name that fail.
@@ -107,31 +145,43 @@ fn outcome_of(
     status: String,
     outside: &Outside,
     given: usize,
+    left: Left<'_>,
 ) -> Result<Outcome, Fail> {
-    let left = outside.entropy.left();
+    let random = outside.entropy.left();
     Ok(Outcome {
         status,
         output: outside.sink.written().to_vec(alloc)?,
         line: outside.diag.written().to_vec(alloc)?,
-        made: made(alloc, &outside.store)?,
+        made: made(alloc, left.made)?,
         drawn: given
-            .checked_sub(left)
+            .checked_sub(random)
             .ok_or("random bytes that came back")?,
+        faults: faults(outside).saturating_add(left.faults),
     })
 }
 
 /// The bytes of the new file.
-fn made(alloc: Global, store: &MemStore) -> Result<Option<Vec<u8>>, Fail> {
-    match store.get("n") {
+fn made(alloc: Global, file: Option<&[u8]>) -> Result<Option<Vec<u8>>, Fail> {
+    match file {
         Some(bytes) => Ok(Some(bytes.to_vec(alloc)?)),
         None => Ok(None),
     }
 }
 
+/// How often an object failed that isn't the store.
+fn faults(outside: &Outside) -> u64 {
+    let sinks = outside.sink.faults().saturating_add(outside.diag.faults());
+    let others = outside
+        .source
+        .faults()
+        .saturating_add(outside.entropy.faults());
+    sinks.saturating_add(others)
+}
+
 /// No run changes the file.
-fn assert_kept(store: &MemStore, file: Option<&[u8]>) -> Result<(), Fail> {
-    match (store.get("k"), file) {
-        (Some(now), Some(before)) if now == before => Ok(()),
+fn assert_kept(before: Option<&[u8]>, now: Option<&[u8]>) -> Result<(), Fail> {
+    match (before, now) {
+        (Some(before), Some(now)) if before == now => Ok(()),
         (None, None) => Ok(()),
         _ => Err("the file has changed".into()),
     }

@@ -28,7 +28,8 @@ pub(crate) enum Column {
     /// How many bytes the objects move at a time: a run for each of these numbers.
     Piece,
     /// The call that fails, counted from 1: `read 1` of the input, `write 1` of the output, `line 1`
-    /// of the diagnostic line, `store 1` of the files, `fill 1` of the random bytes; or `none 0`.
+    /// of the diagnostic line, `store 1` of the files, `fill 1` of the random bytes; `torn 10`, where
+    /// the store fails at each new file and keeps its first 10 bytes; or `none 0`.
     Fails,
     /// The exit code and the status, as `2 Usage(0)`.
     Status,
@@ -42,24 +43,26 @@ pub(crate) enum Column {
     Drawn,
     /// The managers of keys, as `handed.rt` names them.
     Managers,
+    /// How many calls of each name the run makes, as `failing.rt` counts them.
+    Calls,
 }
 
 /// The names of the columns, in their order.
-const NAMES: [&str; 13] = [
+const NAMES: [&str; 14] = [
     "shows", "words", "file", "input", "random", "piece", "fails", "status", "line", "output",
-    "made", "drawn", "managers",
+    "made", "drawn", "managers", "calls",
 ];
 
 /// What a row runs, and how the run has to end: a cell for each column.
 #[derive(Clone, Copy)]
 pub(crate) struct Row<'a> {
-    cells: [&'a str; 13],
+    cells: [&'a str; 14],
 }
 
 /// The row that a table starts from: nothing fails, and nothing is written.
 pub(crate) const PLAIN: Row<'static> = Row {
     cells: [
-        "", "", "none", "", "", "4096", "none 0", "", "", "", "none", "0", "program",
+        "", "", "none", "", "", "4096", "none 0", "", "", "", "none", "0", "program", "",
     ],
 };
 
@@ -160,7 +163,7 @@ pub(crate) fn outcome_of(alloc: Global, row: &Row<'_>) -> Result<Outcome, Fail> 
 }
 
 /// Compares how a run ended with what its row tells.
-fn compare(alloc: Global, row: &Row<'_>, got: &Outcome) -> Result<(), Fail> {
+pub(crate) fn compare(alloc: Global, row: &Row<'_>, got: &Outcome) -> Result<(), Fail> {
     let line = line_of(alloc, row.cell(Column::Line))?;
     hold_text(
         alloc,
@@ -199,7 +202,7 @@ fn hold(
 }
 
 /// The same of a short text.
-fn hold_text(
+pub(crate) fn hold_text(
     alloc: Global,
     row: &Row<'_>,
     got: &Outcome,
@@ -213,7 +216,8 @@ fn hold_text(
     Err(unlike(&told(alloc, row, got)?, part, expected, found))
 }
 
-fn hold_count(
+/// The same of a count.
+pub(crate) fn hold_count(
     alloc: Global,
     row: &Row<'_>,
     got: &Outcome,

@@ -171,7 +171,7 @@ fn takes_lines_up_to_their_limit(rt: HostRuntime) -> Result<(), Fail> {
     run_table(rt.alloc(), LONGEST, 3)
 }
 
-// The lines are `hello`, and `no bad line` answers each; the last one is the first byte of another.
+// The lines are `hello`, and `no bad line` answers each; behind them stands the first byte of another, or a whole one.
 const MOST: &str = "words: session --keyset k --keyset-format binary
 file: GCM
 output: 100000x6e6f20626164206c696e650a
@@ -179,11 +179,12 @@ output: 100000x6e6f20626164206c696e650a
 shows | input | status | line
 100,000 lines | 100000x68656c6c6f0a | 0 Done |
 a byte more | 100000x68656c6c6f0a 68 | 6 TooManyLines | tinkey: too many lines
+a line more | 100001x68656c6c6f0a | 6 TooManyLines | tinkey: too many lines
 ";
 
 #[test]
 fn takes_100000_lines(rt: HostRuntime) -> Result<(), Fail> {
-    run_table(rt.alloc(), MOST, 2)
+    run_table(rt.alloc(), MOST, 3)
 }
 
 // The first file is the last one of the story, and so is the second, whose key serves no longer.
