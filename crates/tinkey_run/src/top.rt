@@ -22,7 +22,7 @@ use std::alloc::Global;
 use tink_base::{Entropy, Sink, Source, Store};
 use tinkey_plans::{Status, report};
 use tinkey_readable::laws::sessions_are_readable;
-use tinkey_words::{Command, parse};
+use tinkey_words::{Request, parse};
 
 /// Does what the words after the program's name ask for, and tells on `diag` what went wrong. Keys
 /// are used through the managers handed in.
@@ -85,7 +85,7 @@ fn obey<S: Source, K: Sink, E: Entropy, D: Store>(
 /// Does the command.
 fn dispatch<S: Source, K: Sink, E: Entropy, D: Store>(
     alloc: Global,
-    command: Command<'_>,
+    command: Request<'_>,
     managers: &Managers,
     source: &mut S,
     sink: &mut K,
@@ -98,14 +98,14 @@ fn dispatch<S: Source, K: Sink, E: Entropy, D: Store>(
         (world (S.state source.new) (K.state sink.new) (D.state store.new) (E.state entropy.new)) }
 {
     match command {
-        Command::CreateKeyset { template, output } => finish_keyset(
+        Request::CreateKeyset { template, output } => finish_keyset(
             alloc,
             output,
             sink,
             store,
             create_keyset(alloc, template, entropy),
         ),
-        Command::EditKeyset {
+        Request::EditKeyset {
             edit,
             input,
             output,
@@ -113,28 +113,28 @@ fn dispatch<S: Source, K: Sink, E: Entropy, D: Store>(
             let edited = edit_keyset(alloc, edit, input, source, entropy, store);
             finish_keyset(alloc, output, sink, store, edited)
         }
-        Command::ListKeyset { input } => finish(sink, list_keyset(alloc, input, source, store)),
-        Command::ConvertKeyset { input, output } => {
+        Request::ListKeyset { input } => finish(sink, list_keyset(alloc, input, source, store)),
+        Request::ConvertKeyset { input, output } => {
             let taken = take_keyset(alloc, input, source, store);
             finish_keyset(alloc, output, sink, store, taken)
         }
-        Command::ListKeyTemplates => list_templates(sink),
-        Command::UseKeyset { keyset, form, work } => finish(
+        Request::ListKeyTemplates => list_templates(sink),
+        Request::UseKeyset { keyset, form, work } => finish(
             sink,
             use_keyset(alloc, managers, keyset, form, work, source, entropy, store),
         ),
-        Command::SealStream { keyset, form, ad } => {
+        Request::SealStream { keyset, form, ad } => {
             let keys = load_stream_keys(alloc, keyset, form, store);
             seal_stream(alloc, keys, ad, source, sink, entropy)
         }
-        Command::OpenStream { keyset, form, ad } => {
+        Request::OpenStream { keyset, form, ad } => {
             let keys = load_stream_keys(alloc, keyset, form, store);
             open_stream(alloc, keys, ad, source, sink)
         }
-        Command::SelfTest { seed, lines } => {
+        Request::SelfTest { seed, lines } => {
             finish(sink, tell_self_test(alloc, managers, seed, lines))
         }
-        Command::Session {
+        Request::Session {
             keyset,
             form,
             output,

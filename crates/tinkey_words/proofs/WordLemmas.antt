@@ -8,7 +8,7 @@ use Rattle.std.proofs.lemmas.Bool.Decides.{nat_tests}
 use Rattle.std.proofs.lemmas.Grind.{get_or-set_at}
 use Rattle.std.proofs.lemmas.List.{get_or-set_other}
 use Rattle.tink_spec.specs.Messages.{◌>>=◌}
-use Rattle.tinkey_words.specs.declared.words.Command.{Command}
+use Rattle.tinkey_words.specs.declared.words.Request.{Request}
 use Rattle.tinkey_words.specs.declared.words.rows.CommandName.{CommandName}
 use Rattle.tinkey_words.specs.declared.words.rows.OptionName.{OptionName}
 use Rattle.tinkey_words.specs.Rows.{command_of, option_row, same, is_value}
@@ -55,7 +55,7 @@ value_put name values waiting value place at is within formed =
     rw (formed, is) (ap with_values same_values)
 
 -- the command with its options is what all words ask for
-pub reads_complete : (result : Result Command ℕ) (words : List (List ℕ)) (name : List ℕ) (rest : List (List ℕ)) (command : CommandName) (count : ℕ) (given : Options) → words ≡ name ∷ rest → command_of name ≡ Some command → given_in command rest ≡ Ok given → count ≡ length words → Reads seen_command result (complete command count given) → Reads seen_command result (words_of words)
+pub reads_complete : (result : Result Request ℕ) (words : List (List ℕ)) (name : List ℕ) (rest : List (List ℕ)) (command : CommandName) (count : ℕ) (given : Options) → words ≡ name ∷ rest → command_of name ≡ Some command → given_in command rest ≡ Ok given → count ≡ length words → Reads seen_command result (complete command count given) → Reads seen_command result (words_of words)
 unfolding words_of
 reads_complete result words name rest command count given are named is size reads =
     let counted : count ≡ 1 + length rest = omega (arith, ap length are) in

@@ -17,9 +17,9 @@ use Rattle.key_msgs.specs.declared.primitive.Primitive.TheVariants.{Aead, Daead,
 use Rattle.tink_spec.specs.Messages.{◌>>=◌}
 use Rattle.tinkey_cmds.specs.Edits.{EditOf, seen_by}
 use Rattle.tinkey_cmds.specs.Edits as edits
-use Rattle.tinkey_cmds.specs.declared.command.Command.{Command as Command'}
-use Rattle.tinkey_words.specs.declared.words.Command.{Command}
-use Rattle.tinkey_words.specs.declared.words.Command.TheVariants as asks
+use Rattle.tinkey_cmds.specs.declared.command.Command.{Command}
+use Rattle.tinkey_words.specs.declared.words.Request.{Request}
+use Rattle.tinkey_words.specs.declared.words.Request.TheVariants as asks
 use Rattle.tinkey_words.specs.declared.words.Options.{Options as CodeOptions}
 use Rattle.tinkey_words.specs.declared.words.Place.{Place as CodePlace}
 use Rattle.tinkey_words.specs.declared.words.Datum.{Datum}
@@ -313,7 +313,7 @@ words_of (name ∷ words) = asked_of (command_of name) words
 -- What the code's commands and options stand for.
 
 -- an edit, with the bytes of its template's name
-abbrev pub seen_edit : Command' (Bor (List ℕ)) → AskedEdit
+abbrev pub seen_edit : Command (Bor (List ℕ)) → AskedEdit
 seen_edit edit = seen_by (λ name. name.now) edit
 
 -- the name of a file
@@ -340,7 +340,7 @@ seen_work (works.Verify tag) = to_verify (seen_datum tag)
 seen_work (works.Derive size) = to_derive size
 
 -- what a command asks, with its names and data as bytes
-abbrev pub seen_command : Command → Asked
+abbrev pub seen_command : Request → Asked
 seen_command (asks.CreateKeyset template output) = create_keyset template.now (seen_place output)
 seen_command (asks.EditKeyset edit input output) =
     edit_keyset (seen_edit edit) (seen_place input) (seen_place output)

@@ -7,4 +7,4 @@
 pub mod laws;
 mod words;
 
-pub use words::{Command, DATUM_LIMIT, Datum, Format, Place, Work, parse};
+pub use words::{DATUM_LIMIT, Datum, Format, Place, Request, Work, parse};

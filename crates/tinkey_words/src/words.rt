@@ -20,7 +20,7 @@ const KNOWN_LINES: u32 = 1000;
 
 /// What the words ask for.
 #[derive(Clone, Copy)]
-pub enum Command<'a> {
+pub enum Request<'a> {
     /// Make a keyset of one new key.
     CreateKeyset {
         /// The name of the template of the key.
@@ -145,7 +145,7 @@ pub struct Options<'a> {
 /// The command that the words ask for, or the place of the word at fault, as `Status::Usage` tells
 /// it.
 #[tactic(auto, unfolding(crate::specs::Words::words_of))]
-pub fn parse(words: &[String]) -> Result<Command<'_>, usize>
+pub fn parse(words: &[String]) -> Result<Request<'_>, usize>
     ensures { Reads seen_command result (words_of (map string_bytes words.now)) }
 {
     match words.split_first() {
@@ -161,7 +161,7 @@ pub fn parse(words: &[String]) -> Result<Command<'_>, usize>
 }
 
 /// The command with its options, among so many words.
-fn complete(command: CommandName, count: usize, given: Options<'_>) -> Result<Command<'_>, usize>
+fn complete(command: CommandName, count: usize, given: Options<'_>) -> Result<Request<'_>, usize>
     ensures { Reads seen_command result (complete command count (seen_options given.entry)) }
 {
     if has_required(command, &given) {
@@ -183,11 +183,11 @@ fn has_required(command: CommandName, given: &Options<'_>) -> bool
 }
 
 /// What the command asks with these options.
-fn command_with<'a>(command: CommandName, given: &Options<'a>) -> Command<'a>
+fn command_with<'a>(command: CommandName, given: &Options<'a>) -> Request<'a>
     ensures { seen_command result ≡ asked_with command (seen_options given.now).values }
 {
     match command {
-        CommandName::CreateKeyset => Command::CreateKeyset {
+        CommandName::CreateKeyset => Request::CreateKeyset {
             template: given.template(),
             output: given.put_to(),
         },
@@ -198,24 +198,24 @@ fn command_with<'a>(command: CommandName, given: &Options<'a>) -> Command<'a>
         CommandName::DisableKey => given.edited(Edit::Disable(given.id())),
         CommandName::DestroyKey => given.edited(Edit::Destroy(given.id())),
         CommandName::DeleteKey => given.edited(Edit::Delete(given.id())),
-        CommandName::ListKeyset => Command::ListKeyset {
+        CommandName::ListKeyset => Request::ListKeyset {
             input: given.taken_from(),
         },
-        CommandName::ConvertKeyset => Command::ConvertKeyset {
+        CommandName::ConvertKeyset => Request::ConvertKeyset {
             input: given.taken_from(),
             output: given.put_to(),
         },
-        CommandName::ListKeyTemplates => Command::ListKeyTemplates,
+        CommandName::ListKeyTemplates => Request::ListKeyTemplates,
         CommandName::Seal => given.worked(Work::Seal(given.ad())),
         CommandName::Open => given.worked(Work::Open(given.ad())),
         CommandName::Dseal => given.worked(Work::Dseal(given.ad())),
         CommandName::Dopen => given.worked(Work::Dopen(given.ad())),
-        CommandName::Sseal => Command::SealStream {
+        CommandName::Sseal => Request::SealStream {
             keyset: given.text(OptionName::Keyset),
             form: given.form(OptionName::KeysetFormat),
             ad: given.ad(),
         },
-        CommandName::Sopen => Command::OpenStream {
+        CommandName::Sopen => Request::OpenStream {
             keyset: given.text(OptionName::Keyset),
             form: given.form(OptionName::KeysetFormat),
             ad: given.ad(),
@@ -225,12 +225,12 @@ fn command_with<'a>(command: CommandName, given: &Options<'a>) -> Command<'a>
             OptionName::TagHex,
         )))),
         CommandName::Derive => given.worked(Work::Derive(given.number(OptionName::Length))),
-        CommandName::Session => Command::Session {
+        CommandName::Session => Request::Session {
             keyset: given.text(OptionName::Keyset),
             form: given.form(OptionName::KeysetFormat),
             output: given.put_to(),
         },
-        CommandName::Selftest => Command::SelfTest {
+        CommandName::Selftest => Request::SelfTest {
             seed: given.number(OptionName::Seed),
             lines: given.lines(),
         },
@@ -333,11 +333,11 @@ impl<'a> Options<'a> {
     }
 
     /// Work by the keys of a keyset.
-    fn worked(&self, work: Work<'a>) -> Command<'a>
+    fn worked(&self, work: Work<'a>) -> Request<'a>
         ensures { seen_command result
             ≡ worked (seen_work work.entry) (seen_options self.now).values }
     {
-        Command::UseKeyset {
+        Request::UseKeyset {
             keyset: self.text(OptionName::Keyset),
             form: self.form(OptionName::KeysetFormat),
             work,
@@ -358,11 +358,11 @@ impl<'a> Options<'a> {
     }
 
     /// A keyset that is changed so.
-    fn edited(&self, edit: Edit<&'a str>) -> Command<'a>
+    fn edited(&self, edit: Edit<&'a str>) -> Request<'a>
         ensures { seen_command result
             ≡ edited (seen_edit edit.entry) (seen_options self.now).values }
     {
-        Command::EditKeyset {
+        Request::EditKeyset {
             edit,
             input: self.taken_from(),
             output: self.put_to(),
