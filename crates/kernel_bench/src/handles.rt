@@ -8,7 +8,7 @@ ghost use Rattle.wrapped_prims.specs.Making.{IsOver};
 use crate::clock::Stopwatch;
 use key_msgs::Primitive;
 use keyset_model::{Keyset, read_binary};
-use managers::{AeadManager, GcmManager, KeyTable, Managers};
+use managers::{AeadManager, AeadScheme, KeyTable, Managers, StandardAead};
 use std::alloc::Global;
 use std::io::{self, ErrorKind};
 use tink_base::Trials;
@@ -181,7 +181,8 @@ pub fn time(rt: &HostRuntime, task: Task, keys: usize, milliseconds: u32) -> io:
     let keyset = keyset_of(alloc, keys)?;
     let sealed = sealed_by(alloc, task.place(keys))?;
     let mut aead: Vec<Box<dyn AeadManager>> = Vec::new(alloc);
-    aead.push(Box::new(alloc, GcmManager::new(String::from_str(alloc, "g")?))?)?;
+    let manager = StandardAead::new(String::from_str(alloc, "g")?, AeadScheme::Gcm);
+    aead.push(Box::new(alloc, manager)?)?;
     let Ok(all) = Managers::new(aead, Vec::new(alloc), Vec::new(alloc), Vec::new(alloc)) else {
         return Err(ErrorKind::InvalidInput.into());
     };

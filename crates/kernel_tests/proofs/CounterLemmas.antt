@@ -10,7 +10,7 @@ use borrow.Rule.Slice.PartMut.{put_mid}
 use Rattle.aes_core.specs.Counter.{counter_plus}
 use Rattle.aes_core.specs.declared.counter.CtrKind.{CtrKind}
 use Rattle.aes_core.specs.declared.counter.CtrKind.TheVariants.{Low32, All128}
-use Rattle.aes_core.proofs.CounterLemmas.{to_be_bytes-from_be_bytes_16}
+use Rattle.tink_spec.proofs.BlockBytes.{to_be_bytes-from_be_bytes_16}
 
 -- a block whose last four bytes were written
 written_last : (t part : List ℕ) → length t ≡ 16 → length part ≡ 4

@@ -8,7 +8,9 @@ use crate::manager_answers::opened_text;
 use crate::rows::{bytes_in, count, holds};
 use key_msgs::Primitive;
 use keyset_model::Keyset;
-use managers::{AeadManager, AeadScheme, DaeadManager, MacManager, MacScheme, Managers, PrfManager, PrfScheme};
+use managers::{
+    AeadManager, AeadScheme, DaeadManager, MacManager, MacScheme, Managers, PrfManager, PrfScheme,
+};
 use std::alloc::Global;
 use std::test::Fail;
 use test_words::{bytes_of, cell, digits_of};

@@ -6,7 +6,9 @@ ghost use Rattle.std.specs.Prelude.{◌≤◌, length};
 use crate::boxes::{aead_under, daead_under, mac_under, prf_under};
 use crate::rows::{bytes_in, few, holds, holds_bytes, holds_text};
 use key_msgs::Primitive;
-use managers::{AeadManager, AeadScheme, DaeadManager, MacManager, MacScheme, Managers, PrfManager, PrfScheme};
+use managers::{
+    AeadManager, AeadScheme, DaeadManager, MacManager, MacScheme, Managers, PrfManager, PrfScheme,
+};
 use std::alloc::Global;
 use std::test::Fail;
 use test_words::{cell, digits_of, turned};

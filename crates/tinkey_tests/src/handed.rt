@@ -4,7 +4,9 @@
 //! under the type URL `x`, and `hmac x` one of HMAC keys.
 
 use crate::objects::Outside;
-use managers::{AeadManager, AeadScheme, MacManager, MacScheme, Managers, StandardAead, StandardMac};
+use managers::{
+    AeadManager, AeadScheme, MacManager, MacScheme, Managers, StandardAead, StandardMac,
+};
 use std::alloc::Global;
 use std::test::Fail;
 use tink_base::Store;

@@ -9,8 +9,8 @@ mod rows;
 
 pub use rows::{DATUM_LIMIT, Format};
 use rows::{
-    CommandName, OPTION_COUNT, OptionName, command_named, format_named, is_value,
-    option_named, takes,
+    CommandName, OPTION_COUNT, OptionName, command_named, format_named, is_value, option_named,
+    takes,
 };
 use tink_base::number_in;
 use tinkey_cmds::Command as Edit;
