@@ -85,15 +85,15 @@ bytes-varint value below = bytes-groups 9 value (omega arith)
 bytes-number : (number value : ℕ) → number < 2 ^ 32 → value < 2 ^ 32 → AreBytes (number_field number value)
 bytes-number number value n v = bytes-append (tag_of number 0) (varint_of value) (bytes-varint (number * 8 + 0) (omega arith)) (bytes-varint value (omega arith))
 
-bytes-field : (number : ℕ) (of : List ℕ) → number < 2 ^ 32 → length of < 2 ^ 32 → AreBytes of → AreBytes (bytes_field number of)
+bytes-field : (number : ℕ) (of : List ℕ) → number < 2 ^ 32 → length of < 2 ^ 64 → AreBytes of → AreBytes (bytes_field number of)
 bytes-field number of n short h = bytes-append (tag_of number 2) (varint_of (length of) ++ of) (bytes-varint (number * 8 + 2) (omega arith))
     (bytes-append (varint_of (length of)) of (bytes-varint (length of) (omega arith)) h)
 
--- an entry with numbers of 32 bits, and bytes
+-- an entry with numbers of 32 bits, and bytes, of which a length of 64 bits tells
 abbrev pub IsPlain : Entry → Type 0
 IsPlain (uint32 number value) = (number < 2 ^ 32) × (value < 2 ^ 32)
-IsPlain (content number of) = (number < 2 ^ 32) × (length of < 2 ^ 32) × AreBytes of
-IsPlain (message number payload) = (number < 2 ^ 32) × (length payload < 2 ^ 32) × AreBytes payload
+IsPlain (content number of) = (number < 2 ^ 32) × (length of < 2 ^ 64) × AreBytes of
+IsPlain (message number payload) = (number < 2 ^ 32) × (length payload < 2 ^ 64) × AreBytes payload
 
 bytes-written : (entry : Entry) → IsPlain entry → AreBytes (written entry)
 bytes-written (uint32 number value) h = elim (value == 0) as (λ b. AreBytes (cond b [] (number_field number value))) [
