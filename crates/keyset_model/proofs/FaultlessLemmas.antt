@@ -1,15 +1,13 @@
 -- Well-formed keys have no fault.
-use Rattle.std.proofs.Common.{◌≡◌, inl, inr, ap, sym, refl, subst, ℕ, zero, suc, ◌==◌, Bool, true, false, not, ◌||◌, List, [], ◌∷◌, ◌++◌, length, position, Some, None, arith}
-use Rattle.std.specs.Prelude.{find, slice_get, nat_le, ◌≢◌}
-use Rattle.std.specs.List.{list_any, prefix_len, AllByRecursion}
-use Rattle.std.proofs.lemmas.Bool.{ne_eqb, le-ltb}
+use Rattle.std.proofs.Common.{◌≡◌, inl, inr, ap, sym, refl, ℕ, zero, suc, ◌==◌, Bool, true, false, not, ◌||◌, List, [], ◌∷◌, length, Some, None, arith}
+use Rattle.std.specs.Prelude.{find, slice_get, nat_le}
+use Rattle.std.specs.List.{list_any, AllByRecursion}
 use Rattle.std.proofs.lemmas.Bool.Decides.{nat_tests}
-use Rattle.std.proofs.lemmas.List.{append_assoc}
-use Rattle.std.proofs.lemmas.Option.{slice_get_within}
 use Rattle.keyset_model.specs.declared.record.Record.{Record}
 use Rattle.keyset_model.specs.declared.keyset.KeysetFault.TheVariants as faults
-use Rattle.keyset_model.specs.Keyset.{Keys, IsKnown, has_id, has_status, has_prefix, has_material, has_key_data, is_in, is_primary, first_without, repeat_behind, duplicate, fault_of}
-use Rattle.keyset_model.specs.WellFormed.{HasOwnIds, HasData, IsWellFormed}
+use Rattle.keyset_model.specs.Keyset.{Keys, IsKnown, has_id, has_status, has_prefix, has_material, has_key_data, is_primary, first_without, ambiguous, fault_of}
+use Rattle.keyset_model.specs.WellFormed.{HasOneOf, HasData, IsPrimary, IsWellFormed}
+use Rattle.keyset_model.proofs.WellFormedLemmas.{Lone, position-none, two-lone}
 use Rattle.keyset_model.proofs.Exits.{on, end, fails, fewer, nowhere}
 
 -- ---- tests
@@ -34,18 +32,6 @@ data_url r has = elim has.url [
   | inr destroyed ↦ grind (arith, nat_tests)
 ]
 
--- where no element passes, there is no place
-whole_here : {A : Type 0} (p : A → Bool) (x : A) (xs : List A) (b : Bool) → p x ≡ b → list_any p (x ∷ xs) ≡ false → (list_any p xs ≡ false → prefix_len (λ x. not (p x)) xs ≡ length xs) → prefix_len (λ x. not (p x)) (x ∷ xs) ≡ length (x ∷ xs)
-whole_here p x xs true test none later = let clash : true ≡ false = rw test at none in cc
-whole_here p x xs false test none later = rw (test, later (rw test at none)) (omega arith)
-
-whole_prefix : {A : Type 0} (p : A → Bool) (xs : List A) → list_any p xs ≡ false → prefix_len (λ x. not (p x)) xs ≡ length xs
-whole_prefix p [] none = refl
-whole_prefix p (x ∷ xs) none = whole_here p x xs _ refl none (whole_prefix p xs)
-
-pub position-none : {A : Type 0} (p : A → Bool) (xs : List A) → list_any p xs ≡ false → position p xs ≡ None
-position-none p xs none = rw (whole_prefix p xs none, le-ltb (length xs) (length xs) (omega arith)) refl
-
 -- a test that every element passes
 none_fails : (P : Record → Type 0) (test : Record → Bool) (records : List Record) → ((r : Record) → P r → test r ≡ true) → AllByRecursion P records → list_any (λ r. not (test r)) records ≡ false
 none_fails P test [] passes all = refl
@@ -55,30 +41,17 @@ nowhere_without : (P : Record → Type 0) (test : Record → Bool) (records : Li
 unfolding first_without
 nowhere_without P test records passes all = sym (position-none (λ r. not (test r)) records (none_fails P test records passes all))
 
--- ---- ids
-
-pub not_in : (id : ℕ) (records : List Record) → ((i : ℕ) (s : Record) → slice_get records i ≡ Some s → s.id ≢ id) → is_in records id ≡ false
-not_in id [] other = refl
-not_in id (x ∷ records) other = rw (ne_eqb x.id id (other 0 x refl)) (not_in id records (λ i s there. other (suc i) s there))
-
-get_front : (before later : List Record) (i : ℕ) (s : Record) → slice_get before i ≡ Some s → slice_get (before ++ later) i ≡ Some s
-get_front [] later i s there = cc
-get_front (x ∷ before) later zero s there = there
-get_front (x ∷ before) later (suc i) s there = get_front before later i s there
-
-get_behind : (before later : List Record) (r : Record) → slice_get (before ++ r ∷ later) (length before) ≡ Some r
-get_behind [] later r = refl
-get_behind (x ∷ before) later r = get_behind before later r
-
-no_repeat : (before later : List Record) → HasOwnIds (before ++ later) → None ≡ repeat_behind before later
-unfolding repeat_behind
-no_repeat before [] own = refl
-no_repeat before (r ∷ later) own =
-    let none : is_in before r.id ≡ false = not_in r.id before (λ i s there. own i (length before) s r (slice_get_within before i s there) (get_front before (r ∷ later) i s there) (get_behind before later r)) in
-    let rest = no_repeat (before ++ r ∷ []) later (subst HasOwnIds (sym (append_assoc before (r ∷ []) later)) own) in
-    rw (position-none (has_id r.id) before none) rest
-
 -- ---- the primary record
+
+pub none_of : (test : Record → Bool) (records : List Record) → ((i : ℕ) (s : Record) → slice_get records i ≡ Some s → test s ≡ true → ⊥) → list_any test records ≡ false
+none_of test [] other = refl
+none_of test (x ∷ later) other = elim (test x) as (λ b. test x ≡ b → (b || list_any test later) ≡ false) [
+  | true ↦ λ is. absurd (other 0 x refl is)
+  | false ↦ λ is. none_of test later (λ i s there. other (suc i) s there)
+] refl
+
+primary_parts : (primary : ℕ) (r : Record) → is_primary primary r ≡ true → IsPrimary primary r
+primary_parts primary r is = (grind (arith, nat_tests), grind (arith, nat_tests))
 
 or_last : (a b : Bool) → b ≡ true → (a || b) ≡ true
 or_last true b is = refl
@@ -92,6 +65,15 @@ any_here p q x y records false test more found later = or_last (q x) (list_any q
 pub any_found : (p q : Record → Bool) (records : List Record) (y : Record) → ((r : Record) → p r ≡ true → q r ≡ true) → find p records ≡ Some y → list_any q records ≡ true
 any_found p q [] y more found = cc
 any_found p q (x ∷ records) y more found = any_here p q x y records _ refl more found (any_found p q records y more)
+
+-- a test that passes at one place only
+lone_of : (primary : ℕ) (records : List Record) → HasOneOf primary records → Lone (is_primary primary) records
+unfolding Lone
+lone_of primary [] one = tt
+lone_of primary (r ∷ later) one = (
+  λ passes. none_of (is_primary primary) later (λ i s there also. let clash : zero ≡ suc i = one 0 (suc i) r s refl there (primary_parts primary r passes) (primary_parts primary s also) in cc),
+  lone_of primary later (λ i j x y here there p q. let same : suc i ≡ suc j = one (suc i) (suc j) x y here there p q in grind arith),
+)
 
 primary_has : (primary : ℕ) (r : Record) → is_primary primary r ≡ true → has_id primary r ≡ true
 primary_has primary r is = grind (arith, nat_tests)
@@ -111,9 +93,9 @@ none-well_formed keys is =
     (on _ (nowhere faults.UnknownPrefix (nowhere_without IsKnown has_prefix records known_prefix is.known))
     (on _ (nowhere faults.UnknownMaterial (nowhere_without HasData has_material records data_material is.has_data))
     (on _ (nowhere faults.MissingKeyData (nowhere_without HasData has_key_data records data_url is.has_data))
-    (on _ (nowhere duplicate (no_repeat [] records is.own_ids))
     (on _ (fails faults.NoPrimary (sym (ap not there)))
-    (on _ (fails faults.PrimaryNotEnabled (sym (ap not enabled))) end))))))))
+    (on _ (fails faults.PrimaryNotEnabled (sym (ap not enabled)))
+    (on _ (nowhere ambiguous (sym (two-lone (is_primary keys.primary) records (lone_of keys.primary records is.one_primary)))) end))))))))
 
 pub faultless-well_formed : (keys : Keys) → IsWellFormed keys → fault_of keys ≡ None
 faultless-well_formed keys is = sym (none-well_formed keys is)

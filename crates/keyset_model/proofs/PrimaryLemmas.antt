@@ -1,5 +1,5 @@
 -- The primary record of a keyset.
-use Rattle.std.proofs.Common.{◌≡◌, ◌∙◌, ap, sym, refl, subst, Bool, true, false, ℕ, ◌≤◌, List, [], ◌∷◌, length, Some, None, arith}
+use Rattle.std.proofs.Common.{◌≡◌, ◌∙◌, ap, sym, refl, subst, Bool, true, false, ℕ, ◌<◌, ◌≤◌, List, [], ◌∷◌, length, Some, None, arith}
 use Rattle.std.specs.Prelude.{find, nat_lt, slice_get, position}
 use Rattle.std.specs.List.{AllByRecursion, list_any, position_or_len}
 use Rattle.std.proofs.lemmas.Bool.Decides.{nat_tests}
@@ -7,8 +7,8 @@ use Rattle.std.proofs.lemmas.List.Folds.{find_at}
 use Rattle.std.proofs.lemmas.Option.{slice_get_past}
 use Rattle.keyset_model.specs.declared.record.Record.{Record}
 use Rattle.keyset_model.specs.Keyset.{Keys, is_primary, primary_of, fault_of}
-use Rattle.keyset_model.specs.WellFormed.{IsWellFormed}
-use Rattle.keyset_model.proofs.WellFormedLemmas.{whole-faultless, all_known, all_data, least_records, most_records}
+use Rattle.keyset_model.specs.WellFormed.{IsPrimary, IsWellFormed}
+use Rattle.keyset_model.proofs.WellFormedLemmas.{lone-places, whole-faultless, all_known, all_data, least_records, most_records}
 
 -- an element that is found passes the test
 passes_here : {A : Type 0} (p : A → Bool) (x y : A) (xs : List A) (b : Bool) → p x ≡ b → find p (x ∷ xs) ≡ Some y → (find p xs ≡ Some y → p y ≡ true) → p y ≡ true
@@ -68,12 +68,22 @@ at_place p xs i false is place = let clash : Some i ≡ None = rw is at place in
 pub at_position : {A : Type 0} (p : A → Bool) (xs : List A) (i : ℕ) → Some i ≡ position p xs → find p xs ≡ slice_get xs i
 at_position p xs i place = find_at p xs ∙ ap (slice_get xs) (sym (at_place p xs i _ refl place))
 
+within_place : {A : Type 0} (p : A → Bool) (xs : List A) (i : ℕ) (b : Bool) → nat_lt (position_or_len p xs) (length xs) ≡ b → Some i ≡ position p xs → i < length xs
+within_place p xs i true is place = let at = at_place p xs i true is place in grind (arith, nat_tests)
+within_place p xs i false is place = let clash : Some i ≡ None = rw is at place in cc
+
+pub position_within : {A : Type 0} (p : A → Bool) (xs : List A) (i : ℕ) → Some i ≡ position p xs → i < length xs
+position_within p xs i place = within_place p xs i _ refl place
+
 no_place : {A : Type 0} (p : A → Bool) (xs : List A) (b : Bool) → nat_lt (position_or_len p xs) (length xs) ≡ b → None ≡ position p xs → length xs ≤ position_or_len p xs
 no_place p xs true is place = let clash : None ≡ Some (position_or_len p xs) = rw is at place in cc
 no_place p xs false is place = grind (arith, nat_tests)
 
 pub no_position : {A : Type 0} (p : A → Bool) (xs : List A) → None ≡ position p xs → find p xs ≡ None
 no_position p xs place = find_at p xs ∙ slice_get_past xs _ (no_place p xs _ refl place)
+
+is_primary_of : (primary : ℕ) (r : Record) → IsPrimary primary r → is_primary primary r ≡ true
+is_primary_of primary r is = let id = is.0 in let status = is.1 in grind (arith, nat_tests)
 
 pub well_formed-faultless : (keys : Keys) → fault_of keys ≡ None → IsWellFormed keys
 well_formed-faultless keys faultless =
@@ -84,6 +94,6 @@ well_formed-faultless keys faultless =
       most = most_records keys faultless;
       known = all_known keys faultless;
       has_data = all_data keys faultless;
-      own_ids = (whole-faultless keys faultless).own_ids;
       primary = (there.0, there.1, primary_id keys.primary there.0 passes, primary_status keys.primary there.0 passes);
+      one_primary = λ i j r s here also p q. lone-places (is_primary keys.primary) keys.records i j r s (whole-faultless keys faultless).lone here also (is_primary_of keys.primary r p) (is_primary_of keys.primary s q);
     }

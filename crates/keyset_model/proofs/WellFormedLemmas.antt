@@ -1,15 +1,15 @@
 -- Records without a fault, by their parts.
-use Rattle.std.proofs.Common.{◌≡◌, ◌∙◌, ◌⊎◌, inl, inr, ℕ, suc, ◌+◌, ◌≤◌, ◌==◌, nat_lt, Bool, true, false, cond, not, ◌&&◌, ◌||◌, ltb, List, [], ◌∷◌, ◌++◌, length, position, Option, Some, None, option_map, refl, sym, arith, eq-eqb, subst, zero}
-use Rattle.std.specs.Prelude.{slice_get, nat_le, ◌≢◌}
-use Rattle.std.specs.Option.{option_or}
+use Rattle.std.proofs.Common.{◌≡◌, ◌∙◌, ◌⊎◌, inl, inr, ℕ, suc, ◌+◌, ◌<◌, ◌≤◌, ◌==◌, nat_lt, Bool, true, false, cond, not, ◌&&◌, ◌||◌, ltb, List, [], ◌∷◌, ◌++◌, length, position, Option, Some, None, option_map, refl, sym, ap, arith, eq-eqb, subst, zero}
+use Rattle.std.specs.Prelude.{slice_get, nat_le, drop, ◌↔◌}
+use Rattle.std.specs.Option.{option_and_then}
 use Rattle.std.specs.List.{list_any, prefix_len, AllByRecursion}
-use Rattle.std.proofs.lemmas.Bool.{true≢false, or_parts, or_from, ne_eqb, ltb-false}
+use Rattle.std.proofs.lemmas.Bool.{true≢false, or_parts, ne_eqb, ltb-false, le-ltb, lt-ltb}
 use Rattle.std.proofs.lemmas.Bool.Decides.{nat_tests}
 use Rattle.keyset_model.specs.declared.record.Record.{Record}
 use Rattle.keyset_model.specs.declared.keyset.KeysetFault.{KeysetFault}
 use Rattle.keyset_model.specs.declared.keyset.KeysetFault.TheVariants as faults
-use Rattle.keyset_model.specs.Keyset.{Keys, IsKnown, has_id, has_status, has_prefix, has_material, has_key_data, is_in, is_primary, first_some, when, first_without, repeat_behind, duplicate, fault_of}
-use Rattle.keyset_model.specs.WellFormed.{HasOwnIds, HasData}
+use Rattle.keyset_model.specs.Keyset.{Keys, IsKnown, has_status, has_prefix, has_material, has_key_data, is_primary, first_some, when, first_without, pair_from, next_behind, first_two, ambiguous, fault_of}
+use Rattle.keyset_model.specs.WellFormed.{HasData}
 
 some≢none : {A : Type 0} {x : A} → Some x ≡ None → ⊥
 some≢none e = grind arith
@@ -57,65 +57,105 @@ pub map-none : {A B : Type 0} (f : A → B) (o : Option A) → option_map f o �
 map-none f None e = refl
 map-none f (Some x) e = absurd (some≢none e)
 
-or-none : {A : Type 0} (o p : Option A) → option_or o p ≡ None → (o ≡ None) × (p ≡ None)
-or-none None p e = (refl, e)
-or-none (Some x) p e = absurd (some≢none e)
-
 pub not-false' : (b : Bool) → not b ≡ false → b ≡ true
 not-false' true e = refl
 not-false' false e = absurd (true≢false e)
 
--- ---- ids
-
--- no two records have one id
-unfoldable pub Distinct : List Record → Type 0
-Distinct [] = Unit {0}
-Distinct (r ∷ later) = (is_in later r.id ≡ false) × Distinct later
-
--- no later record has the id of one before it
-unfoldable pub Apart : List Record → List Record → Type 0
-Apart before [] = Unit {0}
-Apart before (r ∷ later) = (is_in before r.id ≡ false) × Apart before later
-
 pub eqb-flip : (a b : ℕ) → (a == b) ≡ false → (b == a) ≡ false
 eqb-flip a b e = ne_eqb b a (λ k. true≢false (sym (eq-eqb a b (sym k)) ∙ e))
 
--- r is apart from those later, when they are apart from a list with r at its end
-apart_push : (before : List Record) (r : Record) (later : List Record) → Apart (before ++ r ∷ []) later → (is_in later r.id ≡ false) × Apart before later
-unfolding Apart
-apart_push before r [] h = (refl, tt)
-apart_push before r (s ∷ later) h =
-    let parts = or_parts _ _ (sym (any-append (has_id s.id) before (r ∷ [])) ∙ h.0) in
-    let more = apart_push before r later h.1 in
-    let other = or_parts _ _ parts.1 in
-    (or_from _ _ (eqb-flip r.id s.id other.0) more.0, (parts.0, more.1))
+-- ---- one record that passes
 
-distinct-repeat : (before later : List Record) → repeat_behind before later ≡ None → Apart before later × Distinct later
-unfolding repeat_behind Apart Distinct
-distinct-repeat before [] e = (tt, tt)
-distinct-repeat before (r ∷ later) e =
-    let parts = or-none _ _ e in
-    let more = distinct-repeat (before ++ r ∷ []) later parts.1 in
-    let split = apart_push before r later more.0 in
-    ((any-position (has_id r.id) before (map-none _ _ parts.0), split.1), (split.0, more.1))
+-- where no element passes, there is no place
+whole_here : {A : Type 0} (p : A → Bool) (x : A) (xs : List A) (b : Bool) → p x ≡ b → list_any p (x ∷ xs) ≡ false → (list_any p xs ≡ false → prefix_len (λ x. not (p x)) xs ≡ length xs) → prefix_len (λ x. not (p x)) (x ∷ xs) ≡ length (x ∷ xs)
+whole_here p x xs true test none later = let clash : true ≡ false = rw test at none in cc
+whole_here p x xs false test none later = rw (test, later (rw test at none)) (omega arith)
 
--- an id that isn't in a list is that of no place
-not_at : (id j : ℕ) (records : List Record) (s : Record) → is_in records id ≡ false → slice_get records j ≡ Some s → s.id ≢ id
-not_at id j [] s none there = cc
-not_at id zero (r ∷ later) s none there = λ same.
+whole_prefix : {A : Type 0} (p : A → Bool) (xs : List A) → list_any p xs ≡ false → prefix_len (λ x. not (p x)) xs ≡ length xs
+whole_prefix p [] none = refl
+whole_prefix p (x ∷ xs) none = whole_here p x xs _ refl none (whole_prefix p xs)
+
+pub position-none : {A : Type 0} (p : A → Bool) (xs : List A) → list_any p xs ≡ false → position p xs ≡ None
+position-none p xs none = rw (whole_prefix p xs none, le-ltb (length xs) (length xs) (omega arith)) refl
+
+-- an element that passes is at place 0, and one that doesn't moves the place on
+position-here : {A : Type 0} (p : A → Bool) (x : A) (xs : List A) → p x ≡ true → position p (x ∷ xs) ≡ Some 0
+position-here p x xs test = rw test (ap (λ b. cond b (Some 0) None) (lt-ltb 0 (suc (length xs)) (omega arith)))
+
+steps_as : (n m : ℕ) (b : Bool) → nat_lt n m ≡ b → nat_lt (suc n) (suc m) ≡ b
+steps_as n m true is = let less : n < m = grind (arith, nat_tests) in lt-ltb (suc n) (suc m) (omega (arith, less))
+steps_as n m false is = let not_less : m ≤ n = ltb-false n m is in le-ltb (suc n) (suc m) (omega (arith, not_less))
+
+pub position-past : {A : Type 0} (p : A → Bool) (x : A) (xs : List A) → p x ≡ false → position p (x ∷ xs) ≡ option_map suc (position p xs)
+position-past p x xs test =
+    let one : 1 + prefix_len (λ x. not (p x)) xs ≡ suc (prefix_len (λ x. not (p x)) xs) = omega arith in
+    let steps = steps_as (prefix_len (λ x. not (p x)) xs) (length xs) _ refl in
+    rw (test, one) (ap (λ b. cond b (Some (suc (prefix_len (λ x. not (p x)) xs))) None) steps ∙ go (ltb (prefix_len (λ x. not (p x)) xs) (length xs)))
+  where
+    go : (b : Bool) → cond b (Some (suc (prefix_len (λ x. not (p x)) xs))) None ≡ option_map suc (cond b (Some (prefix_len (λ x. not (p x)) xs)) None)
+    go true = refl
+    go false = refl
+
+-- at most one record passes
+unfoldable pub Lone : (Record → Bool) → List Record → Type 0
+Lone test [] = Unit {0}
+Lone test (r ∷ later) = (test r ≡ true → list_any test later ≡ false) × Lone test later
+
+pub lone-none : (test : Record → Bool) (records : List Record) → list_any test records ≡ false → Lone test records
+unfolding Lone
+lone-none test [] e = tt
+lone-none test (r ∷ later) e = let parts = or_parts _ _ e in (λ k. parts.1, lone-none test later parts.1)
+
+-- behind a record that doesn't pass two are found where they are found without it
+none-past : (test : Record → Bool) (later : List Record) (o : Option ℕ) → (option_and_then (next_behind test later) o ≡ None) ↔ (option_and_then (λ i. option_map (pair_from (suc i)) (position test (drop (suc i) later))) o ≡ None)
+none-past test later None = (λ e. refl, λ e. refl)
+none-past test later (Some i) = (λ e. ap (option_map (pair_from (suc i))) (map-none (pair_from i) _ e), λ e. ap (option_map (pair_from i)) (map-none (pair_from (suc i)) _ e))
+
+and_then-map : (next : ℕ → Option (ℕ × ℕ)) (o : Option ℕ) → option_and_then next (option_map suc o) ≡ option_and_then (λ i. next (suc i)) o
+and_then-map next None = refl
+and_then-map next (Some i) = refl
+
+two-past : (test : Record → Bool) (r : Record) (later : List Record) → test r ≡ false → first_two test (r ∷ later) ≡ option_and_then (λ i. option_map (pair_from (suc i)) (position test (drop (suc i) later))) (position test later)
+unfolding first_two
+two-past test r later fails = ap (option_and_then (next_behind test (r ∷ later))) (position-past test r later fails) ∙ and_then-map (next_behind test (r ∷ later)) (position test later)
+
+two-here : (test : Record → Bool) (r : Record) (later : List Record) → test r ≡ true → first_two test (r ∷ later) ≡ option_map (pair_from 0) (position test later)
+unfolding first_two
+two-here test r later passes = ap (option_and_then (next_behind test (r ∷ later))) (position-here test r later passes)
+
+pub lone-two : (test : Record → Bool) (records : List Record) → first_two test records ≡ None → Lone test records
+unfolding Lone first_two
+lone-two test [] e = tt
+lone-two test (r ∷ later) e = elim (test r) as (λ b. test r ≡ b → (test r ≡ true → list_any test later ≡ false) × Lone test later) [
+  | true ↦ λ t. let others = any-position test later (map-none (pair_from 0) _ (sym (two-here test r later t) ∙ e)) in (λ h. others, lone-none test later others)
+  | false ↦ λ t. (λ h. absurd (true≢false (sym h ∙ t)), lone-two test later ((none-past test later (position test later)).1 (sym (two-past test r later t) ∙ e)))
+] refl
+
+pub two-lone : (test : Record → Bool) (records : List Record) → Lone test records → first_two test records ≡ None
+unfolding Lone first_two
+two-lone test [] l = refl
+two-lone test (r ∷ later) l = elim (test r) as (λ b. test r ≡ b → first_two test (r ∷ later) ≡ None) [
+  | true ↦ λ t. two-here test r later t ∙ ap (option_map (pair_from 0)) (position-none test later (l.0 t))
+  | false ↦ λ t. two-past test r later t ∙ (none-past test later (position test later)).0 (two-lone test later l.1)
+] refl
+
+-- the record at a place passes where none does
+none_at : (test : Record → Bool) (records : List Record) (j : ℕ) (s : Record) → list_any test records ≡ false → slice_get records j ≡ Some s → test s ≡ true → ⊥
+none_at test [] j s none there passes = cc
+none_at test (r ∷ later) zero s none there passes =
     let first : Some r ≡ Some s = there in
-    let parts = or_parts _ _ none in
-    true≢false (sym (eq-eqb r.id id (grind arith)) ∙ parts.0)
-not_at id (suc j) (r ∷ later) s none there = not_at id j later s (or_parts _ _ none).1 there
+    let is : r ≡ s = cc in
+    true≢false (sym passes ∙ ap test (sym is) ∙ (or_parts _ _ none).0)
+none_at test (r ∷ later) (suc j) s none there passes = none_at test later j s (or_parts _ _ none).1 there passes
 
-pub own_ids : (records : List Record) → Distinct records → HasOwnIds records
-unfolding Distinct
-own_ids [] d i j r s before here there = cc
-own_ids (x ∷ later) d i zero r s before here there = absurd (omega arith)
-own_ids (x ∷ later) d zero (suc j) r s before here there = λ same.
-    let first : Some x ≡ Some r = here in
-    not_at x.id j later s d.0 there (grind arith)
-own_ids (x ∷ later) d (suc i) (suc j) r s before here there = own_ids later d.1 i j r s (omega arith) here there
+-- so two places of records that pass are one
+pub lone-places : (test : Record → Bool) (records : List Record) (i j : ℕ) (r s : Record) → Lone test records → slice_get records i ≡ Some r → slice_get records j ≡ Some s → test r ≡ true → test s ≡ true → i ≡ j
+unfolding Lone
+lone-places test [] i j r s l here there p q = cc
+lone-places test (x ∷ later) zero zero r s l here there p q = refl
+lone-places test (x ∷ later) zero (suc j) r s l here there p q = let same : Some x ≡ Some r = here in let is : x ≡ r = cc in absurd (none_at test later j s (l.0 (ap test is ∙ p)) there q)
+lone-places test (x ∷ later) (suc i) zero r s l here there p q = let same : Some x ≡ Some s = there in let is : x ≡ s = cc in absurd (none_at test later i r (l.0 (ap test is ∙ q)) here p)
+lone-places test (x ∷ later) (suc i) (suc j) r s l here there p q = ap suc (lone-places test later i j r s l.1 here there p q)
 
 -- ---- the parts
 
@@ -126,8 +166,8 @@ pub record IsWhole (keys : Keys) : Type 0 where
   pub prefixes : AllByRecursion (λ r. has_prefix r ≡ true) keys.records
   pub materials : AllByRecursion (λ r. has_material r ≡ true) keys.records
   pub key_data : AllByRecursion (λ r. has_key_data r ≡ true) keys.records
-  pub own_ids : HasOwnIds keys.records
   pub primary : list_any (is_primary keys.primary) keys.records ≡ true
+  pub lone : Lone (is_primary keys.primary) keys.records
 
 all-first_without : (test : Record → Bool) (fault : ℕ → KeysetFault) (records : List Record) → option_map fault (first_without test records) ≡ None → AllByRecursion (λ r. test r ≡ true) records
 unfolding first_without
@@ -152,8 +192,8 @@ whole-faultless keys e =
       prefixes = all-first_without has_prefix faults.UnknownPrefix keys.records d.0;
       materials = all-first_without has_material faults.UnknownMaterial keys.records f.0;
       key_data = all-first_without has_key_data faults.MissingKeyData keys.records g.0;
-      own_ids = own_ids keys.records (distinct-repeat [] keys.records (map-none duplicate (repeat_behind [] keys.records) h.0)).1;
-      primary = not-false' _ (when-none _ _ j.0);
+      primary = not-false' _ (when-none _ _ i.0);
+      lone = lone-two (is_primary keys.primary) keys.records (map-none ambiguous _ j.0);
     }
 
 -- ---- what the parts say of each record

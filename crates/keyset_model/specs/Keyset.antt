@@ -4,13 +4,13 @@
 --   is_primary    the record is ENABLED and has the primary id
 --   primary_of    the first such record, if there is one
 --   first_without the place of the first record that fails a test
---   repeat_behind the places of the first record that has the id of one before it
+--   first_two     the places of the first two records that pass a test
 --   fault_of      the first of nine faults, by which they are no keyset, or none
 --   built         the keyset, or that fault
 --
 -- Places are counted from 0.
-use Rattle.std.specs.Prelude.{ℕ, ◌+◌, ◌≤◌, ◌^◌, List, [], ◌∷◌, ◌++◌, length, Bool, not, ◌&&◌, ◌||◌, ◌==◌, nat_lt, nat_le, Option, Some, None, option_map, Result, Ok, Err, find, position, if◌then◌else◌}
-use Rattle.std.specs.Option.{option_or}
+use Rattle.std.specs.Prelude.{ℕ, suc, ◌+◌, ◌≤◌, ◌^◌, List, [], ◌∷◌, length, drop, Bool, not, ◌&&◌, ◌||◌, ◌==◌, nat_lt, nat_le, Option, Some, None, option_map, Result, Ok, Err, find, position, if◌then◌else◌}
+use Rattle.std.specs.Option.{option_and_then, option_or}
 use Rattle.std.specs.List.{list_any}
 use Rattle.keyset_model.specs.declared.record.Record.{Record}
 use Rattle.keyset_model.specs.declared.keyset.KeysetFault.{KeysetFault}
@@ -92,17 +92,17 @@ primary_of keys = find (is_primary keys.primary) keys.records
 unfoldable pub first_without : (Record → Bool) → List Record → Option ℕ
 first_without test records = position (λ r. not (test r)) records
 
--- two places, the later one last
-abbrev pub pair_with : ℕ → ℕ → ℕ × ℕ
-pair_with j i = (i, j)
+-- a place i, and the place that is k behind the next one
+abbrev pub pair_from : ℕ → ℕ → ℕ × ℕ
+pair_from i k = (i, suc i + k)
 
--- The place of the first record that has the id of one before it, behind the place of the first of
--- those. `before` stands in front of the records that are still to be looked at.
-unfoldable pub repeat_behind : List Record → List Record → Option (ℕ × ℕ)
-repeat_behind before [] = None
-repeat_behind before (r ∷ later) = option_or
-    (option_map (pair_with (length before)) (position (has_id r.id) before))
-    (repeat_behind (before ++ r ∷ []) later)
+-- the place i, and that of the first record behind it that passes the test
+abbrev pub next_behind : (Record → Bool) → List Record → ℕ → Option (ℕ × ℕ)
+next_behind test records i = option_map (pair_from i) (position test (drop (suc i) records))
+
+-- the places of the first two records that pass the test
+unfoldable pub first_two : (Record → Bool) → List Record → Option (ℕ × ℕ)
+first_two test records = option_and_then (next_behind test records) (position test records)
 
 -- the first that is there
 unfoldable pub first_some : {A : Type 0} → List (Option A) → Option A
@@ -113,9 +113,9 @@ first_some (option ∷ later) = option_or option (first_some later)
 unfoldable pub when : {A : Type 0} → Bool → A → Option A
 when test value = if test then Some value else None
 
--- the fault that the records of these two places have one id
-abbrev pub duplicate : ℕ × ℕ → KeysetFault
-duplicate places = faults.DuplicateId places.0 places.1
+-- the fault that the records of these two places are both primary
+abbrev pub ambiguous : ℕ × ℕ → KeysetFault
+ambiguous places = faults.AmbiguousPrimary places.0 places.1
 
 -- the first fault, in the order of `KeysetFault`
 unfoldable pub fault_of : Keys → Option KeysetFault
@@ -126,9 +126,9 @@ fault_of keys = first_some (
     ∷ option_map faults.UnknownPrefix (first_without has_prefix keys.records)
     ∷ option_map faults.UnknownMaterial (first_without has_material keys.records)
     ∷ option_map faults.MissingKeyData (first_without has_key_data keys.records)
-    ∷ option_map duplicate (repeat_behind [] keys.records)
     ∷ when (not (is_in keys.records keys.primary)) faults.NoPrimary
     ∷ when (not (list_any (is_primary keys.primary) keys.records)) faults.PrimaryNotEnabled
+    ∷ option_map ambiguous (first_two (is_primary keys.primary) keys.records)
     ∷ [])
 
 -- the keys, where no fault holds

@@ -1,8 +1,8 @@
 //! The first fault of records, by one search for each fault.
 
-ghost use Rattle.std.specs.Prelude.{◌≡◌, [], position};
+ghost use Rattle.std.specs.Prelude.{◌≡◌, position};
 ghost use Rattle.std.specs.List.{list_any};
-ghost use Rattle.keyset_model.specs.Keyset.{fault_of, first_without, has_id, is_in, is_primary, has_status, has_prefix, has_material, has_key_data, repeat_behind};
+ghost use Rattle.keyset_model.specs.Keyset.{fault_of, first_without, has_id, is_in, is_primary, has_status, has_prefix, has_material, has_key_data, first_two};
 
 use crate::{KeysetFault, Record};
 use tink_base::{CRUNCHY, DESTROYED, ENABLED, TINK};
@@ -35,14 +35,14 @@ pub(crate) fn fault_of(primary: u32, records: &[Record]) -> Option<KeysetFault>
     if let Some(i) = place_without_key_data(records) {
         return Some(KeysetFault::MissingKeyData(i));
     }
-    if let Some((i, j)) = repeated_id(records) {
-        return Some(KeysetFault::DuplicateId(i, j));
-    }
     if !has_any(records, primary) {
         return Some(KeysetFault::NoPrimary);
     }
     if !has_primary(records, primary) {
         return Some(KeysetFault::PrimaryNotEnabled);
+    }
+    if let Some((i, j)) = first_two_primaries(records, primary) {
+        return Some(KeysetFault::AmbiguousPrimary(i, j));
     }
     None
 }
@@ -54,13 +54,6 @@ pub(crate) fn primary_place(records: &[Record], primary: u32) -> Option<usize>
     records
         .iter()
         .position(|key| key.id == primary && key.status == ENABLED)
-}
-
-/// The place of the first record with this id.
-pub(crate) fn place_of(records: &[Record], id: u32) -> Option<usize>
-    ensures { result ≡ position (has_id id) records.now }
-{
-    records.iter().position(|key| key.id == id)
 }
 
 /// Whether a record has this id.
@@ -139,16 +132,12 @@ fn has_key_data(key: &Record) -> bool
     !key.url.as_str().is_empty() || key.status == DESTROYED
 }
 
-/// The places of the first record that has the id of one before it, the earlier place first.
-fn repeated_id(records: &[Record]) -> Option<(usize, usize)>
-    ensures { result ≡ repeat_behind [] records.now }
+/// The places of the first two ENABLED records with the primary id.
+#[tactic(auto, unfolding(crate::specs::Keyset::first_two))]
+fn first_two_primaries(records: &[Record], primary: u32) -> Option<(usize, usize)>
+    ensures { result ≡ first_two (is_primary primary) records.now }
 {
-    for j in 0..records.len() {
-        let id = records[j].id;
-        let before = &records[..j];
-        if let Some(i) = place_of(before, id) {
-            return Some((i, j));
-        }
-    }
-    None
+    let i = primary_place(records, primary)?;
+    let k = primary_place(&records[i + 1..], primary)?;
+    Some((i, i + 1 + k))
 }

@@ -2,7 +2,7 @@
 
 ghost use Rattle.std.specs.Prelude.{◌≡◌, ◌<◌, ◌≤◌, ◌≢◌, ◌↔◌, length, Some, None, IsNone, All, slice_get, position, ◌==◌, IfOk, IfSome};
 ghost use Rattle.std.specs.List.{AllByRecursion};
-ghost use Rattle.keyset_model.specs.Keyset.{HasSizes, IsKnown, primary_of, fault_of, built};
+ghost use Rattle.keyset_model.specs.Keyset.{HasSizes, IsKnown, is_primary, primary_of, fault_of, built};
 ghost use Rattle.keyset_model.specs.WellFormed.{IsWellFormed};
 
 use crate::Record;
@@ -27,17 +27,17 @@ pub enum KeysetFault {
     UnknownMaterial(usize),
     /// This record has no type URL, and isn't DESTROYED.
     MissingKeyData(usize),
-    /// The second of these records has the id of the first: the smallest second place, with its
-    /// smallest first one.
-    DuplicateId(usize, usize),
     /// No record has the primary id.
     NoPrimary,
-    /// The record with the primary id isn't ENABLED.
+    /// No record with the primary id is ENABLED.
     PrimaryNotEnabled,
+    /// These two records, the first two such, are ENABLED and have the primary id.
+    AmbiguousPrimary(usize, usize),
 }
 
 /// A keyset: records, one of them primary, with none of the faults of `KeysetFault`. So there are 1
-/// to 1,000 records, no two have one id, and the primary one is ENABLED (`laws`).
+/// to 1,000 records, and exactly one of them is ENABLED and has the primary id (`laws`). Ids may repeat
+/// otherwise.
 #[derive(Drop)]
 pub struct Keyset {
     primary: u32,
@@ -89,10 +89,25 @@ impl Keyset {
         self.primary
     }
 
-    /// The primary record, the ENABLED one that has the primary id.
+    /// The place of the primary record, the one that is ENABLED and has the primary id, counted from 0. No
+    /// memory is taken.
     ///
     /// It is there, as a keyset has no fault. The clause `well_formed` hands out what a caller knows of
-    /// each keyset: how many records it has, that each is known, and that ids differ.
+    /// each keyset: how many records it has, that each is known, and that no other record is primary.
+    pub fn primary_at(&self) -> usize
+        ensures faultless { fault_of self.now ≡ None }
+        ensures well_formed { IsWellFormed self.now }
+        ensures place { position (is_primary self.now.primary) self.now.records ≡ Some result }
+        ensures within { result < length self.now.records }
+        ensures primary { slice_get self.now.records result ≡ primary_of self.now }
+    {
+        match primary_place(&self.records, self.primary) {
+            Some(i) => i,
+            None => unreachable!(),
+        }
+    }
+
+    /// The primary record.
     pub fn primary_record(&self) -> &Record
         ensures faultless { fault_of self.now ≡ None }
         ensures well_formed { IsWellFormed self.now }
@@ -101,10 +116,7 @@ impl Keyset {
         ensures known { IsKnown result.now }
         ensures sizes { HasSizes result.now }
     {
-        match primary_place(&self.records, self.primary) {
-            Some(i) => self.record_at(i),
-            None => unreachable!(),
-        }
+        self.record_at(self.primary_at())
     }
 
     /// How many records there are, 1 to 1,000.

@@ -4,7 +4,7 @@ ghost use Rattle.keyset_model.specs.WellFormed.{FaultlessKeysets};
 ghost use Rattle.keyset_model.specs.Writing.{BinaryBack, ReadKeysFit, ReadWithin};
 
 /// Records are without a fault exactly where they are 1 to 1,000, each of them known and with its
-/// key data, with ids that differ, and a primary one that is there and ENABLED.
+/// key data, and exactly one is ENABLED and has the primary id.
 pub fn faultless_keysets()
     ensures { FaultlessKeysets }
 {}

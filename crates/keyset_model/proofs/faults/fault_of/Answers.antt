@@ -1,7 +1,7 @@
 -- The answer of each exit: the faults before it are none.
 use Rattle.std.proofs.Common.{not, ap}
 use Rattle.keyset_model.specs.declared.keyset.KeysetFault.TheVariants.{UnknownStatus, UnknownPrefix, UnknownMaterial, MissingKeyData}
-use Rattle.keyset_model.specs.Keyset.{fault_of, duplicate}
+use Rattle.keyset_model.specs.Keyset.{fault_of, ambiguous}
 use Rattle.keyset_model.proofs.Exits.{here, on, end, holds, fails, more, fewer, at, nowhere}
 use Rattle.keyset_model.proofs.faults.fault_of.Goals as goal
 
@@ -29,18 +29,18 @@ pub returns-in-Some-place_without_key_data : goal.returns-in-Some-place_without_
 unfolding fault_of
 returns-in-Some-place_without_key_data c = on _ (fails _ c.if-is_empty.ensures) (on _ (fewer _ _ c.if-records-gt-MOST_RECORDS.false) (on _ (nowhere UnknownStatus c.in_default.ensures) (on _ (nowhere UnknownPrefix c.in_default-place_without_prefix.ensures) (on _ (nowhere UnknownMaterial c.in_default-place_without_material.ensures) (here _ (at MissingKeyData c.in-Some-place_without_key_data.ensures))))))
 
-pub returns-in-Some-repeated_id : goal.returns-in-Some-repeated_id
-unfolding fault_of
-returns-in-Some-repeated_id c = on _ (fails _ c.if-is_empty.ensures) (on _ (fewer _ _ c.if-records-gt-MOST_RECORDS.false) (on _ (nowhere UnknownStatus c.in_default.ensures) (on _ (nowhere UnknownPrefix c.in_default-place_without_prefix.ensures) (on _ (nowhere UnknownMaterial c.in_default-place_without_material.ensures) (on _ (nowhere MissingKeyData c.in_default-place_without_key_data.ensures) (here _ (at duplicate c.in-Some-repeated_id.ensures)))))))
-
 pub returns-then-not-has_any : goal.returns-then-not-has_any
 unfolding fault_of
-returns-then-not-has_any c = on _ (fails _ c.if-is_empty.ensures) (on _ (fewer _ _ c.if-records-gt-MOST_RECORDS.false) (on _ (nowhere UnknownStatus c.in_default.ensures) (on _ (nowhere UnknownPrefix c.in_default-place_without_prefix.ensures) (on _ (nowhere UnknownMaterial c.in_default-place_without_material.ensures) (on _ (nowhere MissingKeyData c.in_default-place_without_key_data.ensures) (on _ (nowhere duplicate c.in_default-repeated_id.ensures) (here _ (holds _ (ap not c.if-not-has_any.ensures)))))))))
+returns-then-not-has_any c = on _ (fails _ c.if-is_empty.ensures) (on _ (fewer _ _ c.if-records-gt-MOST_RECORDS.false) (on _ (nowhere UnknownStatus c.in_default.ensures) (on _ (nowhere UnknownPrefix c.in_default-place_without_prefix.ensures) (on _ (nowhere UnknownMaterial c.in_default-place_without_material.ensures) (on _ (nowhere MissingKeyData c.in_default-place_without_key_data.ensures) (here _ (holds _ (ap not c.if-not-has_any.ensures))))))))
 
 pub returns-then-not-has_primary : goal.returns-then-not-has_primary
 unfolding fault_of
-returns-then-not-has_primary c = on _ (fails _ c.if-is_empty.ensures) (on _ (fewer _ _ c.if-records-gt-MOST_RECORDS.false) (on _ (nowhere UnknownStatus c.in_default.ensures) (on _ (nowhere UnknownPrefix c.in_default-place_without_prefix.ensures) (on _ (nowhere UnknownMaterial c.in_default-place_without_material.ensures) (on _ (nowhere MissingKeyData c.in_default-place_without_key_data.ensures) (on _ (nowhere duplicate c.in_default-repeated_id.ensures) (on _ (fails _ (ap not c.if-not-has_any.ensures)) (here _ (holds _ (ap not c.if-not-has_primary.ensures))))))))))
+returns-then-not-has_primary c = on _ (fails _ c.if-is_empty.ensures) (on _ (fewer _ _ c.if-records-gt-MOST_RECORDS.false) (on _ (nowhere UnknownStatus c.in_default.ensures) (on _ (nowhere UnknownPrefix c.in_default-place_without_prefix.ensures) (on _ (nowhere UnknownMaterial c.in_default-place_without_material.ensures) (on _ (nowhere MissingKeyData c.in_default-place_without_key_data.ensures) (on _ (fails _ (ap not c.if-not-has_any.ensures)) (here _ (holds _ (ap not c.if-not-has_primary.ensures)))))))))
+
+pub returns-in-Some-first_two_primaries : goal.returns-in-Some-first_two_primaries
+unfolding fault_of
+returns-in-Some-first_two_primaries c = on _ (fails _ c.if-is_empty.ensures) (on _ (fewer _ _ c.if-records-gt-MOST_RECORDS.false) (on _ (nowhere UnknownStatus c.in_default.ensures) (on _ (nowhere UnknownPrefix c.in_default-place_without_prefix.ensures) (on _ (nowhere UnknownMaterial c.in_default-place_without_material.ensures) (on _ (nowhere MissingKeyData c.in_default-place_without_key_data.ensures) (on _ (fails _ (ap not c.if-not-has_any.ensures)) (on _ (fails _ (ap not c.if-not-has_primary.ensures)) (here _ (at ambiguous c.in-Some-first_two_primaries.ensures)))))))))
 
 pub returns : goal.returns
 unfolding fault_of
-returns c = on _ (fails _ c.if-is_empty.ensures) (on _ (fewer _ _ c.if-records-gt-MOST_RECORDS.false) (on _ (nowhere UnknownStatus c.in_default.ensures) (on _ (nowhere UnknownPrefix c.in_default-place_without_prefix.ensures) (on _ (nowhere UnknownMaterial c.in_default-place_without_material.ensures) (on _ (nowhere MissingKeyData c.in_default-place_without_key_data.ensures) (on _ (nowhere duplicate c.in_default-repeated_id.ensures) (on _ (fails _ (ap not c.if-not-has_any.ensures)) (on _ (fails _ (ap not c.if-not-has_primary.ensures)) (end)))))))))
+returns c = on _ (fails _ c.if-is_empty.ensures) (on _ (fewer _ _ c.if-records-gt-MOST_RECORDS.false) (on _ (nowhere UnknownStatus c.in_default.ensures) (on _ (nowhere UnknownPrefix c.in_default-place_without_prefix.ensures) (on _ (nowhere UnknownMaterial c.in_default-place_without_material.ensures) (on _ (nowhere MissingKeyData c.in_default-place_without_key_data.ensures) (on _ (fails _ (ap not c.if-not-has_any.ensures)) (on _ (fails _ (ap not c.if-not-has_primary.ensures)) (on _ (nowhere ambiguous c.in_default-first_two_primaries.ensures) end))))))))
