@@ -1,14 +1,15 @@
 -- What there is to show of each accepted edit.
-use Rattle.std.proofs.Common.{◌≡◌, ◌∙◌, ℕ, zero, suc, ◌%◌, ◌^◌, ◌<◌, ◌==◌, true, false, cond, ltb, List, [], length, take, drop, Option, Some, None, Result, Ok, Err, refl, sym, subst, mod-lt, lit<, eq-eqb}
+use Rattle.std.proofs.Common.{◌≡◌, ◌∙◌, ℕ, zero, suc, ◌%◌, ◌^◌, ◌<◌, ◌==◌, ◌&&◌, not, true, false, cond, ltb, List, [], length, take, drop, Option, Some, None, Result, Ok, Err, refl, sym, subst, mod-lt, lit<, eq-eqb}
 use Rattle.std.specs.Prelude.{IfOk}
 use Rattle.std.specs.Int.{w32, from_be_bytes}
+use Rattle.std.specs.List.{list_any}
 use Rattle.std.proofs.lemmas.Bool.{true≢false, or_parts, ltb-false, leb-false}
 use Rattle.std.proofs.lemmas.List.{length-take-le}
 use Rattle.std.proofs.lemmas.Option.{same_Some}
 use Rattle.key_msgs.specs.KeyTypes.{primitive_of_type}
 use Rattle.key_msgs.specs.Templates.{Row, type_made, random_of}
 use Rattle.keyset_model.specs.declared.record.Record.{Record}
-use Rattle.keyset_model.specs.Keyset.{Keys, is_enabled, is_destroyed, first_some}
+use Rattle.keyset_model.specs.Keyset.{Keys, is_enabled, is_destroyed, is_primary, first_some}
 use Rattle.tinkey_cmds.specs.declared.command.CmdFault.{CmdFault}
 use Rattle.tinkey_cmds.specs.declared.command.CmdFault.TheVariants.{KeyRefused, IdsExhausted}
 use Rattle.tinkey_cmds.specs.Draws.{Drawn, Draw, answered, fill, unless_err, and_then}
@@ -94,8 +95,10 @@ pub record Seven (keys : Keys) (P : Edit → Keys → Type 0) : Type 0 where
   pub rotate : (row : Row) (r : Record) → length keys.records < 1000
       → is_same (primary_primitive keys) (Some (primitive_of_type (type_made row))) ≡ true
       → IsNew row keys.records r → P (Rotate row) (rotated keys r)
-  pub promote : (id : ℕ) (r : Record) → named keys id ≡ Some r → is_enabled r ≡ true → P (Promote id) (record keys { primary = id })
-  pub enable : (id : ℕ) (r : Record) → named keys id ≡ Some r → is_destroyed r ≡ false → is_same (primitive_of r.url) (primary_primitive keys) ≡ true
+  pub promote : (id : ℕ) (r : Record) → named keys id ≡ Some r → is_enabled r ≡ true
+      → list_any (is_primary id) (without id keys.records) ≡ false → P (Promote id) (record keys { primary = id })
+  pub enable : (id : ℕ) (r : Record) → named keys id ≡ Some r → is_destroyed r ≡ false → (id == keys.primary && not (is_enabled r)) ≡ false
+      → is_same (primitive_of r.url) (primary_primitive keys) ≡ true
       → rule_of r.url r.value ≡ None → P (Enable id) (with_records keys (changed (with_status 1) id keys.records))
   pub disable : (id : ℕ) (r : Record) → named keys id ≡ Some r → (id == keys.primary) ≡ false → is_destroyed r ≡ false
       → P (Disable id) (with_records keys (changed (with_status 2) id keys.records))
@@ -133,13 +136,15 @@ edit_case keys P seven (Rotate row) = yields-unless (P (Rotate row)) (full_or_mi
 edit_case keys P seven (Promote id) = yields-unless (P (Promote id)) (refusal_of keys (Promote id)) _ (λ n.
     let f = found_named _ _ n in
     let a = first_none _ _ f.2 in
-    yields-answered (P (Promote id)) _ (seven.promote id f.0 f.1 (not-false' _ (when-none _ _ a.0))))
+    let b = first_none _ _ a.1 in
+    yields-answered (P (Promote id)) _ (seven.promote id f.0 f.1 (not-false' _ (when-none _ _ a.0)) (when-none _ _ b.0)))
 edit_case keys P seven (Enable id) = yields-unless (P (Enable id)) (refusal_of keys (Enable id)) _ (λ n.
     let f = found_named _ _ n in
     let a = first_none _ _ f.2 in
     let b = first_none _ _ a.1 in
     let c = first_none _ _ b.1 in
-    yields-answered (P (Enable id)) _ (seven.enable id f.0 f.1 (when-none _ _ a.0) (not-false' _ (when-none _ _ b.0)) (map-none KeyRefused _ c.0)))
+    let d = first_none _ _ c.1 in
+    yields-answered (P (Enable id)) _ (seven.enable id f.0 f.1 (when-none _ _ a.0) (when-none _ _ b.0) (not-false' _ (when-none _ _ c.0)) (map-none KeyRefused _ d.0)))
 edit_case keys P seven (Disable id) = yields-unless (P (Disable id)) (refusal_of keys (Disable id)) _ (λ n.
     let f = found_named _ _ n in
     let a = first_none _ _ f.2 in

@@ -1,12 +1,12 @@
 -- A record changed, removed or put behind the others.
-use Rattle.std.proofs.Common.{◌≡◌, ◌∙◌, inl, inr, ℕ, suc, ◌<◌, ◌≤◌, ◌==◌, Bool, true, false, cond, ◌||◌, List, [], ◌∷◌, ◌++◌, length, find, Some, refl, sym, ap, arith, subst, length-append, eqb-true}
+use Rattle.std.proofs.Common.{◌≡◌, ◌∙◌, inl, inr, ℕ, suc, ◌<◌, ◌≤◌, Bool, true, false, cond, ◌||◌, List, [], ◌∷◌, ◌++◌, length, find, Some, refl, sym, ap, arith, subst, length-append, eqb-true}
 use Rattle.std.specs.List.{list_any, AllByRecursion}
-use Rattle.std.proofs.lemmas.Bool.{or_from, or_parts, or_left, or_right, or_cases}
+use Rattle.std.proofs.lemmas.Bool.{true≢false, or_from, or_parts, or_left, or_right, or_cases}
 use Rattle.std.proofs.lemmas.Option.{same_Some}
 use Rattle.keyset_model.specs.declared.record.Record.{Record}
-use Rattle.keyset_model.specs.Keyset.{has_id, is_in}
+use Rattle.keyset_model.specs.Keyset.{has_id, is_primary}
 use Rattle.tinkey_cmds.specs.Edits.{changed, without}
-use Rattle.keyset_model.proofs.WellFormedLemmas.{Distinct, any-append, eqb-flip}
+use Rattle.keyset_model.proofs.WellFormedLemmas.{Lone, lone-none, any-append}
 use Rattle.tinkey_cmds.proofs.Lists.{none≢some}
 
 -- ---- the first record with an id changes
@@ -46,13 +46,13 @@ changed-some test change id (s ∷ later) r e p h = elim (has_id id s) as (λ b.
   ]
 ] e
 
-pub changed-distinct : (change : Record → Record) (id : ℕ) (records : List Record) (r : Record)
-    → find (has_id id) records ≡ Some r → ((x : Record) → (change x).id ≡ x.id) → Distinct records → Distinct (changed change id records)
-unfolding changed Distinct
-changed-distinct change id [] r e p d = absurd (none≢some e)
-changed-distinct change id (s ∷ later) r e p d = elim (has_id id s) as (λ b. cond b (Some s) (find (has_id id) later) ≡ Some r → Distinct (cond b (change s ∷ later) (s ∷ changed change id later))) [
-  | true ↦ λ k. (ap (is_in later) (p s) ∙ d.0, d.1)
-  | false ↦ λ k. (changed-any (has_id s.id) change id later r k (ap (λ x. x == s.id) (p r)) ∙ d.0, changed-distinct change id later r k p d.1)
+pub changed-lone : (test : Record → Bool) (change : Record → Record) (id : ℕ) (records : List Record) (r : Record)
+    → find (has_id id) records ≡ Some r → test (change r) ≡ test r → Lone test records → Lone test (changed change id records)
+unfolding changed Lone
+changed-lone test change id [] r e p l = absurd (none≢some e)
+changed-lone test change id (s ∷ later) r e p l = elim (has_id id s) as (λ b. cond b (Some s) (find (has_id id) later) ≡ Some r → Lone test (cond b (change s ∷ later) (s ∷ changed change id later))) [
+  | true ↦ λ k. (λ h. l.0 (sym (subst (λ x. test (change x) ≡ test x) (sym (same_Some _ _ k)) p) ∙ h), l.1)
+  | false ↦ λ k. (λ h. changed-any test change id later r k p ∙ l.0 h, changed-lone test change id later r k p l.1)
 ] e
 
 pub length-changed : (change : Record → Record) (id : ℕ) (records : List Record) → length (changed change id records) ≡ length records
@@ -83,13 +83,22 @@ without-none test id (s ∷ later) e =
       | false ↦ or_from _ _ parts.0 (without-none test id later parts.1)
     ]
 
-pub without-distinct : (id : ℕ) (records : List Record) → Distinct records → Distinct (without id records)
-unfolding without Distinct
-without-distinct id [] d = tt
-without-distinct id (s ∷ later) d = elim (has_id id s) as (λ b. Distinct (cond b later (s ∷ without id later))) [
-  | true ↦ d.1
-  | false ↦ (without-none (has_id s.id) id later d.0, without-distinct id later d.1)
+pub without-lone : (test : Record → Bool) (id : ℕ) (records : List Record) → Lone test records → Lone test (without id records)
+unfolding without Lone
+without-lone test id [] l = tt
+without-lone test id (s ∷ later) l = elim (has_id id s) as (λ b. Lone test (cond b later (s ∷ without id later))) [
+  | true ↦ l.1
+  | false ↦ (λ h. without-none test id later (l.0 h), without-lone test id later l.1)
 ]
+
+-- where of the other records none is ENABLED and has the id
+pub lone-without : (id : ℕ) (records : List Record) → list_any (is_primary id) (without id records) ≡ false → Lone (is_primary id) records
+unfolding without Lone
+lone-without id [] e = tt
+lone-without id (s ∷ later) e = elim (has_id id s) as (λ b. list_any (is_primary id) (cond b later (s ∷ without id later)) ≡ false → (is_primary id s ≡ true → list_any (is_primary id) later ≡ false) × Lone (is_primary id) later) [
+  | true ↦ λ k. (λ h. k, lone-none (is_primary id) later k)
+  | false ↦ λ k. let parts = or_parts (is_primary id s) _ k in (λ h. absurd (true≢false (sym h ∙ parts.0)), lone-without id later parts.1)
+] e
 
 -- where the test fails at the record that goes
 pub without-any : (test : Record → Bool) (id : ℕ) (records : List Record) (r : Record)
@@ -111,12 +120,17 @@ length-without id (s ∷ later) = elim (has_id id s) as (λ b. length (cond b la
 
 -- ---- a record behind the others
 
-pub distinct-push : (records : List Record) (r : Record) → Distinct records → is_in records r.id ≡ false → Distinct (records ++ r ∷ [])
-unfolding Distinct
-distinct-push [] r d e = (refl, tt)
-distinct-push (s ∷ later) r d e =
-    let parts = or_parts _ _ e in
-    (any-append (has_id s.id) later (r ∷ []) ∙ or_from _ _ d.0 (or_from _ _ (eqb-flip s.id r.id parts.0) refl), distinct-push later r d.1 parts.1)
+-- one that doesn't pass
+pub lone-push : (test : Record → Bool) (records : List Record) (r : Record) → Lone test records → test r ≡ false → Lone test (records ++ r ∷ [])
+unfolding Lone
+lone-push test [] r l e = (λ h. refl, tt)
+lone-push test (s ∷ later) r l e = (λ h. any-append test later (r ∷ []) ∙ or_from _ _ (l.0 h) (or_from _ _ e refl), lone-push test later r l.1 e)
+
+-- where no other passes
+pub none-push : (test : Record → Bool) (records : List Record) (r : Record) → list_any test records ≡ false → Lone test (records ++ r ∷ [])
+unfolding Lone
+none-push test [] r e = (λ h. refl, tt)
+none-push test (s ∷ later) r e = let parts = or_parts _ _ e in (λ h. absurd (true≢false (sym h ∙ parts.0)), none-push test later r parts.1)
 
 pub any-push_left : (test : Record → Bool) (records : List Record) (r : Record) → list_any test records ≡ true → list_any test (records ++ r ∷ []) ≡ true
 any-push_left test records r e = any-append test records (r ∷ []) ∙ or_left _ _ e

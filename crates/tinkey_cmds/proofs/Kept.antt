@@ -1,21 +1,21 @@
 -- What every accepted edit keeps.
-use Rattle.std.proofs.Common.{◌≡◌, ◌∙◌, inl, ℕ, ◌+◌, ◌≤◌, ◌==◌, ◌^◌, nat_le, nat_lt, true, false, ◌&&◌, ◌||◌, List, [], ◌∷◌, ◌++◌, length, Some, Contains, refl, sym, ap, arith, subst, eq-eqb, lit≤, lit<, zero, suc}
-use Rattle.std.specs.List.{AllByRecursion, list_all}
+use Rattle.std.proofs.Common.{◌≡◌, ◌∙◌, inl, ℕ, ◌+◌, ◌≤◌, ◌==◌, ◌^◌, nat_le, nat_lt, Bool, true, false, not, ◌&&◌, ◌||◌, List, [], ◌∷◌, ◌++◌, length, Some, Contains, refl, sym, ap, arith, subst, eq-eqb, eqb-true, lit≤, lit<, zero, suc}
+use Rattle.std.specs.List.{AllByRecursion, list_all, list_any}
 use Rattle.std.proofs.lemmas.Str.{is_utf8-from_IsUtf8, IsUtf8-from_ascii}
 use Rattle.std.specs.Str.{is_utf8, IsAscii}
-use Rattle.std.proofs.lemmas.Bool.{true≢false, and_parts, and_from, or_left, ltb-true}
+use Rattle.std.proofs.lemmas.Bool.{true≢false, false_from_ne_true, and_parts, and_from, or_left, ltb-true}
 use Rattle.key_msgs.specs.KeyTypes.{url_of_type}
 use Rattle.key_msgs.specs.Templates.{Row, templates, random_of, type_made}
 use Rattle.keyset_model.specs.declared.record.Record.{Record}
-use Rattle.keyset_model.specs.Keyset.{Keys, HasSizes, IsShort, has_id, has_status, has_prefix, has_material, has_key_data, is_enabled, is_destroyed, is_primary}
+use Rattle.keyset_model.specs.Keyset.{Keys, HasSizes, IsShort, has_id, has_status, has_prefix, has_material, has_key_data, is_enabled, is_destroyed, is_in, is_primary}
 use Rattle.keyset_model.specs.Writing.{HasWireBounds}
 use Rattle.tinkey_cmds.specs.Edits.{Edit, named, changed, with_status, destroyed, with_records, added, rotated, alone, record_of, step, first}
 use Rattle.tinkey_cmds.specs.Laws.{IsTemplate, HasTemplate, IsFree, Comes, stayed, was_destroyed, is_new, Follows, HasPrimary, EditsKeepKeysets, FirstsAreKeysets, EditsKeepBounds, FirstsHaveBounds, EditsFollow, EditsKeepThePrimary}
 use Rattle.tinkey_cmds.proofs.Lists.{each-append, all_each}
 use Rattle.tinkey_cmds.proofs.Among.{among-all, all-among, among-any, find-among, contains-among, each-contains}
-use Rattle.keyset_model.proofs.WellFormedLemmas.{Distinct}
+use Rattle.keyset_model.proofs.WellFormedLemmas.{Lone}
 use Rattle.tinkey_cmds.proofs.WellFormed.{IsFine, IsGood, good-keyset, keyset-good}
-use Rattle.tinkey_cmds.proofs.Changes.{changed-each, changed-some, changed-distinct, length-changed, without-each, without-distinct, without-any, length-without, distinct-push, any-push_left, any-push_right, length-push, find-id}
+use Rattle.tinkey_cmds.proofs.Changes.{changed-each, changed-some, changed-lone, length-changed, without-each, without-lone, lone-without, without-any, length-without, lone-push, none-push, any-push_left, any-push_right, length-push, find-id}
 use Rattle.tinkey_cmds.proofs.Cases.{Yields, yielded, IsNew, Seven, edit_case, first_case}
 use Rattle.tinkey_cmds.proofs.Sizes.{length-made, length-url}
 
@@ -79,8 +79,8 @@ each_seven P k keys each =
     record {
       add = λ row r room same new is. each-append P keys.records (r ∷ []) each (k.new row keys.records r is new, tt);
       rotate = λ row r room same new is. each-append P keys.records (r ∷ []) each (k.new row keys.records r is new, tt);
-      promote = λ id r e enabled is. each;
-      enable = λ id r e there same valid is. changed-each P (with_status 1) id keys.records r e (k.status 1 r (found id r e)) each;
+      promote = λ id r e enabled others is. each;
+      enable = λ id r e there clear same valid is. changed-each P (with_status 1) id keys.records r e (k.status 1 r (found id r e)) each;
       disable = λ id r e other there is. changed-each P (with_status 2) id keys.records r e (k.status 2 r (found id r e)) each;
       destroy = λ id r e other is. changed-each P destroyed id keys.records r e (k.destroyed' r (found id r e)) each;
       delete = λ id r e other is. without-each P id keys.records each;
@@ -151,49 +151,78 @@ not_primary keys id r e other = ap (λ x. x == keys.primary) (find-id id keys.re
 fine_found : (keys : Keys) (id : ℕ) (r : Record) → named keys id ≡ Some r → IsGood keys → IsFine r
 fine_found keys id r e g = among-all IsFine keys.records r g.each (find-among (has_id id) keys.records r e).0
 
+-- so it isn't primary, whatever its status
+other_same : (keys : Keys) (id : ℕ) (r : Record) → named keys id ≡ Some r → (id == keys.primary) ≡ false → (enabled : Bool) → (has_id keys.primary r && enabled) ≡ is_primary keys.primary r
+other_same keys id r e other enabled = let is = not_primary keys id r e other in ap (λ b. b && enabled) is ∙ sym (ap (λ b. b && is_enabled r) is)
+
+-- one that is ENABLED by an edit hasn't the primary id, or was ENABLED
+enabled_same : (keys : Keys) (id : ℕ) (r : Record) → named keys id ≡ Some r → (id == keys.primary && not (is_enabled r)) ≡ false → is_primary keys.primary (with_status 1 r) ≡ is_primary keys.primary r
+enabled_same keys id r e clear = go (has_id keys.primary r) (is_enabled r) (ap (λ x. x == keys.primary && not (is_enabled r)) (find-id id keys.records r e) ∙ clear)
+  where
+    go : (b d : Bool) → (b && not d) ≡ false → (b && true) ≡ (b && d)
+    go true true k = refl
+    go true false k = absurd (true≢false k)
+    go false d k = refl
+
+-- a record that is primary has the primary id
+in_primary : (primary : ℕ) (records : List Record) → list_any (is_primary primary) records ≡ true → is_in records primary ≡ true
+in_primary primary [] h = h
+in_primary primary (r ∷ later) h = elim (has_id primary r) as (λ b. ((b && is_enabled r) || list_any (is_primary primary) later) ≡ true → (b || is_in later primary) ≡ true) [
+  | true ↦ λ k. refl
+  | false ↦ λ k. in_primary primary later k
+] h
+
+-- an id that isn't in use isn't the primary one, and no record is primary under it
+unused_primary : (keys : Keys) (r : Record) → is_in keys.records r.id ≡ false → IsGood keys → has_id keys.primary r ≡ false
+unused_primary keys r unused g = false_from_ne_true _ (λ k.
+    true≢false (sym (ap (is_in keys.records) (eqb-true r.id keys.primary k) ∙ in_primary keys.primary keys.records g.primary) ∙ unused))
+
+unused_none : (records : List Record) (id : ℕ) → is_in records id ≡ false → list_any (is_primary id) records ≡ false
+unused_none records id unused = false_from_ne_true _ (λ k. true≢false (sym (in_primary id records k) ∙ unused))
+
 good_seven : (keys : Keys) → IsGood keys → Seven keys (λ edit new. HasTemplate edit → IsGood new)
 good_seven keys g = record {
   add = λ row r room same new is. record {
     few = length-push keys.records r room;
     each = each-append IsFine keys.records (r ∷ []) g.each (fine_new row keys.records r is new, tt);
-    distinct = distinct-push keys.records r g.distinct new.free.unused;
+    lone = lone-push (is_primary keys.primary) keys.records r g.lone (ap (λ b. b && is_enabled r) (unused_primary keys r new.free.unused g));
     primary = any-push_left (is_primary keys.primary) keys.records r g.primary;
   };
   rotate = λ row r room same new is. record {
     few = length-push keys.records r room;
     each = each-append IsFine keys.records (r ∷ []) g.each (fine_new row keys.records r is new, tt);
-    distinct = distinct-push keys.records r g.distinct new.free.unused;
+    lone = none-push (is_primary r.id) keys.records r (unused_none keys.records r.id new.free.unused);
     primary = any-push_right (is_primary r.id) keys.records r (and_from _ _ (eq-eqb r.id r.id refl) (ap is_enabled new.made));
   };
-  promote = λ id r e enabled is. record {
+  promote = λ id r e enabled others is. record {
     few = g.few;
     each = g.each;
-    distinct = g.distinct;
+    lone = lone-without id keys.records others;
     primary = let found = find-among (has_id id) keys.records r e in
         among-any (is_primary id) keys.records r found.0 (and_from _ _ found.1 enabled);
   };
-  enable = λ id r e there same valid is. record {
+  enable = λ id r e there clear same valid is. record {
     few = subst (λ n. n ≤ 1000) (sym (length-changed (with_status 1) id keys.records)) g.few;
     each = changed-each IsFine (with_status 1) id keys.records r e (fine_status 1 r refl refl there (fine_found keys id r e g)) g.each;
-    distinct = changed-distinct (with_status 1) id keys.records r e (λ x. refl) g.distinct;
+    lone = changed-lone (is_primary keys.primary) (with_status 1) id keys.records r e (enabled_same keys id r e clear) g.lone;
     primary = changed-some (is_primary keys.primary) (with_status 1) id keys.records r e (λ k. and_from _ _ (and_parts _ _ k).0 refl) g.primary;
   };
   disable = λ id r e other there is. record {
     few = subst (λ n. n ≤ 1000) (sym (length-changed (with_status 2) id keys.records)) g.few;
     each = changed-each IsFine (with_status 2) id keys.records r e (fine_status 2 r refl refl there (fine_found keys id r e g)) g.each;
-    distinct = changed-distinct (with_status 2) id keys.records r e (λ x. refl) g.distinct;
+    lone = changed-lone (is_primary keys.primary) (with_status 2) id keys.records r e (other_same keys id r e other (is_enabled (with_status 2 r))) g.lone;
     primary = changed-some (is_primary keys.primary) (with_status 2) id keys.records r e (λ k. absurd (true≢false (sym (and_parts _ _ k).0 ∙ not_primary keys id r e other))) g.primary;
   };
   destroy = λ id r e other is. record {
     few = subst (λ n. n ≤ 1000) (sym (length-changed destroyed id keys.records)) g.few;
     each = changed-each IsFine destroyed id keys.records r e (let f = fine_found keys id r e g in record { status = refl; prefix = f.prefix; material = refl; key_data = refl }) g.each;
-    distinct = changed-distinct destroyed id keys.records r e (λ x. refl) g.distinct;
+    lone = changed-lone (is_primary keys.primary) destroyed id keys.records r e (other_same keys id r e other (is_enabled (destroyed r))) g.lone;
     primary = changed-some (is_primary keys.primary) destroyed id keys.records r e (λ k. absurd (true≢false (sym (and_parts _ _ k).0 ∙ not_primary keys id r e other))) g.primary;
   };
   delete = λ id r e other is. record {
     few = omega (arith, length-without id keys.records, g.few);
     each = without-each IsFine id keys.records g.each;
-    distinct = without-distinct id keys.records g.distinct;
+    lone = without-lone (is_primary keys.primary) id keys.records g.lone;
     primary = without-any (is_primary keys.primary) id keys.records r e (ap (λ b. b && is_enabled r) (not_primary keys id r e other)) ∙ g.primary;
   };
 }
@@ -203,11 +232,11 @@ edits_keep_keysets old new edit random s is faultless e ok = keyset-good new
     (yielded _ (step old edit) random s new (edit_case old (λ x k. HasTemplate x → IsGood k) (good_seven old (good-keyset old faultless)) edit) e ok is)
 
 good_alone : (row : Row) (r : Record) → IsTemplate row → IsNew row [] r → IsGood (alone r)
-unfolding Distinct
+unfolding Lone
 good_alone row r is new = record {
   few = lit≤ tt;
   each = (fine_new row [] r is new, tt);
-  distinct = (refl, tt);
+  lone = (λ h. refl, tt);
   primary = or_left _ _ (and_from _ _ (eq-eqb r.id r.id refl) (ap is_enabled new.made));
 }
 
@@ -245,8 +274,8 @@ follows_seven : (keys : Keys) → Seven keys (λ edit. Follows keys)
 follows_seven keys = record {
   add = λ row r room same new. follows_new keys (added keys r) r new.free refl;
   rotate = λ row r room same new. follows_new keys (rotated keys r) r new.free refl;
-  promote = λ id r e enabled. follows_same keys (record keys { primary = id }) refl;
-  enable = λ id r e there same valid. follows_changed keys (with_status 1) id r e (λ c. stayed r c refl);
+  promote = λ id r e enabled others. follows_same keys (record keys { primary = id }) refl;
+  enable = λ id r e there clear same valid. follows_changed keys (with_status 1) id r e (λ c. stayed r c refl);
   disable = λ id r e other there. follows_changed keys (with_status 2) id r e (λ c. stayed r c refl);
   destroy = λ id r e other. follows_changed keys destroyed id r e (λ c. was_destroyed r c refl);
   delete = λ id r e other. record { fresh = []; one = lit≤ tt; free = tt; each = without-each (Comes keys.records []) id keys.records (stays keys.records []) };
@@ -261,8 +290,8 @@ pub edits_keep_the_primary : EditsKeepThePrimary
 edits_keep_the_primary old new edit random s e ok = yielded (HasPrimary old edit) (step old edit) random s new (edit_case old (HasPrimary old) (record {
   add = λ row r room same new. refl;
   rotate = λ row r room same new. (r, refl, refl);
-  promote = λ id r e enabled. refl;
-  enable = λ id r e there same valid. refl;
+  promote = λ id r e enabled others. refl;
+  enable = λ id r e there clear same valid. refl;
   disable = λ id r e other there. refl;
   destroy = λ id r e other. refl;
   delete = λ id r e other. refl;

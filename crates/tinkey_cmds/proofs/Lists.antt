@@ -1,11 +1,10 @@
 -- Lists, tests and options.
 use Rattle.std.proofs.lemmas.Option.{same_Some}
-use Rattle.std.specs.Prelude.{is_some, slice_get, take, zero}
+use Rattle.std.specs.Prelude.{is_some, slice_get, take, drop, zero}
 use Rattle.std.proofs.Common.{◌≡◌, ◌∙◌, sym, ℕ, suc, ◌+◌, Bool, true, false, List, [], ◌∷◌, ◌++◌, length, position, Option, Some, None, refl, ap, arith, add-one, ◌<◌}
 use Rattle.std.specs.List.{list_any, list_all, AllByRecursion}
 use Rattle.std.proofs.lemmas.Bool.{and_parts}
-use Rattle.keyset_model.proofs.FaultlessLemmas.{position-none}
-use Rattle.keyset_model.proofs.WellFormedLemmas.{any-position}
+use Rattle.keyset_model.proofs.WellFormedLemmas.{any-position, position-none}
 
 pub none≢some : {A : Type 0} {x : A} → None ≡ Some x → ⊥
 none≢some e = grind arith
@@ -45,6 +44,15 @@ take-suc (y ∷ ys) (suc i) x e = ap (λ zs. y ∷ zs) (take-suc ys i x e)
 
 pub take-next : {A : Type 0} (xs : List A) (i : ℕ) (x : A) → slice_get xs i ≡ Some x → take (i + 1) xs ≡ take i xs ++ (x ∷ [])
 take-next xs i x e = rw add-one (take-suc xs i x e)
+
+-- the elements from a place on
+drop-suc : {A : Type 0} (xs : List A) (i : ℕ) (x : A) → slice_get xs i ≡ Some x → drop i xs ≡ x ∷ drop (suc i) xs
+drop-suc [] i x e = absurd (none≢some e)
+drop-suc (y ∷ ys) zero x e = ap (λ z. z ∷ ys) (same_Some _ _ e)
+drop-suc (y ∷ ys) (suc i) x e = drop-suc ys i x e
+
+pub drop-next : {A : Type 0} (xs : List A) (i : ℕ) (x : A) → slice_get xs i ≡ Some x → drop i xs ≡ x ∷ drop (i + 1) xs
+drop-next xs i x e = rw add-one (drop-suc xs i x e)
 
 -- an element of each place
 pub slice-there : {A : Type 0} (xs : List A) (i : ℕ) → i < length xs → (x : A) × (slice_get xs i ≡ Some x)

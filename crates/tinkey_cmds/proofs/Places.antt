@@ -1,11 +1,13 @@
 -- Edits by the place of a record.
-use Rattle.std.proofs.Common.{◌≡◌, ◌∙◌, ℕ, suc, ◌+◌, ◌<◌, true, false, cond, not, List, [], ◌∷◌, length, get_or, set, remove, position, Some, refl, sym, ap, arith, subst, one-add}
-use Rattle.std.specs.List.{prefix_len}
-use Rattle.std.proofs.lemmas.Bool.{ltb-true}
+use Rattle.std.proofs.Common.{◌≡◌, ◌≢◌, ◌∙◌, ℕ, suc, ◌+◌, ◌<◌, Bool, true, false, cond, not, ◌&&◌, ◌||◌, List, [], ◌∷◌, length, get_or, set, remove, position, Some, refl, sym, ap, arith, subst, one-add}
+use Rattle.std.specs.Prelude.{drop, slice_get}
+use Rattle.std.specs.List.{list_any, prefix_len}
+use Rattle.std.proofs.lemmas.Bool.{ltb-true, ne_eqb}
 use Rattle.std.proofs.lemmas.Option.{cond_some}
 use Rattle.keyset_model.specs.declared.record.Record.{Record}
-use Rattle.keyset_model.specs.Keyset.{has_id}
+use Rattle.keyset_model.specs.Keyset.{has_id, is_enabled, is_primary}
 use Rattle.tinkey_cmds.specs.Edits.{changed, without, destroyed}
+use Rattle.tinkey_cmds.proofs.Lists.{drop-next}
 
 -- how many records stand before the first with that id
 before : ℕ → List Record → ℕ
@@ -42,6 +44,41 @@ edits_by_place change id i records d e =
       subst (λ n. changed change id records ≡ set records n (change (get_or records n d))) p.1 (changed-set change id records d l),
       subst (λ n. without id records ≡ remove records n) p.1 (without-remove id records l),
     )
+
+-- among the others only those behind that place may have the id
+others-behind : (id : ℕ) (records : List Record) → list_any (is_primary id) (without id records) ≡ list_any (is_primary id) (drop (suc (before id records)) records)
+unfolding without before
+others-behind id [] = refl
+others-behind id (r ∷ later) = elim (has_id id r) as (λ b. has_id id r ≡ b → list_any (is_primary id) (cond b later (r ∷ without id later)) ≡ list_any (is_primary id) (drop (suc (cond (not b) (1 + before id later) 0)) (r ∷ later))) [
+  | true ↦ λ t. refl
+  | false ↦ λ t. ap (λ b. (b && is_enabled r) || list_any (is_primary id) (without id later)) t ∙ others-behind id later ∙ ap (λ n. list_any (is_primary id) (drop n later)) (sym (one-add (before id later)))
+] refl
+
+pub others-from : (id i : ℕ) (records : List Record) → Some i ≡ position (has_id id) records → list_any (is_primary id) (without id records) ≡ list_any (is_primary id) (drop (i + 1) records)
+unfolding before
+others-from id i records place =
+    let p = cond_some _ _ _ (sym place) in
+    let next : suc (before id records) ≡ i + 1 = omega (arith, p.1) in
+    others-behind id records ∙ ap (λ n. list_any (is_primary id) (drop n records)) next
+
+-- a record that isn't primary
+pub unlike-fails : (id : ℕ) (r : Record) → r.id ≢ id → is_primary id r ≡ false
+unlike-fails id r other = ap (λ b. b && is_enabled r) (ne_eqb r.id id other)
+
+pub other-fails : (id : ℕ) (r : Record) → r.status ≢ 1 → is_primary id r ≡ false
+other-fails id r other = and_false (has_id id r) (ne_eqb r.status 1 other)
+  where
+    and_false : (b : Bool) {d : Bool} → d ≡ false → (b && d) ≡ false
+    and_false true e = e
+    and_false false e = refl
+
+-- a record further on
+pub others-next : (id i : ℕ) (records : List Record) (r : Record) → slice_get records i ≡ Some r → is_primary id r ≡ false
+    → list_any (is_primary id) (drop i records) ≡ list_any (is_primary id) (drop (i + 1) records)
+others-next id i records r there fails = ap (list_any (is_primary id)) (drop-next records i r there) ∙ ap (λ b. b || list_any (is_primary id) (drop (i + 1) records)) fails
+
+pub others-here : (id i : ℕ) (records : List Record) (r : Record) → slice_get records i ≡ Some r → is_primary id r ≡ true → list_any (is_primary id) (drop i records) ≡ true
+others-here id i records r there passes = ap (list_any (is_primary id)) (drop-next records i r there) ∙ ap (λ b. b || list_any (is_primary id) (drop (i + 1) records)) passes
 
 -- the record at the place of an id is written
 pub set-changed : (change : Record → Record) (id i : ℕ) (records items : List Record) (r : Record) → items ≡ records → Some i ≡ position (has_id id) records

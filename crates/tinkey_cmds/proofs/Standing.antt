@@ -51,8 +51,8 @@ pub edits_leave_others : EditsLeaveOthers
 edits_leave_others old new edit random s e ok = yielded (LeavesOthers old edit) (step old edit) random s new (edit_case old (LeavesOthers old) (record {
   add = λ row r room same new'. (r, refl);
   rotate = λ row r room same new'. (r, refl);
-  promote = λ id r named enabled. refl;
-  enable = λ id r named some same rule. replaces (with_status 1) id old.records r named;
+  promote = λ id r named enabled others. refl;
+  enable = λ id r named some clear same rule. replaces (with_status 1) id old.records r named;
   disable = λ id r named other some. replaces (with_status 2) id old.records r named;
   destroy = λ id r named other. replaces destroyed id old.records r named;
   delete = λ id r named other. let t = stands id old.records r named in (t.place, t.goes);

@@ -1,14 +1,15 @@
 -- Edits that draw nothing: why each is refused, and that what it does keeps a keyset.
-use Rattle.std.proofs.Common.{◌≡◌, ◌∙◌, ℕ, ◌==◌, Bool, true, false, ◌<◌, length, List, [], Option, Some, None, Result, Ok, Err, refl, sym, ap, arith}
+use Rattle.std.proofs.Common.{◌≡◌, ◌∙◌, ℕ, ◌==◌, ◌&&◌, not, Bool, true, false, ◌<◌, length, List, [], Option, Some, None, Result, Ok, Err, refl, sym, ap, arith}
 use Rattle.std.specs.Prelude.{position, slice_get, IsErr, IsErrAnd}
+use Rattle.std.specs.List.{list_any}
 use Rattle.std.proofs.lemmas.Bool.{false≢true}
 use Rattle.keyset_model.specs.declared.record.Record.{Record}
-use Rattle.keyset_model.specs.Keyset.{Keys, has_id, is_enabled, is_destroyed, fault_of, first_some, when}
+use Rattle.keyset_model.specs.Keyset.{Keys, has_id, is_enabled, is_destroyed, is_primary, fault_of, first_some, when}
 use Rattle.keyset_model.proofs.PrimaryLemmas.{at_position, no_position}
 use Rattle.key_msgs.specs.declared.primitive.Primitive.{Primitive}
 use Rattle.key_msgs.specs.declared.rule.Rule.{Rule}
 use Rattle.tinkey_cmds.specs.declared.command.CmdFault.{CmdFault}
-use Rattle.tinkey_cmds.specs.declared.command.CmdFault.TheVariants.{KeyNotFound, KeyIsPrimary, KeyNotEnabled, KeyDestroyed, KeyRefused, MixedPrimitive}
+use Rattle.tinkey_cmds.specs.declared.command.CmdFault.TheVariants.{KeyNotFound, KeyIsPrimary, KeyNotEnabled, KeyDestroyed, KeyRefused, MixedPrimitive, AmbiguousPrimary}
 use Rattle.tinkey_cmds.specs.declared.command.CmdError.{CmdError}
 use Rattle.tinkey_cmds.specs.declared.command.CmdError.TheVariants.{Refused, EntropyFault, NoMemory}
 use Rattle.tinkey_cmds.specs.Applying.{Edited}
@@ -76,9 +77,15 @@ pub promote-disabled : (keys : Keys) (id : ℕ) (r : Record) → named keys id �
 unfolding refusal_of of_named first_some when
 promote-disabled keys id r e t = rw (e, t) refl
 
-pub promote-accepted : (keys : Keys) (id : ℕ) (r : Record) → named keys id ≡ Some r → is_enabled r ≡ true → refusal_of keys (Promote id) ≡ None
+pub promote-ambiguous : (keys : Keys) (id : ℕ) (r : Record) → named keys id ≡ Some r → is_enabled r ≡ true → list_any (is_primary id) (without id keys.records) ≡ true
+    → refusal_of keys (Promote id) ≡ Some AmbiguousPrimary
 unfolding refusal_of of_named first_some when
-promote-accepted keys id r e t = rw (e, t) refl
+promote-ambiguous keys id r e t o = rw (e, t, o) refl
+
+pub promote-accepted : (keys : Keys) (id : ℕ) (r : Record) → named keys id ≡ Some r → is_enabled r ≡ true → list_any (is_primary id) (without id keys.records) ≡ false
+    → refusal_of keys (Promote id) ≡ None
+unfolding refusal_of of_named first_some when
+promote-accepted keys id r e t o = rw (e, t, o) refl
 
 pub enable-missing : (keys : Keys) (id : ℕ) → named keys id ≡ None → refusal_of keys (Enable id) ≡ Some KeyNotFound
 unfolding refusal_of of_named
@@ -88,20 +95,25 @@ pub enable-destroyed : (keys : Keys) (id : ℕ) (r : Record) → named keys id �
 unfolding refusal_of of_named first_some when
 enable-destroyed keys id r e t = rw (e, t) refl
 
-pub enable-mixed : (keys : Keys) (id : ℕ) (r : Record) → named keys id ≡ Some r → is_destroyed r ≡ false → is_same (primitive_of r.url) (primary_primitive keys) ≡ false
-    → refusal_of keys (Enable id) ≡ Some MixedPrimitive
+pub enable-ambiguous : (keys : Keys) (id : ℕ) (r : Record) → named keys id ≡ Some r → is_destroyed r ≡ false → (id == keys.primary && not (is_enabled r)) ≡ true
+    → refusal_of keys (Enable id) ≡ Some AmbiguousPrimary
 unfolding refusal_of of_named first_some when
-enable-mixed keys id r e t m = rw (e, t, m) refl
+enable-ambiguous keys id r e t p = rw (e, t, p) refl
 
-pub enable-refused : (keys : Keys) (id : ℕ) (r : Record) (rule : Rule) → named keys id ≡ Some r → is_destroyed r ≡ false → is_same (primitive_of r.url) (primary_primitive keys) ≡ true
-    → rule_of r.url r.value ≡ Some rule → refusal_of keys (Enable id) ≡ Some (KeyRefused rule)
+pub enable-mixed : (keys : Keys) (id : ℕ) (r : Record) → named keys id ≡ Some r → is_destroyed r ≡ false → (id == keys.primary && not (is_enabled r)) ≡ false
+    → is_same (primitive_of r.url) (primary_primitive keys) ≡ false → refusal_of keys (Enable id) ≡ Some MixedPrimitive
 unfolding refusal_of of_named first_some when
-enable-refused keys id r rule e t m k = rw (e, t, m, k) refl
+enable-mixed keys id r e t p m = rw (e, t, p, m) refl
 
-pub enable-accepted : (keys : Keys) (id : ℕ) (r : Record) → named keys id ≡ Some r → is_destroyed r ≡ false → is_same (primitive_of r.url) (primary_primitive keys) ≡ true
-    → rule_of r.url r.value ≡ None → refusal_of keys (Enable id) ≡ None
+pub enable-refused : (keys : Keys) (id : ℕ) (r : Record) (rule : Rule) → named keys id ≡ Some r → is_destroyed r ≡ false → (id == keys.primary && not (is_enabled r)) ≡ false
+    → is_same (primitive_of r.url) (primary_primitive keys) ≡ true → rule_of r.url r.value ≡ Some rule → refusal_of keys (Enable id) ≡ Some (KeyRefused rule)
 unfolding refusal_of of_named first_some when
-enable-accepted keys id r e t m k = rw (e, t, m, k) refl
+enable-refused keys id r rule e t p m k = rw (e, t, p, m, k) refl
+
+pub enable-accepted : (keys : Keys) (id : ℕ) (r : Record) → named keys id ≡ Some r → is_destroyed r ≡ false → (id == keys.primary && not (is_enabled r)) ≡ false
+    → is_same (primitive_of r.url) (primary_primitive keys) ≡ true → rule_of r.url r.value ≡ None → refusal_of keys (Enable id) ≡ None
+unfolding refusal_of of_named first_some when
+enable-accepted keys id r e t p m k = rw (e, t, p, m, k) refl
 
 pub disable-missing : (keys : Keys) (id : ℕ) → named keys id ≡ None → refusal_of keys (Disable id) ≡ Some KeyNotFound
 unfolding refusal_of of_named

@@ -1,13 +1,13 @@
 -- A keyset by its parts, as edits keep them; that these are the well-formed ones is a law of
 -- `keyset_model`.
-use Rattle.std.proofs.Common.{◌≡◌, ℕ, suc, ◌≤◌, true, List, [], ◌∷◌, length, None, refl, sym, arith}
+use Rattle.std.proofs.Common.{◌≡◌, ℕ, ◌≤◌, true, List, [], ◌∷◌, length, None, arith, eq-eqb}
 use Rattle.std.specs.List.{list_any, AllByRecursion}
-use Rattle.std.proofs.lemmas.Bool.{false≢true}
+use Rattle.std.proofs.lemmas.Bool.{false≢true, and_from}
 use Rattle.keyset_model.specs.declared.record.Record.{Record}
 use Rattle.keyset_model.specs.Keyset.{Keys, IsKnown, has_status, has_prefix, has_material, has_key_data, is_primary, fault_of}
-use Rattle.keyset_model.specs.WellFormed.{HasOwnIds, HasData}
-use Rattle.keyset_model.proofs.WellFormedLemmas.{Distinct, own_ids, known_of, data_of, each_of_two}
-use Rattle.keyset_model.proofs.FaultlessLemmas.{not_in, known_status, known_prefix, data_material, data_url, any_found, faultless-well_formed}
+use Rattle.keyset_model.specs.WellFormed.{HasData, IsPrimary}
+use Rattle.keyset_model.proofs.WellFormedLemmas.{Lone, lone-places, whole-faultless, known_of, data_of, each_of_two}
+use Rattle.keyset_model.proofs.FaultlessLemmas.{known_status, known_prefix, data_material, data_url, faultless-well_formed}
 use Rattle.keyset_model.proofs.PrimaryLemmas.{found_passes, found_there, primary_id, primary_status, well_formed-faultless}
 use Rattle.tinkey_cmds.proofs.Lists.{each-weaker}
 
@@ -22,8 +22,8 @@ pub record IsFine (r : Record) : Type 0 where
 pub record IsGood (keys : Keys) : Type 0 where
   pub few : length keys.records ≤ 1000
   pub each : AllByRecursion IsFine keys.records
-  pub distinct : Distinct keys.records
   pub primary : list_any (is_primary keys.primary) keys.records ≡ true
+  pub lone : Lone (is_primary keys.primary) keys.records
 
 fine_of : (r : Record) → IsKnown r → HasData r → IsFine r
 fine_of r known has = record {
@@ -33,27 +33,24 @@ fine_of r known has = record {
   key_data = data_url r has;
 }
 
-distinct_own : (records : List Record) → HasOwnIds records → Distinct records
-unfolding Distinct
-distinct_own [] own = tt
-distinct_own (r ∷ later) own = (
-  not_in r.id later (λ i s there same. own 0 (suc i) r s (omega arith) refl there (sym same)),
-  distinct_own later (λ i j x y before here there. own (suc i) (suc j) x y (omega arith) here there),
-)
-
 pub good-keyset : (keys : Keys) → fault_of keys ≡ None → IsGood keys
 good-keyset keys faultless =
     let is = well_formed-faultless keys faultless in
+    let whole = whole-faultless keys faultless in
     record {
       few = is.most;
       each = each_of_two IsKnown HasData IsFine keys.records fine_of is.known is.has_data;
-      distinct = distinct_own keys.records is.own_ids;
-      primary = any_found (is_primary keys.primary) (is_primary keys.primary) keys.records is.primary.0 (λ r passes. passes) is.primary.1;
+      primary = whole.primary;
+      lone = whole.lone;
     }
 
 some_record : (primary : ℕ) (records : List Record) → list_any (is_primary primary) records ≡ true → 1 ≤ length records
 some_record primary [] e = absurd (false≢true e)
 some_record primary (r ∷ later) e = omega arith
+
+-- a record that is primary passes the test
+passes-primary : (primary : ℕ) (r : Record) → IsPrimary primary r → is_primary primary r ≡ true
+passes-primary primary r is = and_from _ _ (eq-eqb r.id primary is.0) (eq-eqb r.status 1 is.1)
 
 pub keyset-good : (keys : Keys) → IsGood keys → fault_of keys ≡ None
 keyset-good keys g =
@@ -64,6 +61,6 @@ keyset-good keys g =
       most = g.few;
       known = each-weaker IsFine IsKnown keys.records (λ r f. known_of r f.status f.prefix) g.each;
       has_data = each-weaker IsFine HasData keys.records (λ r f. data_of r f.material f.key_data) g.each;
-      own_ids = own_ids keys.records g.distinct;
       primary = (there.0, there.1, primary_id keys.primary there.0 passes, primary_status keys.primary there.0 passes);
+      one_primary = λ i j r s here also p q. lone-places (is_primary keys.primary) keys.records i j r s g.lone here also (passes-primary keys.primary r p) (passes-primary keys.primary s q);
     })

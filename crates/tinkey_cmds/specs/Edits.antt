@@ -5,8 +5,9 @@
 --   refusal_of    why an edit is refused, before anything is drawn
 --   effect_of     what an edit does that isn't
 --   step, first   an edit, and the creation of a keyset
-use Rattle.std.specs.Prelude.{ℕ, zero, suc, ◌%◌, ◌^◌, List, [], ◌∷◌, ◌++◌, length, Bool, true, false, not, ◌||◌, ◌==◌, nat_le, Option, Some, None, option_map, option_and_then, Ok, Err, find, if◌then◌else◌}
+use Rattle.std.specs.Prelude.{ℕ, zero, suc, ◌%◌, ◌^◌, List, [], ◌∷◌, ◌++◌, length, Bool, true, false, not, ◌&&◌, ◌||◌, ◌==◌, nat_le, Option, Some, None, option_map, option_and_then, Ok, Err, find, if◌then◌else◌}
 use Rattle.std.specs.Int.{w32, from_be_bytes}
+use Rattle.std.specs.List.{list_any}
 use Rattle.std.specs.Result.{result_err}
 use Rattle.key_msgs.specs.declared.primitive.Primitive.{Primitive}
 use Rattle.key_msgs.specs.declared.primitive.Primitive.TheVariants.{Aead, Daead, Mac, Prf, Stream}
@@ -17,9 +18,9 @@ use Rattle.key_msgs.specs.declared.template.Template.{Template}
 use Rattle.key_msgs.specs.Templates.{Row, seen, made, type_made, random_of}
 use Rattle.key_msgs.specs.Writing.{value_of}
 use Rattle.keyset_model.specs.declared.record.Record.{Record}
-use Rattle.keyset_model.specs.Keyset.{Keys, has_id, is_in, is_enabled, is_destroyed, primary_of, first_some, when}
+use Rattle.keyset_model.specs.Keyset.{Keys, has_id, is_in, is_enabled, is_destroyed, is_primary, primary_of, first_some, when}
 use Rattle.tinkey_cmds.specs.declared.command.CmdFault.{CmdFault}
-use Rattle.tinkey_cmds.specs.declared.command.CmdFault.TheVariants.{KeyNotFound, KeyIsPrimary, KeyNotEnabled, KeyDestroyed, KeyRefused, MixedPrimitive, IdsExhausted, TooManyKeys}
+use Rattle.tinkey_cmds.specs.declared.command.CmdFault.TheVariants.{KeyNotFound, KeyIsPrimary, KeyNotEnabled, KeyDestroyed, KeyRefused, MixedPrimitive, IdsExhausted, TooManyKeys, AmbiguousPrimary}
 use Rattle.tinkey_cmds.specs.declared.command.Command.{Command}
 use Rattle.tinkey_cmds.specs.declared.command.Command.TheVariants as commands
 use Rattle.tinkey_cmds.specs.Draws.{Drawn, Draw, answered, fill, and_then}
@@ -123,9 +124,14 @@ is_same (Some Prf) (Some Prf) = true
 is_same (Some Stream) (Some Stream) = true
 is_same _ _ = false
 
--- the first record with that id
+-- the first record with that id, which an edit names by it
 abbrev pub named : Keys → ℕ → Option Record
 named keys id = find (has_id id) keys.records
+
+-- all records but the first with that id, in their order
+unfoldable pub without : (id : ℕ) → List Record → List Record
+without id [] = []
+without id (r ∷ later) = if has_id id r then later else r ∷ without id later
 
 -- the refusals of an edit of one record, in order
 unfoldable pub of_named : Option Record → (Record → List (Option CmdFault)) → Option CmdFault
@@ -145,9 +151,11 @@ unfoldable pub refusal_of : Keys → Edit → Option CmdFault
 refusal_of keys (Add row) = full_or_mixed keys row
 refusal_of keys (Rotate row) = full_or_mixed keys row
 refusal_of keys (Promote id) = of_named (named keys id) (λ r.
-    when (not (is_enabled r)) KeyNotEnabled ∷ [])
+    when (not (is_enabled r)) KeyNotEnabled
+    ∷ when (list_any (is_primary id) (without id keys.records)) AmbiguousPrimary ∷ [])
 refusal_of keys (Enable id) = of_named (named keys id) (λ r.
     when (is_destroyed r) KeyDestroyed
+    ∷ when (id == keys.primary && not (is_enabled r)) AmbiguousPrimary
     ∷ when (not (is_same (primitive_of r.url) (primary_primitive keys))) MixedPrimitive
     ∷ option_map KeyRefused (rule_of r.url r.value) ∷ [])
 refusal_of keys (Disable id) = of_named (named keys id) (λ r.
@@ -164,11 +172,6 @@ unfoldable pub changed : (Record → Record) → (id : ℕ) → List Record → 
 changed change id [] = []
 changed change id (r ∷ later) =
     if has_id id r then change r ∷ later else r ∷ changed change id later
-
--- the first record with that id goes, all others stay
-unfoldable pub without : (id : ℕ) → List Record → List Record
-without id [] = []
-without id (r ∷ later) = if has_id id r then later else r ∷ without id later
 
 -- a record with another status
 abbrev pub with_status : ℕ → Record → Record

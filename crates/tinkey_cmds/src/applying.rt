@@ -51,7 +51,8 @@ pub fn create<E: Entropy>(
 
 /// A keyset after an edit.
 ///
-/// A new key gets an id as in `create`, which no record has. `Refused` comes exactly where the edit
+/// A new key gets an id as in `create`, which no record has. An edit with an id is of the first
+/// record that has it, and all others stay in their places. `Refused` comes exactly where the edit
 /// is refused, with the first reason in the order of the edit's own checks; only `IdsExhausted`
 /// comes after bytes were drawn. `EntropyFault` comes only where the entropy failed; whole ids were
 /// drawn by then, and nothing else. At `NoMemory` all that the edit draws has been drawn. A keyset of

@@ -5,7 +5,8 @@ ghost use Rattle.std.specs.Prelude.{◌≡◌};
 use key_msgs::Rule;
 use tink_base::NoMemory;
 
-/// An edit of a keyset, whose template is here or has a name. A record is named by its id.
+/// An edit of a keyset, whose template is here or has a name. An id names the first record that has
+/// it.
 #[derive(Clone, Copy)]
 pub enum Command<T> {
     /// A new key of this template stands behind the others.
@@ -29,7 +30,7 @@ pub enum Command<T> {
 pub enum CmdFault {
     /// No record has the id.
     KeyNotFound,
-    /// The record is the primary one.
+    /// The id is the primary one.
     KeyIsPrimary,
     /// The record to be primary isn't ENABLED.
     KeyNotEnabled,
@@ -43,6 +44,8 @@ pub enum CmdFault {
     IdsExhausted,
     /// The keyset has 1,000 records already.
     TooManyKeys,
+    /// An ENABLED record would be primary beside another one.
+    AmbiguousPrimary,
 }
 
 /// Why an edit gives no keyset.

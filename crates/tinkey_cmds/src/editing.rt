@@ -1,8 +1,9 @@
-//! The edits of records, by their ids: none of them draws random bytes.
+//! The edits of records, by their ids: none of them draws random bytes. An id names the first
+//! record that has it, and all others stay.
 
-ghost use Rattle.std.specs.Prelude.{◌≡◌, Some, None, IfOk, position};
-ghost use Rattle.std.specs.List.{AllByRecursion};
-ghost use Rattle.keyset_model.specs.Keyset.{HasSizes, fault_of, has_id};
+ghost use Rattle.std.specs.Prelude.{◌≡◌, ◌==◌, ◌&&◌, not, Some, None, IfOk, position};
+ghost use Rattle.std.specs.List.{list_any, AllByRecursion};
+ghost use Rattle.keyset_model.specs.Keyset.{HasSizes, fault_of, has_id, is_enabled, is_primary};
 ghost use Rattle.tinkey_cmds.specs.Applying.{Edited};
 ghost use Rattle.tinkey_cmds.specs.Edits.{Promote, Enable, Disable, Destroy, Delete, step, changed, without, with_status, destroyed, is_same, primary_primitive, rule_of};
 
@@ -26,6 +27,9 @@ pub(crate) fn promote(alloc: Global, keyset: &Keyset, id: u32) -> Result<Keyset,
     if keyset.record_at(place).status != ENABLED {
         return Err(CmdError::Refused(CmdFault::KeyNotEnabled));
     }
+    if has_other(keyset, id, place) {
+        return Err(CmdError::Refused(CmdFault::AmbiguousPrimary));
+    }
     let records = copies(alloc, keyset)?;
     Ok(rebuilt(id, records))
 }
@@ -41,6 +45,9 @@ pub(crate) fn enable(alloc: Global, keyset: &Keyset, id: u32) -> Result<Keyset, 
     let key = keyset.record_at(place);
     if key.status == DESTROYED {
         return Err(CmdError::Refused(CmdFault::KeyDestroyed));
+    }
+    if is_rival(keyset, id, key) {
+        return Err(CmdError::Refused(CmdFault::AmbiguousPrimary));
     }
     if !is_same(primitive_of(key.url.as_str()), primary_primitive(keyset)) {
         return Err(CmdError::Refused(CmdFault::MixedPrimitive));
@@ -98,6 +105,28 @@ pub(crate) fn delete(alloc: Global, keyset: &Keyset, id: u32) -> Result<Keyset, 
     }
     let records = without(alloc, keyset, id, place)?;
     Ok(rebuilt(keyset.primary(), records))
+}
+
+/// Whether a record behind this place, the first one of the id, has the id too and is ENABLED.
+fn has_other(keyset: &Keyset, id: u32, place: usize) -> bool
+    requires place { Some place ≡ position (has_id id) keyset.now.records }
+    ensures { result ≡ list_any (is_primary id) (without id keyset.now.records) }
+{
+    let count = keyset.len();
+    for i in place + 1..count {
+        let key = keyset.record_at(i);
+        if key.id == id && key.status == ENABLED {
+            return true;
+        }
+    }
+    false
+}
+
+/// Whether a record of this id would be primary by being made ENABLED, beside the one that is.
+fn is_rival(keyset: &Keyset, id: u32, key: &Record) -> bool
+    ensures { result ≡ (id == keyset.now.primary && not (is_enabled key.now)) }
+{
+    id == keyset.primary() && key.status != ENABLED
 }
 
 /// The keyset of these records, which have no fault.
