@@ -32,6 +32,47 @@ const UNKNOWN: &[u8] = b"\x08\x01\
     \x12\x12\x0a\x0a\x0a\x03odd\x12\x01k\x18\x01\x10\x01\x18\x01\x20\x01\
     \x12\x13\x0a\x0b\x0a\x04even\x12\x01k\x18\x01\x10\x02\x18\x02\x20\x01";
 
+// Records of AES-GCM in the same form, by hand, whose keys are 16 bytes 0xff or 16 zero bytes.
+const ONES_7: &[u8] = b"\
+    \x12P\x0aH\x0a0type.googleapis.com/google.crypto.tink.AesGcmKey\
+    \x12\x12\x1a\x10\xff\xff\xff\xff\xff\xff\xff\xff\xff\xff\xff\xff\xff\xff\xff\xff\
+    \x18\x01\x10\x01\x18\x07\x20\x01";
+
+const ZEROS_7: &[u8] = b"\
+    \x12P\x0aH\x0a0type.googleapis.com/google.crypto.tink.AesGcmKey\
+    \x12\x12\x1a\x10\0\0\0\0\0\0\0\0\0\0\0\0\0\0\0\0\
+    \x18\x01\x10\x01\x18\x07\x20\x01";
+
+const RAW_8: &[u8] = b"\
+    \x12P\x0aH\x0a0type.googleapis.com/google.crypto.tink.AesGcmKey\
+    \x12\x12\x1a\x10\0\0\0\0\0\0\0\0\0\0\0\0\0\0\0\0\
+    \x18\x01\x10\x01\x18\x08\x20\x03";
+
+const DISABLED_ONES_9: &[u8] = b"\
+    \x12P\x0aH\x0a0type.googleapis.com/google.crypto.tink.AesGcmKey\
+    \x12\x12\x1a\x10\xff\xff\xff\xff\xff\xff\xff\xff\xff\xff\xff\xff\xff\xff\xff\xff\
+    \x18\x01\x10\x02\x18\x09\x20\x01";
+
+const ZEROS_9: &[u8] = b"\
+    \x12P\x0aH\x0a0type.googleapis.com/google.crypto.tink.AesGcmKey\
+    \x12\x12\x1a\x10\0\0\0\0\0\0\0\0\0\0\0\0\0\0\0\0\
+    \x18\x01\x10\x01\x18\x09\x20\x01";
+
+const DESTROYED_9: &[u8] = b"\x12\x06\x10\x03\x18\x09\x20\x01";
+
+// Keysets in which two records have one id, each with its primary id in front.
+const SHARED: [(&str, &[&[u8]]); 6] = [
+    ("both ENABLED", &[b"\x08\x08", ONES_7, ZEROS_7, RAW_8]),
+    ("far apart", &[b"\x08\x08", ONES_7, RAW_8, ZEROS_7]),
+    ("first DISABLED", &[b"\x08\x09", DISABLED_ONES_9, ZEROS_9]),
+    ("second DISABLED", &[b"\x08\x09", ZEROS_9, DISABLED_ONES_9]),
+    ("first DESTROYED", &[b"\x08\x09", DESTROYED_9, ZEROS_9]),
+    (
+        "beside another primary",
+        &[b"\x08\x08", ZEROS_9, DISABLED_ONES_9, RAW_8],
+    ),
+];
+
 /// The primary id, and the id and status of each record.
 fn shown(alloc: Global, keyset: &Keyset) -> Result<String, Fail> {
     let mut text = format!(in alloc; "{}:", keyset.primary())?;
@@ -232,6 +273,101 @@ fn edits_records_by_their_ids(rt: HostRuntime) -> Result<(), Fail> {
     bytes.extend_from_slice(OTHERS)?;
     let keyset = keyset_of(rt.alloc(), &bytes)?;
     assert_edits(rt.alloc(), &keyset, b"some", BY_ID, 22)
+}
+
+/// The primary id and the place of the primary record; and the id, the status and the last byte of the
+/// key message of each record.
+fn shown_by_place(alloc: Global, keyset: &Keyset) -> Result<String, Fail> {
+    let mut text = format!(in alloc; "{} at {}:", keyset.primary(), keyset.primary_at())?;
+    for i in 0..keyset.len() {
+        let key = keyset.record_at(i);
+        let item = match key.value.as_slice().last() {
+            Some(last) => format!(in alloc; " {}/{}/{last}", key.id, key.status)?,
+            None => format!(in alloc; " {}/{}/-", key.id, key.status)?,
+        };
+        text.push_str(&item)?;
+    }
+    Ok(text)
+}
+
+/// The keyset of this name, or none where no keyset has it.
+fn shared_in(alloc: Global, name: &str) -> Result<Option<Keyset>, Fail> {
+    for (known, parts) in SHARED {
+        if known == name {
+            let mut bytes = Vec::new(alloc);
+            for part in parts {
+                bytes.extend_from_slice(part)?;
+            }
+            return Ok(Some(keyset_of(alloc, &bytes)?));
+        }
+    }
+    Ok(None)
+}
+
+/// Holds the edit of a row to what it gives, and gives the keyset behind it.
+fn turned(alloc: Global, keyset: Keyset, row: &str) -> Result<Keyset, Fail> {
+    let mut entropy = MemEntropy::new(Vec::new(alloc), Vec::new(alloc));
+    match apply(alloc, &keyset, &command_in(row)?, &mut entropy) {
+        Ok(edited) => {
+            let text = shown_by_place(alloc, &edited)?;
+            holds_text(row, "the edit", cell(row, 2)?, text.as_str())?;
+            Ok(edited)
+        }
+        Err(error) => {
+            let text = format!(in alloc; "{error:?}")?;
+            holds_text(row, "the edit", cell(row, 2)?, text.as_str())?;
+            Ok(keyset)
+        }
+    }
+}
+
+// A row has a word, an id, what the edit gives, and the keyset that is edited: one of SHARED, or that of
+// the row above.
+const SHARED_IDS: &str = "\
+promote|7|Refused(AmbiguousPrimary)|both ENABLED
+disable|7|8 at 2: 7/2/255 7/1/0 8/1/0|both ENABLED
+promote|7|Refused(KeyNotEnabled)|then
+enable|7|8 at 2: 7/1/255 7/1/0 8/1/0|then
+promote|7|Refused(AmbiguousPrimary)|then
+delete|7|8 at 1: 7/1/0 8/1/0|both ENABLED
+promote|7|7 at 0: 7/1/0 8/1/0|then
+disable|8|7 at 0: 7/1/0 8/2/0|then
+destroy|7|8 at 2: 7/3/- 7/1/0 8/1/0|both ENABLED
+promote|7|Refused(KeyNotEnabled)|then
+enable|7|Refused(KeyDestroyed)|then
+disable|7|Refused(KeyDestroyed)|then
+delete|7|8 at 1: 7/1/0 8/1/0|then
+promote|7|Refused(AmbiguousPrimary)|far apart
+delete|7|8 at 0: 8/1/0 7/1/0|far apart
+promote|7|7 at 1: 8/1/0 7/1/0|then
+enable|9|Refused(AmbiguousPrimary)|first DISABLED
+disable|9|Refused(KeyIsPrimary)|first DISABLED
+destroy|9|Refused(KeyIsPrimary)|first DISABLED
+delete|9|Refused(KeyIsPrimary)|first DISABLED
+promote|9|Refused(KeyNotEnabled)|first DISABLED
+enable|9|9 at 0: 9/1/0 9/2/255|second DISABLED
+promote|9|9 at 0: 9/1/0 9/2/255|second DISABLED
+delete|9|Refused(KeyIsPrimary)|second DISABLED
+enable|9|Refused(KeyDestroyed)|first DESTROYED
+delete|9|Refused(KeyIsPrimary)|first DESTROYED
+promote|9|9 at 0: 9/1/0 9/2/255 8/1/0|beside another primary
+delete|8|9 at 0: 9/1/0 9/2/255|then
+disable|9|8 at 2: 9/2/0 9/2/255 8/1/0|beside another primary
+delete|9|8 at 1: 9/2/255 8/1/0|then
+enable|9|8 at 1: 9/1/255 8/1/0|then
+promote|9|9 at 0: 9/1/255 8/1/0|then";
+
+#[test]
+fn edits_the_first_record_of_a_shared_id(rt: HostRuntime) -> Result<(), Fail> {
+    count(SHARED_IDS, 32)?;
+    let mut keyset = keyset_of(rt.alloc(), FIRST)?;
+    for row in SHARED_IDS.lines() {
+        if let Some(shared) = shared_in(rt.alloc(), cell(row, 3)?)? {
+            keyset = shared;
+        }
+        keyset = turned(rt.alloc(), keyset, row)?;
+    }
+    Ok(())
 }
 
 const BESIDE_UNKNOWN: &str = "\
