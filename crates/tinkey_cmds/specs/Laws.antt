@@ -101,8 +101,8 @@ abbrev pub EditsLeaveOthers : Type 0
 EditsLeaveOthers = (old new : Keys) (edit : Edit) (random : List ℕ) (s : Stepped)
     → step old edit random ≡ Some s → s.answer ≡ Ok new → LeavesOthers old edit new
 
--- Promote makes the record that it names primary, and Rotate the new record; any other edit leaves
--- the primary id.
+-- Promote makes the id that it names the primary one, and Rotate that of the new record; any other
+-- edit leaves the primary id.
 abbrev pub HasPrimary : Keys → Edit → Keys → Type 0
 HasPrimary old (Promote id) new = new.primary ≡ id
 HasPrimary old (Rotate row) new =
