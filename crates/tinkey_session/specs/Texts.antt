@@ -33,6 +33,7 @@ edit_text (refused.KeyRefused rule) = codes "key refused: " ++ rule_text rule
 edit_text refused.MixedPrimitive = codes "key of another primitive"
 edit_text refused.IdsExhausted = codes "no free key id"
 edit_text refused.TooManyKeys = codes "too many keys"
+edit_text refused.AmbiguousPrimary = codes "primary would be ambiguous"
 
 -- the text of a refusal
 unfoldable pub refusal_text : Refusal → List ℕ

@@ -178,6 +178,7 @@ fn edit_text(fault: CmdFault) -> ShortText
         CmdFault::MixedPrimitive => plain_text("key of another primitive"),
         CmdFault::IdsExhausted => plain_text("no free key id"),
         CmdFault::TooManyKeys => plain_text("too many keys"),
+        CmdFault::AmbiguousPrimary => plain_text("primary would be ambiguous"),
     }
 }
 
