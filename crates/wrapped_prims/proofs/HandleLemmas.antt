@@ -1,6 +1,7 @@
 -- What a handle over a faultless keyset holds.
-use Rattle.std.proofs.Common.{subst, ◌<◌, ◌≡◌, ◌∙◌, refl, sym, ap, ℕ, zero, suc, ◌+◌, ◌≤◌, List, [], ◌∷◌, length, take, Option, Some, None, option_map, false, arith}
+use Rattle.std.proofs.Common.{subst, ◌<◌, ◌≡◌, ◌∙◌, refl, sym, ap, ℕ, zero, suc, ◌+◌, ◌≤◌, List, [], ◌∷◌, length, take, drop, Option, Some, None, option_map, false, arith}
 use Rattle.std.proofs.lemmas.Bool.Decides.{nat_tests}
+use Rattle.std.proofs.lemmas.List.{length-append, length-map}
 use Rattle.std.specs.Prelude.{slice_get, slice_index_or}
 use Rattle.std.proofs.lemmas.Option.{get_or_from_slice_get, same_Some, slice_get_within, slice_get-map}
 use Rattle.keyset_model.proofs.PrimaryLemmas.{well_formed-faultless}
@@ -11,22 +12,25 @@ use Rattle.wrapped_prims.specs.Answers.{primary_key}
 use Rattle.key_msgs.specs.declared.primitive.Primitive.{Primitive}
 use Rattle.managers.specs.Table.{Table, entries_of}
 use Rattle.wrapped_prims.proofs.OpenLemmas.{KeptAs, count-raw, count-under, kept_as, none_here, off, on}
-use Rattle.wrapped_prims.proofs.PrefixLemmas.{one_with}
-use Rattle.wrapped_prims.specs.Candidates.{raw_count}
+use Rattle.wrapped_prims.specs.Candidates.{candidates, each_with, enabled_with}
 use Rattle.wrapped_prims.specs.Fitness.{fault_of_record, key_of_record, unfit_from}
 use Rattle.wrapped_prims.specs.Held.{IsPrimary, IsServedBy, kept_of, kept_raw, kept_under, kept_with}
 use Rattle.wrapped_prims.specs.Making.{IsOver}
 use Rattle.wrapped_prims.specs.declared.held.Held.{Held}
 use Rattle.wrapped_prims.specs.declared.held.Kept.{Kept}
 
--- at most one key has the prefix
+-- at most one trial for each candidate
 pub few_trials : (table : Table) (p : Primitive) (keys : Keys) (held : Held) (bytes : List ℕ) (before now : ℕ) → IsOver table p keys held
-    → now ≤ before + length (kept_under (take 5 bytes) held) + length (kept_raw held) → now ≤ before + (1 + raw_count keys)
+    → now ≤ before + length (kept_under (take 5 bytes) held) + length (kept_raw held) → now ≤ before + length (candidates keys bytes)
 few_trials table p keys held bytes before now over few =
-    let hinted = count-under table p keys held (take 5 bytes) over in
-    let raw = count-raw table p keys held over in
-    let one = one_with keys.records (take 5 bytes) (well_formed-faultless keys over.faultless).own_ids over.words in
-    omega (arith, few, hinted, raw, one)
+    let hinted = enabled_with (Some (take 5 bytes)) keys.records in
+    let raw = enabled_with None keys.records in
+    let first = count-under table p keys held (take 5 bytes) over in
+    let last = count-raw table p keys held over in
+    let all = length-append (each_with (drop 5 bytes) hinted) (each_with bytes raw) in
+    let front : length (each_with (drop 5 bytes) hinted) ≡ length hinted = length-map hinted _ in
+    let behind : length (each_with bytes raw) ≡ length raw = length-map raw _ in
+    omega (arith, few, first, last, all, front, behind)
 
 fit_at : (n : ℕ) (table : Table) (p : Primitive) (rs : List Record) (i : ℕ) (r : Record) → unfit_from n table p rs ≡ None → slice_get rs i ≡ Some r → fault_of_record table p r ≡ None
 fit_at n table p [] i r fit at = absurd (the_clash at)

@@ -1,7 +1,6 @@
 -- Records kept one after another.
-use Rattle.std.proofs.Common.{◌≡◌, ◌∙◌, sym, refl, ap, subst, ℕ, zero, suc, ◌+◌, ◌≤◌, Bool, true, false, ◌&&◌, cond, List, [], ◌∷◌, ◌++◌, map, length, drop, find, Option, Some, None, option_map, Ok, Err, Result, append_assoc, append-nil, eqb-true, eq-eqb}
+use Rattle.std.proofs.Common.{◌≡◌, ◌∙◌, sym, refl, ap, subst, ℕ, zero, suc, ◌+◌, ◌≤◌, true, false, ◌&&◌, cond, List, [], ◌∷◌, ◌++◌, map, length, drop, Option, Some, None, option_map, Ok, Err, Result, append_assoc, append-nil}
 use Rattle.std.specs.Result.{IsErrAnd, IfErr}
-use Rattle.std.proofs.lemmas.Bool.{and_parts, and_from}
 use Rattle.std.proofs.lemmas.List.{drop_all}
 use native.Mathlib.Numerals.{unary_clauses}
 use Rattle.std.specs.Prelude.{slice_get}
@@ -10,7 +9,7 @@ use Rattle.std.specs.List.{AllByRecursion}
 use Rattle.std.proofs.lemmas.Option.{same_Some}
 use Rattle.key_msgs.specs.declared.key.KeyKind.{KeyKind}
 use Rattle.key_msgs.specs.declared.primitive.Primitive.{Primitive}
-use Rattle.keyset_model.specs.Keyset.{Keys, fault_of, is_enabled, is_primary, primary_of}
+use Rattle.keyset_model.specs.Keyset.{Keys, fault_of, is_enabled, primary_of}
 use Rattle.keyset_model.specs.declared.record.Record.{Record}
 use Rattle.managers.specs.Schemes.{key_under}
 use Rattle.managers.specs.Table.{Entry, Table, entries_of, place_of}
@@ -46,21 +45,6 @@ each_more P [] x h px zero y e = subst P (same_Some _ _ e) px
 each_more P [] x h px (suc i) y e = none_some y e
 each_more P (z ∷ xs) x h px zero y e = h zero y e
 each_more P (z ∷ xs) x h px (suc i) y e = each_more P xs x (λ i y. h (suc i) y) px i y e
-
--- ---- the primary record
-
-pub find_holds : {X : Type 0} (test : X → Bool) (xs : List X) (x : X) → find test xs ≡ Some x → test x ≡ true
-find_holds test [] x e = none_some x e
-find_holds test (y ∷ xs) x e = elim (test y) as (λ b. test y ≡ b → cond b (Some y) (find test xs) ≡ Some x → test x ≡ true) [
-  | true ↦ λ t k. ap test (sym (same_Some y x k)) ∙ t
-  | false ↦ λ t k. find_holds test xs x k
-] refl e
-
-pub find_here : {X : Type 0} (test : X → Bool) (xs : List X) (i : ℕ) (x : X) → slice_get xs i ≡ Some x → test x ≡ true → find test (drop i xs) ≡ Some x
-find_here test xs i x at t = ap (find test) (drop_here xs i x at) ∙ ap (λ b. cond b (Some x) (find test (drop (i + 1) xs))) t
-
-pub find_later : {X : Type 0} (test : X → Bool) (xs : List X) (i : ℕ) (x : X) → slice_get xs i ≡ Some x → test x ≡ false → find test (drop (i + 1) xs) ≡ find test (drop i xs)
-find_later test xs i x at t = sym (ap (find test) (drop_here xs i x at) ∙ ap (λ b. cond b (Some x) (find test (drop (i + 1) xs))) t)
 
 -- ---- one record
 
@@ -204,28 +188,3 @@ fault_here table p keys i r held faults.NoMemory was at keeping = tt
 pub fault_refused : {A : Type 0} (result : Result A HandleFault) (fault : HandleFault) (told : Option (ℕ × Unfit)) → IsErrAnd result (λ e. e ≡ fault) → IsFaultOf told fault → IfErr result (IsFaultOf told)
 fault_refused (Ok done) fault told same is = absurd same
 fault_refused (Err e) fault told same is = subst (IsFaultOf told) (sym same) is
-
--- ---- the primary record among others
-
-primary_id : (keys : Keys) (p : Record) → primary_of keys ≡ Some p → is_primary keys.primary p ≡ true
-primary_id keys p primary = find_holds (is_primary keys.primary) keys.records p primary
-
-id_primary : (keys : Keys) (p : Record) → primary_of keys ≡ Some p → p.id ≡ keys.primary
-id_primary keys p primary = eqb-true _ _ (and_parts _ _ (primary_id keys p primary)).0
-
-pub primary_here : (keys : Keys) (p : Record) (i : ℕ) (r : Record) → primary_of keys ≡ Some p → find (is_primary keys.primary) (drop i keys.records) ≡ primary_of keys
-    → slice_get keys.records i ≡ Some r → r.id ≡ p.id → r.status ≡ 1 → slice_get keys.records i ≡ primary_of keys
-primary_here keys p i r primary first at same enabled =
-    at ∙ sym (find_here (is_primary keys.primary) keys.records i r at (and_from _ _ (eq-eqb _ _ (same ∙ id_primary keys p primary)) (eq-eqb _ _ enabled))) ∙ first
-
-pub primary_later : (keys : Keys) (p : Record) (i : ℕ) (r : Record) → primary_of keys ≡ Some p → find (is_primary keys.primary) (drop i keys.records) ≡ primary_of keys
-    → slice_get keys.records i ≡ Some r → is_primary p.id r ≡ false → find (is_primary keys.primary) (drop (i + 1) keys.records) ≡ primary_of keys
-primary_later keys p i r primary first at other =
-    find_later (is_primary keys.primary) keys.records i r at (ap (λ id. is_primary id r) (sym (id_primary keys p primary)) ∙ other) ∙ first
-
-pub other_id : (a b : Bool) → a ≡ false → (a && b) ≡ false
-other_id a b e = ap (λ x. x && b) e
-
-pub other_status : (a b : Bool) → b ≡ false → (a && b) ≡ false
-other_status true b e = e
-other_status false b e = refl

@@ -1,6 +1,6 @@
 -- What a handle's kept keys open and verify is what its keyset answers.
 use Rattle.std.proofs.Common.{subst, ◌≡◌, ◌∙◌, ℕ, suc, ◌+◌, refl, sym, ap, List, [], ◌∷◌, ◌++◌, map, Option, Some, None, Result, Ok, Err, option_map, Bool, true, false, ◌&&◌, ◌||◌, cond, take, drop, length}
-use Rattle.std.specs.Prelude.{slice_get}
+use Rattle.std.specs.Prelude.{is_some, slice_get}
 use Rattle.std.specs.Option.{option_and_then, option_flatten, option_or}
 use Rattle.std.specs.List.{AllByRecursion, cons_option, filter_map, list_any}
 use Rattle.std.proofs.lemmas.List.{map-append}
@@ -143,6 +143,16 @@ unfolding first_some
 first_some-append [] ys = refl
 first_some-append (None ∷ xs) ys = first_some-append xs ys
 first_some-append (Some x ∷ xs) ys = refl
+
+-- the first that opens is there where one opens
+pub any_opens : {X : Type 0} (f : X → Option (List ℕ)) (xs : List X) → is_some (first_some (map f xs)) ≡ list_any (λ x. is_some (f x)) xs
+unfolding first_some
+any_opens f [] = refl
+any_opens f (x ∷ xs) = by (f x) (any_opens f xs)
+  where
+    by : (o : Option (List ℕ)) → is_some (first_some (map f xs)) ≡ list_any (λ y. is_some (f y)) xs → is_some (first_some (o ∷ map f xs)) ≡ (is_some o || list_any (λ y. is_some (f y)) xs)
+    by None h = h
+    by (Some v) h = refl
 
 -- what a handle opens is what its keyset opens under the table
 pub opens-IsOver : (table : Table) (p : Primitive) (keys : Keys) (held : Held) (bytes ad : List ℕ) → IsOver table p keys held

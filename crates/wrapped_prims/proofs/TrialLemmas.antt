@@ -1,11 +1,11 @@
 -- How many keys a handle tries is what its keyset says.
-use Rattle.std.proofs.Common.{◌≡◌, ◌∙◌, ℕ, refl, sym, ap, List, [], ◌∷◌, ◌++◌, map, Option, Some, None, option_map, Bool, true, false, ◌||◌, cond, take, drop}
+use Rattle.std.proofs.Common.{◌≡◌, ◌∙◌, ℕ, refl, sym, ap, List, [], ◌∷◌, ◌++◌, Option, Some, None, option_map, Bool, true, false, ◌||◌, cond, take, drop}
 use Rattle.std.specs.Prelude.{is_some}
 use Rattle.std.specs.List.{list_any}
 use Rattle.tink_spec.specs.Outside.{next}
 use Rattle.key_msgs.specs.declared.primitive.Primitive.{Primitive}
 use Rattle.key_msgs.specs.declared.primitive.Primitive.TheVariants.{Mac}
-use Rattle.keyset_model.specs.Keyset.{Keys, first_some}
+use Rattle.keyset_model.specs.Keyset.{Keys}
 use Rattle.keyset_model.specs.declared.record.Record.{Record}
 use Rattle.managers.specs.Table.{Table}
 use Rattle.wrapped_prims.specs.Answers.{is_tag_of, is_tag_under, open_trials, opened, opened_under, tried, verify_trials}
@@ -14,7 +14,7 @@ use Rattle.wrapped_prims.specs.Held.{kept_at, open_with, places_at, tag_tries_ke
 use Rattle.wrapped_prims.specs.Making.{IsOver}
 use Rattle.wrapped_prims.specs.declared.held.Held.{Held}
 use Rattle.wrapped_prims.specs.declared.held.Kept.{Kept}
-use Rattle.wrapped_prims.proofs.OpenLemmas.{HaveKept, all_kept, have-IsOver, kept_opens, kept_verifies, raw-IsOver, under-IsOver}
+use Rattle.wrapped_prims.proofs.OpenLemmas.{HaveKept, all_kept, any_opens, have-IsOver, kept_opens, kept_verifies, raw-IsOver, under-IsOver}
 
 -- ---- the keys of a prefix, and then those of none
 
@@ -93,15 +93,6 @@ tried-append test (x ∷ xs) ys count = by (test x) (tried-append test xs ys (ne
         → cond b (next count) (tried test (xs ++ ys) (next count)) ≡ cond (b || list_any test xs) (cond b (next count) (tried test xs (next count))) (tried test ys (cond b (next count) (tried test xs (next count))))
     by true h = refl
     by false h = h
-
-any_opens : {X : Type 0} (f : X → Option (List ℕ)) (xs : List X) → is_some (first_some (map f xs)) ≡ list_any (λ x. is_some (f x)) xs
-unfolding first_some
-any_opens f [] = refl
-any_opens f (x ∷ xs) = by (f x) (any_opens f xs)
-  where
-    by : (o : Option (List ℕ)) → is_some (first_some (map f xs)) ≡ list_any (λ y. is_some (f y)) xs → is_some (first_some (o ∷ map f xs)) ≡ (is_some o || list_any (λ y. is_some (f y)) xs)
-    by None h = h
-    by (Some v) h = refl
 
 pub tries-IsOver : (table : Table) (p : Primitive) (keys : Keys) (held : Held) (bytes ad : List ℕ) (count : ℕ) → IsOver table p keys held → tries_kept p held bytes ad count ≡ open_trials p keys table bytes ad count
 tries-IsOver table p keys held bytes ad count over =

@@ -4,7 +4,7 @@
 --   prefix_of      the five bytes in front of what a record seals or tags, none for RAW
 --   enabled_with   the ENABLED records with a prefix, or with none
 --   candidates     the records that may have made the bytes, each with the part that it made
-use Rattle.std.specs.Prelude.{ℕ, ◌==◌, Bool, true, false, ◌&&◌, if◌then◌else◌, List, [], ◌∷◌, ◌++◌, length, map, filter, take, drop, Option, Some, None}
+use Rattle.std.specs.Prelude.{ℕ, ◌==◌, Bool, true, false, ◌&&◌, if◌then◌else◌, List, [], ◌∷◌, ◌++◌, map, filter, take, drop, Option, Some, None}
 use Rattle.std.specs.Int.{to_be_bytes, w32}
 use Rattle.std.specs.Str.{bytes_eq}
 use Rattle.keyset_model.specs.Keyset.{Keys, is_enabled}
@@ -45,10 +45,6 @@ is_enabled_with prefix r = is_enabled r && same_prefix (prefix_of r) prefix
 -- those records, in order
 abbrev pub enabled_with : Option (List ℕ) → List Record → List Record
 enabled_with prefix records = filter (is_enabled_with prefix) records
-
--- how many ENABLED records have no prefix
-abbrev pub raw_count : Keys → ℕ
-raw_count keys = length (enabled_with None keys.records)
 
 -- these records, each with these bytes
 abbrev pub each_with : List ℕ → List Record → List (Record × List ℕ)

@@ -9,7 +9,7 @@ ghost use Rattle.wrapped_prims.specs.Held.{IsServedBy};
 ghost use Rattle.wrapped_prims.specs.Making.{HasWordId, IsCheckedBy, IsFaultOf, IsKeeping, IsOver};
 ghost use Rattle.wrapped_prims.specs.Prefixes.{prefix_index};
 
-use crate::held::{Held, Kept, prefix, primary_place};
+use crate::held::{Held, Kept, prefix};
 use crate::places::Places;
 use indexmap::IndexMap;
 use key_msgs::{KeyKind, Primitive, Rule};
@@ -143,7 +143,7 @@ impl<'m> Handle<'m> {
             ≡ ⟦<Managers as KeyTable>⟧.table managers.now) }
         ensures primitive { IfOk result (λ h. h.primitive ≡ primitive) }
     {
-        let mut held = Held::new(alloc, primary_place(keyset));
+        let mut held = Held::new(alloc, keyset.primary_at());
         for i in 0..keyset.len() {
             let slot = keep(managers, alloc, primitive, i, keyset.record_at(i))?;
             held.add(alloc, i, slot)?;

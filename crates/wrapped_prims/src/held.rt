@@ -1,10 +1,9 @@
 //! What a handle keeps of a keyset.
 
-ghost use Rattle.std.specs.Prelude.{◌≡◌, ◌<◌, ◌^◌, [], ◌∷◌, None, OnOk, slice_get, take, drop};
+ghost use Rattle.std.specs.Prelude.{◌≡◌, ◌<◌, ◌^◌, [], ◌∷◌, None, OnOk, take, drop};
 ghost use Rattle.std.specs.HashMap.{IsUnique};
 ghost use Rattle.std.specs.Int.{to_be_bytes, w32};
 ghost use Rattle.std.specs.Str.{bytes_eq};
-ghost use Rattle.keyset_model.specs.Keyset.{fault_of, primary_of};
 ghost use Rattle.wrapped_prims.specs.Adding.{IsAdded, IsOfNone, noted};
 ghost use Rattle.wrapped_prims.specs.Candidates.{prefix_of};
 ghost use Rattle.wrapped_prims.specs.Held.{places_at};
@@ -13,9 +12,9 @@ ghost use Rattle.wrapped_prims.specs.Making.{HasWordId};
 use crate::places::Places;
 use indexmap::IndexMap;
 use key_msgs::KeyKind;
-use keyset_model::{Keyset, Record};
+use keyset_model::Record;
 use std::alloc::Global;
-use tink_base::{ENABLED, NoMemory, RAW, TINK};
+use tink_base::{NoMemory, RAW, TINK};
 
 /// The key of an ENABLED record, with the place of its manager.
 #[derive(Drop)]
@@ -123,21 +122,6 @@ pub(crate) fn prefix(from: &Record) -> Option<[u8; 5]>
     let first = if from.prefix == TINK { 1 } else { 0 };
     let five = five_bytes(first, from.id);
     if from.prefix == RAW { None } else { Some(five) }
-}
-
-/// The place of the primary record.
-pub(crate) fn primary_place(keyset: &Keyset) -> usize
-    ensures faultless { fault_of keyset.now ≡ None }
-    ensures primary { slice_get keyset.now.records result ≡ primary_of keyset.now }
-{
-    let primary = keyset.primary_record();
-    for i in 0..keyset.len() {
-        let record = keyset.record_at(i);
-        if record.id == primary.id && record.status == ENABLED {
-            return i;
-        }
-    }
-    unreachable!()
 }
 
 /// The first five bytes, or all of fewer, and the rest.

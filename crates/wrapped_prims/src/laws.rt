@@ -1,12 +1,13 @@
 //! Laws of the definitions. Each is the contract of a function that does nothing else.
 
-ghost use Rattle.wrapped_prims.specs.Laws.{IndexFinds, OnePrefix, PlacesGive, SameKeyDopens, SameKeyOpens, SameKeyVerifies};
+ghost use Rattle.wrapped_prims.specs.Laws.{EnabledKeyDopens, EnabledKeyOpens, IndexFinds, PlacesGive, SameKeyDopens, SameKeyOpens, SameKeyVerifies, SoleFirst};
 
 use managers::laws::{dopens_sealings, sealings_open};
 
-/// At most one record of a keyset has a given output prefix.
-pub fn one_prefix()
-    ensures { OnePrefix }
+/// Where exactly one ENABLED record has the output prefix with which some bytes begin, that record is
+/// their first candidate.
+pub fn sole_first()
+    ensures { SoleFirst }
 {}
 
 /// The records at the places that have a prefix, or none, are the ENABLED records with it, in order.
@@ -20,8 +21,8 @@ pub fn index_finds()
     ensures { IndexFinds }
 {}
 
-/// What a keyset sealed, every keyset opens that has the same key, ENABLED: with the same associated
-/// data, to the plaintext. The key isn't RAW.
+/// What a keyset sealed, every keyset opens in which the same key is ENABLED and alone under its output
+/// prefix: with the same associated data, to the plaintext. The key isn't RAW.
 pub fn same_key_opens()
     ensures { SameKeyOpens }
 {
@@ -31,6 +32,21 @@ pub fn same_key_opens()
 /// The same of sealing without an IV.
 pub fn same_key_dopens()
     ensures { SameKeyDopens }
+{
+    dopens_sealings();
+}
+
+/// What a keyset sealed, every keyset opens to some plaintext that has the same key, ENABLED, whatever
+/// its prefix type. Which plaintext isn't said, since another key may open the bytes by chance.
+pub fn enabled_key_opens()
+    ensures { EnabledKeyOpens }
+{
+    sealings_open();
+}
+
+/// The same of sealing without an IV.
+pub fn enabled_key_dopens()
+    ensures { EnabledKeyDopens }
 {
     dopens_sealings();
 }

@@ -4,7 +4,7 @@ ghost use Rattle.std.specs.Prelude.{◌≡◌, ◌+◌, ◌^◌, ◌≤◌, leng
 ghost use Rattle.key_msgs.specs.declared.primitive.Primitive.TheVariants.{Aead, Daead, Mac};
 ghost use Rattle.keyset_model.specs.Keyset.{Keys};
 ghost use Rattle.wrapped_prims.specs.Answers.{dopen_answer, open_answer, open_trials, verify_answer, verify_trials};
-ghost use Rattle.wrapped_prims.specs.Candidates.{raw_count};
+ghost use Rattle.wrapped_prims.specs.Candidates.{candidates};
 ghost use Rattle.wrapped_prims.specs.Making.{IsOver};
 
 use crate::Handle;
@@ -19,7 +19,7 @@ impl Handle<'_> {
     ///
     /// The plaintext is that of the first candidate that opens, and `None` comes exactly where none
     /// does. Each trial of a key is counted, in the order of the candidates up to the one that opens: at
-    /// most one, and one for each ENABLED RAW record.
+    /// most one for each candidate.
     pub fn open(
         &self,
         alloc: Global,
@@ -41,7 +41,7 @@ impl Handle<'_> {
             (⟦<Managers as KeyTable>⟧.table self.now.managers.now) bytes.now ad.now trials.old) }
         ensures few_trials { (keys : Keys)
             → IsOver (⟦<Managers as KeyTable>⟧.table self.now.managers.now) Aead keys self.now.held
-            → trials.new ≤ trials.old + (1 + raw_count keys) }
+            → trials.new ≤ trials.old + length (candidates keys bytes.now) }
     {
         try_all(
             self.managers,
@@ -59,7 +59,7 @@ impl Handle<'_> {
     ///
     /// The plaintext is that of the first candidate that opens, and `None` comes exactly where none
     /// does. Each trial of a key is counted, in the order of the candidates up to the one that opens: at
-    /// most one, and one for each ENABLED RAW record.
+    /// most one for each candidate.
     pub fn dopen(
         &self,
         alloc: Global,
@@ -82,7 +82,7 @@ impl Handle<'_> {
             (⟦<Managers as KeyTable>⟧.table self.now.managers.now) bytes.now ad.now trials.old) }
         ensures few_trials { (keys : Keys)
             → IsOver (⟦<Managers as KeyTable>⟧.table self.now.managers.now) Daead keys self.now.held
-            → trials.new ≤ trials.old + (1 + raw_count keys) }
+            → trials.new ≤ trials.old + length (candidates keys bytes.now) }
     {
         try_all(
             self.managers,
@@ -98,7 +98,7 @@ impl Handle<'_> {
     /// Whether some candidate's part is its whole tag of the body, which has at most 2^30 bytes.
     ///
     /// Each trial of a key is counted, in the order of the candidates up to the one whose tag it is: at
-    /// most one, and one for each ENABLED RAW record. No memory is taken.
+    /// most one for each candidate. No memory is taken.
     pub fn verify(&self, tag: &[u8], body: &[u8], trials: &mut Trials) -> bool
         requires over { (keys : Keys)
             × IsOver (⟦<Managers as KeyTable>⟧.table self.now.managers.now) Mac keys self.now.held }
@@ -113,7 +113,7 @@ impl Handle<'_> {
             self.now.managers.now) tag.now body.now trials.old }
         ensures few_trials { (keys : Keys)
             → IsOver (⟦<Managers as KeyTable>⟧.table self.now.managers.now) Mac keys self.now.held
-            → trials.new ≤ trials.old + (1 + raw_count keys) }
+            → trials.new ≤ trials.old + length (candidates keys tag.now) }
     {
         verify_all(self.managers, &self.held, tag, body, trials)
     }

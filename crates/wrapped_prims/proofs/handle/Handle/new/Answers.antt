@@ -3,7 +3,7 @@ use Rattle.wrapped_prims.proofs.KeepLemmas.{fault_here, fault_refused, kept_firs
 use Rattle.wrapped_prims.proofs.handle.Handle.new.Goals as goal
 
 pub loop-i-init : goal.loop-i-init
-loop-i-init g c = kept_first _ c.args.primitive c.args.keyset.now _ _ c.new-held.ensures c.primary_place.ensures.primary
+loop-i-init g c = kept_first _ c.args.primitive c.args.keyset.now _ _ c.new-held.ensures c.primary_at.ensures.primary
 
 pub loop-i-preserved : goal.loop-i-preserved
 loop-i-preserved g c =
@@ -16,4 +16,4 @@ returns-in_err-slot-clause-fault g c =
 
 pub returns-clause-over : goal.returns-clause-over
 returns-clause-over g c =
-    kept_last _ c.args.primitive c.args.keyset.now _ _ c.primary_place.ensures.faultless (omega (arith, c.len-i-end.ensures.count, c.loop-i-test.false)) c.loop-i.invariant
+    kept_last _ c.args.primitive c.args.keyset.now _ _ c.primary_at.ensures.faultless (omega (arith, c.len-i-end.ensures.count, c.loop-i-test.false)) c.loop-i.invariant
