@@ -23,7 +23,8 @@ use wrapped_prims::Handle;
 // hand from Tink's definitions.
 
 // AES-GCM's answer is case 2 of the appendix of its authors, with keys of 16 zero bytes (1a10 00..) and
-// other keys of 16 bytes 0xff. What is given: plaintext or sealed bytes, and associated data.
+// other keys of 16 bytes 0xff. What is given: plaintext or sealed bytes, and associated data. Behind what
+// was opened stands how many keys were tried.
 const AEAD: &str = "\
 sealing|84868808;01 01 84868808 g 1a1000000000000000000000000000000000|seal|00000000000000000000000000000000||01010203040000000000000000000000000388dace60b6a392f328c2b971b2fe78ab6e47d42cec13bdf53a67b21257bddf
 opening|84868808;01 01 84868808 g 1a1000000000000000000000000000000000|open|01010203040000000000000000000000000388dace60b6a392f328c2b971b2fe78ab6e47d42cec13bdf53a67b21257bddf||00000000000000000000000000000000 1
@@ -38,7 +39,19 @@ disabled keys at fault|84868808;02 01 01 g 1a0100;02 01 02 other 00;01 01 848688
 no manager|84868808;01 01 84868808 other 1a1000000000000000000000000000000000|open|||NoManager(0)
 of another primitive|84868808;01 01 84868808 g 1a1000000000000000000000000000000000;01 03 01 h 1a00|open|||NoManager(1)
 a key of 15 bytes|84868808;01 01 84868808 g 1a0f000000000000000000000000000000|open|||BadKey(0, KeySize)
-the first fault|84868808;01 01 84868808 g 1a1000000000000000000000000000000000;01 01 01 g 1a0100;01 01 02 other 00|open|||BadKey(1, KeySize)";
+the first fault|84868808;01 01 84868808 g 1a1000000000000000000000000000000000;01 01 01 g 1a0100;01 01 02 other 00|open|||BadKey(1, KeySize)
+the second key of an id|08;01 01 07 g ONES;01 01 07 g ZERO;01 03 08 g ZERO|open|01000000070000000000000000000000000388dace60b6a392f328c2b971b2fe78ab6e47d42cec13bdf53a67b21257bddf||00000000000000000000000000000000 2
+no key of an id|08;01 01 07 g ONES;01 01 07 g ZERO;01 03 08 g ZERO|open|01000000070000000000000000000000000388dace60b6a392f328c2b971b2fe78ab6e47d42cec13bdf53a67b21257bdde||none 3
+the RAW key beside an id|08;01 01 07 g ONES;01 01 07 g ZERO;01 03 08 g ZERO|open|0000000000000000000000000388dace60b6a392f328c2b971b2fe78ab6e47d42cec13bdf53a67b21257bddf||00000000000000000000000000000000 1
+the last key of an id alone|08;01 01 07 g ONES;01 01 07 g ONES;01 01 07 g ZERO;01 03 08 g ZERO|open|01000000070000000000000000000000000388dace60b6a392f328c2b971b2fe78ab6e47d42cec13bdf53a67b21257bddf||00000000000000000000000000000000 3
+the first of two that open|08;01 01 07 g ZERO;01 01 07 g ZERO;01 03 08 g ZERO|open|01000000070000000000000000000000000388dace60b6a392f328c2b971b2fe78ab6e47d42cec13bdf53a67b21257bddf||00000000000000000000000000000000 1
+keys of an id apart|08;01 01 07 g ONES;01 03 08 g ONES;01 01 07 g ZERO|open|01000000070000000000000000000000000388dace60b6a392f328c2b971b2fe78ab6e47d42cec13bdf53a67b21257bddf||00000000000000000000000000000000 2
+a disabled key of an id|08;02 01 07 g ZERO;01 01 07 g ONES;01 03 08 g ONES|open|01000000070000000000000000000000000388dace60b6a392f328c2b971b2fe78ab6e47d42cec13bdf53a67b21257bddf||none 2
+CRUNCHY and LEGACY of one id|08;01 04 07 g ONES;01 02 07 g ZERO;01 03 08 g ONES|open|00000000070000000000000000000000000388dace60b6a392f328c2b971b2fe78ab6e47d42cec13bdf53a67b21257bddf||00000000000000000000000000000000 2
+TINK and CRUNCHY of one id|08;01 01 07 g ZERO;01 04 07 g ONES;01 03 08 g ONES|open|00000000070000000000000000000000000388dace60b6a392f328c2b971b2fe78ab6e47d42cec13bdf53a67b21257bddf||none 2
+RAW and TINK of one id|08;01 03 07 g ZERO;01 01 07 g ONES;01 03 08 g ONES|open|0000000000000000000000000388dace60b6a392f328c2b971b2fe78ab6e47d42cec13bdf53a67b21257bddf||00000000000000000000000000000000 1
+a primary behind a disabled key of its id|09;02 01 09 g ONES;01 01 09 g ZERO|seal|00000000000000000000000000000000||01000000090000000000000000000000000388dace60b6a392f328c2b971b2fe78ab6e47d42cec13bdf53a67b21257bddf
+a primary before a disabled key of its id|09;01 01 09 g ZERO;02 01 09 g ONES|seal|00000000000000000000000000000000||01000000090000000000000000000000000388dace60b6a392f328c2b971b2fe78ab6e47d42cec13bdf53a67b21257bddf";
 
 // The answers are RFC 4231's first case, the first 16 bytes, and for LEGACY that of the body with one
 // byte 0 behind it, by OpenSSL's `dgst -sha256 -mac HMAC`. What is given: the body, and a tag.
@@ -52,13 +65,21 @@ a tag cut short|84868808;01 03 84868808 h KEY|verify|4869205468657265|b0344c61d8
 a tag and a byte|84868808;01 03 84868808 h KEY|verify|4869205468657265|b0344c61d8db38535ca8afceaf0bf12b00|false 1
 no tag|84868808;01 03 84868808 h KEY|verify|4869205468657265||false 1
 a LEGACY tag|84868808;01 02 84868808 h KEY|verify|4869205468657265|0001020304f67dd14688b85b4183637af0166514ef|true 1
-without the byte|84868808;01 02 84868808 h KEY|verify|4869205468657265|0001020304b0344c61d8db38535ca8afceaf0bf12b|false 1";
+without the byte|84868808;01 02 84868808 h KEY|verify|4869205468657265|0001020304b0344c61d8db38535ca8afceaf0bf12b|false 1
+the second key of an id|08;01 01 07 h OTHER;01 01 07 h KEY;01 03 08 h OTHER|verify|4869205468657265|0100000007b0344c61d8db38535ca8afceaf0bf12b|true 2
+the last key of an id alone|08;01 01 07 h OTHER;01 01 07 h OTHER;01 01 07 h KEY;01 03 08 h OTHER|verify|4869205468657265|0100000007b0344c61d8db38535ca8afceaf0bf12b|true 3
+no key of an id|08;01 01 07 h OTHER;01 01 07 h OTHER;01 03 08 h KEY|verify|4869205468657265|0100000007b0344c61d8db38535ca8afceaf0bf12b|false 3
+CRUNCHY and LEGACY of one id|08;01 04 07 h KEY;01 02 07 h KEY;01 03 08 h OTHER|verify|4869205468657265|0000000007f67dd14688b85b4183637af0166514ef|true 2
+a primary behind a disabled key of its id|09;02 01 09 h OTHER;01 01 09 h KEY|tag|4869205468657265||0100000009b0344c61d8db38535ca8afceaf0bf12b";
 
 // An answer of Python's cryptography. What is given: plaintext or sealed bytes, and associated data.
 const DAEAD: &str = "\
 sealing|84868808;01 01 84868808 s SIV|dseal|000102030405060708090a0b0c0d0e0f|101112131415161718191a1b1c1d1e1f2021222324252627|010102030422a4e63521fcdc685fe4eb0984d60745d47a88f6c39e7902ec4f28efab6dcb6a
 opening|84868808;01 01 84868808 s SIV|dopen|010102030422a4e63521fcdc685fe4eb0984d60745d47a88f6c39e7902ec4f28efab6dcb6a|101112131415161718191a1b1c1d1e1f2021222324252627|000102030405060708090a0b0c0d0e0f 1
-other associated data|84868808;01 01 84868808 s SIV|dopen|010102030422a4e63521fcdc685fe4eb0984d60745d47a88f6c39e7902ec4f28efab6dcb6a||none 1";
+other associated data|84868808;01 01 84868808 s SIV|dopen|010102030422a4e63521fcdc685fe4eb0984d60745d47a88f6c39e7902ec4f28efab6dcb6a||none 1
+the second key of an id|08;01 01 07 s OTHER_SIV;01 01 07 s SIV;01 03 08 s OTHER_SIV|dopen|010000000722a4e63521fcdc685fe4eb0984d60745d47a88f6c39e7902ec4f28efab6dcb6a|101112131415161718191a1b1c1d1e1f2021222324252627|000102030405060708090a0b0c0d0e0f 2
+no key of an id|08;01 01 07 s OTHER_SIV;01 01 07 s OTHER_SIV;01 03 08 s SIV|dopen|010000000722a4e63521fcdc685fe4eb0984d60745d47a88f6c39e7902ec4f28efab6dcb6a|101112131415161718191a1b1c1d1e1f2021222324252627|none 3
+a primary behind a disabled key of its id|09;02 01 09 s OTHER_SIV;01 01 09 s SIV|dseal|000102030405060708090a0b0c0d0e0f|101112131415161718191a1b1c1d1e1f2021222324252627|010000000922a4e63521fcdc685fe4eb0984d60745d47a88f6c39e7902ec4f28efab6dcb6a";
 
 // RFC 4231's first case. What is given: the input, and how many bytes, in hexadecimal.
 const PRF: &str = "\
@@ -75,18 +96,31 @@ a CRUNCHY key with id 0|01;01 04 00 g ZERO;01 03 01 g ZERO|prefixes|||0000000000
 each prefix type|01;01 03 01 g ZERO;01 01 02 g ZERO;01 02 03 g ZERO;01 04 04 g ZERO|prefixes|||0100000002 [1], 0000000003 [2], 0000000004 [3]
 ENABLED records alone|84868808;02 01 01 g ZERO;03 04 02 g ZERO;01 01 84868808 g ZERO;02 03 03 g ZERO|prefixes|||0101020304 [2]
 the keyset's order|02;01 01 ffffffff0f g ZERO;01 01 02 g ZERO;01 01 01 g ZERO|prefixes|||01ffffffff [0], 0100000002 [1], 0100000001 [2]
-RAW keys|01;01 03 01 g ZERO;01 03 02 g ZERO|prefixes|||";
+RAW keys|01;01 03 01 g ZERO;01 03 02 g ZERO|prefixes|||
+two keys of one id|08;01 01 07 g ONES;01 01 07 g ZERO;01 03 08 g ZERO|prefixes|||0100000007 [0, 1]
+keys of an id apart|09;01 01 07 g ZERO;01 01 09 g ZERO;02 01 07 g ZERO;01 01 07 g ONES|prefixes|||0100000007 [0, 3], 0100000009 [1]
+CRUNCHY and LEGACY of one id|08;01 04 07 g ZERO;01 02 07 g ZERO;01 01 07 g ZERO;01 03 08 g ZERO|prefixes|||0000000007 [0, 1], 0100000007 [2]
+a RAW key of the same id|08;01 03 07 g ZERO;01 01 07 g ZERO;01 03 08 g ZERO|prefixes|||0100000007 [1]";
 
 // Key messages that have a name in the tables.
-const NAMED: [(&str, &str); 4] = [
+const NAMED: [(&str, &str); 7] = [
     ("ZERO", "1a1000000000000000000000000000000000"),
+    ("ONES", "1a10ffffffffffffffffffffffffffffffff"),
     (
         "KEY",
         "1204080310101a140b0b0b0b0b0b0b0b0b0b0b0b0b0b0b0b0b0b0b0b",
     ),
     (
+        "OTHER",
+        "1204080310101a140c0c0c0c0c0c0c0c0c0c0c0c0c0c0c0c0c0c0c0c",
+    ),
+    (
         "SIV",
         "1240fffefdfcfbfaf9f8f7f6f5f4f3f2f1f0f0f1f2f3f4f5f6f7f8f9fafbfcfdfeff000102030405060708090a0b0c0d0e0f101112131415161718191a1b1c1d1e1f",
+    ),
+    (
+        "OTHER_SIV",
+        "12400c0c0c0c0c0c0c0c0c0c0c0c0c0c0c0c0c0c0c0c0c0c0c0c0c0c0c0c0c0c0c0c0c0c0c0c0c0c0c0c0c0c0c0c0c0c0c0c0c0c0c0c0c0c0c0c0c0c0c0c0c0c0c0c",
     ),
     (
         "FUN",
@@ -370,7 +404,7 @@ fn a_keyset_answers_by_its_candidates(rt: HostRuntime) -> Result<(), Fail> {
     let mut prf: Vec<Box<dyn PrfManager>> = Vec::new(alloc);
     prf.push(prf_under(alloc, "p", PrfScheme::Hmac)?)?;
     let all = Managers::new(aead, daead, mac, prf)?;
-    for (table, rows) in [(AEAD, 14), (MAC, 10), (DAEAD, 3), (PRF, 4), (PREFIXES, 6)] {
+    for (table, rows) in [(AEAD, 26), (MAC, 15), (DAEAD, 6), (PRF, 4), (PREFIXES, 10)] {
         assert_table(alloc, &all, table, rows)?;
     }
     Ok(())
