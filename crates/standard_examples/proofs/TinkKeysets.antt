@@ -7,7 +7,7 @@ use Rattle.std.specs.Str.{is_utf8, chars}
 use Rattle.standard_examples.proofs.TinkWire.{wire_on_literals, url, keyset}
 use Rattle.proto_wire.specs.Written.{groups_of}
 use Rattle.keyset_model.specs.declared.keyset.KeysetFault.TheVariants as faults
-use Rattle.keyset_model.specs.Keyset.{Keys, first_without, repeat_behind, first_some, when, fault_of}
+use Rattle.keyset_model.specs.Keyset.{Keys, first_two, first_without, first_some, when, fault_of}
 use Rattle.keyset_model.specs.Listing.{status_text, prefix_text, escaped, record_lines, info_of}
 use Rattle.keyset_model.specs.Reading.{record_of, key_of, reads_binary, Wire, Fault}
 use Rattle.keyset_model.specs.Writing.{binary_of}
@@ -15,7 +15,7 @@ use lib.Utf8.{encode}
 
 -- one name for what unfolds in an example
 unfoldable pub keysets_on_literals : Unit {0}
-unfolding wire_on_literals url keyset is_utf8 chars encode record_of key_of first_without repeat_behind first_some when fault_of reads_binary
+unfolding wire_on_literals url keyset is_utf8 chars encode record_of key_of first_two first_without first_some when fault_of reads_binary
 keysets_on_literals = tt
 
 -- the keyset of those 90 bytes: an AES-GCM key of 16 zero bytes

@@ -21,7 +21,7 @@ a key of another primitive | add-key --key-template HMAC_SHA256_128BITTAG --in-f
 an asymmetric template, before the missing file | add-key --key-template ECDSA_P256 --in none --in-format binary --out-format binary | | | 2 AsymmetricTemplate | tinkey: asymmetric key template | | none | 0
 an unknown template | rotate-keyset --key-template AES128_GCN --in k --in-format binary --out-format binary | | | 2 UnknownTemplate | tinkey: unknown key template | | none | 0
 the missing file | add-key --key-template AES128_GCM --in none --in-format binary --out-format binary | | | 4 InMissing | tinkey: input file missing | | none | 0
-a fault of the keyset, before that of the template's primitive | add-key --key-template AES256_SIV --in-format binary --out-format binary | GCM GCM[5..] | | 3 Keyset(DuplicateId(0, 1)) | tinkey: keys 0 and 1 have the same id | | none | 0
+a fault of the keyset, before that of the template's primitive | add-key --key-template AES256_SIV --in-format binary --out-format binary | GCM GCM[5..] | | 3 Keyset(AmbiguousPrimary(0, 1)) | tinkey: keys 0 and 1 are both the primary | | none | 0
 ";
 
 #[test]

@@ -47,6 +47,8 @@ mod selftests;
 #[cfg(test)]
 mod sessions;
 #[cfg(test)]
+mod shared_ids;
+#[cfg(test)]
 mod strange;
 #[cfg(test)]
 mod streams;

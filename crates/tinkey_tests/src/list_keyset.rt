@@ -95,12 +95,12 @@ const KEYSETS: &str = "words: list-keyset --in-format binary
 
 shows | input | status | line
 a second key that is empty | GCM 1200 | 3 Keyset(UnknownStatus(1)) | tinkey: key 1 has an unknown status
-the same key twice | GCM GCM[5..] | 3 Keyset(DuplicateId(0, 1)) | tinkey: keys 0 and 1 have the same id
+the same key twice | GCM GCM[5..] | 3 Keyset(AmbiguousPrimary(0, 1)) | tinkey: keys 0 and 1 are both the primary
 another primary id | 0805 GCM[5..] | 3 Keyset(NoPrimary) | tinkey: no key has the primary id
 an empty key | 1200 | 3 Keyset(UnknownStatus(0)) | tinkey: key 0 has an unknown status
 1,000 empty keys | 1000x1200 | 3 Keyset(UnknownStatus(0)) | tinkey: key 0 has an unknown status
 1,001 empty keys | 1001x1200 | 3 Keyset(TooMany) | tinkey: keyset has too many keys
-1,000 keys of one id | 0807 1000x120d0a050a01611801100118072001 | 3 Keyset(DuplicateId(0, 1)) | tinkey: keys 0 and 1 have the same id
+1,000 keys of one id | 0807 1000x120d0a050a01611801100118072001 | 3 Keyset(AmbiguousPrimary(0, 1)) | tinkey: keys 0 and 1 are both the primary
 1,001 keys of one id | 0807 1001x120d0a050a01611801100118072001 | 3 Keyset(TooMany) | tinkey: keyset has too many keys
 status 0 | 0807 120d0a050a01611801100118072001 120b0a050a0161180118082001 | 3 Keyset(UnknownStatus(1)) | tinkey: key 1 has an unknown status
 status 4 | 0807 120d0a050a01611801100118072001 120d0a050a01611801100418082001 | 3 Keyset(UnknownStatus(1)) | tinkey: key 1 has an unknown status
@@ -112,8 +112,8 @@ material 0 of a DISABLED key | 0807 120d0a050a01611801100118072001 120b0a030a016
 material 5 of a DESTROYED key | 0807 120d0a050a01611801100118072001 120d0a050a01611805100318082001 | 3 Keyset(UnknownMaterial(1)) | tinkey: key 1 has an unknown key material type
 no URL of an ENABLED key | 0807 120d0a050a01611801100118072001 120a0a021801100118082001 | 3 Keyset(MissingKeyData(1)) | tinkey: key 1 has no key data
 no URL of a DISABLED key | 0807 120d0a050a01611801100118072001 120a0a021801100218082001 | 3 Keyset(MissingKeyData(1)) | tinkey: key 1 has no key data
-ids 7, 8, 9, 8, 7 | 0807 120d0a050a01611801100118072001 120d0a050a01611801100118082001 120d0a050a01611801100118092001 120d0a050a01611801100118082001 120d0a050a01611801100118072001 | 3 Keyset(DuplicateId(1, 3)) | tinkey: keys 1 and 3 have the same id
-ids 8, 7, 7, 7 | 0807 120d0a050a01611801100118082001 120d0a050a01611801100118072001 120d0a050a01611801100118072001 120d0a050a01611801100118072001 | 3 Keyset(DuplicateId(1, 2)) | tinkey: keys 1 and 2 have the same id
+ids 7, 8, 9, 8, 7 | 0807 120d0a050a01611801100118072001 120d0a050a01611801100118082001 120d0a050a01611801100118092001 120d0a050a01611801100118082001 120d0a050a01611801100118072001 | 3 Keyset(AmbiguousPrimary(0, 4)) | tinkey: keys 0 and 4 are both the primary
+ids 8, 7, 7, 7 | 0807 120d0a050a01611801100118082001 120d0a050a01611801100118072001 120d0a050a01611801100118072001 120d0a050a01611801100118072001 | 3 Keyset(AmbiguousPrimary(1, 2)) | tinkey: keys 1 and 2 are both the primary
 no primary id | 120d0a050a01611801100118072001 | 3 Keyset(NoPrimary) | tinkey: no key has the primary id
 a DISABLED primary key | 0808 120d0a050a01611801100118072001 120d0a050a01611801100218082001 | 3 Keyset(PrimaryNotEnabled) | tinkey: the primary key is not enabled
 a DESTROYED primary key | 0808 120d0a050a01611801100118072001 120d0a050a01611801100318082001 | 3 Keyset(PrimaryNotEnabled) | tinkey: the primary key is not enabled
@@ -121,17 +121,18 @@ status behind output prefix type | 0807 120b0a050a0161180110011807 120b0a050a016
 output prefix type behind material | 0807 120b0a030a0161100118072001 120d0a050a01611801100118082005 | 3 Keyset(UnknownPrefix(1)) | tinkey: key 1 has an unknown output prefix type
 material behind no URL | 0807 120a0a021801100118072001 120d0a050a01611805100118082001 | 3 Keyset(UnknownMaterial(1)) | tinkey: key 1 has an unknown key material type
 no URL behind one id | 0807 120d0a050a01611801100118072001 120d0a050a01611801100118072001 120a0a021801100118082001 | 3 Keyset(MissingKeyData(2)) | tinkey: key 2 has no key data
-one id without the primary one | 0807 120d0a050a01611801100118082001 120d0a050a01611801100118082001 | 3 Keyset(DuplicateId(0, 1)) | tinkey: keys 0 and 1 have the same id
-one id, first DISABLED and then ENABLED | 0807 120d0a050a01611801100218072001 120d0a050a01611801100118072001 | 3 Keyset(DuplicateId(0, 1)) | tinkey: keys 0 and 1 have the same id
+one id without the primary one | 0807 120d0a050a01611801100118082001 120d0a050a01611801100118082001 | 3 Keyset(NoPrimary) | tinkey: no key has the primary id
+the primary id, DISABLED and then DESTROYED | 0807 120d0a050a01611801100218072001 1206 1003 1807 2001 | 3 Keyset(PrimaryNotEnabled) | tinkey: the primary key is not enabled
+the primary id, ENABLED, DISABLED and ENABLED | 0807 120d0a050a01611801100118072001 120d0a050a01611801100218072001 120d0a050a01611801100118072001 | 3 Keyset(AmbiguousPrimary(0, 2)) | tinkey: keys 0 and 2 are both the primary
 status and output prefix type of one key | 0807 1209 0a050a01611801 1807 | 3 Keyset(UnknownStatus(0)) | tinkey: key 0 has an unknown status
 material and URL of one key | 0807 1208 0a00 1001 1807 2001 | 3 Keyset(UnknownMaterial(0)) | tinkey: key 0 has an unknown key material type
 material behind a DISABLED primary key | 0807 120d0a050a01611801100218072001 120b0a030a0161100118082001 | 3 Keyset(UnknownMaterial(1)) | tinkey: key 1 has an unknown key material type
-one id behind a DISABLED primary key | 0807 120d0a050a01611801100218072001 120d0a050a01611801100118082001 120d0a050a01611801100118082001 | 3 Keyset(DuplicateId(1, 2)) | tinkey: keys 1 and 2 have the same id
+one id behind a DISABLED primary key | 0807 120d0a050a01611801100218072001 120d0a050a01611801100118082001 120d0a050a01611801100118082001 | 3 Keyset(PrimaryNotEnabled) | tinkey: the primary key is not enabled
 ";
 
 #[test]
 fn names_the_first_fault_of_the_keys(rt: HostRuntime) -> Result<(), Fail> {
-    run_table(rt.alloc(), KEYSETS, 33)
+    run_table(rt.alloc(), KEYSETS, 34)
 }
 
 // The input is the first bytes of the keyset, from a size to another. The first 4 bytes are a primary

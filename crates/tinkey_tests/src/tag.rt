@@ -58,7 +58,7 @@ the same in front of the primary key | 120d0a050a01611801100218082001 HMAC | 0 D
 the same ENABLED | HMAC 120d0a050a01611801100118082001 | 3 NoManager(1) | tinkey: key 1 has no manager for this command |
 the second key is primary | 0808 HMAC[5..] 1258 HMAC[7..89] 1001 1808 2001 | 0 Done | | 0100000008 b0344c61d8db38535ca8afceaf0bf12b
 a second key that isn't valid | HMAC 123a 0a32 HMAC[9..57] 1801 1001 1808 2001 | 3 BadKey(1, Hash) | tinkey: key 1 is not valid: hash |
-one id | HMAC HMAC[5..] | 3 Keyset(DuplicateId(0, 1)) | tinkey: keys 0 and 1 have the same id |
+one id | HMAC HMAC[5..] | 3 Keyset(AmbiguousPrimary(0, 1)) | tinkey: keys 0 and 1 are both the primary |
 a DISABLED primary key | HMAC[..90] 02 HMAC[91..] | 3 Keyset(PrimaryNotEnabled) | tinkey: the primary key is not enabled |
 ";
 
