@@ -1,4 +1,4 @@
-//! AES: the vectors of FIPS 197 and SP 800-38A, both counters where they wrap, and the fast bodies
+//! AES: the vectors of FIPS 197 and SP 800-38A, each counter where it wraps, and the fast bodies
 //! beside the plain ones at every length.
 
 ghost use Rattle.std.specs.Prelude.{◌≤◌};
@@ -24,8 +24,9 @@ C.3, 32 bytes|000102030405060708090a0b0c0d0e0f101112131415161718191a1b1c1d1e1f|0
 
 // SP 800-38A, F.5.1 (CTR-AES128) and F.5.5 (CTR-AES256): one start and one plaintext. Behind them
 // the output blocks at starts beside the counters' ends, under the key of C.3: those of All128 are
-// what `openssl enc -aes-256-ctr` makes of zeros, and those of Low32 are the single blocks of
-// python's `cryptography` in ECB mode, since the CTR mode of both has the other counter alone.
+// what `openssl enc -aes-256-ctr` makes of zeros, and those of Low32 and First32 are the single
+// blocks of python's `cryptography` in ECB mode, since the CTR mode of both has the other counter
+// alone.
 //
 // A row has what it shows, what counts, the key, the start, a text and its ciphertext.
 const COUNTED: &str = "\
@@ -34,7 +35,10 @@ F.5.5|All128|603deb1015ca71be2b73aef0857d77811f352c073b6108d72d9810a30914dff4|f0
 sixteen bytes wrap|All128|000102030405060708090a0b0c0d0e0f101112131415161718191a1b1c1d1e1f|ffffffffffffffffffffffffffffffff|00*64|e999e41d4ca770da5387117b5d8f57eef29000b62a499fd0a9f39a6add2e7780f05d76ae4ab99fe5a6f69b3148c2363d0ebcb5deb52c83bd08a8a935182c9199
 four of sixteen bytes carry|All128|000102030405060708090a0b0c0d0e0f101112131415161718191a1b1c1d1e1f|000102030405060708090a0bfffffffe|00*64|8b64b32ff7b39052bba97a548cd54f649d52ea871d37e206b64e902d1d857e44daa648ffc7cfc3a6d9f65499ff0b17818d72da2ac9d194201498fdb04c4cc401
 four bytes wrap, and all sixteen were ones|Low32|000102030405060708090a0b0c0d0e0f101112131415161718191a1b1c1d1e1f|ffffffffffffffffffffffffffffffff|00*64|e999e41d4ca770da5387117b5d8f57ee80f81812bab8c119db4c70da9d98c889d879e1252052a18ea14f5e3de6ade7353a81efc960bbdec68b5eaed12c2ea34c
-four bytes wrap, and twelve stay|Low32|000102030405060708090a0b0c0d0e0f101112131415161718191a1b1c1d1e1f|000102030405060708090a0bfffffffe|00*64|8b64b32ff7b39052bba97a548cd54f649d52ea871d37e206b64e902d1d857e44bddc4ccab15066ccc1fe6b0cba133eb6f4c2db1dc38805a37b92171c5d0a81cc";
+four bytes wrap, and twelve stay|Low32|000102030405060708090a0b0c0d0e0f101112131415161718191a1b1c1d1e1f|000102030405060708090a0bfffffffe|00*64|8b64b32ff7b39052bba97a548cd54f649d52ea871d37e206b64e902d1d857e44bddc4ccab15066ccc1fe6b0cba133eb6f4c2db1dc38805a37b92171c5d0a81cc
+the first four bytes wrap, and all sixteen were ones|First32|000102030405060708090a0b0c0d0e0f101112131415161718191a1b1c1d1e1f|ffffffffffffffffffffffffffffffff|00*64|e999e41d4ca770da5387117b5d8f57ee1fe13868b5871ca55d2a84aaa4bf068cc3853c1f0dbe45a810c68c0821b9ae0911c35e207080ed32245de46e29fcc4e8
+the first four bytes carry low byte first, and twelve stay|First32|000102030405060708090a0b0c0d0e0f101112131415161718191a1b1c1d1e1f|fefffffe0405060708090a0b0c0d0e0f|00*64|7a0057e31f3aeeac96d3165135c284282b20e4a02ce939c085a3292f08bec00a05800b71fce775b46b9026dbd78d4ec0beea22f80822a1f26dc7a216717b4ee9
+the first four bytes wrap, and twelve stay|First32|000102030405060708090a0b0c0d0e0f101112131415161718191a1b1c1d1e1f|feffffff0405060708090a0b0c0d0e0f|00*64|2fbee73f459c542b36823f6b236f95c6c5377c3948c31ee07b22d95e9e0c9a72713b723d71251282361a180189251844d775d2d2b31d222c2edbdc7b43c2ebaf";
 
 // SP 800-38A, F.2.1 (CBC-AES128): each ciphertext block is the chain from the IV up to it. A row
 // has what it shows, the key, the start, the blocks and the last result.
@@ -47,7 +51,11 @@ no block|2b7e151628aed2a6abf7158809cf4f3c|000102030405060708090a0b0c0d0e0f||0001
 
 // The kind of this name.
 fn kind_named(name: &str) -> Result<CtrKind, Fail> {
-    for (word, kind) in [("Low32", CtrKind::Low32), ("All128", CtrKind::All128)] {
+    for (word, kind) in [
+        ("Low32", CtrKind::Low32),
+        ("First32", CtrKind::First32),
+        ("All128", CtrKind::All128),
+    ] {
         if word == name {
             return Ok(kind);
         }
@@ -146,14 +154,19 @@ fn counts_as_plainly(rt: &impl Abort, key: &[u8; 32], kind: CtrKind, start: u128
     assert_eq!(rt; body, want, "{size} bytes");
 }
 
-// Starts from which both counters wrap in the midst of four blocks, and at their edge.
+// Starts from which each counter wraps in the midst of four blocks, and at their edge.
 fn counts_as_plainly_from_each_start(rt: &impl Abort, size: usize)
     requires { size ≤ 4200 }
 {
     let key = &COUNTING_KEY;
-    for start in [u128::MAX - 5, 0x000102030405060708090A0BFFFFFFFC] {
+    for start in [
+        u128::MAX - 5,
+        0x000102030405060708090A0BFFFFFFFC,
+        0xFBFFFFFF_0405060708090A0B0C0D0E0F,
+    ] {
         counts_as_plainly(rt, key, CtrKind::All128, start, size);
         counts_as_plainly(rt, key, CtrKind::Low32, start, size);
+        counts_as_plainly(rt, key, CtrKind::First32, start, size);
     }
 }
 

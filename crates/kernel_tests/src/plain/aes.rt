@@ -215,7 +215,7 @@ pub(crate) fn ctr_xor(key: &[u8], start: &[u8; 16], kind: CtrKind, body: &mut [u
     }
 }
 
-// One step of the standard incrementing function.
+// One step of the standard incrementing function, or of that of RFC 8452, 4.
 fn next_counter(counter: &[u8; 16], kind: CtrKind) -> [u8; 16]
     ensures { result ≡ counter_plus kind counter.now 1 }
 {
@@ -225,6 +225,13 @@ fn next_counter(counter: &[u8; 16], kind: CtrKind) -> [u8; 16]
             let count = u32::from_be_bytes([a, b, c, d]).wrapping_add(1);
             let mut next = *counter;
             next[12..].copy_from_slice(&count.to_be_bytes());
+            next
+        }
+        CtrKind::First32 => {
+            let [a, b, c, d, ..] = *counter;
+            let count = u32::from_le_bytes([a, b, c, d]).wrapping_add(1);
+            let mut next = *counter;
+            next[..4].copy_from_slice(&count.to_le_bytes());
             next
         }
         CtrKind::All128 => u128::from_be_bytes(*counter).wrapping_add(1).to_be_bytes(),
