@@ -1,0 +1,3 @@
+pub mod PolyvalLemmas
+pub mod GcmSivLemmas
+pub mod BlockLemmas

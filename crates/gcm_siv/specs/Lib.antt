@@ -1,0 +1,3 @@
+pub mod Polyval
+pub mod GcmSiv
+pub mod Laws

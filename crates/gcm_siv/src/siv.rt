@@ -1,0 +1,225 @@
+//! AES-GCM-SIV (RFC 8452), with an IV of 12 bytes, which the RFC calls the nonce, and a tag of 16.
+//!
+//! No branch and no place in memory depends on the key or on a byte of text, associated data or tag,
+//! but for the answer whether the tag is the right one: so it is written, and no clause says it.
+
+ghost use Rattle.std.specs.Prelude.{◌≡◌, ◌⊎◌, ◌↔◌, ◌+◌, ◌^◌, ◌≤◌, ◌<◌, ◌*◌, ◌++◌, drop, length, option_map, take, IfOk, IsTrue};
+ghost use Rattle.std.specs.Int.{w64, to_le_bytes};
+ghost use Rattle.aes_core.specs.Counter.{ctr};
+ghost use Rattle.aes_core.specs.declared.counter.CtrKind.TheVariants.{First32};
+ghost use Rattle.gcm_siv.specs.GcmSiv.{derived_half, encryption_key, first_counter, gcm_siv_open, gcm_siv_seal, gcm_siv_tag, gcm_siv_text, hashed};
+
+use crate::polyval::{absorb, hash_under};
+use aes_core::{Aes, CtrKind};
+use mac_prf::blocks::{same_bytes, xor};
+use std::alloc::Global;
+use tink_base::NoMemory;
+
+/// The bytes of an IV.
+const IV: usize = 12;
+
+/// The bytes of a tag.
+const TAG: usize = 16;
+
+/// Seals `plain` (RFC 8452, 4): the IV, as many bytes of ciphertext as `plain` has, and the tag, joined.
+///
+/// The key has 16 or 32 bytes; `plain` and `ad` have at most 2^30 bytes each. An IV that serves twice
+/// under one key tells whether plaintext and associated data were the same, and nothing else; still,
+/// each message should have its own. `NoMemory` comes for want of memory alone, here and in opening.
+pub fn gcm_siv_seal(
+    alloc: Global,
+    key: &[u8],
+    iv: &[u8; 12],
+    plain: &[u8],
+    ad: &[u8],
+) -> Result<Vec<u8>, NoMemory>
+    requires key_size { (length key.now ≡ 16) ⊎ (length key.now ≡ 32) }
+    requires plain_bound { length plain.now ≤ 2 ^ 30 }
+    requires ad_bound { length ad.now ≤ 2 ^ 30 }
+    ensures sealed { IfOk result (λ v. v.items ≡ gcm_siv_seal key.now iv.now plain.now ad.now) }
+{
+    let mut sealed = Vec::with_capacity(alloc, IV + plain.len() + TAG)?;
+    sealed.extend_from_slice(iv)?;
+    sealed.extend_from_slice(plain)?;
+    let tag = seal_behind(key, iv, ad, &mut sealed);
+    sealed.extend_from_slice(&tag)?;
+    Ok(sealed)
+}
+
+/// Opens IV, ciphertext and tag, joined (RFC 8452, 5).
+///
+/// The key has 16 or 32 bytes, `bytes` have at most 2^30 + 96, and `ad` at most 2^30. The answer is
+/// `None` exactly where `bytes` are shorter than IV and tag, or the tag isn't the one that the plaintext
+/// has. All bytes of the two are compared.
+pub fn gcm_siv_open(
+    alloc: Global,
+    key: &[u8],
+    bytes: &[u8],
+    ad: &[u8],
+) -> Result<Option<Vec<u8>>, NoMemory>
+    requires key_size { (length key.now ≡ 16) ⊎ (length key.now ≡ 32) }
+    requires bytes_bound { length bytes.now ≤ 2 ^ 30 + 96 }
+    requires ad_bound { length ad.now ≤ 2 ^ 30 }
+    ensures opened { IfOk result (λ o.
+        option_map (λ v. v.items) o ≡ gcm_siv_open key.now bytes.now ad.now) }
+{
+    let Some((iv, rest)) = bytes.split_first_chunk::<IV>() else {
+        return Ok(None);
+    };
+    let Some((text, tag)) = rest.split_last_chunk::<TAG>() else {
+        return Ok(None);
+    };
+    let mut body = text.to_vec(alloc)?;
+    if open_in_place(key, iv, ad, body.as_mut_slice(), tag) {
+        Ok(Some(body))
+    } else {
+        Ok(None)
+    }
+}
+
+// Encrypts in place what stands behind the first 12 bytes, and answers the tag (4).
+fn seal_behind(key: &[u8], iv: &[u8; 12], ad: &[u8], bytes: &mut [u8]) -> [u8; 16]
+    requires key_size { (length key.now ≡ 16) ⊎ (length key.now ≡ 32) }
+    requires ad_bound { length ad.now ≤ 2 ^ 30 }
+    requires room { 12 ≤ length bytes.old }
+    requires bytes_bound { length bytes.old ≤ 2 ^ 31 }
+    ensures text { bytes.new
+        ≡ take 12 bytes.old ++ gcm_siv_text key.now iv.now result (drop 12 bytes.old) }
+    ensures tag { result ≡ gcm_siv_tag key.now iv.now ad.now (drop 12 bytes.old) }
+{
+    seal_in_place(key, iv, ad, &mut bytes[IV..])
+}
+
+// Encrypts in place, and answers the tag (4).
+fn seal_in_place(key: &[u8], iv: &[u8; 12], ad: &[u8], body: &mut [u8]) -> [u8; 16]
+    requires key_size { (length key.now ≡ 16) ⊎ (length key.now ≡ 32) }
+    requires ad_bound { length ad.now ≤ 2 ^ 30 }
+    requires body_bound { length body.old ≤ 2 ^ 31 }
+    ensures text { body.new ≡ gcm_siv_text key.now iv.now result body.old }
+    ensures tag { result ≡ gcm_siv_tag key.now iv.now ad.now body.old }
+{
+    let main = expanded(key);
+    let encryption = encryption_aes(&main, key.len(), iv);
+    let tag = tag_of(&main, &encryption, iv, ad, body);
+    crypt(&encryption, &tag, body);
+    tag
+}
+
+// Decrypts in place, and answers whether the tag is that of the plaintext (5).
+fn open_in_place(key: &[u8], iv: &[u8; 12], ad: &[u8], body: &mut [u8], tag: &[u8; 16]) -> bool
+    requires key_size { (length key.now ≡ 16) ⊎ (length key.now ≡ 32) }
+    requires ad_bound { length ad.now ≤ 2 ^ 30 }
+    requires body_bound { length body.old ≤ 2 ^ 31 }
+    ensures plain { body.new ≡ gcm_siv_text key.now iv.now tag.now body.old }
+    ensures authentic { IsTrue result ↔ (tag.now ≡ gcm_siv_tag key.now iv.now ad.now body.new) }
+{
+    let main = expanded(key);
+    let encryption = encryption_aes(&main, key.len(), iv);
+    crypt(&encryption, tag, body);
+    same_bytes(tag, &tag_of(&main, &encryption, iv, ad, body))
+}
+
+// The expansion of a key that fits.
+fn expanded(key: &[u8]) -> Aes
+    requires { (length key.now ≡ 16) ⊎ (length key.now ≡ 32) }
+    ensures { result ≡ key.now }
+{
+    match Aes::new(key) {
+        Ok(aes) => aes,
+        Err(_) => unreachable!(),
+    }
+}
+
+// AES of the block of a number and of the IV: the first 8 bytes (4).
+fn derived_half(main: &Aes, iv: &[u8; 12], number: u8) -> [u8; 8]
+    ensures { result ≡ derived_half main.now iv.now number }
+{
+    let mut block = [0; 16];
+    block[0] = number;
+    block[4..].copy_from_slice(iv);
+    let mut half = [0; 8];
+    half.copy_from_slice(&main.encrypt_block(&block)[..8]);
+    half
+}
+
+// The halves of this number and of the next, joined (4).
+fn derived_pair(main: &Aes, iv: &[u8; 12], number: u8) -> [u8; 16]
+    requires { number < 255 }
+    ensures { result ≡ derived_half main.now iv.now number ++ derived_half main.now iv.now (number + 1) }
+{
+    let mut pair = [0; 16];
+    pair[..8].copy_from_slice(&derived_half(main, iv, number));
+    pair[8..].copy_from_slice(&derived_half(main, iv, number + 1));
+    pair
+}
+
+// Two blocks, joined.
+fn joined(front: &[u8; 16], back: &[u8; 16]) -> [u8; 32]
+    ensures { result ≡ front.now ++ back.now }
+{
+    let mut both = [0; 32];
+    both[..16].copy_from_slice(front);
+    both[16..].copy_from_slice(back);
+    both
+}
+
+// The key for the text and the tag, expanded: it is as long as the main one (4).
+fn encryption_aes(main: &Aes, size: usize, iv: &[u8; 12]) -> Aes
+    requires size { size ≡ length main.now }
+    ensures { result ≡ encryption_key main.now iv.now }
+{
+    let first = derived_pair(main, iv, 2);
+    if size == 32 {
+        expanded(&joined(&first, &derived_pair(main, iv, 4)))
+    } else {
+        expanded(&first)
+    }
+}
+
+// The tag of associated data and plaintext (4).
+fn tag_of(main: &Aes, encryption: &Aes, iv: &[u8; 12], ad: &[u8], plain: &[u8]) -> [u8; 16]
+    requires encryption { encryption.now ≡ encryption_key main.now iv.now }
+    requires ad_bound { length ad.now ≤ 2 ^ 30 }
+    requires plain_bound { length plain.now ≤ 2 ^ 31 }
+    ensures { result ≡ gcm_siv_tag main.now iv.now ad.now plain.now }
+{
+    let mut nonce = [0; 16];
+    nonce[..IV].copy_from_slice(iv);
+    let mut block = xor(&hashed(main, iv, ad, plain), &nonce);
+    block[15] &= 0x7f;
+    encryption.encrypt_block(&block)
+}
+
+// POLYVAL of associated data, plaintext and their lengths, under the key for it (4).
+fn hashed(main: &Aes, iv: &[u8; 12], ad: &[u8], plain: &[u8]) -> [u8; 16]
+    requires ad_bound { length ad.now ≤ 2 ^ 30 }
+    requires plain_bound { length plain.now ≤ 2 ^ 31 }
+    ensures { result ≡ hashed main.now iv.now ad.now plain.now }
+{
+    let mut hash = hash_under(&derived_pair(main, iv, 0));
+    absorb(&mut hash, ad);
+    absorb(&mut hash, plain);
+    absorb(&mut hash, &length_block(ad.len(), plain.len()));
+    hash.finish().to_le_bytes()
+}
+
+// The lengths of associated data and plaintext, which are counted in bytes here, and in bits there.
+fn length_block(ad: usize, plain: usize) -> [u8; 16]
+    requires ad_bound { ad ≤ 2 ^ 30 }
+    requires plain_bound { plain ≤ 2 ^ 31 }
+    ensures { result ≡ to_le_bytes w64 (8 * ad) ++ to_le_bytes w64 (8 * plain) }
+{
+    let mut block = [0; 16];
+    block[..8].copy_from_slice(&(8 * ad as u64).to_le_bytes());
+    block[8..].copy_from_slice(&(8 * plain as u64).to_le_bytes());
+    block
+}
+
+// Encrypts or decrypts in place, from the counter that the tag gives (4 and 5).
+fn crypt(encryption: &Aes, tag: &[u8; 16], body: &mut [u8])
+    ensures { body.new ≡ ctr encryption.now (first_counter tag.now) First32 body.old }
+{
+    let mut start = *tag;
+    start[15] |= 0x80;
+    encryption.ctr_xor(&start, CtrKind::First32, body);
+}
