@@ -1,19 +1,25 @@
 -- The blocks of a string of bytes, turned round for GHASH.
-use Rattle.std.proofs.Common.{◌≡◌, ℕ, ◌+◌, ◌-◌, ◌*◌, ◌/◌, ◌%◌, ◌^◌, ◌<◌, ◌≤◌, List, [], ◌∷◌, ◌++◌, length, min, take, drop, map, replicate, inl, inr, sym, ap, ◌∙◌, append-nil, append_assoc, arith}
+use Rattle.std.proofs.Common.{◌≡◌, ℕ, ◌+◌, ◌-◌, ◌*◌, ◌/◌, ◌%◌, ◌^◌, ◌<◌, ◌≤◌, List, [], ◌∷◌, ◌++◌, length, min, take, drop, map, replicate, reverse, get_or, inl, inr, refl, sym, ap, ◌∙◌, append-nil, append_assoc, arith, lit<}
 use Rattle.std.proofs.lemmas.Bool.{cases_lt}
-use Rattle.std.proofs.lemmas.List.{drop_all, length-append, length-replicate, length-take-le, map-append, nil_from_length, take-append-drop, take_all, take_at}
+use Rattle.std.proofs.lemmas.List.{drop_all, get_or-replicate, get_or-reverse, get_or_append_left, get_or_past, length-append, length-replicate, length-reverse, length-take-le, map-append, nil_from_length, take-append-drop, take_all, take_at}
+use Rattle.std.proofs.Math.Seq.{get_or-append_right}
+use Rattle.std.proofs.lemmas.List.FromFn.{fill_by_all}
+use Rattle.std.proofs.lemmas.Simd.{take_more_put_chunk}
 use Rattle.std.proofs.lemmas.Slice.{drop-put_mid, take-put_mid}
-use Rattle.std.specs.Int.{w32, w128, from_le_bytes, to_be_bytes, to_le_bytes}
+use Rattle.std.specs.Int.{w32, w128, from_be_bytes, to_be_bytes, to_le_bytes}
+use Rattle.std.specs.Simd.Lanes.{pick_l, put_chunk}
 use Rattle.std.specs.List.{range_with_len}
 use borrow.Rule.Slice.PartMut.{put_mid}
 use Rattle.aes_core.specs.Chain.{whole_blocks}
 use Rattle.aes_core.proofs.ChainLemmas.{whole_blocks-append}
 use Rattle.ghash.specs.Ghash.{padded_blocks}
+use Rattle.ghash.specs.Places.{IsBlock}
 use Rattle.ghash.proofs.BlockBytes.{padded_blocks-block}
+use Rattle.ghash.proofs.BlockXor.{block_below}
 use Rattle.ghash.proofs.GhashLemmas.{padded_blocks-append}
+use Rattle.tink_spec.proofs.BlockBytes.{to_be_bytes-from_be_bytes_16}
 use Rattle.gcm_siv.specs.GcmSiv.{right_padded}
 use Rattle.gcm_siv.specs.Polyval.{turned}
-use Rattle.gcm_siv.proofs.PolyvalLemmas.{reversed_read}
 
 -- the blocks that GHASH takes for a string of bytes
 abbrev pub numbers : List ℕ → List ℕ
@@ -86,28 +92,72 @@ one_block block l =
     ∙ ap (λ (b : List ℕ). b ∷ []) (take_all 16 block (omega arith))
 
 pub numbers-one : (piece : List ℕ) → 0 < length piece → length piece ≤ 16
-    → numbers piece ≡ from_le_bytes w128 (padded piece) ∷ []
+    → numbers piece ≡ turned (padded piece) ∷ []
 numbers-one piece some h =
     let count : (16 - length piece % 16) % 16 ≡ 16 - length piece = omega arith in
     let l : length (padded piece) ≡ 16 = length-padded piece h in
     ap (λ n. map turned (whole_blocks (piece ++ replicate n 0))) count
     ∙ ap (map turned) (one_block (padded piece) l)
-    ∙ ap (λ n. n ∷ []) (reversed_read (padded piece) l)
 
 -- ---- the copy that is turned round
 
+-- 16 lanes, from the last to the first
+pub reversed_lanes : (x : List ℕ) → length x ≡ 16
+    → pick_l 0 (x ++ x)
+    (15 ∷ 14 ∷ 13 ∷ 12 ∷ 11 ∷ 10 ∷ 9 ∷ 8 ∷ 7 ∷ 6 ∷ 5 ∷ 4 ∷ 3 ∷ 2 ∷ 1 ∷ 0 ∷ [])
+    ≡ reverse x
+reversed_lanes x l =
+    let r : List ℕ = reverse x in
+    let at = λ (k : ℕ) (h : k < 16).
+    get_or_append_left x x 0 (15 - k) (omega arith)
+    ∙ sym (get_or-reverse x k 0 (omega arith) ∙ ap (λ n. get_or x (n - 1 - k) 0) l) in
+    (λ i. at 0 (lit< tt) i ∷ at 1 (lit< tt) i ∷ at 2 (lit< tt) i ∷ at 3 (lit< tt) i
+    ∷ at 4 (lit< tt) i ∷ at 5 (lit< tt) i ∷ at 6 (lit< tt) i ∷ at 7 (lit< tt) i
+    ∷ at 8 (lit< tt) i ∷ at 9 (lit< tt) i ∷ at 10 (lit< tt) i ∷ at 11 (lit< tt) i
+    ∷ at 12 (lit< tt) i ∷ at 13 (lit< tt) i ∷ at 14 (lit< tt) i ∷ at 15 (lit< tt) i ∷ [])
+    ∙ sym (fill_by_all (λ i. get_or r i 0) r 16 0 (length-reverse x ∙ l) (λ k h. refl))
+
+all_small : (t : List ℕ) → IsBlock t → (i : ℕ) → get_or t i 0 < 256
+all_small t is i = elim (cases_lt i 16) [
+  | inl lt ↦ is.1 i lt
+  | inr le ↦ omega (arith, get_or_past t i 0 (omega (arith, is.0)))
+]
+
+-- bytes behind each other are as small as they are, and so in the other order
+pub reversed_is_block : (piece : List ℕ) → length piece ≤ 16 → ((i : ℕ) → get_or piece i 0 < 256)
+    → IsBlock (reverse (padded piece))
+reversed_is_block piece h small =
+    let p : List ℕ = padded piece in
+    let zeros : List ℕ = replicate (16 - length piece) 0 in
+    let l : length p ≡ 16 = length-padded piece h in
+    let each : (i : ℕ) → i < 16 → get_or p i 0 < 256 = λ i lt. elim (cases_lt i (length piece)) [
+      | inl front ↦ omega (arith, get_or_append_left piece zeros 0 i front, small i)
+      | inr back ↦ omega (
+        arith,
+        get_or-append_right piece zeros i 0 back,
+        get_or-replicate {A = ℕ} (16 - length piece) (i - length piece) 0 0 (omega arith),
+      )
+    ] in (
+      length-reverse p ∙ l,
+      λ i lt. rw (get_or-reverse p i 0 (omega arith)) (each (length p - 1 - i) (omega arith)),
+    )
+
 -- a block more
-pub copied-more : (copy bytes : List ℕ) (size n : ℕ) → size + 16 ≤ length copy → size % 16 ≡ 0
-    → n < 2 ^ 128 → bytes ≡ to_be_bytes w128 n
-    → padded_blocks (take (size + 16) (put_mid size 16 copy bytes))
-    ≡ padded_blocks (take size copy) ++ n ∷ []
-copied-more copy bytes size n room whole below is =
+pub copied-more : (copy bytes block : List ℕ) (size : ℕ) → size + 16 ≤ length copy → size % 16 ≡ 0
+    → IsBlock bytes → bytes ≡ reverse block
+    → padded_blocks (take (size + 16) (put_chunk size copy bytes))
+    ≡ padded_blocks (take size copy) ++ turned block ∷ []
+copied-more copy bytes block size room whole is same =
     let front : length (take size copy) ≡ size = length-take-le size copy (omega arith) in
-    let long : length bytes ≡ 16 = ap length is in
-    ap padded_blocks (take-put_mid size 16 copy bytes (size + 16) (omega arith) (omega arith)
-    ∙ ap (λ (u : List ℕ). take size copy ++ u) is)
+    let n : ℕ = from_be_bytes w128 bytes in
+    let long : length bytes ≡ 16 = is.0 in
+    ap padded_blocks (take_more_put_chunk size copy bytes (size + 16) (omega arith) room
+    ∙ ap (λ (u : List ℕ). take size copy ++ u)
+    (sym (to_be_bytes-from_be_bytes_16 bytes long (all_small bytes is))))
     ∙ padded_blocks-append (take size copy) (to_be_bytes w128 n) (ap (λ m. m % 16) front ∙ whole)
-    ∙ ap (λ (u : List ℕ). padded_blocks (take size copy) ++ u) (padded_blocks-block n below)
+    ∙ ap (λ (u : List ℕ). padded_blocks (take size copy) ++ u)
+    (padded_blocks-block n (block_below bytes is))
+    ∙ ap (λ (u : List ℕ). padded_blocks (take size copy) ++ from_be_bytes w128 u ∷ []) same
 
 -- ---- what is hashed, and what is put together
 

@@ -1,14 +1,16 @@
 //! POLYVAL (RFC 8452, 3) by way of GHASH (appendix A): a running GHASH takes each block with its bytes in
 //! the other order.
 
-ghost use Rattle.std.specs.Prelude.{◌≡◌, ◌-◌, ◌≤◌, ℕ, List, [], ◌++◌, length, map, replicate};
-ghost use Rattle.std.specs.Int.{w128, from_le_bytes};
+ghost use Rattle.std.specs.Prelude.{◌≡◌, ◌+◌, ◌-◌, ◌≤◌, ℕ, List, [], ◌++◌, length, map, replicate, reverse};
+ghost use Rattle.std.specs.Simd.Lanes.{put_chunk};
 ghost use Rattle.aes_core.specs.Chain.{whole_blocks};
 ghost use Rattle.ghash.specs.GhashState.{Holds};
+ghost use Rattle.ghash.specs.Places.{IsBlock};
 ghost use Rattle.gcm_siv.specs.GcmSiv.{right_padded};
 ghost use Rattle.gcm_siv.specs.Polyval.{mulx, turned};
 
 use ghash::{Ghash, multiply_by_x};
+use std::simd::prelude::*;
 
 // So many bytes are turned round on the stack at a time.
 const PIECE: usize = 512;
@@ -39,30 +41,50 @@ fn absorb_piece(hash: &mut Ghash, piece: &[u8])
     let mut copy = [0; PIECE];
     let mut size = 0;
     for block in piece.chunks(16) {
-        copy[size..size + 16].copy_from_slice(&turned_block(block).to_be_bytes());
+        write_block(&mut copy, size, turned_block(block));
         size += 16;
     }
     hash.absorb(&copy[..size]);
 }
 
-// The block of at most 16 bytes, with zeros after them, read from its other end.
+// A block that is written there.
 #[inline(always)]
-fn turned_block(piece: &[u8]) -> u128
+fn write_block(copy: &mut [u8], at: usize, block: u8x16)
+    requires { at + 16 ≤ length copy.old }
+    ensures { copy.new ≡ put_chunk at copy.old block }
+{
+    block.copy_to_slice(&mut copy[at..]);
+}
+
+// The block of at most 16 bytes, with zeros after them, turned round. In lanes, since a block that is
+// read as a number is put together byte by byte by the compiler.
+#[inline(always)]
+fn turned_block(piece: &[u8]) -> u8x16
     requires { length piece.now ≤ 16 }
-    ensures { result ≡ from_le_bytes w128 (piece.now ++ replicate (16 - length piece.now) 0) }
+    ensures block { IsBlock result }
+    ensures turned { result ≡ reverse (piece.now ++ replicate (16 - length piece.now) 0) }
+{
+    loaded(piece).swizzle([15, 14, 13, 12, 11, 10, 9, 8, 7, 6, 5, 4, 3, 2, 1, 0])
+}
+
+// That block as it stands.
+#[inline(always)]
+fn loaded(piece: &[u8]) -> u8x16
+    requires { length piece.now ≤ 16 }
+    ensures { result ≡ piece.now ++ replicate (16 - length piece.now) 0 }
 {
     match piece.first_chunk::<16>() {
-        Some(whole) => u128::from_le_bytes(*whole),
-        None => turned_part(piece),
+        Some(whole) => u8x16::from_array(*whole),
+        None => u8x16::from_array(padded(piece)),
     }
 }
 
 // The same, by a copy.
-fn turned_part(piece: &[u8]) -> u128
+fn padded(piece: &[u8]) -> [u8; 16]
     requires { length piece.now ≤ 16 }
-    ensures { result ≡ from_le_bytes w128 (piece.now ++ replicate (16 - length piece.now) 0) }
+    ensures { result ≡ piece.now ++ replicate (16 - length piece.now) 0 }
 {
     let mut block = [0; 16];
     block[..piece.len()].copy_from_slice(piece);
-    u128::from_le_bytes(block)
+    block
 }

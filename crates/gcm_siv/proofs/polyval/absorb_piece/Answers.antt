@@ -1,11 +1,11 @@
 -- Each block is the next of the piece, and is written behind those before it.
-use Rattle.std.proofs.Common.{◌≡◌, ℕ, ◌+◌, ◌-◌, List, [], ◌∷◌, ◌++◌, refl, sym, ◌∙◌, ap, subst, append-nil, append_assoc, length, length-append, min, take, rules, arith}
+use Rattle.std.proofs.Common.{◌≡◌, ℕ, ◌+◌, List, [], ◌∷◌, ◌++◌, refl, sym, ◌∙◌, ap, subst, append-nil, append_assoc, length, length-append, min, take, rules, arith}
 use Rattle.std.specs.Slice.Iter.{chunks_rest}
 use Rattle.ghash.specs.Ghash.{padded_blocks}
 use Rattle.ghash.specs.GhashState.{Holds}
 use Rattle.ghash.proofs.GhashLemmas.{padded_blocks-nil}
-use borrow.Rule.Slice.PartMut.{put_mid}
-use Rattle.gcm_siv.proofs.BlockLemmas.{copied-more, numbers, numbers-cut, numbers-nil, numbers-one}
+use Rattle.gcm_siv.specs.Polyval.{turned}
+use Rattle.gcm_siv.proofs.BlockLemmas.{copied-more, numbers, numbers-cut, numbers-nil, numbers-one, padded}
 use Rattle.gcm_siv.proofs.polyval.absorb_piece.Goals as goal
 
 pub loop-block-init : goal.loop-block-init
@@ -35,23 +35,19 @@ loop-block-preserved c =
     = ap length steps.1.0 ∙ length-append block rest in
     let next : numbers block ++ numbers rest ≡ numbers bytes
     = numbers-cut bytes block rest 16 steps.1.0 part refl in
-    let one : numbers block ≡ c.turned_block.result ∷ []
-    = numbers-one block (omega (arith, steps.1.2)) (omega arith)
-    ∙ ap (λ n. n ∷ []) (sym c.turned_block.ensures) in
-    let mid : size + 16 - size ≡ 16 = omega arith in
-    let written = put_mid size 16 copy c.copy_from_slice.new.self in
-    let more : padded_blocks (take (size + 16) written)
-    ≡ padded_blocks (take size copy) ++ c.turned_block.result ∷ []
-    = copied-more copy c.copy_from_slice.new.self size c.turned_block.result (omega arith) now.whole
-    c.turned_block.type_inv (c.copy_from_slice.ensures.after ∙ c.to_be_bytes.ensures) in
+    let one : numbers block ≡ turned (padded block) ∷ []
+    = numbers-one block (omega (arith, steps.1.2)) (omega arith) in
+    let written : padded_blocks (take (size + 16) c.write_block.new.copy)
+    ≡ padded_blocks (take size copy) ++ turned (padded block) ∷ []
+    = ap (λ (u : List ℕ). padded_blocks (take (size + 16) u)) c.write_block.ensures
+    ∙ copied-more copy c.turned_block.result (padded block) size (omega arith) now.whole
+    c.turned_block.ensures.block c.turned_block.ensures.turned in
     record {
       pieces = steps.0 ∙ now.pieces;
       whole = omega (arith, now.whole);
       room = omega (arith, now.whole, now.room, part, sum, steps.1.2);
-      done = ap (λ n. padded_blocks (take (size + 16) (put_mid size n copy c.copy_from_slice.new.self))
-          ++ numbers rest) mid
-          ∙ ap (λ (u : List ℕ). u ++ numbers rest) more
-          ∙ append_assoc (padded_blocks (take size copy)) (c.turned_block.result ∷ []) (numbers rest)
+      done = ap (λ (u : List ℕ). u ++ numbers rest) written
+          ∙ append_assoc (padded_blocks (take size copy)) (turned (padded block) ∷ []) (numbers rest)
           ∙ ap (λ (u : List ℕ). padded_blocks (take size copy) ++ (u ++ numbers rest)) (sym one)
           ∙ ap (λ (u : List ℕ). padded_blocks (take size copy) ++ u) next ∙ now.done;
     }

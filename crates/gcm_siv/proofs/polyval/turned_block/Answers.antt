@@ -1,15 +1,17 @@
--- Nothing comes after 16 bytes.
-use Rattle.std.proofs.Common.{◌≡◌, ◌++◌, length, replicate, ◌-◌, ◌∙◌, sym, ap, append-nil, arith}
-use Rattle.std.specs.Int.{w128, from_le_bytes}
-use Rattle.std.proofs.lemmas.List.{take_all}
+-- The lanes, from the last to the first.
+use Rattle.std.proofs.Common.{length, ap, reverse, sym, subst, ◌∙◌}
+use Rattle.ghash.specs.Places.{IsBlock}
+use Rattle.gcm_siv.proofs.BlockLemmas.{length-padded, reversed_is_block, reversed_lanes}
 use Rattle.gcm_siv.proofs.polyval.turned_block.Goals as goal
 
-pub returns-in-Some : goal.returns-in-Some
-returns-in-Some c =
+pub returns : goal.returns
+returns c =
     let piece = c.args.piece.now in
-    let whole = c.in-Some.ensures.cases in
-    let size : 16 - length piece ≡ 0 = omega (arith, whole.enough, c.requires) in
-    c.from_le_bytes.ensures
-    ∙ ap (from_le_bytes w128) (whole.same ∙ take_all 16 piece (omega arith))
-    ∙ ap (from_le_bytes w128) (sym (append-nil piece))
-    ∙ ap (λ n. from_le_bytes w128 (piece ++ replicate n 0)) (sym size)
+    let turned = reversed_lanes c.loaded.result
+    (ap length c.loaded.ensures ∙ length-padded piece c.requires)
+    ∙ ap reverse c.loaded.ensures in
+    record {
+      block = subst IsBlock (sym turned) (reversed_is_block piece c.requires
+          (λ i. (c.type_inv.piece i).fits));
+      turned = turned;
+    }
