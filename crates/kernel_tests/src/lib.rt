@@ -14,6 +14,8 @@ mod plain;
 #[cfg(test)]
 mod prf;
 #[cfg(test)]
+mod rfc8452;
+#[cfg(test)]
 mod rows;
 #[cfg(test)]
 mod schemes;

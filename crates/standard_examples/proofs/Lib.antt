@@ -8,6 +8,7 @@ mod Rfc4231
 mod Rfc4493
 mod Rfc5869
 mod Rfc5297
+mod Rfc8452
 mod Eax
 mod CtrHmac
 mod TinkWire

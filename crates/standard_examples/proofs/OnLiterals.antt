@@ -7,6 +7,10 @@ use Rattle.aead_kinds.specs.CtrHmac.{ctr_hmac_open, ctr_hmac_seal, ctr_hmac_tag,
 use Rattle.aead_kinds.specs.Eax.{eax_open, eax_seal, eax_tag, eax_text, omac}
 use Rattle.aead_kinds.specs.EncryptThenTag.{opened_by, sealed_by}
 use Rattle.aead_kinds.specs.Gcm.{hash_subkey, hashed, gcm_text, gcm_tag, gcm_seal, gcm_open}
+use Rattle.aes_core.specs.Chain.{whole_blocks}
+use Rattle.gcm_siv.specs.GcmSiv.{authentication_key, derived_half, encryption_key, gcm_siv_open, gcm_siv_seal, gcm_siv_tag, gcm_siv_text}
+use Rattle.gcm_siv.specs.GcmSiv as gcm_siv
+use Rattle.gcm_siv.specs.Polyval as polyval
 use Rattle.siv_daead.specs.Siv.{datum_block, mac_text, s2v, siv_text, siv_seal, siv_open}
 use Rattle.sha1.specs.Sha1 as sha1
 use Rattle.sha2.specs.Sha256 as sha256
@@ -67,3 +71,17 @@ unfoldable pub siv_on_literals : ⊤
 unfolding
     ctr_on_literals cmac_on_literals datum_block mac_text s2v siv_text siv_seal siv_open
 siv_on_literals = tt
+
+-- POLYVAL in both forms
+unfoldable pub polyval_on_literals : ⊤
+unfolding
+    ghash_on_literals polyval.polyval polyval.shifted polyval.partial_product polyval.product
+    polyval.dot polyval.accumulated polyval.polyval_by_dot
+polyval_on_literals = tt
+
+-- AES-GCM-SIV
+unfoldable pub gcm_siv_on_literals : ⊤
+unfolding
+    ctr_on_literals whole_blocks polyval_on_literals derived_half authentication_key encryption_key
+    gcm_siv.hashed gcm_siv_tag gcm_siv_text gcm_siv_seal gcm_siv_open
+gcm_siv_on_literals = tt
