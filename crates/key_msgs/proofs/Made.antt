@@ -2,7 +2,7 @@
 use Rattle.std.proofs.Common.{◌≡◌, ℕ, ◌≤◌, List, [], length, arith, refl}
 use Rattle.std.proofs.lemmas.List.{length-take, length-drop}
 use Rattle.key_msgs.specs.declared.template.Recipe.{Recipe}
-use Rattle.key_msgs.specs.declared.template.Recipe.TheVariants.{Gcm, Eax, CtrHmac, Siv, Hmac, Cmac, HkdfPrf, HmacPrf, CmacPrf, GcmStream, CtrStream}
+use Rattle.key_msgs.specs.declared.template.Recipe.TheVariants.{Gcm, Eax, CtrHmac, Siv, Hmac, Cmac, HkdfPrf, HmacPrf, CmacPrf, GcmStream, CtrStream, GcmSiv}
 use Rattle.key_msgs.specs.Contents.{Contents}
 use Rattle.key_msgs.specs.Keys.{contents_of}
 use Rattle.key_msgs.specs.Templates.{made_by}
@@ -25,3 +25,4 @@ made-within size (HmacPrf n hash) random most = one_list size random _ refl refl
 made-within size CmacPrf random most = one_list size random _ refl refl refl most
 made-within size (GcmStream n segment) random most = one_list size random _ refl refl refl most
 made-within size (CtrStream n segment) random most = one_list size random _ refl refl refl most
+made-within size (GcmSiv n) random most = one_list size random _ refl refl refl most

@@ -182,6 +182,7 @@ from-back (kinds.HmacPrf key hash) = rw (hash-back hash) refl
 from-back (kinds.CmacPrf key) = refl
 from-back (kinds.GcmStream key segment derived hash) = rw (hash-back hash) refl
 from-back (kinds.CtrStream key segment derived hash mac_hash tag_size) = rw (hash-back hash, hash-back mac_hash) refl
+from-back (kinds.AesGcmSiv key) = refl
 
 abbrev IsReadKey : KeyKind → Type 0
 IsReadKey key = AreNumbers (contents_of key) → ListsWithin (2 ^ 31) (contents_of key) → key_of (type_of key) (value_of key) ≡ checked (type_of key) (contents_of key)
@@ -230,6 +231,10 @@ read-back (kinds.CtrStream key segment derived hash mac_hash tag_size) held list
     plain-key types.CtrStream (contents_of (kinds.CtrStream key segment derived hash mac_hash tag_size)) (hmac_entries (contents_of (kinds.CtrStream key segment derived hash mac_hash tag_size))) (λ fields. refl)
     (record { params = lit≤ tt; iv_size = lit≤ tt; segment = lit≤ tt; derived = lit≤ tt; hash = lit≤ tt; tag_size = lit≤ tt; salt = lit≤ tt; hmac_params = lit≤ tt; least = lit< tt; key_value = lit≤ tt })
     (record { version = refl; params = refl; iv_size = refl; segment = refl; derived = refl; hash = refl; tag_size = refl; salt = refl; hmac = refl; mac_hash = refl; mac_tag_size = refl; key = refl; mac = refl }) (hmac-are _ held) held lists
+read-back (kinds.AesGcmSiv key) held lists =
+    plain-key types.AesGcmSiv (contents_of (kinds.AesGcmSiv key)) [] (λ fields. refl)
+    (record { params = lit≤ tt; iv_size = lit≤ tt; segment = lit≤ tt; derived = lit≤ tt; hash = lit≤ tt; tag_size = lit≤ tt; salt = lit≤ tt; hmac_params = lit≤ tt; least = lit< tt; key_value = lit≤ tt })
+    (record { version = refl; params = refl; iv_size = refl; segment = refl; derived = refl; hash = refl; tag_size = refl; salt = refl; hmac = refl; mac_hash = refl; mac_tag_size = refl; key = refl; mac = refl }) tt held lists
 
 pub keys-back : KeysReadBack
 keys-back key valid held lists =

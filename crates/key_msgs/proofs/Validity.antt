@@ -58,3 +58,4 @@ key_from-valid types.HmacPrf m none = with_valid m.hash _ (λ hash is. rw is (pa
 key_from-valid types.CmacPrf m none = past_version (m.version == 0) _ none
 key_from-valid types.GcmStream m none = with_valid m.hash _ (λ hash is. rw is (past_version (m.version == 0) _ none))
 key_from-valid types.CtrStream m none = with_valid m.hash _ (λ hash is. with_valid m.mac_hash _ (λ mac_hash mac_is. rw (is, mac_is) (past_version (m.version == 0) _ none)))
+key_from-valid types.AesGcmSiv m none = past_version (m.version == 0) _ none

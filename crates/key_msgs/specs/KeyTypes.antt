@@ -2,7 +2,7 @@
 --
 --   row_of        the table of these
 --   aes_ctr_fields, hmac_fields   the fields of the messages inside AesCtrHmacAeadKey
---   all_types     the eleven key types
+--   all_types     the twelve key types
 --   type_of_url   the key type of a type URL
 --
 -- The fields are the field numbers of a message with one key value; 0 is no number of a field, so it
@@ -93,6 +93,11 @@ row_of types.CtrStream = record {
   primitive = Stream;
   fields = record no_fields { params = 2; segment = 1; derived = 2; hash = 3; hmac_params = 4; key_value = 3 };
 }
+row_of types.AesGcmSiv = record {
+  name = codes "AesGcmSivKey";
+  primitive = Aead;
+  fields = record no_fields { key_value = 3 };
+}
 
 -- the inner messages of AesCtrHmacAeadKey; an AesCtrKey is no key type by itself
 abbrev pub aes_ctr_fields : Layout
@@ -114,10 +119,11 @@ primitive_of_type type = (row_of type).primitive
 abbrev pub url_of_type : KeyType → List ℕ
 url_of_type type = codes "type.googleapis.com/google.crypto.tink." ++ (row_of type).name
 
--- the eleven key types
+-- the twelve key types
 abbrev pub all_types : List KeyType
 all_types = types.AesGcm ∷ types.AesEax ∷ types.AesCtrHmac ∷ types.AesSiv ∷ types.Hmac ∷ types.AesCmac
-    ∷ types.HkdfPrf ∷ types.HmacPrf ∷ types.CmacPrf ∷ types.GcmStream ∷ types.CtrStream ∷ []
+    ∷ types.HkdfPrf ∷ types.HmacPrf ∷ types.CmacPrf ∷ types.GcmStream ∷ types.CtrStream
+    ∷ types.AesGcmSiv ∷ []
 
 -- the type of a URL, compared byte by byte, or none
 unfoldable pub type_of_url : List ℕ → Option KeyType

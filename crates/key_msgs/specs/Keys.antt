@@ -37,6 +37,7 @@ type_of (kinds.HmacPrf key hash) = types.HmacPrf
 type_of (kinds.CmacPrf key) = types.CmacPrf
 type_of (kinds.GcmStream key segment derived hash) = types.GcmStream
 type_of (kinds.CtrStream key segment derived hash mac_hash tag_size) = types.CtrStream
+type_of (kinds.AesGcmSiv key) = types.AesGcmSiv
 
 -- what the message of a key holds; its version is 0
 abbrev pub contents_of : KeyKind → Contents
@@ -61,6 +62,7 @@ contents_of (kinds.CtrStream key segment derived hash mac_hash tag_size) =
       mac_hash = hash_number mac_hash;
       mac_tag_size = tag_size;
     }
+contents_of (kinds.AesGcmSiv key) = record nothing { key = key }
 
 -- a hash function that has one of Tink's numbers
 abbrev pub known_hash : Option Hash → Result Hash Rule
@@ -88,6 +90,7 @@ key_from types.GcmStream m = with_hash (hash_of_number m.hash) (λ hash.
     Ok (kinds.GcmStream m.key m.segment m.derived hash))
 key_from types.CtrStream m = with_hash (hash_of_number m.hash) (λ hash. with_hash (hash_of_number m.mac_hash) (λ mac_hash.
     Ok (kinds.CtrStream m.key m.segment m.derived hash mac_hash m.mac_tag_size)))
+key_from types.AesGcmSiv m = Ok (kinds.AesGcmSiv m.key)
 
 -- a key of sizes that its type takes
 abbrev pub IsValid : KeyKind → Type 0

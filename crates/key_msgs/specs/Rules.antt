@@ -51,6 +51,7 @@ hash_fits types.HmacPrf m = is_hash m.hash
 hash_fits types.CmacPrf m = true
 hash_fits types.GcmStream m = is_hkdf_hash m.hash
 hash_fits types.CtrStream m = is_hkdf_hash m.hash && is_hash m.mac_hash
+hash_fits types.AesGcmSiv m = true
 
 -- the sizes of keys that the key type takes; a stream's is no less than that of its derived key
 abbrev pub key_fits : KeyType → Contents → Bool
@@ -65,6 +66,7 @@ key_fits types.HmacPrf m = nat_le 16 (length m.key)
 key_fits types.CmacPrf m = length m.key == 32
 key_fits types.GcmStream m = nat_le m.derived (length m.key)
 key_fits types.CtrStream m = nat_le m.derived (length m.key)
+key_fits types.AesGcmSiv m = is_either 16 32 (length m.key)
 
 -- the sizes of IVs that the key type takes
 abbrev pub iv_fits : KeyType → Contents → Bool

@@ -12,7 +12,7 @@ use Rattle.key_msgs.specs.declared.key.KeyKind.{KeyKind}
 use Rattle.key_msgs.specs.declared.key.KeyKind.TheVariants as kinds
 use Rattle.key_msgs.specs.declared.key_type.KeyType.{KeyType}
 use Rattle.key_msgs.specs.declared.template.Recipe.{Recipe}
-use Rattle.key_msgs.specs.declared.template.Recipe.TheVariants.{Gcm, Eax, CtrHmac, Siv, Hmac, Cmac, HkdfPrf, HmacPrf, CmacPrf, GcmStream, CtrStream}
+use Rattle.key_msgs.specs.declared.template.Recipe.TheVariants.{Gcm, Eax, CtrHmac, Siv, Hmac, Cmac, HkdfPrf, HmacPrf, CmacPrf, GcmStream, CtrStream, GcmSiv}
 use Rattle.key_msgs.specs.declared.template.Template.{Template}
 use Rattle.key_msgs.specs.declared.template.TemplateRow.{TemplateRow}
 use Rattle.key_msgs.specs.declared.template.TemplateFault.{TemplateFault}
@@ -34,7 +34,7 @@ tink name recipe = record { name = name; prefix = 1; recipe = recipe }
 abbrev pub raw : List ℕ → Recipe → Row
 raw name recipe = record { name = name; prefix = 3; recipe = recipe }
 
--- the thirty-two templates, in the order in which they are listed
+-- the thirty-six templates, in the order in which they are listed
 abbrev pub templates : List Row
 templates =
     tink (codes "AES128_GCM") (Gcm 16)
@@ -69,6 +69,10 @@ templates =
     ∷ raw (codes "AES128_CTR_HMAC_SHA256_1MB") (CtrStream 16 1048576)
     ∷ raw (codes "AES256_CTR_HMAC_SHA256_4KB") (CtrStream 32 4096)
     ∷ raw (codes "AES256_CTR_HMAC_SHA256_1MB") (CtrStream 32 1048576)
+    ∷ tink (codes "AES128_GCM_SIV") (GcmSiv 16)
+    ∷ raw (codes "AES128_GCM_SIV_RAW") (GcmSiv 16)
+    ∷ tink (codes "AES256_GCM_SIV") (GcmSiv 32)
+    ∷ raw (codes "AES256_GCM_SIV_RAW") (GcmSiv 32)
     ∷ []
 
 -- the row of the table that a template is, by its place
@@ -92,6 +96,7 @@ made_by (HmacPrf size hash) random = kinds.HmacPrf random hash
 made_by CmacPrf random = kinds.CmacPrf random
 made_by (GcmStream size segment) random = kinds.GcmStream random segment size Sha256
 made_by (CtrStream size segment) random = kinds.CtrStream random segment size Sha256 Sha256 32
+made_by (GcmSiv size) random = kinds.AesGcmSiv random
 
 -- the key of a template and its random bytes
 abbrev pub made : Row → List ℕ → KeyKind
@@ -114,6 +119,7 @@ random_by (HmacPrf size hash) = size
 random_by CmacPrf = 32
 random_by (GcmStream size segment) = size
 random_by (CtrStream size segment) = size
+random_by (GcmSiv size) = size
 
 -- how many random bytes a template's key takes
 abbrev pub random_of : Row → ℕ

@@ -74,6 +74,10 @@ pub enum KeyKind {
         mac_hash: Hash,
         tag_size: u32,
     },
+    /// AesGcmSivKey
+    AesGcmSiv {
+        key: Bytes,
+    },
 }
 
 impl KeyKind {
@@ -93,6 +97,7 @@ impl KeyKind {
             KeyKind::CmacPrf { .. } => KeyType::CmacPrf,
             KeyKind::GcmStream { .. } => KeyType::GcmStream,
             KeyKind::CtrStream { .. } => KeyType::CtrStream,
+            KeyKind::AesGcmSiv { .. } => KeyType::AesGcmSiv,
         }
     }
 }

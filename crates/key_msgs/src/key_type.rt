@@ -30,9 +30,11 @@ pub enum KeyType {
     GcmStream,
     /// AesCtrHmacStreamingKey
     CtrStream,
+    /// AesGcmSivKey
+    AesGcmSiv,
 }
 
-const TYPES: [KeyType; 11] = [
+const TYPES: [KeyType; 12] = [
     KeyType::AesGcm,
     KeyType::AesEax,
     KeyType::AesCtrHmac,
@@ -44,6 +46,7 @@ const TYPES: [KeyType; 11] = [
     KeyType::CmacPrf,
     KeyType::GcmStream,
     KeyType::CtrStream,
+    KeyType::AesGcmSiv,
 ];
 
 impl KeyType {
@@ -63,6 +66,7 @@ impl KeyType {
             KeyType::CmacPrf => "type.googleapis.com/google.crypto.tink.AesCmacPrfKey",
             KeyType::GcmStream => "type.googleapis.com/google.crypto.tink.AesGcmHkdfStreamingKey",
             KeyType::CtrStream => "type.googleapis.com/google.crypto.tink.AesCtrHmacStreamingKey",
+            KeyType::AesGcmSiv => "type.googleapis.com/google.crypto.tink.AesGcmSivKey",
         }
     }
 
@@ -71,7 +75,9 @@ impl KeyType {
         ensures { result ≡ primitive_of_type self }
     {
         match self {
-            KeyType::AesGcm | KeyType::AesEax | KeyType::AesCtrHmac => Primitive::Aead,
+            KeyType::AesGcm | KeyType::AesEax | KeyType::AesCtrHmac | KeyType::AesGcmSiv => {
+                Primitive::Aead
+            }
             KeyType::AesSiv => Primitive::Daead,
             KeyType::Hmac | KeyType::AesCmac => Primitive::Mac,
             KeyType::HkdfPrf | KeyType::HmacPrf | KeyType::CmacPrf => Primitive::Prf,

@@ -62,7 +62,7 @@ pub(crate) fn fields_of_type(key_type: KeyType) -> Layout
     ensures numbers { key_type ≢ types.AesCtrHmac → IsLayout result }
 {
     match key_type {
-        KeyType::AesGcm => Layout {
+        KeyType::AesGcm | KeyType::AesGcmSiv => Layout {
             key_value: 3,
             ..NO_FIELDS
         },

@@ -38,6 +38,7 @@ pub(crate) fn key_from(
         KeyType::CmacPrf => Ok(KeyKind::CmacPrf { key }),
         KeyType::GcmStream => gcm_stream_from(key, message),
         KeyType::CtrStream => ctr_stream_from(key, message),
+        KeyType::AesGcmSiv => Ok(KeyKind::AesGcmSiv { key }),
     }
 }
 

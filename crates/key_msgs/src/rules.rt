@@ -41,8 +41,12 @@ fn hash_fits(key_type: KeyType, message: &Message<'_>) -> bool
         KeyType::HkdfPrf => message.hash == 3 || message.hash == 4,
         KeyType::GcmStream => is_hkdf_hash(message.hash),
         KeyType::CtrStream => is_hkdf_hash(message.hash) && is_hash(message.mac_hash),
-        KeyType::AesGcm | KeyType::AesEax | KeyType::AesSiv | KeyType::AesCmac | KeyType::CmacPrf =>
-            true,
+        KeyType::AesGcm
+        | KeyType::AesEax
+        | KeyType::AesSiv
+        | KeyType::AesCmac
+        | KeyType::CmacPrf
+        | KeyType::AesGcmSiv => true,
     }
 }
 
@@ -66,7 +70,7 @@ fn key_fits(key_type: KeyType, message: &Message<'_>) -> bool
 {
     let size = message.key.len();
     match key_type {
-        KeyType::AesGcm | KeyType::AesEax => size == 16 || size == 32,
+        KeyType::AesGcm | KeyType::AesEax | KeyType::AesGcmSiv => size == 16 || size == 32,
         KeyType::AesCtrHmac => (size == 16 || size == 32) && message.mac.len() >= 16,
         KeyType::AesSiv => size == 64,
         KeyType::Hmac | KeyType::HmacPrf => size >= 16,

@@ -38,6 +38,8 @@ pub enum Recipe {
     GcmStream(u32, u32),
     /// An AesCtrHmacStreamingKey likewise, with tags of 32 for SHA-256.
     CtrStream(u32, u32),
+    /// An AesGcmSivKey of this size.
+    GcmSiv(u32),
 }
 
 /// A template's name, the output prefix type of its keys, and what is made.
@@ -48,7 +50,7 @@ struct TemplateRow {
     recipe: Recipe,
 }
 
-/// A template: a row of the table, which contracts see as its place. It is one of 32.
+/// A template: a row of the table, which contracts see as its place. It is one of 36.
 #[derive(Clone, Copy)]
 pub struct Template {
     row: usize,
@@ -61,7 +63,7 @@ impl Model for Template {
 
     ghost view = { λ t. t.row };
 
-    ghost invariant = { λ t. t.row < 32 };
+    ghost invariant = { λ t. t.row < 36 };
 
     ghost inverse = { λ place. record { row = place } };
 }
@@ -119,7 +121,8 @@ impl Template {
             | Recipe::Hmac(size, _, _)
             | Recipe::HmacPrf(size, _)
             | Recipe::GcmStream(size, _)
-            | Recipe::CtrStream(size, _) => size as usize,
+            | Recipe::CtrStream(size, _)
+            | Recipe::GcmSiv(size) => size as usize,
             Recipe::CtrHmac(size, _) => size as usize + 32,
             Recipe::Siv => 64,
             Recipe::Cmac | Recipe::HkdfPrf | Recipe::CmacPrf => 32,
@@ -150,6 +153,7 @@ fn type_by(recipe: Recipe) -> KeyType
         Recipe::CmacPrf => KeyType::CmacPrf,
         Recipe::GcmStream(_, _) => KeyType::GcmStream,
         Recipe::CtrStream(_, _) => KeyType::CtrStream,
+        Recipe::GcmSiv(_) => KeyType::AesGcmSiv,
     }
 }
 
@@ -173,11 +177,11 @@ fn raw(name: &'static str, recipe: Recipe) -> Option<TemplateRow>
     })
 }
 
-/// The template of this row, counted from 0: `None` exactly from 32 on. No memory is taken.
+/// The template of this row, counted from 0: `None` exactly from 36 on. No memory is taken.
 pub fn template_at(row: usize) -> Option<Template>
     ensures { option_map seen result ≡ slice_get templates row }
 {
-    if row < 32 {
+    if row < 36 {
         Some(Template { row })
     } else {
         None
@@ -192,8 +196,10 @@ fn row_at(row: usize) -> Option<TemplateRow>
         sealing_row(row)
     } else if row < 24 {
         tag_row(row)
-    } else {
+    } else if row < 32 {
         stream_row(row)
+    } else {
+        gcm_siv_row(row)
     }
 }
 
@@ -242,9 +248,10 @@ fn tag_row(row: usize) -> Option<TemplateRow>
     }
 }
 
-/// The row of this place, where keys are for streams, and none from 32 on.
+/// The row of this place, where keys are for streams.
 fn stream_row(row: usize) -> Option<TemplateRow>
     requires least { 24 ≤ row }
+    requires most { row < 32 }
     ensures { option_map seen_row result ≡ slice_get templates row }
 {
     match row {
@@ -266,6 +273,20 @@ fn stream_row(row: usize) -> Option<TemplateRow>
     }
 }
 
+/// The row of this place, where keys are for AES-GCM-SIV, and none from 36 on.
+fn gcm_siv_row(row: usize) -> Option<TemplateRow>
+    requires least { 32 ≤ row }
+    ensures { option_map seen_row result ≡ slice_get templates row }
+{
+    match row {
+        32 => tink("AES128_GCM_SIV", Recipe::GcmSiv(16)),
+        33 => raw("AES128_GCM_SIV_RAW", Recipe::GcmSiv(16)),
+        34 => tink("AES256_GCM_SIV", Recipe::GcmSiv(32)),
+        35 => raw("AES256_GCM_SIV_RAW", Recipe::GcmSiv(32)),
+        _ => None,
+    }
+}
+
 /// Why a name gives no template.
 #[derive(Clone, Copy, Debug, PartialEq, Eq)]
 pub enum TemplateFault {
@@ -282,7 +303,7 @@ pub enum TemplateFault {
 pub fn template_named(name: &str) -> Result<Template, TemplateFault>
     ensures { FindsTemplate name.now result }
 {
-    for row in 0..32 {
+    for row in 0..36 {
         if let Some(template) = template_at(row) {
             if template.name() == name {
                 return Ok(template);
@@ -381,5 +402,6 @@ fn make_single(alloc: Global, recipe: Recipe, key: Bytes) -> KeyKind
             mac_hash: Hash::Sha256,
             tag_size: 32,
         },
+        Recipe::GcmSiv(_) => KeyKind::AesGcmSiv { key },
     }
 }

@@ -21,9 +21,10 @@ fn contents_of<'k>(key: &'k KeyKind) -> Message<'k>
     ensures { result ≡ contents_of key.now }
 {
     match key {
-        KeyKind::AesGcm { key } | KeyKind::AesSiv { key } | KeyKind::CmacPrf { key } => with_key(
-            key.as_slice(),
-        ),
+        KeyKind::AesGcm { key }
+        | KeyKind::AesSiv { key }
+        | KeyKind::CmacPrf { key }
+        | KeyKind::AesGcmSiv { key } => with_key(key.as_slice()),
         KeyKind::AesEax { key, iv_size } => Message {
             iv_size: *iv_size,
             ..with_key(key.as_slice())

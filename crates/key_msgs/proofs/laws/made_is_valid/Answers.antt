@@ -68,7 +68,19 @@ returns c = (
                                                               λ random is. rw is refl,
                                                               (
                                                                 λ random is. rw is refl,
-                                                                tt,
+                                                                (
+                                                                  λ random is. rw is refl,
+                                                                  (
+                                                                    λ random is. rw is refl,
+                                                                    (
+                                                                      λ random is. rw is refl,
+                                                                      (
+                                                                        λ random is. rw is refl,
+                                                                        tt,
+                                                                      ),
+                                                                    ),
+                                                                  ),
+                                                                ),
                                                               ),
                                                             ),
                                                           ),

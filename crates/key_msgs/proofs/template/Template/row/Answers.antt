@@ -7,7 +7,7 @@ use Rattle.key_msgs.specs.declared.template.TemplateRow.{TemplateRow}
 use Rattle.key_msgs.proofs.template.Template.row.Goals as goal
 
 -- the row at a place of the table
-row_there : (place : ℕ) (found : Option TemplateRow) → place < 32 → option_map seen_row found ≡ slice_get templates place → option_map seen_row found ≡ Some (seen place)
+row_there : (place : ℕ) (found : Option TemplateRow) → place < 36 → option_map seen_row found ≡ slice_get templates place → option_map seen_row found ≡ Some (seen place)
 row_there place found within is = is ∙ slice_get-get_or templates place _ within
 
 same_row : (place : ℕ) (row : TemplateRow) → option_map seen_row (Some row) ≡ Some (seen place) → seen_row row ≡ seen place
