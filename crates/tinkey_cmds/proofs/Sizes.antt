@@ -6,7 +6,7 @@ use Rattle.key_msgs.specs.declared.key_type.KeyType.{KeyType}
 use Rattle.key_msgs.specs.declared.key_type.KeyType.TheVariants as types
 use Rattle.key_msgs.specs.declared.layout.Layout.{Layout}
 use Rattle.key_msgs.specs.declared.template.Recipe.{Recipe}
-use Rattle.key_msgs.specs.declared.template.Recipe.TheVariants.{Gcm, Eax, CtrHmac, Siv, Hmac, Cmac, HkdfPrf, HmacPrf, CmacPrf, GcmStream, CtrStream}
+use Rattle.key_msgs.specs.declared.template.Recipe.TheVariants.{Gcm, Eax, CtrHmac, Siv, Hmac, Cmac, HkdfPrf, HmacPrf, CmacPrf, GcmStream, CtrStream, GcmSiv}
 use Rattle.key_msgs.specs.Contents.{Contents}
 use Rattle.key_msgs.specs.KeyTypes.{layout_of, aes_ctr_fields, hmac_fields, url_of_type}
 use Rattle.key_msgs.specs.Keys.{type_of, contents_of}
@@ -133,6 +133,7 @@ length-of_type types.HmacPrf m = omega (arith, length-plain (layout_of types.Hma
 length-of_type types.CmacPrf m = omega (arith, length-plain (layout_of types.CmacPrf) m)
 length-of_type types.GcmStream m = omega (arith, length-plain (layout_of types.GcmStream) m)
 length-of_type types.CtrStream m = omega (arith, length-plain (layout_of types.CtrStream) m)
+length-of_type types.AesGcmSiv m = omega (arith, length-plain (layout_of types.AesGcmSiv) m)
 
 -- a made key holds its material
 made-held : (recipe : Recipe) (random : List ℕ) → held (contents_of (made_by recipe random)) ≡ length random
@@ -148,6 +149,7 @@ made-held (HmacPrf size hash) random = omega arith
 made-held CmacPrf random = omega arith
 made-held (GcmStream size segment) random = omega arith
 made-held (CtrStream size segment) random = omega arith
+made-held (GcmSiv size) random = omega arith
 
 -- the message of a made key
 pub length-made : (recipe : Recipe) (random : List ℕ) → length (value_of (made_by recipe random)) ≤ 520 + length random
@@ -168,3 +170,4 @@ length-url types.HmacPrf = lit≤ tt
 length-url types.CmacPrf = lit≤ tt
 length-url types.GcmStream = lit≤ tt
 length-url types.CtrStream = lit≤ tt
+length-url types.AesGcmSiv = lit≤ tt
