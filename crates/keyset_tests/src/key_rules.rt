@@ -43,10 +43,19 @@ AesCtrHmacStreamingKey|120c0839101018042204080210201a106b6b6b6b6b6b6b6b6b6b6b6b6
 AesCtrHmacStreamingKey|120c0838101018042204080210201a106b6b6b6b6b6b6b6b6b6b6b6b6b6b6b6b|Bad(Segment)
 AesCtrHmacStreamingKey|120c0838101018042204080210311a106b6b6b6b6b6b6b6b6b6b6b6b6b6b6b6b|Bad(TagSize)
 AesCtrHmacStreamingKey|120a083910101804220210201a0f6b6b6b6b6b6b6b6b6b6b6b6b6b6b6b|Bad(Hash)
+AesGcmSivKey|1a106b6b6b6b6b6b6b6b6b6b6b6b6b6b6b6b|ok
+AesGcmSivKey|1a206b6b6b6b6b6b6b6b6b6b6b6b6b6b6b6b6b6b6b6b6b6b6b6b6b6b6b6b6b6b6b6b|ok
+AesGcmSivKey|08011a106b6b6b6b6b6b6b6b6b6b6b6b6b6b6b6b|Bad(Version)
+AesGcmSivKey|08011a186b6b6b6b6b6b6b6b6b6b6b6b6b6b6b6b6b6b6b6b6b6b6b6b|Bad(Version)
+AesGcmSivKey|1a186b6b6b6b6b6b6b6b6b6b6b6b6b6b6b6b6b6b6b6b6b6b6b6b|Bad(KeySize)
+AesGcmSivKey||Bad(KeySize)
 HmacKey|0a00|Bad(Form)
 HmacKey|12021220|Bad(Form)
 HmacKey|12020803120210101a106b6b6b6b6b6b6b6b6b6b6b6b6b6b6b6b|ok
-AesGcmKey|0a001a0108|Bad(Form)";
+AesGcmKey|0a001a0108|Bad(Form)
+AesGcmSivKey|0a001a186b6b6b6b6b6b6b6b6b6b6b6b6b6b6b6b6b6b6b6b6b6b6b6b|Bad(Form)
+AesGcmSivKey|1202080c1a106b6b6b6b6b6b6b6b6b6b6b6b6b6b6b6b|ok
+AesGcmSivKey|12106b6b6b6b6b6b6b6b6b6b6b6b6b6b6b6b|Bad(KeySize)";
 
 // A URL that isn't known, though Tink has the message within others.
 const OTHERS: &str = "\
@@ -79,7 +88,7 @@ fn assert_read(alloc: Global, row: &str) -> Result<(), Fail> {
 
 #[test]
 fn the_first_broken_rule_is_named(rt: HostRuntime) -> Result<(), Fail> {
-    count(MESSAGES, 37)?;
+    count(MESSAGES, 46)?;
     for row in MESSAGES.lines() {
         assert_read(rt.alloc(), row)?;
     }
@@ -90,22 +99,32 @@ fn the_first_broken_rule_is_named(rt: HostRuntime) -> Result<(), Fail> {
 fn urls_name_primitives(rt: HostRuntime) -> Result<(), Fail> {
     let siv = primitive_of("type.googleapis.com/google.crypto.tink.AesSivKey");
     assert_eq!(rt; siv, Some(Primitive::Daead));
+    let gcm_siv = primitive_of("type.googleapis.com/google.crypto.tink.AesGcmSivKey");
+    assert_eq!(rt; gcm_siv, Some(Primitive::Aead));
     let other = primitive_of("type.googleapis.com/google.crypto.tink.AesCtrKey");
     assert_eq!(rt; other, None);
     assert_read(rt.alloc(), OTHERS)
 }
 
-// The first and the last row of the table of templates, and the place behind it.
-const PLACES: [(usize, &str); 3] = [
+// Rows of the table of templates, the first and the last among them, and the place behind it.
+const PLACES: [(usize, &str); 7] = [
     (0, "AES128_GCM"),
     (31, "AES256_CTR_HMAC_SHA256_1MB"),
-    (32, "none"),
+    (32, "AES128_GCM_SIV"),
+    (33, "AES128_GCM_SIV_RAW"),
+    (34, "AES256_GCM_SIV"),
+    (35, "AES256_GCM_SIV_RAW"),
+    (36, "none"),
 ];
 
-// A name of the table with the random bytes of its keys, one of Tink's asymmetric templates, and one
-// of none.
+// Names of the table with the random bytes of their keys and their output prefix types, one of Tink's
+// asymmetric templates, and one of none.
 const NAMES: &str = "\
-HMAC_SHA512_512BITTAG|Ok(64)
+HMAC_SHA512_512BITTAG|Ok((64, 1))
+AES128_GCM_SIV|Ok((16, 1))
+AES128_GCM_SIV_RAW|Ok((16, 3))
+AES256_GCM_SIV|Ok((32, 1))
+AES256_GCM_SIV_RAW|Ok((32, 3))
 ED25519|Err(Asymmetric)
 AES128_gcm|Err(Unknown)";
 
@@ -115,11 +134,14 @@ fn templates_by_row_and_name(rt: HostRuntime) -> Result<(), Fail> {
         let found = template_at(place).map_or("none", |template| template.name());
         assert_eq!(rt; found, name, "row {place}");
     }
-    count(NAMES, 3)?;
+    count(NAMES, 7)?;
     for row in NAMES.lines() {
-        let size = template_named(cell(row, 0)?).map(|template| template.random_len());
-        let text = format!(in rt.alloc(); "{size:?}")?;
-        holds(row, 1, "the size", text.as_str())?;
+        let made = template_named(cell(row, 0)?).map(|template| (
+            template.random_len(),
+            template.prefix(),
+        ));
+        let text = format!(in rt.alloc(); "{made:?}")?;
+        holds(row, 1, "the size and the prefix", text.as_str())?;
     }
     Ok(())
 }

@@ -24,7 +24,9 @@ HKDF_SHA256|120208031a206b6b6b6b6b6b6b6b6b6b6b6b6b6b6b6b6b6b6b6b6b6b6b6b6b6b6b6b
 HMAC_SHA512_PRF|120208041a406b6b6b6b6b6b6b6b6b6b6b6b6b6b6b6b6b6b6b6b6b6b6b6b6b6b6b6b6b6b6b6b6b6b6b6b6b6b6b6b6b6b6b6b6b6b6b6b6b6b6b6b6b6b6b6b6b6b6b6b6b6b6b6b
 AES_CMAC_PRF|12206b6b6b6b6b6b6b6b6b6b6b6b6b6b6b6b6b6b6b6b6b6b6b6b6b6b6b6b6b6b6b6b
 AES128_GCM_HKDF_1MB|120808808040101018031a106b6b6b6b6b6b6b6b6b6b6b6b6b6b6b6b
-AES256_CTR_HMAC_SHA256_4KB|120d088020102018032204080310201a206b6b6b6b6b6b6b6b6b6b6b6b6b6b6b6b6b6b6b6b6b6b6b6b6b6b6b6b6b6b6b6b";
+AES256_CTR_HMAC_SHA256_4KB|120d088020102018032204080310201a206b6b6b6b6b6b6b6b6b6b6b6b6b6b6b6b6b6b6b6b6b6b6b6b6b6b6b6b6b6b6b6b
+AES128_GCM_SIV|1a106b6b6b6b6b6b6b6b6b6b6b6b6b6b6b6b
+AES256_GCM_SIV_RAW|1a206b6b6b6b6b6b6b6b6b6b6b6b6b6b6b6b6b6b6b6b6b6b6b6b6b6b6b6b6b6b6b6b";
 
 const MATERIAL: [u8; 64] = [b'k'; 64];
 
@@ -50,7 +52,7 @@ fn made(alloc: Global, template: &Template) -> Result<(Vec<u8>, &'static str), F
 
 #[test]
 fn new_keys_are_written_as_protoc_does(rt: HostRuntime) -> Result<(), Fail> {
-    count(WRITTEN, 11)?;
+    count(WRITTEN, 13)?;
     for row in WRITTEN.lines() {
         let template = template_named(cell(row, 0)?)?;
         let (bytes, _) = made(rt.alloc(), &template)?;
@@ -61,7 +63,7 @@ fn new_keys_are_written_as_protoc_does(rt: HostRuntime) -> Result<(), Fail> {
 
 #[test]
 fn new_keys_read_back(rt: HostRuntime) -> Result<(), Fail> {
-    for place in 0..32 {
+    for place in 0..36 {
         let template = template_at(place).ok_or("a row of the table")?;
         let (bytes, url) = made(rt.alloc(), &template)?;
         let read = outcome(rt.alloc(), url, &bytes)?;
