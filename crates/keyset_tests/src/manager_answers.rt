@@ -18,11 +18,15 @@ use tink_base::Trials;
 // then three cells, which stand above each table.
 
 // Associated data, IV with ciphertext and tag, plaintext. AES-GCM is from its authors' appendix, EAX
-// from its paper, and AES-CTR-HMAC an answer of Google's Tink (tink-go 2.4.0) without its prefix.
+// from its paper, AES-CTR-HMAC an answer of Google's Tink (tink-go 2.4.0) without its prefix, and
+// AES-GCM-SIV from RFC 8452.
 const AEAD: &str = "\
 AES-GCM, case 2|AesGcmKey|1a1000000000000000000000000000000000||0000000000000000000000000388dace60b6a392f328c2b971b2fe78ab6e47d42cec13bdf53a67b21257bddf|00000000000000000000000000000000
 EAX, the first|AesEaxKey|120208101a10233952dee4d5ed5f9b9c6d6ff80ff478|6bfb914fd07eae6b|62ec67f9c3a4a407fcb2a8c49031a8b3e037830e8389f27b025a2d6527e79d01|
-AES-CTR-HMAC, Tink's|AesCtrHmacAeadKey|12161202080f1a10d6f33471a9dc83db908c3a80de20f0e11a99011204080510141a9001134fe916a0ed1eecb1169beec55c5adda66ec00b22059a2421980d2beab5df846fb68efbdabb5282a79fc47a96615e3bc97ce293b77cf5bbeabd4e8113e888de4c5d73f61756b692a547c7bafef639a37ffdfad2638dd24f2b411b733c5bc0116654e3366cec75ea187ace8c564ea020a5bdb127eebbaa12fb58b78ae4f5a082c967f59717ab7b51135fa5a79bf401f5|f9b03c1d7acb1a8bdc7278f4c6b4ec0a7fe7e9db|f9590019a0715c03f1d42e10cd5fedfd44ad47eb920d4fa29bc97fbf62fba09ec82fada8|ea";
+AES-CTR-HMAC, Tink's|AesCtrHmacAeadKey|12161202080f1a10d6f33471a9dc83db908c3a80de20f0e11a99011204080510141a9001134fe916a0ed1eecb1169beec55c5adda66ec00b22059a2421980d2beab5df846fb68efbdabb5282a79fc47a96615e3bc97ce293b77cf5bbeabd4e8113e888de4c5d73f61756b692a547c7bafef639a37ffdfad2638dd24f2b411b733c5bc0116654e3366cec75ea187ace8c564ea020a5bdb127eebbaa12fb58b78ae4f5a082c967f59717ab7b51135fa5a79bf401f5|f9b03c1d7acb1a8bdc7278f4c6b4ec0a7fe7e9db|f9590019a0715c03f1d42e10cd5fedfd44ad47eb920d4fa29bc97fbf62fba09ec82fada8|ea
+AES-GCM-SIV, C.1|AesGcmSivKey|1a1001000000000000000000000000000000|01|0300000000000000000000001e6daba35669f4273b0a1a2560969cdf790d99759abd1508|0200000000000000
+AES-GCM-SIV, C.2|AesGcmSivKey|1a200100000000000000000000000000000000000000000000000000000000000000||030000000000000000000000c2ef328e5c71c83b843122130f7364b761e0b97427e3df28|0100000000000000
+AES-GCM-SIV, C.3|AesGcmSivKey|1a200000000000000000000000000000000000000000000000000000000000000000||000000000000000000000000f3f80f2cf0cb2dd9c5984fcda908456cc537703b5ba70324a6793a7bf218d3eaffffffff000000000000000000000000|000000000000000000000000000000004db923dc793ee6497c76dcc03a98e108";
 
 // Associated data, SIV with ciphertext, plaintext: an answer of Python's cryptography.
 const DAEAD: &str = "\
@@ -305,6 +309,7 @@ fn managers_of_aeads_answer_their_standards(rt: HostRuntime) -> Result<(), Fail>
     aead.push(aead_under(alloc, "AesGcmKey", AeadScheme::Gcm)?)?;
     aead.push(aead_under(alloc, "AesEaxKey", AeadScheme::Eax)?)?;
     aead.push(aead_under(alloc, "AesCtrHmacAeadKey", AeadScheme::CtrHmac)?)?;
+    aead.push(aead_under(alloc, "AesGcmSivKey", AeadScheme::GcmSiv)?)?;
     let all = Managers::new(aead, Vec::new(alloc), Vec::new(alloc), Vec::new(alloc))?;
     for row in AEAD.lines() {
         let place = all.find(Primitive::Aead, cell(row, 1)?).ok_or("a manager")?;

@@ -32,6 +32,7 @@ type_of_url-own types.HmacPrf = refl
 type_of_url-own types.CmacPrf = refl
 type_of_url-own types.GcmStream = refl
 type_of_url-own types.CtrStream = refl
+type_of_url-own types.AesGcmSiv = refl
 
 -- what is read under the URL of a type is read as that type
 pub read_by_own : (result : Result KeyKind KeyFault) (url : List ℕ) (type : KeyType) (value : List ℕ)
@@ -58,6 +59,7 @@ key_from-type types.CmacPrf m = refl
 key_from-type types.GcmStream m = with_type _ (hash_of_number m.hash) _ (λ h. refl)
 key_from-type types.CtrStream m =
     with_type _ (hash_of_number m.hash) _ (λ h. with_type _ (hash_of_number m.mac_hash) _ (λ k. refl))
+key_from-type types.AesGcmSiv m = refl
 
 if_ok : (P : KeyKind → Type 0) (read : Result KeyKind Rule) (key : KeyKind) → IfOk read P → read ≡ Ok key → P key
 if_ok P read key holds same = subst (λ (r : Result KeyKind Rule). IfOk r P) same holds

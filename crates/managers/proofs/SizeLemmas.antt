@@ -9,6 +9,7 @@ use Rattle.aead_kinds.specs.CtrHmac.{ctr_hmac_seal, ctr_hmac_tag, ctr_hmac_text}
 use Rattle.aead_kinds.specs.Eax.{eax_seal, eax_tag, eax_text}
 use Rattle.aead_kinds.specs.EncryptThenTag.{sealed_by}
 use Rattle.aead_kinds.specs.Gcm.{gcm_seal, gcm_tag, gcm_text}
+use Rattle.gcm_siv.specs.GcmSiv.{gcm_siv_seal, gcm_siv_tag, gcm_siv_text}
 use Rattle.std.specs.Prelude.{not, if◌then◌else◌}
 use Rattle.key_msgs.specs.Keys.{IsValid, contents_of, hash_number}
 use Rattle.key_msgs.specs.Rules.{hash_fits, key_fits, iv_fits, tag_fits, is_tag_of, is_within}
@@ -53,7 +54,7 @@ take-front n xs ys zs is = ap (λ (all : List ℕ). take n all) (append_assoc xs
 -- the IV stands at the front
 pub take-seal_of : (key : KeyKind) (iv plain ad : List ℕ) → IsFor Aead key → length iv ≡ iv_size key
     → take (iv_size key) (seal_of key iv plain ad) ≡ iv
-unfolding gcm_seal eax_seal ctr_hmac_seal sealed_by
+unfolding gcm_seal eax_seal ctr_hmac_seal sealed_by gcm_siv_seal
 take-seal_of (kinds.AesGcm key) iv plain ad is whole = take-front 12 iv (gcm_text key iv plain) (gcm_tag key iv ad (gcm_text key iv plain)) whole
 take-seal_of (kinds.AesEax key size) iv plain ad is whole = take-front size iv (eax_text key iv plain) (eax_tag key iv ad (eax_text key iv plain)) whole
 take-seal_of (kinds.AesCtrHmac aes size hash mac tag_size) iv plain ad is whole =
@@ -66,3 +67,5 @@ take-seal_of (kinds.HmacPrf key hash) iv plain ad is whole = cc
 take-seal_of (kinds.CmacPrf key) iv plain ad is whole = cc
 take-seal_of (kinds.GcmStream key segment derived hash) iv plain ad is whole = cc
 take-seal_of (kinds.CtrStream key segment derived hash mac_hash tag_size) iv plain ad is whole = cc
+take-seal_of (kinds.AesGcmSiv key) iv plain ad is whole =
+    let tag = gcm_siv_tag key iv ad plain in take-front 12 iv (gcm_siv_text key iv tag plain) tag whole

@@ -26,6 +26,7 @@ pub data Scheme : Type 0 where
   Gcm : Scheme
   Eax : Scheme
   CtrHmac : Scheme
+  GcmSiv : Scheme
   Siv : Scheme
   Hmac : Scheme
   Cmac : Scheme
@@ -38,6 +39,7 @@ abbrev pub aead_scheme : AeadScheme → Scheme
 aead_scheme aeads.Gcm = Gcm
 aead_scheme aeads.Eax = Eax
 aead_scheme aeads.CtrHmac = CtrHmac
+aead_scheme aeads.GcmSiv = GcmSiv
 
 -- the same of a MAC
 abbrev pub mac_scheme : MacScheme → Scheme
@@ -55,6 +57,7 @@ abbrev pub type_under : Scheme → KeyType
 type_under Gcm = types.AesGcm
 type_under Eax = types.AesEax
 type_under CtrHmac = types.AesCtrHmac
+type_under GcmSiv = types.AesGcmSiv
 type_under Siv = types.AesSiv
 type_under Hmac = types.Hmac
 type_under Cmac = types.AesCmac

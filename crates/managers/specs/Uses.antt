@@ -15,6 +15,7 @@ use Rattle.std.specs.Prelude.{ℕ, ◌*◌, Option, None, Bool, true, false, Lis
 use Rattle.aead_kinds.specs.CtrHmac.{ctr_hmac_open, ctr_hmac_seal}
 use Rattle.aead_kinds.specs.Eax.{eax_open, eax_seal}
 use Rattle.aead_kinds.specs.Gcm.{gcm_open, gcm_seal}
+use Rattle.gcm_siv.specs.GcmSiv.{gcm_siv_open, gcm_siv_seal}
 use Rattle.key_msgs.specs.declared.key.KeyKind.{KeyKind}
 use Rattle.key_msgs.specs.declared.key.KeyKind.TheVariants as kinds
 use Rattle.mac_prf.specs.Cmac.{cmac}
@@ -23,20 +24,22 @@ use Rattle.mac_prf.specs.Hmac.{hmac}
 use Rattle.siv_daead.specs.Siv.{siv_open, siv_seal}
 use Rattle.tink_base.specs.Hash.{hash_size}
 
--- 12 bytes under AES-GCM, and else as many as the key says
+-- 12 bytes under AES-GCM and AES-GCM-SIV, and else as many as the key says
 abbrev pub iv_size : KeyKind → ℕ
 iv_size (kinds.AesGcm key) = 12
 iv_size (kinds.AesEax key size) = size
 iv_size (kinds.AesCtrHmac aes size hash mac tag_size) = size
+iv_size (kinds.AesGcmSiv key) = 12
 iv_size _ = 0
 
--- AES-GCM (SP 800-38D), EAX, and AES-CTR-HMAC by Tink's wire format, of IV, plaintext and
--- associated data
+-- AES-GCM (SP 800-38D), EAX, AES-CTR-HMAC by Tink's wire format, and AES-GCM-SIV (RFC 8452), of IV,
+-- plaintext and associated data
 abbrev pub seal_of : KeyKind → List ℕ → List ℕ → List ℕ → List ℕ
 seal_of (kinds.AesGcm key) iv plain ad = gcm_seal key iv plain ad
 seal_of (kinds.AesEax key size) iv plain ad = eax_seal key iv plain ad
 seal_of (kinds.AesCtrHmac aes size hash mac tag_size) iv plain ad =
     ctr_hmac_seal aes hash mac tag_size iv plain ad
+seal_of (kinds.AesGcmSiv key) iv plain ad = gcm_siv_seal key iv plain ad
 seal_of _ iv plain ad = []
 
 -- what an AEAD key opens bytes to; none under a key of another primitive
@@ -45,6 +48,7 @@ open_key (kinds.AesGcm key) bytes ad = gcm_open key bytes ad
 open_key (kinds.AesEax key size) bytes ad = eax_open key size bytes ad
 open_key (kinds.AesCtrHmac aes size hash mac tag_size) bytes ad =
     ctr_hmac_open aes size hash mac tag_size bytes ad
+open_key (kinds.AesGcmSiv key) bytes ad = gcm_siv_open key bytes ad
 open_key _ bytes ad = None
 
 -- AES-SIV (RFC 5297) with one associated datum

@@ -1,4 +1,4 @@
-//! The manager of authenticated encryption: AES-GCM, EAX and AES-CTR-HMAC.
+//! The manager of authenticated encryption: AES-GCM, EAX, AES-CTR-HMAC and AES-GCM-SIV.
 
 ghost use Rattle.std.specs.Prelude.{◌≡◌, ◌+◌, ◌^◌, ◌≤◌, length, string_bytes, IfOk};
 ghost use Rattle.std.specs.Option.{option_map};
@@ -9,11 +9,12 @@ ghost use Rattle.managers.specs.Uses.{iv_size, open_key, seal_of};
 use crate::reading::read_as;
 use crate::{AeadManager, CheckFault, KeyManager};
 use aead_kinds::{AeadKey, open, seal};
+use gcm_siv::{gcm_siv_open, gcm_siv_seal};
 use key_msgs::{KeyKind, KeyType};
 use std::alloc::Global;
 use tink_base::{NoMemory, Trials};
 
-/// The bytes of an IV of AES-GCM.
+/// The bytes of an IV of AES-GCM, and of AES-GCM-SIV.
 const GCM_IV: usize = 12;
 
 /// How many bytes an IV has under a key of any kind.
@@ -21,7 +22,7 @@ fn iv_size_under(key: &KeyKind) -> usize
     ensures { result ≡ iv_size key.now }
 {
     match key {
-        KeyKind::AesGcm { .. } => GCM_IV,
+        KeyKind::AesGcm { .. } | KeyKind::AesGcmSiv { .. } => GCM_IV,
         KeyKind::AesEax { iv_size, .. } | KeyKind::AesCtrHmac { iv_size, .. } => *iv_size as usize,
         _ => 0,
     }
@@ -67,6 +68,10 @@ fn seal_under(
             };
             seal(alloc, &under, iv, plain, ad)
         }
+        KeyKind::AesGcmSiv { key } => match iv.first_chunk::<GCM_IV>() {
+            Some(iv) => gcm_siv_seal(alloc, key.as_slice(), iv, plain, ad),
+            None => unreachable!(),
+        },
         _ => Ok(Vec::new(alloc)),
     }
 }
@@ -110,6 +115,7 @@ fn open_under(
             };
             open(alloc, &under, bytes, ad)
         }
+        KeyKind::AesGcmSiv { key } => gcm_siv_open(alloc, key.as_slice(), bytes, ad),
         _ => Ok(None),
     }
 }
@@ -123,6 +129,8 @@ pub enum AeadScheme {
     Eax,
     /// AES-CTR-HMAC, by Tink's wire format.
     CtrHmac,
+    /// AES-GCM-SIV (RFC 8452).
+    GcmSiv,
 }
 
 impl AeadScheme {
@@ -134,6 +142,7 @@ impl AeadScheme {
             AeadScheme::Gcm => KeyType::AesGcm,
             AeadScheme::Eax => KeyType::AesEax,
             AeadScheme::CtrHmac => KeyType::AesCtrHmac,
+            AeadScheme::GcmSiv => KeyType::AesGcmSiv,
         }
     }
 }

@@ -100,6 +100,8 @@ fn with_aeads<S: Source, K: Sink, G: Sink, E: Entropy, D: Store>(
     aead.push(Box::new(alloc, StandardAead::new(eax, AeadScheme::Eax))?)?;
     let ctr_hmac = String::from_str(alloc, KeyType::AesCtrHmac.url())?;
     aead.push(Box::new(alloc, StandardAead::new(ctr_hmac, AeadScheme::CtrHmac))?)?;
+    let gcm_siv = String::from_str(alloc, KeyType::AesGcmSiv.url())?;
+    aead.push(Box::new(alloc, StandardAead::new(gcm_siv, AeadScheme::GcmSiv))?)?;
     with_macs(alloc, words, prf, aead, source, sink, diag, entropy, store)
 }
 

@@ -11,6 +11,7 @@ use Rattle.aead_kinds.proofs.GcmLemmas.{length-gcm_seal}
 use Rattle.aead_kinds.specs.CtrHmac.{authenticated, ctr_hmac_seal, ctr_hmac_tag, ctr_hmac_text}
 use Rattle.aead_kinds.specs.Eax.{eax_seal, eax_tag, eax_text}
 use Rattle.aead_kinds.specs.EncryptThenTag.{sealed_by}
+use Rattle.gcm_siv.proofs.GcmSivLemmas.{length-gcm_siv_seal}
 use Rattle.key_msgs.specs.declared.key.KeyKind.{KeyKind}
 use Rattle.key_msgs.specs.declared.key.KeyKind.TheVariants as kinds
 use Rattle.key_msgs.specs.declared.primitive.Primitive.TheVariants.{Aead}
@@ -70,6 +71,7 @@ length-seal_of (kinds.HmacPrf key hash) iv plain ad = omega arith
 length-seal_of (kinds.CmacPrf key) iv plain ad = omega arith
 length-seal_of (kinds.GcmStream key segment derived hash) iv plain ad = omega arith
 length-seal_of (kinds.CtrStream key segment derived hash mac_hash tag_size) iv plain ad = omega arith
+length-seal_of (kinds.AesGcmSiv key) iv plain ad = let is = length-gcm_siv_seal key iv plain ad in omega (arith, is)
 
 length-prefix : (r : Record) → length (prefix_bytes (prefix_of r)) ≤ 5
 length-prefix r = by (is_raw r)

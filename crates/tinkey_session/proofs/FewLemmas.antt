@@ -184,6 +184,7 @@ iv_small (kinds.HmacPrf key hash) valid = omega arith
 iv_small (kinds.CmacPrf key) valid = omega arith
 iv_small (kinds.GcmStream key segment derived hash) valid = omega arith
 iv_small (kinds.CtrStream key segment derived hash mac_hash tag_size) valid = omega arith
+iv_small (kinds.AesGcmSiv key) valid = omega arith
 
 -- ---- lines
 

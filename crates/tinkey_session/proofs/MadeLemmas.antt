@@ -12,7 +12,7 @@ use Rattle.key_msgs.specs.Reading.{key_of}
 use Rattle.key_msgs.specs.Templates.{MadeKeysAreValid, Row, made, made_by, random_of, templates, type_made}
 use Rattle.key_msgs.specs.Writing.{AreNumbers, value_of}
 use Rattle.key_msgs.specs.declared.template.Recipe.{Recipe}
-use Rattle.key_msgs.specs.declared.template.Recipe.TheVariants.{Gcm, Eax, CtrHmac, Siv, Hmac, Cmac, HkdfPrf, HmacPrf, CmacPrf, GcmStream, CtrStream}
+use Rattle.key_msgs.specs.declared.template.Recipe.TheVariants.{Gcm, Eax, CtrHmac, Siv, Hmac, Cmac, HkdfPrf, HmacPrf, CmacPrf, GcmStream, CtrStream, GcmSiv}
 use Rattle.managers.proofs.ReadingLemmas.{type_of_url-own}
 use Rattle.tinkey_cmds.proofs.Among.{each-contains}
 use Rattle.tinkey_cmds.proofs.Kept.{most_random}
@@ -34,6 +34,7 @@ made_type (HmacPrf size hash) random = refl
 made_type CmacPrf random = refl
 made_type (GcmStream size segment) random = refl
 made_type (CtrStream size segment) random = refl
+made_type (GcmSiv size) random = refl
 
 -- ---- the numbers of a made key
 
@@ -75,6 +76,7 @@ made_numbers (HmacPrf size hash) random = refl
 made_numbers CmacPrf random = refl
 made_numbers (GcmStream size segment) random = refl
 made_numbers (CtrStream size segment) random = refl
+made_numbers (GcmSiv size) random = refl
 
 template_numbers : (row : Row) → IsTemplate row → are_numbers (contents_of (made row [])) ≡ true
 template_numbers row is = each-contains (λ x. are_numbers (contents_of (made x [])) ≡ true) templates row (all_each (λ x. are_numbers (contents_of (made x []))) templates refl) is

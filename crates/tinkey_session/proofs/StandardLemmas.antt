@@ -11,7 +11,7 @@ use Rattle.key_msgs.specs.declared.key_type.KeyType.TheVariants as types
 use Rattle.key_msgs.specs.declared.primitive.Primitive.{Primitive}
 use Rattle.key_msgs.specs.declared.primitive.Primitive.TheVariants.{Aead, Daead, Mac, Prf, Stream}
 use Rattle.keyset_model.proofs.PrimaryLemmas.{at_position, no_position}
-use Rattle.managers.specs.Schemes.{Scheme, Gcm, Eax, CtrHmac, Siv, Hmac, Cmac, HkdfPrf, HmacPrf, CmacPrf, type_under}
+use Rattle.managers.specs.Schemes.{Scheme, Gcm, Eax, CtrHmac, GcmSiv, Siv, Hmac, Cmac, HkdfPrf, HmacPrf, CmacPrf, type_under}
 use Rattle.managers.specs.Standard.{standard_table}
 use Rattle.managers.specs.Table.{Entry, entries_of, place_in, scheme_at}
 use Rattle.tinkey_cmds.proofs.Among.{among-all, find-among}
@@ -40,6 +40,7 @@ own_scheme types.HmacPrf e = record { scheme = HmacPrf; at = refl; under = refl 
 own_scheme types.CmacPrf e = record { scheme = CmacPrf; at = refl; under = refl }
 own_scheme types.GcmStream e = no_truth e
 own_scheme types.CtrStream e = no_truth e
+own_scheme types.AesGcmSiv e = record { scheme = GcmSiv; at = refl; under = refl }
 
 pub has_scheme : (primitive : Primitive) (type : KeyType) → is_served primitive ≡ true → primitive_of_type type ≡ primitive → HasScheme primitive type
 has_scheme primitive type served is = subst (λ p. HasScheme p type) is (own_scheme type (ap is_served is ∙ served))
@@ -54,7 +55,7 @@ abbrev IsOwn : Primitive → Entry → Type 0
 IsOwn primitive e = (e.url ≡ url_of_type (type_under e.scheme)) × (primitive_of_type (type_under e.scheme) ≡ primitive)
 
 own_entries : (primitive : Primitive) → AllByRecursion (IsOwn primitive) (entries_of standard_table primitive)
-own_entries Aead = ((refl, refl), ((refl, refl), ((refl, refl), tt)))
+own_entries Aead = ((refl, refl), ((refl, refl), ((refl, refl), ((refl, refl), tt))))
 own_entries Daead = ((refl, refl), tt)
 own_entries Mac = ((refl, refl), ((refl, refl), tt))
 own_entries Prf = ((refl, refl), ((refl, refl), ((refl, refl), tt)))

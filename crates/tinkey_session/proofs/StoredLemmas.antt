@@ -19,7 +19,7 @@ use Rattle.key_msgs.specs.declared.key_type.KeyType.{KeyType}
 use Rattle.key_msgs.specs.declared.key_type.KeyType.TheVariants as types
 use Rattle.key_msgs.specs.declared.layout.Layout.{Layout}
 use Rattle.key_msgs.specs.declared.template.Recipe.{Recipe}
-use Rattle.key_msgs.specs.declared.template.Recipe.TheVariants.{Gcm, Eax, CtrHmac, Siv, Hmac, Cmac, HkdfPrf, HmacPrf, CmacPrf, GcmStream, CtrStream}
+use Rattle.key_msgs.specs.declared.template.Recipe.TheVariants.{Gcm, Eax, CtrHmac, Siv, Hmac, Cmac, HkdfPrf, HmacPrf, CmacPrf, GcmStream, CtrStream, GcmSiv}
 use Rattle.keyset_model.specs.Keyset.{Keys, has_id}
 use Rattle.keyset_model.specs.Writing.{HasWireBounds}
 use Rattle.keyset_model.specs.declared.record.Record.{Record}
@@ -182,6 +182,7 @@ bytes-of_type types.CtrStream m h = bytes-plain (layout_of types.CtrStream) m (
       ((lit< tt, h.numbers.segment), ((lit< tt, h.numbers.derived), ((lit< tt, h.numbers.hash), (plain_hmac m h, tt)))),
   (plain_key 3 m (lit< tt) h, tt),
 )
+bytes-of_type types.AesGcmSiv m h = bytes-plain (layout_of types.AesGcmSiv) m (plain_key 3 m (lit< tt) h, tt)
 
 -- ---- made keys
 
@@ -201,6 +202,7 @@ made_bytes (HmacPrf size hash) random h = (h, tt, tt)
 made_bytes CmacPrf random h = (h, tt, tt)
 made_bytes (GcmStream size segment) random h = (h, tt, tt)
 made_bytes (CtrStream size segment) random h = (h, tt, tt)
+made_bytes (GcmSiv size) random h = (h, tt, tt)
 
 -- the message of a made key
 bytes-made : (row : Row) (random : List ℕ) → IsTemplate row → length random ≡ random_of row → AreBytes random → AreBytes (value_of (made row random))

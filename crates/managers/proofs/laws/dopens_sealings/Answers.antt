@@ -20,6 +20,7 @@ under_each siv (kinds.HmacPrf key hash) bytes plain ad is = cc
 under_each siv (kinds.CmacPrf key) bytes plain ad is = cc
 under_each siv (kinds.GcmStream key segment derived hash) bytes plain ad is = cc
 under_each siv (kinds.CtrStream key segment derived hash mac_hash tag_size) bytes plain ad is = cc
+under_each siv (kinds.AesGcmSiv key) bytes plain ad is = cc
 
 pub returns : goal.returns
 returns c = under_each c.siv_opens_sealings.ensures
