@@ -55,13 +55,13 @@ ends_in_name old mid new i template t is row names front =
     prefix_later old mid new names.written ((seen template).name ++ codes "\n") (flat_map name_line (drop (i + 1) templates)) template_names names.took front (ap (λ (rest : List ℕ). names.written ++ rest) (append_assoc (seen template).name (codes "\n") _) ∙ ap (λ (rest : List ℕ). names.written ++ rest) (sym (names_from i template t is row)) ∙ names.whole)
 
 -- behind the last row
-pub all_names : (old new : SinkState) (i : ℕ) → HasNames old new i → 32 ≤ i → Took old new template_names
+pub all_names : (old new : SinkState) (i : ℕ) → HasNames old new i → 36 ≤ i → Took old new template_names
 all_names old new i names past = subst (Took old new) (sym (append-nil names.written) ∙ ap (λ (rest : List ℕ). names.written ++ rest) (sym none) ∙ names.whole) names.took
   where
     none : flat_map name_line (drop i templates) ≡ []
     none = ap (flat_map name_line) (nil_from_length (drop i templates) (omega (arith, length-drop i templates, past)))
 
--- there are 32 rows
+-- there are 36 rows
 pub no_more : (old new : SinkState) (i : ℕ) (t : Option Template) → t ≡ None → option_map seen t ≡ slice_get templates i → HasNames old new i → HasNames old new (i + 1)
 no_more old new i t is row names = record { written = names.written; took = names.took; whole = ap (λ (rest : List ℕ). names.written ++ rest) (ap (flat_map name_line) (same_rows templates i (sym row ∙ ap (option_map seen) is))) ∙ names.whole }
   where

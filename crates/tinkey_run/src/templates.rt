@@ -29,7 +29,7 @@ fn write_names<K: Sink>(sink: &mut K) -> Result<(), Failed>
     ensures prefix { OnErr result
         (TookPrefix (K.state sink.old) (K.state sink.new) template_names) }
 {
-    for row in 0..32 {
+    for row in 0..36 {
         if let Some(template) = template_at(row) {
             if let Err(failed) = write_name(sink, template.name()) {
                 return Err(failed);
