@@ -4,9 +4,9 @@
 use crate::keysets::run_by_keysets;
 use std::test::Fail;
 
-// AES-GCM of 16 zero bytes is case 2 of the appendix of its authors, and of none case 1. The other
-// answers are those of Python's cryptography, by AESGCM, and by its AES in counter mode with its CMAC
-// for AES-EAX, and with Python's hmac for AES-CTR-HMAC.
+// AES-GCM of 16 zero bytes is case 2 of the appendix of its authors, and of none case 1; AES-GCM-SIV is
+// RFC 8452, C.1 and C.2. The other answers are those of Python's cryptography, by AESGCM, and by its AES
+// in counter mode with its CMAC for AES-EAX, and with Python's hmac for AES-CTR-HMAC.
 const SEALINGS: &str = "status: 0 Done
 
 shows | words | file | input | random | output | drawn
@@ -38,16 +38,20 @@ of 12 bytes | seal --ad x | 07; ENABLED TINK 07 @AesEaxKey 1202080c 1a20 0001020
 AES-CTR-HMAC with an IV of 12 bytes | seal --ad x | 07; ENABLED RAW 07 @AesCtrHmacAeadKey 12( 12( 080c ) 1a( 000102030405060708090a0b0c0d0e0f ) ) 1a( 12( 08031010 ) 1a( 202122232425262728292a2b2c2d2e2f303132333435363738393a3b3c3d3e3f ) ) | 4869205468657265 | 404142434445464748494a4b4c4d4e4f | 404142434445464748494a4ba435e92b7cfef21ca4a441da8d29bd41675ff24a624f5f39 | 12
 of 13 bytes, and SHA-1 | seal | 07; ENABLED LEGACY 07 @AesCtrHmacAeadKey 12( 12( 080d ) 1a( 000102030405060708090a0b0c0d0e0f101112131415161718191a1b1c1d1e1f ) ) 1a( 12( 08011014 ) 1a( 202122232425262728292a2b2c2d2e2f ) ) | 4869205468657265 | 404142434445464748494a4b4c4d4e4f | 0000000007 404142434445464748494a4b4c5d92579f891590fe3193e4608f5a3fe7ee1268c4e07c48f63829f150 | 13
 of 16 bytes, and SHA-512 | seal | 07; ENABLED TINK 07 @AesCtrHmacAeadKey 12( 12( 0810 ) 1a( 000102030405060708090a0b0c0d0e0f101112131415161718191a1b1c1d1e1f ) ) 1a( 12( 08041040 ) 1a( 202122232425262728292a2b2c2d2e2f303132333435363738393a3b3c3d3e3f ) ) | 4869205468657265 | 404142434445464748494a4b4c4d4e4f | 0100000007 404142434445464748494a4b4c4d4e4feb17ff6bff3fc88aae486ba0bdedf2b7b1efb34862e36ddcacab93db49604ad1f7fb967d99eebd8dd5a7a28ade3d9aae51e7810d160aa1339fef216326bb4abbd778b8ec90b3ae64 | 16
+AES-GCM-SIV under RAW, no plaintext | seal | 07; ENABLED RAW 07 @AesGcmSivKey 1a10 01 15x00 | | 03 11x00 | 03 11x00 dc20e2d83f25705bb49e439eca56de25 | 12
+TINK, and associated data | seal --ad-hex 01 | 07; ENABLED TINK 07 @AesGcmSivKey 1a10 01 15x00 | 02 7x00 | 03 11x00 ff | 0100000007 03 11x00 1e6daba35669f4273b0a1a2560969cdf790d99759abd1508 | 12
+LEGACY, and a key of 32 bytes | seal | 07; ENABLED LEGACY 07 @AesGcmSivKey 1a20 01 31x00 | 01 7x00 | 03 11x00 | 0000000007 03 11x00 c2ef328e5c71c83b843122130f7364b761e0b97427e3df28 | 12
 the second of three keys is primary | seal | 02; ENABLED TINK 01 @AesGcmKey 1a10 16xff; ENABLED TINK 02 @AesGcmKey 1a10 16x00; ENABLED TINK 03 @AesGcmKey 1a10 16xee | 16x00 | 12x00 | 0100000002 12x00 0388dace60b6a392f328c2b971b2fe78 ab6e47d42cec13bdf53a67b21257bddf | 12
 DISABLED keys that no manager has and that are broken | seal | 02; DISABLED TINK 01 a 0x00; ENABLED TINK 02 @AesGcmKey 1a10 16x00; DISABLED TINK 03 @AesGcmKey 07 | 16x00 | 12x00 | 0100000002 12x00 0388dace60b6a392f328c2b971b2fe78 ab6e47d42cec13bdf53a67b21257bddf | 12
 ";
 
 #[test]
 fn seals_under_the_primary_key(rt: HostRuntime) -> Result<(), Fail> {
-    run_by_keysets(rt.alloc(), SEALINGS, 30)
+    run_by_keysets(rt.alloc(), SEALINGS, 33)
 }
 
-// The same answers, and those under a key of 16 bytes 0xff and of AES-SIV by the same program.
+// The same answers, those under a key of 16 bytes 0xff and of AES-SIV by the same program, and one of
+// AES-GCM-SIV from RFC 8452, C.3.
 const OPENINGS: &str = "piece: 4096
 
 shows | words | file | input | status | line | output
@@ -91,6 +95,13 @@ RAW keys of three kinds | open | 01; ENABLED RAW 01 @AesCtrHmacAeadKey 12( 12( 0
 another key's type | open | 01; ENABLED RAW 01 @AesEaxKey 1202080c 1a10 16x00 | 12x00 0388dace60b6a392f328c2b971b2fe78 ab6e47d42cec13bdf53a67b21257bddf | 1 OpenFailed | tinkey: open failed |
 AES-EAX | open --ad x | 07; ENABLED TINK 07 @AesEaxKey 1202080c 1a20 000102030405060708090a0b0c0d0e0f101112131415161718191a1b1c1d1e1f | 0100000007 404142434445464748494a4b4dd7d84d4b01adcbb963655d81ea0115aea925fd9e53db70 | 0 Done | | 4869205468657265
 AES-CTR-HMAC | open | 07; ENABLED LEGACY 07 @AesCtrHmacAeadKey 12( 12( 080d ) 1a( 000102030405060708090a0b0c0d0e0f101112131415161718191a1b1c1d1e1f ) ) 1a( 12( 08011014 ) 1a( 202122232425262728292a2b2c2d2e2f ) ) | 0000000007 404142434445464748494a4b4c5d92579f891590fe3193e4608f5a3fe7ee1268c4e07c48f63829f150 | 0 Done | | 4869205468657265
+AES-GCM-SIV under RAW, no plaintext | open | 07; ENABLED RAW 07 @AesGcmSivKey 1a10 01 15x00 | 03 11x00 dc20e2d83f25705bb49e439eca56de25 | 0 Done | |
+the last byte of it changed | open | 07; ENABLED RAW 07 @AesGcmSivKey 1a10 01 15x00 | 03 11x00 dc20e2d83f25705bb49e439eca56de24 | 1 OpenFailed | tinkey: open failed |
+the first 27 bytes of it | open | 07; ENABLED RAW 07 @AesGcmSivKey 1a10 01 15x00 | 03 11x00 dc20e2d83f25705bb49e439eca56de | 1 OpenFailed | tinkey: open failed |
+the same under AES-GCM | open | 07; ENABLED RAW 07 @AesGcmKey 1a10 01 15x00 | 03 11x00 dc20e2d83f25705bb49e439eca56de25 | 1 OpenFailed | tinkey: open failed |
+AES-GCM-SIV and associated data | open --ad-hex 01 | 07; ENABLED TINK 07 @AesGcmSivKey 1a10 01 15x00 | 0100000007 03 11x00 1e6daba35669f4273b0a1a2560969cdf790d99759abd1508 | 0 Done | | 02 7x00
+the same without it | open | 07; ENABLED TINK 07 @AesGcmSivKey 1a10 01 15x00 | 0100000007 03 11x00 1e6daba35669f4273b0a1a2560969cdf790d99759abd1508 | 1 OpenFailed | tinkey: open failed |
+AES-GCM-SIV whose counter wraps | open | 07; ENABLED CRUNCHY 07 @AesGcmSivKey 1a20 32x00 | 0000000007 12x00 f3f80f2cf0cb2dd9c5984fcda908456cc537703b5ba70324a6793a7bf218d3eaffffffff000000000000000000000000 | 0 Done | | 16x00 4db923dc793ee6497c76dcc03a98e108
 AES-SIV under CRUNCHY | dseal --ad-hex 000e | 07; ENABLED CRUNCHY 07 @AesSivKey 1240 fffefdfcfbfaf9f8f7f6f5f4f3f2f1f0f0f1f2f3f4f5f6f7f8f9fafbfcfdfeff000102030405060708090a0b0c0d0e0f101112131415161718191a1b1c1d1e1f | 4869205468657265 | 0 Done | | 0000000007 003f691decd01ba02be727b014625c9a8606b032893191be
 RAW | dseal --ad-hex 000e | 07; ENABLED RAW 07 @AesSivKey 1240 fffefdfcfbfaf9f8f7f6f5f4f3f2f1f0f0f1f2f3f4f5f6f7f8f9fafbfcfdfeff000102030405060708090a0b0c0d0e0f101112131415161718191a1b1c1d1e1f | 4869205468657265 | 0 Done | | 003f691decd01ba02be727b014625c9a8606b032893191be
 the second key is primary | dseal --ad-hex 000e | 08; ENABLED TINK 07 @AesSivKey 1240 64x01; ENABLED TINK 08 @AesSivKey 1240 fffefdfcfbfaf9f8f7f6f5f4f3f2f1f0f0f1f2f3f4f5f6f7f8f9fafbfcfdfeff000102030405060708090a0b0c0d0e0f101112131415161718191a1b1c1d1e1f | 4869205468657265 | 0 Done | | 0100000008 003f691decd01ba02be727b014625c9a8606b032893191be
@@ -108,7 +119,7 @@ AES-SIV, four bytes | dopen --ad-hex 000e | 07; ENABLED TINK 07 @AesSivKey 1240 
 
 #[test]
 fn opens_by_the_first_key_that_can(rt: HostRuntime) -> Result<(), Fail> {
-    run_by_keysets(rt.alloc(), OPENINGS, 53)
+    run_by_keysets(rt.alloc(), OPENINGS, 60)
 }
 
 // Reads fail from the first on, so nothing behind the read of the input is reached. The texts are
@@ -127,6 +138,7 @@ seal: a type URL without its front | seal | 07; ENABLED TINK 07 AesGcmKey 1a10 1
 open: a MAC key | open --ad-hex 00 | HMAC | 3 NoManager(0) | tinkey: key 0 has no manager for this command
 dseal: a key for AES-GCM | dseal | GCM | 3 NoManager(0) | tinkey: key 0 has no manager for this command
 dopen: a key for AES-GCM | dopen | GCM | 3 NoManager(0) | tinkey: key 0 has no manager for this command
+dseal: a key for AES-GCM-SIV | dseal | 07; ENABLED TINK 07 @AesGcmSivKey 1a10 16x00 | 3 NoManager(0) | tinkey: key 0 has no manager for this command
 tag: a key for HMAC as a function | tag | 07; ENABLED RAW 07 @HmacPrfKey 12020803 1a10 16x01 | 3 NoManager(0) | tinkey: key 0 has no manager for this command
 verify: a key for AES-GCM | verify --tag-hex 00 | GCM | 3 NoManager(0) | tinkey: key 0 has no manager for this command
 derive: a key for HMAC | derive --length 1 | HMAC | 3 NoManager(0) | tinkey: key 0 has no manager for this command
@@ -136,6 +148,9 @@ of 33 bytes | open | 07; ENABLED TINK 07 @AesGcmKey 1a21 33x00 | 3 BadKey(0, Key
 no key value | open | 07; ENABLED TINK 07 @AesGcmKey 0x00 | 3 BadKey(0, KeySize) | tinkey: key 0 is not valid: key size
 AES-GCM, version 1 | seal | 07; ENABLED TINK 07 @AesGcmKey 0801 1a10 16x00 | 3 BadKey(0, Version) | tinkey: key 0 is not valid: version
 a message that can't be cut | seal | 07; ENABLED TINK 07 @AesGcmKey 1a10 15x00 | 3 BadKey(0, Form) | tinkey: key 0 is not valid: form
+AES-GCM-SIV, a key of 24 bytes | seal | 07; ENABLED TINK 07 @AesGcmSivKey 1a18 24x00 | 3 BadKey(0, KeySize) | tinkey: key 0 is not valid: key size
+version 1, and a key of 24 bytes | open | 07; ENABLED TINK 07 @AesGcmSivKey 0801 1a18 24x00 | 3 BadKey(0, Version) | tinkey: key 0 is not valid: version
+AES-GCM-SIV, a message that can't be cut | seal | 07; ENABLED TINK 07 @AesGcmSivKey 0801 1a10 15x00 | 3 BadKey(0, Form) | tinkey: key 0 is not valid: form
 AES-EAX, an IV of 13 bytes | seal | 07; ENABLED TINK 07 @AesEaxKey 1202080d 1a10 16x00 | 3 BadKey(0, IvSize) | tinkey: key 0 is not valid: IV size
 AES-CTR-HMAC, an IV of 11 bytes | open | 07; ENABLED TINK 07 @AesCtrHmacAeadKey 12( 12( 080b ) 1a( 000102030405060708090a0b0c0d0e0f ) ) 1a( 12( 08031010 ) 1a( 202122232425262728292a2b2c2d2e2f303132333435363738393a3b3c3d3e3f ) ) | 3 BadKey(0, IvSize) | tinkey: key 0 is not valid: IV size
 AES-CTR-HMAC, an IV of 17 bytes | open | 07; ENABLED TINK 07 @AesCtrHmacAeadKey 12( 12( 0811 ) 1a( 000102030405060708090a0b0c0d0e0f ) ) 1a( 12( 08031010 ) 1a( 202122232425262728292a2b2c2d2e2f303132333435363738393a3b3c3d3e3f ) ) | 3 BadKey(0, IvSize) | tinkey: key 0 is not valid: IV size
@@ -167,7 +182,7 @@ verify too | verify --tag-hex= | HMAC | 5 ReadFault | tinkey: read fault
 
 #[test]
 fn refuses_an_unfit_keyset_before_the_input(rt: HostRuntime) -> Result<(), Fail> {
-    run_by_keysets(rt.alloc(), REFUSALS, 47)
+    run_by_keysets(rt.alloc(), REFUSALS, 51)
 }
 
 // In pieces of 4 bytes the input takes three reads, and the 41 bytes that are put out take eleven

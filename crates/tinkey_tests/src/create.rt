@@ -27,6 +27,7 @@ file: GCM
 shows | words | status | line | made | drawn
 a new file | create-keyset --key-template AES128_GCM --out n --out-format binary | 0 Done | | GCM | 20
 the same in one word each | create-keyset --out-format=binary --out=n --key-template=AES128_GCM | 0 Done | | GCM | 20
+a key for AES-GCM-SIV | create-keyset --key-template AES128_GCM_SIV --out n --out-format binary | 0 Done | | 0884868808 12( 0a( 0a( `type.googleapis.com/google.crypto.tink.AesGcmSivKey` ) 12( 1a10 16x00 ) 1801 ) 1001 1884868808 2001 ) | 20
 a file that is there | create-keyset --key-template AES128_GCM --out k --out-format binary | 4 OutExists | tinkey: output file exists | none | 20
 an unknown template, before the file | create-keyset --key-template AES128_GCN --out k --out-format binary | 2 UnknownTemplate | tinkey: unknown key template | none | 0
 an empty name of a template | create-keyset --key-template= --out-format binary | 2 UnknownTemplate | tinkey: unknown key template | none | 0
@@ -35,7 +36,7 @@ a template for asymmetric keys | create-keyset --key-template ED25519 --out-form
 
 #[test]
 fn creates_a_new_file_alone(rt: HostRuntime) -> Result<(), Fail> {
-    run_table(rt.alloc(), TO_FILES, 6)
+    run_table(rt.alloc(), TO_FILES, 7)
 }
 
 const TEMPLATES: &str = "words: list-key-templates

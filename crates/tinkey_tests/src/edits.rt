@@ -17,6 +17,7 @@ the output's file is there | rotate-keyset --key-template AES128_GCM --in k --in
 no free id | add-key --key-template AES128_GCM --in k --in-format binary --out n --out-format binary | | 64x01020304 ff | 4 Command(IdsExhausted) | tinkey: no free key id | | none | 256
 a byte of the key is missing | add-key --key-template AES128_GCM --in k --in-format binary --out n --out-format binary | | 0a0b0c0d 15x00 | 5 EntropyFault | tinkey: entropy fault | | none | 4
 a byte of the id is missing | add-key --key-template AES128_GCM --in k --in-format binary --out n --out-format binary | | 000000 | 5 EntropyFault | tinkey: entropy fault | | none | 0
+a key of another kind | add-key --key-template AES256_GCM_SIV_RAW --in-format binary --out-format binary | GCM | 0a0b0c0d 32x07 | 0 Done | | GCM 12( 0a( 0a( `type.googleapis.com/google.crypto.tink.AesGcmSivKey` ) 12( 1a20 32x07 ) 1801 ) 1001 188d98ac50 2003 ) | none | 36
 a key of another primitive | add-key --key-template HMAC_SHA256_128BITTAG --in-format binary --out-format binary | GCM | 0a0b0c0d 32x00 | 4 Command(MixedPrimitive) | tinkey: key of another primitive | | none | 0
 an asymmetric template, before the missing file | add-key --key-template ECDSA_P256 --in none --in-format binary --out-format binary | | | 2 AsymmetricTemplate | tinkey: asymmetric key template | | none | 0
 an unknown template | rotate-keyset --key-template AES128_GCN --in k --in-format binary --out-format binary | | | 2 UnknownTemplate | tinkey: unknown key template | | none | 0
@@ -26,7 +27,7 @@ a fault of the keyset, before that of the template's primitive | add-key --key-t
 
 #[test]
 fn adds_keys_by_templates(rt: HostRuntime) -> Result<(), Fail> {
-    run_table(rt.alloc(), NEW_KEYS, 14)
+    run_table(rt.alloc(), NEW_KEYS, 15)
 }
 
 // The keyset of one key, and with it a DISABLED one of the id 9.

@@ -25,6 +25,9 @@ a tag alone | AesGcmKey | 08 | 4 Command(KeyRefused(Form)) | tinkey: key refused
 version 1 | AesGcmKey | 0801 1a10 16x00 | 4 Command(KeyRefused(Version)) | tinkey: key refused: version
 a key of 24 bytes | AesGcmKey | 1a18 24x00 | 4 Command(KeyRefused(KeySize)) | tinkey: key refused: key size
 version and key size | AesGcmKey | 1a18 24x00 0801 | 4 Command(KeyRefused(Version)) | tinkey: key refused: version
+a key of 32 bytes | AesGcmSivKey | 1a20 32x00 | 0 Done |
+the same of version 2 | AesGcmSivKey | 0802 1a20 32x00 | 4 Command(KeyRefused(Version)) | tinkey: key refused: version
+of 31 bytes | AesGcmSivKey | 1a1f 31x00 | 4 Command(KeyRefused(KeySize)) | tinkey: key refused: key size
 an IV of 12 bytes | AesEaxKey | 1202080c 1a10 16x00 | 0 Done |
 an IV of 13 bytes | AesEaxKey | 1202080d 1a10 16x00 | 4 Command(KeyRefused(IvSize)) | tinkey: key refused: IV size
 key size and IV size | AesEaxKey | 1202080d 1a11 17x00 | 4 Command(KeyRefused(KeySize)) | tinkey: key refused: key size
@@ -43,7 +46,7 @@ SHA-384, and a key of 15 bytes | AesGcmHkdfStreamingKey | 1206 0829 1010 1802 1a
 
 #[test]
 fn names_the_rule_that_a_key_breaks(rt: HostRuntime) -> Result<(), Fail> {
-    for row in &rows_of(rt.alloc(), RULES, 19)? {
+    for row in &rows_of(rt.alloc(), RULES, 22)? {
         run_enabling(rt.alloc(), row)?;
     }
     Ok(())

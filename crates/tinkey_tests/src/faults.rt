@@ -66,7 +66,7 @@ a key disabled | disable-key --key-id 9 --in-format binary --out-format binary |
 a key destroyed | destroy-key --key-id 9 --in k --in-format binary --out n --out-format binary | 64 | GCM 1250 GCM[7..81] 1001 1809 2001 | | | 0 Done | | | GCM 1206 1003 1809 2001 | 0 | 0 0 0 2 0
 a key deleted | delete-key --key-id 9 --in-format binary --out-format binary | 64 | none | GCM 1250 GCM[7..81] 1001 1809 2001 | | 0 Done | | GCM | none | 0 | 4 2 0 0 0
 the primary key deleted | delete-key --key-id 16909060 --in k --in-format binary --out n --out-format binary | 64 | GCM | | | 4 Command(KeyIsPrimary) | tinkey: key is primary | | none | 0 | 0 0 1 1 0
-the templates | list-key-templates | 64 | none | | | 0 Done | | TEMPLATES | none | 0 | 0 64 0 0 0
+the templates | list-key-templates | 64 | none | | | 0 Done | | TEMPLATES | none | 0 | 0 72 0 0 0
 a text sealed | seal --keyset k --keyset-format binary | 64 | GCM | 16x00 | 12x00 | 0 Done | | 0101020304 12x00 0388dace60b6a392f328c2b971b2fe78 ab6e47d42cec13bdf53a67b21257bddf | none | 12 | 2 1 0 1 1
 a text opened | open --keyset k --keyset-format binary | 64 | GCM | 0101020304 12x00 0388dace60b6a392f328c2b971b2fe78 ab6e47d42cec13bdf53a67b21257bddf | | 0 Done | | 16x00 | none | 0 | 2 1 0 1 0
 a text that is closed | open --keyset k --keyset-format binary | 64 | GCM | 0101020304 12x00 0388dace60b6a392f328c2b971b2fe78 ab6e47d42cec13bdf53a67b21257bdde | | 1 OpenFailed | tinkey: open failed | | none | 0 | 2 0 1 1 0
