@@ -4,17 +4,20 @@ ghost use Rattle.std.specs.Prelude.{◌≡◌, ◌⊎◌, length};
 
 use aead_kinds::Gcm;
 use aes_core::{Aes, CtrKind};
+use gcm_siv::gcm_siv_seal;
 use ghash::Ghash;
 use mac_prf::Hmac;
+use std::alloc::Global;
 use tink_base::Hash;
 
 /// Their names, in the order in which they are printed.
-pub const NAMES: [&str; 6] = [
+pub const NAMES: [&str; 7] = [
     "aes128-ctr",
     "aes256-ctr",
     "aes128-chain",
     "ghash",
     "aes128-gcm",
+    "aes128-gcm-siv",
     "hmac-sha256",
 ];
 
@@ -23,6 +26,9 @@ const SUBKEY: u128 = 0x66e9_4bd4_ef8a_2c3b_884c_fa59_ca34_2b2e;
 
 /// How many bytes a text that AES-GCM seals has at the most.
 const LONGEST_GCM: usize = 1 << 31;
+
+/// How many bytes a text that AES-GCM-SIV seals has at the most.
+const LONGEST_GCM_SIV: usize = 1 << 30;
 
 /// A kernel that is ready to run.
 #[derive(Drop)]
@@ -35,19 +41,22 @@ pub enum Kernel {
     Ghash(Ghash),
     /// Sealing by AES-GCM, under one key.
     Gcm(Gcm),
+    /// Sealing by AES-GCM-SIV of a text that stays, the key included.
+    GcmSiv(Global),
     /// HMAC with SHA-256, the key included.
     Hmac,
 }
 
 impl Kernel {
     /// The kernel of this name.
-    pub fn named(name: &str) -> Option<Kernel> {
+    pub fn named(alloc: Global, name: &str) -> Option<Kernel> {
         match name {
             "aes128-ctr" => Some(Kernel::Counter(new_aes(&[0; 16]))),
             "aes256-ctr" => Some(Kernel::Counter(new_aes(&[0; 32]))),
             "aes128-chain" => Some(Kernel::Chain(new_aes(&[0; 16]))),
             "ghash" => Some(Kernel::Ghash(new_ghash(SUBKEY))),
             "aes128-gcm" => Some(Kernel::Gcm(new_gcm(&[0; 16]))),
+            "aes128-gcm-siv" => Some(Kernel::GcmSiv(alloc)),
             "hmac-sha256" => Some(Kernel::Hmac),
             _ => None,
         }
@@ -60,6 +69,7 @@ impl Kernel {
             Kernel::Chain(aes) => chain(aes, text),
             Kernel::Ghash(ghash) => hash(ghash, text),
             Kernel::Gcm(gcm) => seal(gcm, text),
+            Kernel::GcmSiv(alloc) => seal_anew(*alloc, text),
             Kernel::Hmac => tag(text),
         }
     }
@@ -115,6 +125,16 @@ fn hash(ghash: &mut Ghash, text: &[u8]) -> u8 {
 fn seal(gcm: &mut Gcm, text: &mut [u8]) -> u8 {
     let size = text.len().min(LONGEST_GCM);
     gcm.seal_in_place(&[0; 12], &[], &mut text[..size])[0]
+}
+
+// What is sealed is a new text each time; its last byte is answered, or 0 where memory is refused.
+#[inline(never)]
+fn seal_anew(alloc: Global, text: &[u8]) -> u8 {
+    let size = text.len().min(LONGEST_GCM_SIV);
+    match gcm_siv_seal(alloc, &[0; 16], &[0; 12], &text[..size], &[]) {
+        Ok(sealed) => sealed.last().copied().unwrap_or(0),
+        Err(_) => 0,
+    }
 }
 
 #[inline(never)]

@@ -45,7 +45,7 @@ fn main(rt: HostRuntime) -> io::Result<()> {
 
 /// Times what has this name, over so many bytes or keys.
 fn time_named(rt: &HostRuntime, name: &str, count: usize, milliseconds: u32) -> io::Result<()> {
-    match (Kernel::named(name), Task::named(name)) {
+    match (Kernel::named(rt.alloc(), name), Task::named(name)) {
         (Some(kernel), _) if count <= MOST_BYTES => time(rt, kernel, count, milliseconds),
         (None, Some(task)) if count <= MOST_KEYS => handles::time(rt, task, count, milliseconds),
         _ => Err(ErrorKind::InvalidInput.into()),
