@@ -55,14 +55,14 @@ material_back (suc (suc (suc zero))) h = refl
 material_back (suc (suc (suc (suc zero)))) h = refl
 material_back (suc (suc (suc (suc (suc n))))) h = absurd (omega arith)
 
-status_ascii : (n : ℕ) → IsUtf8 (name_at status_names n)
+pub status_ascii : (n : ℕ) → IsUtf8 (name_at status_names n)
 status_ascii zero = IsUtf8-are_ascii _ refl
 status_ascii (suc zero) = IsUtf8-are_ascii _ refl
 status_ascii (suc (suc zero)) = IsUtf8-are_ascii _ refl
 status_ascii (suc (suc (suc zero))) = IsUtf8-are_ascii _ refl
 status_ascii (suc (suc (suc (suc n)))) = IsUtf8-are_ascii [] refl
 
-prefix_ascii : (n : ℕ) → IsUtf8 (name_at prefix_names n)
+pub prefix_ascii : (n : ℕ) → IsUtf8 (name_at prefix_names n)
 prefix_ascii zero = IsUtf8-are_ascii _ refl
 prefix_ascii (suc zero) = IsUtf8-are_ascii _ refl
 prefix_ascii (suc (suc zero)) = IsUtf8-are_ascii _ refl
@@ -78,7 +78,7 @@ material_ascii (suc (suc (suc zero))) = IsUtf8-are_ascii _ refl
 material_ascii (suc (suc (suc (suc zero)))) = IsUtf8-are_ascii _ refl
 material_ascii (suc (suc (suc (suc (suc n))))) = IsUtf8-are_ascii [] refl
 
-bytes_back : (b : List ℕ) → IsBytes b → bytes_of_text (encode_of standard b) ≡ Some b
+pub bytes_back : (b : List ℕ) → IsBytes b → bytes_of_text (encode_of standard b) ≡ Some b
 unfolding decoded_of
 bytes_back b bytes = sym (first (encode_of standard b) b (rw (decode_of-encode_of standard b refl bytes) refl))
 
@@ -87,7 +87,7 @@ within n h = rw (lt-ltb _ _ h) refl
 
 -- ---- the text is read as the value
 
-newline_off : (text : List ℕ) → without_newline (text ++ 10 ∷ []) ≡ text
+pub newline_off : (text : List ℕ) → without_newline (text ++ 10 ∷ []) ≡ text
 unfolding without_newline
 newline_off text =
     let last : length (text ++ 10 ∷ []) - 1 ≡ length text = omega (arith, length-append text (10 ∷ [])) in

@@ -14,5 +14,5 @@ mod writing;
 
 pub use base64_text::read_bytes;
 pub use member::{Member, Path};
-pub use reading::{JsonError, read_json};
+pub use reading::{JsonError, read_json, read_value, without_newline};
 pub use writing::write_json;

@@ -85,7 +85,7 @@ pub fn read_json(alloc: Global, bytes: &[u8]) -> Result<Keyset, JsonError>
 }
 
 /// The bytes without one newline at their end.
-fn without_newline(bytes: &[u8]) -> &[u8]
+pub fn without_newline(bytes: &[u8]) -> &[u8]
     ensures { result.now ≡ without_newline bytes.now }
 {
     if ends_in_newline(bytes) {
@@ -103,8 +103,9 @@ fn ends_in_newline(bytes: &[u8]) -> bool
     !bytes.is_empty() && bytes[bytes.len() - 1] == b'\n'
 }
 
-/// The JSON value of a text.
-fn read_value(alloc: Global, text: &[u8]) -> Result<Value, JsonError>
+/// The JSON value of a text. `NotJson` comes exactly where `serde_json` reads none from it, and no other
+/// error but `NoMemory` comes.
+pub fn read_value(alloc: Global, text: &[u8]) -> Result<Value, JsonError>
     ensures value { IfOk result (λ value. json_value text.now ≡ Some (view value)) }
     ensures none { IfErr result (λ error. IsNoValue error (json_value text.now)) }
 {
