@@ -25,7 +25,7 @@ module _ (P : List ℕ → Type 0) where
   member_all k no_members h = tt
   member_all k (member l e ms) h = pick_all (slice_cmp nat_cmp k l) _ (Some e) _ (member_all k ms h.1) h.0 (member_all k ms h.1)
 
-  pub get_all : (k : List ℕ) (d : Data) → Holds P d → IfThere (Holds P) (get k d)
+  get_all : (k : List ℕ) (d : Data) → Holds P d → IfThere (Holds P) (get k d)
   get_all k null h = tt
   get_all k (boolean b) h = tt
   get_all k (number m) h = tt
@@ -33,7 +33,7 @@ module _ (P : List ℕ → Type 0) where
   get_all k (array ds) h = tt
   get_all k (object ms) h = member_all k ms h
 
-  pub or_all : (a b : Option Data) → IfThere (Holds P) a → IfThere (Holds P) b → IfThere (Holds P) (option_or a b)
+  or_all : (a b : Option Data) → IfThere (Holds P) a → IfThere (Holds P) b → IfThere (Holds P) (option_or a b)
   or_all None b ha hb = hb
   or_all (Some d) b ha hb = ha
 

@@ -34,7 +34,7 @@ module _ (n : ℕ) where
   member_short k no_members h = tt
   member_short k (member l e ms) h = pick_short (slice_cmp nat_cmp k l) _ (Some e) _ (member_short k ms h.1) h.0 (member_short k ms h.1)
 
-  get_short : (k : List ℕ) (d : Data) → Short n d → IfThere (Short n) (get k d)
+  pub get_short : (k : List ℕ) (d : Data) → Short n d → IfThere (Short n) (get k d)
   get_short k null h = tt
   get_short k (boolean b) h = tt
   get_short k (number m) h = tt
@@ -42,7 +42,7 @@ module _ (n : ℕ) where
   get_short k (array ds) h = tt
   get_short k (object ms) h = member_short k ms h
 
-  or_short : (a b : Option Data) → IfThere (Short n) a → IfThere (Short n) b → IfThere (Short n) (option_or a b)
+  pub or_short : (a b : Option Data) → IfThere (Short n) a → IfThere (Short n) b → IfThere (Short n) (option_or a b)
   or_short None b ha hb = hb
   or_short (Some d) b ha hb = ha
 
@@ -154,12 +154,12 @@ all_weaker : (P Q : Record → Type 0) → ((r : Record) → P r → Q r) → (r
 all_weaker P Q h [] all = tt
 all_weaker P Q h (r ∷ rs) all = (h r all.0, all_weaker P Q h rs all.1)
 
-value_of : (text : List ℕ) (b : Bool) (d : Data) → is_utf8 text ≡ b → json_value text ≡ Some d → read text ≡ Some d
+pub value_of : (text : List ℕ) (b : Bool) (d : Data) → is_utf8 text ≡ b → json_value text ≡ Some d → read text ≡ Some d
 unfolding json_value
 value_of text true d utf8 is = rw utf8 at is
 value_of text false d utf8 is = let clash : None ≡ Some d = rw utf8 at is in cc
 
-newline_shorter : (bytes : List ℕ) (b : Bool) → ends_in_newline bytes ≡ b → length (without_newline bytes) ≤ length bytes
+pub newline_shorter : (bytes : List ℕ) (b : Bool) → ends_in_newline bytes ≡ b → length (without_newline bytes) ≤ length bytes
 unfolding without_newline
 newline_shorter bytes true is = rw is (omega (arith, length-take (length bytes - 1) bytes))
 newline_shorter bytes false is = rw is (omega arith)

@@ -1,0 +1,9 @@
+pub mod BackLemmas
+pub mod FieldLemmas
+pub mod JsonLemmas
+pub mod OpenedSizes
+pub mod SealedSizes
+pub mod UnwrapLemmas
+pub mod WrapLemmas
+pub mod WrittenSizes
+pub mod WritingLemmas

@@ -1,0 +1,173 @@
+-- How long what is sealed is.
+use Rattle.std.proofs.Common.{◌≡◌, ◌∙◌, refl, sym, ap, ℕ, ◌+◌, ◌≤◌, Bool, true, false, cond, ltb, List, ◌∷◌, ◌++◌, length, take, drop, Option, Some, None, Ok, Err, Result, arith}
+use Rattle.std.specs.Prelude.{not, if◌then◌else◌}
+use Rattle.std.specs.Int.{to_be_bytes, w32}
+use Rattle.std.specs.Option.{option_and_then, option_map}
+use Rattle.std.proofs.lemmas.Grind.{common_steps}
+use Rattle.std.proofs.lemmas.Bool.{ltb-false}
+use Rattle.std.proofs.lemmas.List.{length-append, length-take, length-take-le}
+use Rattle.std.proofs.lemmas.Option.{same_Some}
+use Rattle.aead_kinds.proofs.CtrHmacLemmas.{ctr_hmac-is_scheme}
+use Rattle.aead_kinds.proofs.EaxLemmas.{eax-is_scheme}
+use Rattle.aead_kinds.proofs.EncryptThenTagLemmas.{length-sealed_by}
+use Rattle.aead_kinds.proofs.GcmLemmas.{length-gcm_seal}
+use Rattle.aead_kinds.specs.CtrHmac.{authenticated, ctr_hmac_seal, ctr_hmac_tag, ctr_hmac_text}
+use Rattle.aead_kinds.specs.Eax.{eax_seal, eax_tag, eax_text}
+use Rattle.aead_kinds.specs.EncryptThenTag.{sealed_by}
+use Rattle.key_msgs.specs.Keys.{IsValid, contents_of}
+use Rattle.key_msgs.specs.Rules.{hash_fits, is_either, is_within, iv_fits, key_fits}
+use Rattle.key_msgs.specs.declared.key.KeyKind.{KeyKind}
+use Rattle.key_msgs.specs.declared.key.KeyKind.TheVariants as kinds
+use Rattle.key_msgs.specs.declared.key_type.KeyType.TheVariants as types
+use Rattle.key_msgs.specs.declared.primitive.Primitive.{Primitive}
+use Rattle.key_msgs.specs.declared.primitive.Primitive.TheVariants.{Aead}
+use Rattle.key_msgs.specs.declared.rule.Rule.{Rule}
+use Rattle.key_msgs.specs.declared.rule.Rule.TheVariants as broken
+use Rattle.keyset_model.specs.Keyset.{Keys, primary_of}
+use Rattle.keyset_model.specs.declared.record.Record.{Record}
+use Rattle.mac_prf.proofs.HmacLemmas.{length-hmac}
+use Rattle.mac_prf.specs.Hmac.{hmac}
+use Rattle.managers.proofs.ReadingLemmas.{read_of_type}
+use Rattle.managers.specs.Schemes.{Scheme, key_under, type_under}
+use Rattle.managers.specs.Table.{Table, scheme_at}
+use Rattle.managers.specs.Uses.{iv_size, seal_of}
+use Rattle.tink_base.specs.Hash.{hash_size}
+use Rattle.tink_base.specs.declared.hash.Hash.{Hash}
+use Rattle.tink_base.specs.declared.hash.Hash.TheVariants.{Sha1, Sha224, Sha256, Sha384, Sha512}
+use Rattle.wrapped_prims.specs.Answers.{Sealed, seal_answer, seal_behind, seal_under}
+use Rattle.wrapped_prims.specs.Candidates.{first_byte, is_raw, prefix_bytes, prefix_of}
+use Rattle.wrapped_prims.specs.Fitness.{key_of_record, read_key}
+
+-- what is there, behind a step
+pub then_some : {A B : Type 0} (f : A → Option B) (o : Option A) (b : B) → option_and_then f o ≡ Some b → (a : A) × (o ≡ Some a) × (f a ≡ Some b)
+then_some f None b e = cc
+then_some f (Some a) b e = (a, refl, e)
+
+-- ---- a record's key is valid, and so its IV is short
+
+read-valid : (scheme : Option Scheme) (value : List ℕ) (key : KeyKind) → read_key (option_map (λ s. key_under s value) scheme) ≡ Some key → IsValid key
+read-valid None value key e = cc
+read-valid (Some scheme) value key e = by (key_under scheme value) refl e
+  where
+    by : (read : Result KeyKind Rule) → key_under scheme value ≡ read → read_key (Some read) ≡ Some key → IsValid key
+    by (Ok k) is same = (read_of_type (type_under scheme) value key (is ∙ ap Ok (same_Some _ _ same))).1
+    by (Err rule) is same = cc
+
+pub key-valid : (table : Table) (p : Primitive) (r : Record) (key : KeyKind) → key_of_record table p r ≡ Some key → IsValid key
+key-valid table p r key e = read-valid (scheme_at table p r.url) r.value key e
+
+past : (b : Bool) (rule : Rule) (rest : Option Rule) → (if not b then Some rule else rest) ≡ None → (b ≡ true) × (rest ≡ None)
+past true rule rest none = (refl, none)
+past false rule rest none = cc
+
+either-small : (n : ℕ) → is_either 12 16 n ≡ true → n ≤ 16
+either-small n is = grind (arith, common_steps)
+
+within-small : (n : ℕ) → is_within 12 16 n ≡ true → n ≤ 16
+within-small n is = grind (arith, common_steps)
+
+pub iv-short : (key : KeyKind) → IsValid key → iv_size key ≤ 16
+iv-short (kinds.AesGcm key) valid = omega arith
+iv-short (kinds.AesEax key size) valid =
+    let m = contents_of (kinds.AesEax key size) in
+    let from_key = (past (key_fits types.AesEax m) broken.KeySize _ valid).1 in
+    either-small size (past (iv_fits types.AesEax m) broken.IvSize _ from_key).0
+iv-short (kinds.AesCtrHmac aes size hash mac tag_size) valid =
+    let m = contents_of (kinds.AesCtrHmac aes size hash mac tag_size) in
+    let from_hash = (past (hash_fits types.AesCtrHmac m) broken.Hash _ valid).1 in
+    let from_key = (past (key_fits types.AesCtrHmac m) broken.KeySize _ from_hash).1 in
+    within-small size (past (iv_fits types.AesCtrHmac m) broken.IvSize _ from_key).0
+iv-short (kinds.AesSiv key) valid = omega arith
+iv-short (kinds.Hmac key hash tag_size) valid = omega arith
+iv-short (kinds.AesCmac key tag_size) valid = omega arith
+iv-short (kinds.HkdfPrf key hash salt) valid = omega arith
+iv-short (kinds.HmacPrf key hash) valid = omega arith
+iv-short (kinds.CmacPrf key) valid = omega arith
+iv-short (kinds.GcmStream key segment derived hash) valid = omega arith
+iv-short (kinds.CtrStream key segment derived hash mac_hash tag_size) valid = omega arith
+
+-- ---- a sealing is at most 64 bytes longer than IV and plaintext
+
+digest-small : (hash : Hash) → hash_size hash ≤ 64
+digest-small Sha1 = omega arith
+digest-small Sha224 = omega arith
+digest-small Sha256 = omega arith
+digest-small Sha384 = omega arith
+digest-small Sha512 = omega arith
+
+length-ctr_hmac : (aes : List ℕ) (hash : Hash) (mac : List ℕ) (tag_size : ℕ) (iv plain ad : List ℕ) → length (ctr_hmac_seal aes hash mac tag_size iv plain ad) ≤ length iv + length plain + 64
+unfolding ctr_hmac_seal sealed_by ctr_hmac_tag
+length-ctr_hmac aes hash mac tag_size iv plain ad =
+    let text : List ℕ = ctr_hmac_text aes iv plain in
+    let whole : List ℕ = hmac hash mac (authenticated iv ad text) in
+    omega (
+      arith,
+      digest-small hash,
+      length-hmac hash mac (authenticated iv ad text),
+      (ctr_hmac-is_scheme aes Sha1 mac 1 (omega arith) (omega arith)).long iv plain,
+      length-append iv text,
+      length-append (iv ++ text) (take tag_size whole),
+      length-take tag_size whole,
+    )
+
+pub length-eax : (key iv plain ad : List ℕ) → length (eax_seal key iv plain ad) ≡ length iv + length plain + 16
+unfolding eax_seal
+length-eax key iv plain ad = length-sealed_by (eax_text key) (eax_tag key) 16 iv plain ad (eax-is_scheme key)
+
+length-seal_of : (key : KeyKind) (iv plain ad : List ℕ) → length (seal_of key iv plain ad) ≤ length iv + length plain + 64
+length-seal_of (kinds.AesGcm key) iv plain ad = let is = length-gcm_seal key iv plain ad in omega (arith, is)
+length-seal_of (kinds.AesEax key size) iv plain ad = let is = length-eax key iv plain ad in omega (arith, is)
+length-seal_of (kinds.AesCtrHmac aes size hash mac tag_size) iv plain ad = length-ctr_hmac aes hash mac tag_size iv plain ad
+length-seal_of (kinds.AesSiv key) iv plain ad = omega arith
+length-seal_of (kinds.Hmac key hash tag_size) iv plain ad = omega arith
+length-seal_of (kinds.AesCmac key tag_size) iv plain ad = omega arith
+length-seal_of (kinds.HkdfPrf key hash salt) iv plain ad = omega arith
+length-seal_of (kinds.HmacPrf key hash) iv plain ad = omega arith
+length-seal_of (kinds.CmacPrf key) iv plain ad = omega arith
+length-seal_of (kinds.GcmStream key segment derived hash) iv plain ad = omega arith
+length-seal_of (kinds.CtrStream key segment derived hash mac_hash tag_size) iv plain ad = omega arith
+
+length-prefix : (r : Record) → length (prefix_bytes (prefix_of r)) ≤ 5
+length-prefix r = by (is_raw r)
+  where
+    by : (b : Bool) → length (prefix_bytes (cond b None (Some (first_byte r ∷ to_be_bytes w32 r.id)))) ≤ 5
+    by true = omega arith
+    by false = omega arith
+
+-- what a sealing under a key is made of
+pub record IsSealed (key : KeyKind) (prefix plain ad random : List ℕ) (s : Sealed) : Type 0 where
+  pub enough : iv_size key ≤ length random
+  pub bytes : s.bytes ≡ prefix ++ seal_of key (take (iv_size key) random) plain ad
+  pub left : s.left ≡ drop (iv_size key) random
+
+pub sealed_behind : (prefix plain ad random : List ℕ) (key : KeyKind) (s : Sealed) → seal_behind prefix plain ad random key ≡ Some s → IsSealed key prefix plain ad random s
+sealed_behind prefix plain ad random key s e = by (ltb (length random) (iv_size key)) refl e
+  where
+    by : (b : Bool) → ltb (length random) (iv_size key) ≡ b
+        → cond b None (Some (record { bytes = prefix ++ seal_of key (take (iv_size key) random) plain ad; left = drop (iv_size key) random })) ≡ Some s
+        → IsSealed key prefix plain ad random s
+    by true t k = cc
+    by false t k = let is = same_Some _ _ (sym k) in record {
+      enough = ltb-false _ _ t;
+      bytes = ap (λ x. x.bytes) is;
+      left = ap (λ x. x.left) is;
+    }
+
+-- a sealing has at most 85 bytes more than the plaintext: a prefix, an IV and a tag
+pub sealing-long : (table : Table) (keys : Keys) (plain ad random : List ℕ) (s : Sealed) → seal_answer keys table plain ad random ≡ Some s → length s.bytes ≤ length plain + 85
+sealing-long table keys plain ad random s e =
+    let first = then_some (seal_under table plain ad random) (primary_of keys) s e in
+    let r = first.0 in
+    let second = then_some (seal_behind (prefix_bytes (prefix_of r)) plain ad random) (key_of_record table Aead r) s first.2 in
+    let key = second.0 in
+    let sealing = sealed_behind (prefix_bytes (prefix_of r)) plain ad random key s second.2 in
+    let iv : List ℕ = take (iv_size key) random in
+    omega (
+      arith,
+      ap length sealing.bytes,
+      length-append (prefix_bytes (prefix_of r)) (seal_of key iv plain ad),
+      length-seal_of key iv plain ad,
+      length-take-le (iv_size key) random sealing.enough,
+      iv-short key (key-valid table Aead r key second.1),
+      length-prefix r,
+    )

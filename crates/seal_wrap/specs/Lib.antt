@@ -1,0 +1,6 @@
+pub mod Info
+pub mod Laws
+pub mod Steps
+pub mod Unwrapped
+pub mod Wrapped
+pub mod Wrapping

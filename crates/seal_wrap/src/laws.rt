@@ -1,0 +1,20 @@
+//! Laws of the definitions. Each is the contract of a function that does nothing else.
+
+ghost use Rattle.seal_wrap.specs.Laws.{TextHidesKeys, WrapBack};
+
+use keyset_model::laws::binary_back;
+use wrapped_prims::laws::same_key_opens;
+
+/// What was wrapped under a master whose primary key isn't RAW unwraps under every master that has the
+/// same key, ENABLED: in the form in which it was written, to the keyset.
+pub fn wrap_back()
+    ensures { WrapBack }
+{
+    binary_back();
+    same_key_opens();
+}
+
+/// A wrapped text is made of the sealed bytes and the info alone, and no key message is in the info.
+pub fn text_hides_keys()
+    ensures { TextHidesKeys }
+{}

@@ -1,0 +1,103 @@
+//! A wrapped keyset is read and opened under a master keyset.
+
+ghost use Rattle.std.specs.Prelude.{◌≡◌, ◌≤◌, length, ℕ, IfOk};
+ghost use Rattle.std.specs.List.{AllByRecursion};
+ghost use Rattle.key_msgs.specs.declared.primitive.Primitive.TheVariants.{Aead};
+ghost use Rattle.keyset_model.specs.Keyset.{IsShort, IsWithin, Keys};
+ghost use Rattle.wrapped_prims.specs.Making.{IsOver};
+ghost use Rattle.seal_wrap.specs.Unwrapped.{open_keyset, unwrap_of};
+ghost use Rattle.seal_wrap.specs.Wrapping.{GivesKeyset};
+
+use crate::binary_form::read_wrapped_binary;
+use crate::json_form::read_wrapped_json;
+use keyset_model::{Keyset, KeysetFault, ReadError, read_binary};
+use managers::{KeyTable, Managers};
+use std::alloc::Global;
+use tink_base::Trials;
+use wrapped_prims::Handle;
+
+/// Why a text gives no keyset, in the order in which causes are looked for: the first one is told.
+/// Places are those of tags, counted in bytes from 0.
+#[derive(Clone, Copy, Debug, PartialEq, Eq)]
+pub enum UnwrapFault {
+    /// The text is no `EncryptedKeyset` message; this is the place of the first field at fault.
+    OuterWire(usize),
+    /// The text, less one newline at its end, is no JSON text.
+    NotJson,
+    /// The JSON value isn't an object, or its encrypted bytes aren't of their form.
+    Member,
+    /// No key of the master opens the encrypted bytes.
+    NotOpened,
+    /// What was opened is no `Keyset` message; this is the place in it of the first field at fault.
+    InnerWire(usize),
+    /// What was opened has this fault of a keyset, the first one.
+    Fault(KeysetFault),
+    /// Memory was refused.
+    NoMemory,
+}
+
+/// Unwraps a keyset from a text of at most 4,194,304 bytes, an `EncryptedKeyset` of tink.proto as JSON
+/// or else in its binary form, under the keys of the handle's keyset, the master.
+///
+/// The encrypted bytes alone are read: in the binary form the last field of that number, and in JSON
+/// the member `encryptedKeyset` or, where the object has none of that name, `encrypted_keyset`; null
+/// counts as missing, and what is missing is empty. They are opened with empty associated data, and the
+/// plaintext is read as the binary form of a keyset. Each refusal but `NoMemory` comes exactly where its
+/// step is the first that fails. URL and value of each record have at most as many bytes as the text.
+pub fn unwrap_keyset(
+    alloc: Global,
+    handle: &Handle<'_>,
+    bytes: &[u8],
+    json: bool,
+) -> Result<Keyset, UnwrapFault>
+    requires over { (master : Keys) × IsOver (⟦<Managers as KeyTable>⟧.table
+        handle.now.managers.now) Aead master handle.now.held }
+    requires size_bound { length bytes.now ≤ 4194304 }
+    ensures keyset { (master : Keys)
+        → IsOver (⟦<Managers as KeyTable>⟧.table handle.now.managers.now) Aead master
+        handle.now.held
+        → GivesKeyset result (unwrap_of master
+        (⟦<Managers as KeyTable>⟧.table handle.now.managers.now) bytes.now json) }
+    ensures within { IfOk result (λ keyset.
+        AllByRecursion (IsWithin (length bytes.now)) keyset.records) }
+    ensures short { IfOk result (λ keyset. AllByRecursion IsShort keyset.records) }
+{
+    if json {
+        match read_wrapped_json(alloc, bytes) {
+            Ok(sealed) => open_keyset(alloc, handle, sealed.as_slice()),
+            Err(fault) => Err(fault),
+        }
+    } else {
+        match read_wrapped_binary(alloc, bytes) {
+            Ok(sealed) => open_keyset(alloc, handle, sealed),
+            Err(fault) => Err(fault),
+        }
+    }
+}
+
+/// The keyset that was sealed.
+fn open_keyset(alloc: Global, handle: &Handle<'_>, sealed: &[u8]) -> Result<Keyset, UnwrapFault>
+    requires over { (master : Keys) × IsOver (⟦<Managers as KeyTable>⟧.table
+        handle.now.managers.now) Aead master handle.now.held }
+    requires size_bound { length sealed.now ≤ 4194304 }
+    ensures keyset { (master : Keys)
+        → IsOver (⟦<Managers as KeyTable>⟧.table handle.now.managers.now) Aead master
+        handle.now.held
+        → GivesKeyset result (open_keyset master
+        (⟦<Managers as KeyTable>⟧.table handle.now.managers.now) sealed.now) }
+    ensures within { IfOk result (λ keyset.
+        AllByRecursion (IsWithin (length sealed.now)) keyset.records) }
+    ensures short { IfOk result (λ keyset. AllByRecursion IsShort keyset.records) }
+{
+    let plain = match handle.open(alloc, sealed, b"", &mut Trials::new()) {
+        Ok(Some(plain)) => plain,
+        Ok(None) => return Err(UnwrapFault::NotOpened),
+        Err(_) => return Err(UnwrapFault::NoMemory),
+    };
+    match read_binary(alloc, &plain) {
+        Ok(keyset) => Ok(keyset),
+        Err(ReadError::Wire(wire)) => Err(UnwrapFault::InnerWire(wire.at)),
+        Err(ReadError::Fault(fault)) => Err(UnwrapFault::Fault(fault)),
+        Err(ReadError::NoMemory) => Err(UnwrapFault::NoMemory),
+    }
+}
