@@ -23,6 +23,8 @@ mod new_keys;
 #[cfg(test)]
 mod rows;
 #[cfg(test)]
+mod wrapped;
+#[cfg(test)]
 mod writing_fields;
 #[cfg(test)]
 mod writing_keysets;
