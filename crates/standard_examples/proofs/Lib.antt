@@ -14,3 +14,4 @@ mod CtrHmac
 mod TinkWire
 mod TinkKeysets
 mod TinkJson
+mod TinkWrapped

@@ -17,7 +17,7 @@ use Rattle.tink_base.specs.Decimal.{number_in}
 use Rattle.base64.specs.GeneralPurpose.{decoded_of}
 
 -- what unfolds to compute the reading of a literal
-unfoldable json_examples : ⊤
+unfoldable pub json_examples : ⊤
 unfolding reads_json json_value without_newline keys_of records_of record_of member_of fault_of first_some first_two first_without when chars is_utf8 digits name_of field_name_of serde_json_on_literals base64_on_literals bytes_of_text number_in
 json_examples = tt
 
