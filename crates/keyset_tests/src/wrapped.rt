@@ -9,7 +9,7 @@ use crate::keysets::keyset_of;
 use crate::rows::{count, few, holds_text};
 use key_msgs::Primitive;
 use keyset_model::{Keyset, write_binary};
-use managers::{AeadManager, AeadScheme, DaeadManager, MacManager, Managers, PrfManager};
+use managers::{AeadManager, AeadScheme, Managers};
 use seal_wrap::{unwrap_keyset, wrap};
 use std::alloc::Global;
 use std::test::Fail;
@@ -214,16 +214,6 @@ fn keyset_named(alloc: Global, words: &str) -> Result<Keyset, Fail>
     Ok(keyset)
 }
 
-// A manager of AES-GCM keys alone.
-fn aes_gcm(alloc: Global) -> Result<Managers, Fail> {
-    let mut aead: Vec<Box<dyn AeadManager>> = Vec::new(alloc);
-    aead.push(aead_under(alloc, AES_GCM, AeadScheme::Gcm)?)?;
-    let daead: Vec<Box<dyn DaeadManager>> = Vec::new(alloc);
-    let mac: Vec<Box<dyn MacManager>> = Vec::new(alloc);
-    let prf: Vec<Box<dyn PrfManager>> = Vec::new(alloc);
-    Ok(Managers::new(aead, daead, mac, prf)?)
-}
-
 // What unwrapping gives: the digits of a keyset, or the fault.
 fn unwrapped_text(
     alloc: Global,
@@ -288,7 +278,9 @@ fn assert_unwrapped(alloc: Global, all: &Managers, row: &str) -> Result<(), Fail
 #[test]
 fn wraps_keysets_as_protobuf_writes_them(rt: HostRuntime) -> Result<(), Fail> {
     let alloc = rt.alloc();
-    let all = aes_gcm(alloc)?;
+    let mut aead: Vec<Box<dyn AeadManager>> = Vec::new(alloc);
+    aead.push(aead_under(alloc, AES_GCM, AeadScheme::Gcm)?)?;
+    let all = Managers::new(aead, Vec::new(alloc), Vec::new(alloc), Vec::new(alloc))?;
     for (shows, keyset, binary, json) in WRAPPED {
         let binary = digits_of(alloc, &bytes_named(alloc, binary)?)?;
         let found = wrapped_text(alloc, &all, keyset, 12, false)?;
@@ -308,14 +300,17 @@ fn wraps_keysets_as_protobuf_writes_them(rt: HostRuntime) -> Result<(), Fail> {
 
 #[test]
 fn unwraps_what_the_master_opens(rt: HostRuntime) -> Result<(), Fail> {
-    let all = aes_gcm(rt.alloc())?;
+    let alloc = rt.alloc();
+    let mut aead: Vec<Box<dyn AeadManager>> = Vec::new(alloc);
+    aead.push(aead_under(alloc, AES_GCM, AeadScheme::Gcm)?)?;
+    let all = Managers::new(aead, Vec::new(alloc), Vec::new(alloc), Vec::new(alloc))?;
     count(TEXTS, 37)?;
     for row in TEXTS.lines() {
-        assert_unwrapped(rt.alloc(), &all, row)?;
+        assert_unwrapped(alloc, &all, row)?;
     }
     count(OF_TINK_GO, 7)?;
     for row in OF_TINK_GO.lines() {
-        assert_unwrapped(rt.alloc(), &all, row)?;
+        assert_unwrapped(alloc, &all, row)?;
     }
     Ok(())
 }
@@ -323,7 +318,9 @@ fn unwraps_what_the_master_opens(rt: HostRuntime) -> Result<(), Fail> {
 #[test]
 fn each_byte_of_a_wrapped_text_counts_but_those_of_the_info(rt: HostRuntime) -> Result<(), Fail> {
     let alloc = rt.alloc();
-    let all = aes_gcm(alloc)?;
+    let mut aead: Vec<Box<dyn AeadManager>> = Vec::new(alloc);
+    aead.push(aead_under(alloc, AES_GCM, AeadScheme::Gcm)?)?;
+    let all = Managers::new(aead, Vec::new(alloc), Vec::new(alloc), Vec::new(alloc))?;
     let master = keyset_named(alloc, "K1")?;
     let text = bytes_named(alloc, "128301 SEALED 1a40 INFO")?;
     for (first, behind, expected) in TURNED {
