@@ -166,11 +166,11 @@ unwraps : (json : Bool) (table : Table) (new keys : Keys) (text sealed plain : L
 unwraps json table new keys text sealed plain outer opened inner = rw (outer, opened, inner) refl
 
 pub wrap_back : BinaryBack → SameKeyOpens → WrapBack
-wrap_back back opens json table keys old new r prefix random wrapped primary is gives k has faultless bounds bytes e =
+wrap_back back opens json table keys old new r prefix random wrapped primary is gives has faultless bounds bytes e =
     let made = map_some (wrapped_with json (info_of keys)) (seal_answer old table (binary_of keys) [] random) wrapped e in
     let s : Sealed = made.0 in
     let text : wrapped_text json s.bytes (info_of keys) ≡ wrapped.text = ap (λ (w : Wrapped). w.text) made.2 in
     unwraps json table new keys wrapped.text s.bytes (binary_of keys)
     (ap (sealed_in json) (sym text) ∙ outer-back json table keys old random s faultless bounds bytes made.1)
-    (opens table old new r prefix (binary_of keys) [] random s primary is gives k has made.1)
+    (opens table old new r prefix (binary_of keys) [] random s primary is gives has made.1)
     (back keys faultless bounds)

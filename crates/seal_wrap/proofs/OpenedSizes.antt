@@ -13,6 +13,9 @@ use Rattle.aead_kinds.specs.CtrHmac.{ctr_hmac_open, ctr_hmac_tag, ctr_hmac_text}
 use Rattle.aead_kinds.specs.Eax.{eax_open}
 use Rattle.aead_kinds.specs.EncryptThenTag.{iv_of, opened_by, tag_of, text_of}
 use Rattle.aead_kinds.specs.Gcm.{gcm_open}
+use Rattle.gcm_siv.proofs.GcmSivLemmas.{length-gcm_siv_text}
+use Rattle.gcm_siv.specs.GcmSiv as gcm_siv
+use Rattle.gcm_siv.specs.GcmSiv.{gcm_siv_open, is_authentic, plain_of}
 use Rattle.key_msgs.specs.declared.key.KeyKind.{KeyKind}
 use Rattle.key_msgs.specs.declared.key.KeyKind.TheVariants as kinds
 use Rattle.key_msgs.specs.declared.primitive.Primitive.TheVariants.{Aead}
@@ -57,11 +60,24 @@ ctr_hmac-short aes size hash mac tag_size bytes plain ad e =
       length-drop {A = ℕ},
     )
 
+gcm_siv-short : (key bytes plain ad : List ℕ) → gcm_siv_open key bytes ad ≡ Some plain → length plain ≤ length bytes
+unfolding gcm_siv_open
+gcm_siv-short key bytes plain ad e =
+    let is = tested (nat_lt (length bytes) 28) (is_authentic key bytes ad) (plain_of key bytes) plain e in
+    omega (
+      arith,
+      ap length is,
+      length-gcm_siv_text key (gcm_siv.iv_of bytes) (gcm_siv.tag_of bytes) (gcm_siv.text_of bytes),
+      length-take {A = ℕ},
+      length-drop {A = ℕ},
+    )
+
 key-short : (key : KeyKind) (bytes plain ad : List ℕ) → open_key key bytes ad ≡ Some plain → length plain ≤ length bytes
 key-short (kinds.AesGcm key) bytes plain ad e = gcm-short key bytes plain ad e
 key-short (kinds.AesEax key size) bytes plain ad e = eax-short key size bytes plain ad e
 key-short (kinds.AesCtrHmac aes size hash mac tag_size) bytes plain ad e = ctr_hmac-short aes size hash mac tag_size bytes plain ad e
 key-short (kinds.AesSiv key) bytes plain ad e = cc
+key-short (kinds.AesGcmSiv key) bytes plain ad e = gcm_siv-short key bytes plain ad e
 key-short (kinds.Hmac key hash tag_size) bytes plain ad e = cc
 key-short (kinds.AesCmac key tag_size) bytes plain ad e = cc
 key-short (kinds.HkdfPrf key hash salt) bytes plain ad e = cc

@@ -14,6 +14,7 @@ use Rattle.aead_kinds.proofs.GcmLemmas.{length-gcm_seal}
 use Rattle.aead_kinds.specs.CtrHmac.{authenticated, ctr_hmac_seal, ctr_hmac_tag, ctr_hmac_text}
 use Rattle.aead_kinds.specs.Eax.{eax_seal, eax_tag, eax_text}
 use Rattle.aead_kinds.specs.EncryptThenTag.{sealed_by}
+use Rattle.gcm_siv.proofs.GcmSivLemmas.{length-gcm_siv_seal}
 use Rattle.key_msgs.specs.Keys.{IsValid, contents_of}
 use Rattle.key_msgs.specs.Rules.{hash_fits, is_either, is_within, iv_fits, key_fits}
 use Rattle.key_msgs.specs.declared.key.KeyKind.{KeyKind}
@@ -78,6 +79,7 @@ iv-short (kinds.AesCtrHmac aes size hash mac tag_size) valid =
     let from_key = (past (key_fits types.AesCtrHmac m) broken.KeySize _ from_hash).1 in
     within-small size (past (iv_fits types.AesCtrHmac m) broken.IvSize _ from_key).0
 iv-short (kinds.AesSiv key) valid = omega arith
+iv-short (kinds.AesGcmSiv key) valid = omega arith
 iv-short (kinds.Hmac key hash tag_size) valid = omega arith
 iv-short (kinds.AesCmac key tag_size) valid = omega arith
 iv-short (kinds.HkdfPrf key hash salt) valid = omega arith
@@ -119,6 +121,7 @@ length-seal_of (kinds.AesGcm key) iv plain ad = let is = length-gcm_seal key iv 
 length-seal_of (kinds.AesEax key size) iv plain ad = let is = length-eax key iv plain ad in omega (arith, is)
 length-seal_of (kinds.AesCtrHmac aes size hash mac tag_size) iv plain ad = length-ctr_hmac aes hash mac tag_size iv plain ad
 length-seal_of (kinds.AesSiv key) iv plain ad = omega arith
+length-seal_of (kinds.AesGcmSiv key) iv plain ad = let is = length-gcm_siv_seal key iv plain ad in omega (arith, is)
 length-seal_of (kinds.Hmac key hash tag_size) iv plain ad = omega arith
 length-seal_of (kinds.AesCmac key tag_size) iv plain ad = omega arith
 length-seal_of (kinds.HkdfPrf key hash salt) iv plain ad = omega arith

@@ -8,19 +8,20 @@ use Rattle.keyset_model.specs.declared.record.Record.{Record}
 use Rattle.managers.specs.Table.{Table}
 use Rattle.wrapped_prims.specs.Answers.{Sealed, seal_answer}
 use Rattle.wrapped_prims.specs.Candidates.{prefix_of}
-use Rattle.wrapped_prims.specs.Laws.{GivesKeyFor, HasSameKey, IsKeyset}
+use Rattle.wrapped_prims.specs.Laws.{GivesKeyFor, HasSameKey}
 use Rattle.seal_wrap.specs.Info.{info_of, without_keys}
 use Rattle.seal_wrap.specs.Unwrapped.{unwrap_of}
 use Rattle.seal_wrap.specs.Wrapped.{Wrapped, wrap_of, wrapped_text}
 use Rattle.seal_wrap.specs.Wrapping.{SealsBytes}
 
--- What was wrapped under an old master unwraps, in the form in which it was written, under a new one
--- with the same key, to the keyset. The primary record of the old master has a prefix; of RAW records
--- another one may open the bytes by chance. The keyset is one whose binary form reads back.
+-- What was wrapped under an old master unwraps, in the form in which it was written, to the keyset under
+-- a new one in which the same key is ENABLED and alone under its prefix. The primary record of the old
+-- master has a prefix; of RAW records another one may open the bytes by chance. The keyset is one whose
+-- binary form reads back.
 abbrev pub WrapBack : Type 0
 WrapBack = (json : Bool) (table : Table) (keys old new : Keys) (r : Record) (prefix random : List ℕ)
     (wrapped : Wrapped) → primary_of old ≡ Some r → prefix_of r ≡ Some prefix
-    → GivesKeyFor table Aead r → IsKeyset new → HasSameKey r new
+    → GivesKeyFor table Aead r → HasSameKey r new
     → fault_of keys ≡ None → AllByRecursion HasWireBounds keys.records
     → (IsTrue json → SealsBytes keys old table random)
     → wrap_of keys old table random json ≡ Some wrapped

@@ -5,8 +5,8 @@ ghost use Rattle.seal_wrap.specs.Laws.{TextHidesKeys, WrapBack};
 use keyset_model::laws::binary_back;
 use wrapped_prims::laws::same_key_opens;
 
-/// What was wrapped under a master whose primary key isn't RAW unwraps under every master that has the
-/// same key, ENABLED: in the form in which it was written, to the keyset.
+/// What was wrapped under a master whose primary key isn't RAW unwraps under every master in which that key
+/// is ENABLED and alone under its output prefix: in the form in which it was written, to the keyset.
 pub fn wrap_back()
     ensures { WrapBack }
 {

@@ -1,6 +1,6 @@
 -- What holds of a plan where it holds of its ends: the parts of which the commands' plans are made.
 use Rattle.std.proofs.Common.{inl, inr, ℕ, Bool, true, false, List, [], Option, Some, None, Result, Ok, Err}
-use Rattle.std.specs.Prelude.{if◌then◌else◌}
+use Rattle.std.specs.Prelude.{if◌then◌else◌, length, nat_le}
 use Rattle.key_msgs.specs.Templates.{Row, row_named, is_asymmetric}
 use Rattle.keyset_json.specs.Reading as Json
 use Rattle.keyset_json.specs.Reading.{reads_json}
@@ -18,7 +18,7 @@ use Rattle.tinkey_words.specs.declared.words.rows.Format.TheVariants as formats
 use Rattle.tinkey_plans.specs.Laws.{CommandsAreWhole}
 use Rattle.tinkey_plans.specs.Plan.{writes, Plan, ends}
 use Rattle.tinkey_plans.specs.Promises.{IsWhole}
-use Rattle.tinkey_plans.specs.Steps.{with_keyset, with_json, keyset_in, takes_keyset, with_row, finds_edit, with_made, makes_keyset, puts, puts_keyset}
+use Rattle.tinkey_plans.specs.Steps.{with_keyset, with_json, keyset_in, takes_keyset, with_row, finds_edit, with_made, makes_keyset, keyset_limit, puts, puts_keyset, writes_keyset, written_in}
 use Rattle.tinkey_plans.specs.Using.{unless_unfit, with_opened, with_verified, with_derived, works}
 use Rattle.tinkey_selftest.specs.Trial as trial
 use Rattle.tinkey_selftest.specs.declared.counts.Counts.{Counts}
@@ -56,6 +56,13 @@ keyset_each P c formats.Binary bytes next all = c.allocated _ (with_keyset_each 
 pub no_row_each : (P : Plan → Type 0) → IsClosed P → (b : Bool) → P (if b then ends status.AsymmetricTemplate tt else ends status.UnknownTemplate tt)
 no_row_each P c true = c.ended _ _
 no_row_each P c false = c.ended _ _
+
+pub within_each : (P : Plan → Type 0) → IsClosed P → (b : Bool) (next : Plan) → P next → P (if b then next else ends status.KeysetTooLong tt)
+within_each P c true next is = is
+within_each P c false next is = c.ended _ _
+
+pub written_each : (P : Plan → Type 0) → IsClosed P → (form : Format) (keys : Keys) (next : List ℕ → Plan) → AreAll P next → P (writes_keyset form keys next)
+written_each P c form keys next all = c.allocated _ (within_each P c (nat_le (length (written_in form keys)) keyset_limit) (next (written_in form keys)) (all (written_in form keys)))
 
 pub row_each : (P : Plan → Type 0) → IsClosed P → (found : Option Row) (name : List ℕ) (next : Row → Plan) → AreAll P next → P (with_row found name next)
 row_each P c (Some row) name next all = all row

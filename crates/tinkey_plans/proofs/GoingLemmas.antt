@@ -36,7 +36,7 @@ use Rattle.tinkey_session.proofs.Options.{clash}
 use Rattle.tinkey_session.specs.Talking.{Stop, goes, wants, passes, long_line, many_lines, Talk, Limit}
 use Rattle.tinkey_plans.specs.Commands.{command_plan}
 use Rattle.tinkey_words.specs.Words.{Asked, self_test, Place, AskedEdit, AskedWork, to_seal, to_open, to_dseal, to_dopen, to_tag, to_verify, to_derive, primitive_for, create_keyset, edit_keyset, list_keyset, convert_keyset, list_key_templates, use_keyset, seal_stream, open_stream, session}
-use Rattle.tinkey_plans.proofs.EachLemmas.{AreAll, IsClosed, edit_each, fit_each, keyset_each, made_each, row_each, work_each}
+use Rattle.tinkey_plans.proofs.EachLemmas.{AreAll, IsClosed, edit_each, fit_each, keyset_each, made_each, row_each, work_each, written_each}
 
 -- the refusals of its steps aren't Done
 abbrev IsProper : Plan → Type 0
@@ -144,7 +144,7 @@ put_proper (Some name) output = λ e. cc
 put_proper None output = tt
 
 out_proper : (out : Place) (keys : Keys) → IsProper (puts_keyset out keys)
-out_proper out keys = put_proper out.file _
+out_proper out keys = written_each IsProper closed out.form keys (puts out.file) (put_proper out.file)
 
 counts_proper : (r : Result Counts CmdFault) (lines : ℕ) → IsProper (tells_counts lines r writes)
 counts_proper (Ok n) lines = tt
@@ -165,7 +165,7 @@ seals_proper ad keys = λ made. made_each IsProper closed made _ (λ random. tt)
 
 saves_proper : (file : Option (List ℕ)) (form : Format) (keys : Keys) → IsProper (saves_as file form keys)
 saves_proper None form keys = tt
-saves_proper (Some name) form keys = λ e. cc
+saves_proper (Some name) form keys = written_each IsProper closed form keys (λ output. creates name output status.OutExists tt) (λ output e. cc)
 
 commands_are_proper : (table : Table) (asked : Asked) → IsProper (command_plan table asked)
 commands_are_proper table (create_keyset name out) = row_each IsProper closed (row_named name) name _ (λ row. draw_proper (first row) _ (out_proper out))

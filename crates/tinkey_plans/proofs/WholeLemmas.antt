@@ -18,7 +18,7 @@ use Rattle.tinkey_words.specs.declared.words.rows.Format.TheVariants as formats
 use Rattle.tinkey_plans.specs.Laws.{CommandsAreWhole}
 use Rattle.tinkey_plans.specs.Plan.{writes, Plan, ends}
 use Rattle.tinkey_plans.specs.Promises.{IsWhole}
-use Rattle.tinkey_plans.proofs.EachLemmas.{AreAll, IsClosed, edit_each, fit_each, keyset_each, made_each, row_each, work_each}
+use Rattle.tinkey_plans.proofs.EachLemmas.{AreAll, IsClosed, edit_each, fit_each, keyset_each, made_each, row_each, work_each, written_each}
 use Rattle.tinkey_plans.specs.Steps.{with_keyset, with_json, keyset_in, takes_keyset, with_row, finds_edit, with_made, makes_keyset, puts, puts_keyset}
 use Rattle.tinkey_plans.specs.Using.{unless_unfit, with_opened, with_verified, with_derived, works}
 use Rattle.tinkey_selftest.specs.Trial as trial
@@ -41,7 +41,7 @@ put_whole (Some name) output = tt
 put_whole None output = tt
 
 out_whole : (out : Place) (keys : Keys) → IsWhole (puts_keyset out keys)
-out_whole out keys = put_whole out.file _
+out_whole out keys = written_each IsWhole closed out.form keys (puts out.file) (put_whole out.file)
 
 counts_whole : (r : Result Counts CmdFault) (lines : ℕ) → IsWhole (tells_counts lines r writes)
 counts_whole (Ok n) lines = tt

@@ -7,14 +7,14 @@ use Rattle.tinkey_session.specs.Talking.{talk}
 use Rattle.tinkey_plans.specs.declared.status.Status.TheVariants as status
 use Rattle.tinkey_words.specs.declared.words.rows.Format.{Format}
 use Rattle.tinkey_plans.specs.Plan.{Plan, ends, creates, exchanges}
-use Rattle.tinkey_plans.specs.Steps.{works_out, written_in}
+use Rattle.tinkey_plans.specs.Steps.{writes_keyset}
 use Rattle.tinkey_words.specs.Words.{Place}
 
 -- the keyset becomes a new file of this name, in this form; where none is named, it goes nowhere
 abbrev pub saves_as : Option (List ℕ) → Format → Keys → Plan
 saves_as None form keys = ends status.Done tt
 saves_as (Some name) form keys =
-    works_out (written_in form keys) (λ output. creates name output status.OutExists tt)
+    writes_keyset form keys (λ output. creates name output status.OutExists tt)
 
 -- the keyset becomes the new file of this place, or where it names none, it goes nowhere
 abbrev pub saves : Place → Keys → Plan

@@ -51,10 +51,10 @@ fault_text (faults.UnknownPrefix i) =
 fault_text (faults.UnknownMaterial i) =
     codes "key " ++ decimal i ++ codes " has an unknown key material type"
 fault_text (faults.MissingKeyData i) = codes "key " ++ decimal i ++ codes " has no key data"
-fault_text (faults.DuplicateId i j) =
-    codes "keys " ++ decimal i ++ codes " and " ++ decimal j ++ codes " have the same id"
 fault_text faults.NoPrimary = codes "no key has the primary id"
 fault_text faults.PrimaryNotEnabled = codes "the primary key is not enabled"
+fault_text (faults.AmbiguousPrimary i j) =
+    codes "keys " ++ decimal i ++ codes " and " ++ decimal j ++ codes " are both the primary"
 
 -- the place of a key, where there is one
 abbrev pub key_text : Option ℕ → List ℕ

@@ -1,6 +1,6 @@
 -- The steps that commands share. Each is a word with the rest of the plan behind it, which takes
 -- what the step gives; the refusals of a step are its own.
-use Rattle.std.specs.Prelude.{ℕ, List, Option, Some, None, Result, Ok, Err, if◌then◌else◌}
+use Rattle.std.specs.Prelude.{ℕ, List, length, nat_le, Option, Some, None, Result, Ok, Err, if◌then◌else◌}
 use Rattle.key_msgs.specs.Templates.{Row, row_named, is_asymmetric}
 use Rattle.keyset_model.specs.Keyset.{Keys}
 use Rattle.keyset_model.specs.Reading.{Refusal, Wire, Fault, reads_binary}
@@ -132,9 +132,19 @@ abbrev pub written_in : Format → Keys → List ℕ
 written_in formats.Json keys = json_of keys
 written_in formats.Binary keys = binary_of keys
 
+-- bytes within a keyset's limit go on
+abbrev pub within_limit : (List ℕ → Plan) → List ℕ → Plan
+within_limit next bytes =
+    if nat_le (length bytes) keyset_limit then next bytes else ends status.KeysetTooLong tt
+
+-- The written form of a keyset. One that is longer than what is read as a keyset is refused, before
+-- anything is put out.
+abbrev pub writes_keyset : Format → Keys → (List ℕ → Plan) → Plan
+writes_keyset form keys next = works_out (written_in form keys) (within_limit next)
+
 -- the keyset in its written form becomes a new file, or where none is named, goes to the sink
 abbrev pub puts_keyset : Place → Keys → Plan
-puts_keyset place keys = works_out (written_in place.form keys) (puts place.file)
+puts_keyset place keys = writes_keyset place.form keys (puts place.file)
 
 -- What a step leaves to the rest of the plan, which takes values as they are seen. Where it gives a
 -- value, each end of the rest is an end of the whole, for any rest; where it gives a status, the

@@ -138,9 +138,9 @@ fn push_fault(line: &mut ShortText, fault: KeysetFault)
         KeysetFault::UnknownPrefix(i) => push_key(line, i, " has an unknown output prefix type"),
         KeysetFault::UnknownMaterial(i) => push_key(line, i, " has an unknown key material type"),
         KeysetFault::MissingKeyData(i) => push_key(line, i, " has no key data"),
-        KeysetFault::DuplicateId(i, j) => push_keys(line, i, j),
         KeysetFault::NoPrimary => line.push("no key has the primary id"),
         KeysetFault::PrimaryNotEnabled => line.push("the primary key is not enabled"),
+        KeysetFault::AmbiguousPrimary(i, j) => push_keys(line, i, j),
     }
 }
 
@@ -165,16 +165,16 @@ fn push_key(line: &mut ShortText, i: usize, says: &str)
     line.push(says);
 }
 
-/// Adds that the keys of these places have the same id.
+/// Adds that the keys of these places are both the primary.
 fn push_keys(line: &mut ShortText, i: usize, j: usize)
     requires room { length line.old ≤ 16 }
     ensures text { line.new ≡ line.old ++
-        (codes "keys " ++ decimal i ++ codes " and " ++ decimal j ++ codes " have the same id") }
+        (codes "keys " ++ decimal i ++ codes " and " ++ decimal j ++ codes " are both the primary") }
     ensures short { length line.new ≤ 127 }
 {
     line.push("keys ");
     line.push_number(i);
     line.push(" and ");
     line.push_number(j);
-    line.push(" have the same id");
+    line.push(" are both the primary");
 }

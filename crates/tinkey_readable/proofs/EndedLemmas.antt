@@ -1,6 +1,6 @@
 -- What a run of a session wrote, however it ended.
 use Rattle.std.proofs.Common.{◌≡◌, ◌≢◌, ◌∙◌, ◌⊎◌, inl, inr, sym, refl, ap, subst, ℕ, zero, suc, ◌≤◌, Bool, true, false, List, [], ◌∷◌, ◌++◌, length, append_assoc, append-nil, Option, Some, None, Err, option_map, arith}
-use Rattle.std.specs.Prelude.{◌==◌, nat_le, IfSome, map as each}
+use Rattle.std.specs.Prelude.{◌==◌, if◌then◌else◌, nat_le, IfSome, map as each}
 use Rattle.std.specs.FinMap as map
 use Rattle.std.proofs.lemmas.Bool.{eqb-true}
 use Rattle.std.proofs.lemmas.List.Concat.{flat_map-cons}
@@ -34,10 +34,11 @@ use Rattle.tinkey_words.specs.declared.words.rows.Format.{Format}
 use Rattle.tinkey_words.specs.declared.words.rows.Format.TheVariants as formats
 use Rattle.tinkey_plans.specs.Commands.{asked_plan}
 use Rattle.tinkey_plans.specs.Ends.{World, Ends, loaded, load_absent, load_long, load_failed, load_starved, made, name_taken, create_failed, create_starved, exchanged, exchange_ended, talk_status, sides_of}
-use Rattle.tinkey_plans.specs.Plan.{Told, Plan, limit_status}
+use Rattle.tinkey_plans.specs.Plan as plans
+use Rattle.tinkey_plans.specs.Plan.{Told, Plan, creates, limit_status}
 use Rattle.tinkey_plans.specs.Promises.{Tells}
 use Rattle.tinkey_plans.specs.Session.{holds_session, saves_as}
-use Rattle.tinkey_plans.specs.Steps.{keyset_limit, keyset_in, loads_keyset, with_json, with_keyset}
+use Rattle.tinkey_plans.specs.Steps.{keyset_limit, keyset_in, loads_keyset, with_json, with_keyset, written_in}
 use Rattle.tinkey_plans.proofs.FaultLemmas.{went, Went, of_fault, of_limit}
 use Rattle.tinkey_words.specs.Words.{Place}
 use Rattle.tinkey_readable.specs.Readable.{AreReadable, HasReplies, SessionsAreReadable, turns_of}
@@ -234,11 +235,15 @@ has_replies readable table keys told old s new output done is w all took front =
 -- saving writes nothing to the sink
 saved : (file : Option (List ℕ)) (form : Format) (keys : Keys) (old : World) (s : Status) (new : World) → Ends (saves_as file form keys) old s new → (s ≢ status.WriteFault) × (old.sink ≡ new.sink)
 saved None form keys old s new (is, same) = (λ h. absurd (cc), ap (λ (w : World). w.sink) same)
-saved (Some name) form keys old s new (inl (made is only stood added)) = (λ h. absurd (cc), only.sink)
-saved (Some name) form keys old s new (inl (name_taken is only kept stood there)) = (λ h. absurd (cc), only.sink)
-saved (Some name) form keys old s new (inl (create_failed is only rose may)) = (λ h. absurd (cc), only.sink)
-saved (Some name) form keys old s new (inl (create_starved is only kept stood)) = (λ h. absurd (cc), only.sink)
 saved (Some name) form keys old s new (inr (is, same)) = (λ h. absurd (cc), ap (λ (w : World). w.sink) same)
+saved (Some name) form keys old s new (inl ended) = by (nat_le (length (written_in form keys)) keyset_limit) ended
+  where
+    by : (b : Bool) → Ends (if b then creates name (written_in form keys) status.OutExists tt else plans.ends status.KeysetTooLong tt) old s new → (s ≢ status.WriteFault) × (old.sink ≡ new.sink)
+    by true (made is only stood added) = (λ h. absurd (cc), only.sink)
+    by true (name_taken is only kept stood there) = (λ h. absurd (cc), only.sink)
+    by true (create_failed is only rose may) = (λ h. absurd (cc), only.sink)
+    by true (create_starved is only kept stood) = (λ h. absurd (cc), only.sink)
+    by false (is, same) = (λ h. absurd (cc), ap (λ (w : World). w.sink) same)
 
 -- no fault of a session is its end
 not_done : (fault : TalkFault) → talk_status fault ≢ status.Done

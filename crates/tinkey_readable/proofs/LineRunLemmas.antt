@@ -1,5 +1,5 @@
 -- What runs and lines made, read by later runs and lines.
-use Rattle.std.proofs.Common.{◌≡◌, ◌∙◌, inl, inr, sym, refl, ap, subst, ℕ, zero, suc, true, List, [], ◌∷◌, Option, Some, None, option_map}
+use Rattle.std.proofs.Common.{◌≡◌, ◌∙◌, inl, inr, sym, refl, ap, subst, ℕ, zero, suc, ◌≤◌, true, List, [], ◌∷◌, length, Option, Some, None, option_map}
 use Rattle.std.specs.Prelude.{slice_get}
 use Rattle.std.specs.Option.{option_and_then}
 use Rattle.std.proofs.lemmas.Option.{same_Some}
@@ -12,7 +12,7 @@ use Rattle.managers.specs.Standard.{standard_table}
 use Rattle.managers.specs.Table.{Table}
 use Rattle.tinkey_session.proofs.Options.{clash, map_some}
 use Rattle.tinkey_session.proofs.TurnLemmas.{edited_on, handle_cases, reached}
-use Rattle.tinkey_session.specs.Laws.{EditedIsKeyset, EditedIsSound, IsEdited, KeptDopen, KeptDopenRaw, KeptOpen, KeptOpenRaw, KeptTag, SoundIsUsable}
+use Rattle.tinkey_session.specs.Laws.{EditedIsKeyset, EditedIsSound, IsEdited, KeptDopen, KeptDopenPresent, KeptOpen, KeptOpenPresent, KeptTag, SoundIsUsable}
 use Rattle.tinkey_session.specs.Lines.{Line}
 use Rattle.tinkey_session.specs.Serving.{cannot_serve, Served, answered, by_handle, computed, opened_reply, sealed_reply, serve, unless_unfit, verified_reply}
 use Rattle.tinkey_session.specs.Session.{Remains, Turn, asked_in, remains, turn_then, turns}
@@ -21,12 +21,13 @@ use Rattle.tinkey_session.specs.declared.reply.Reply.{Reply}
 use Rattle.tinkey_session.specs.declared.reply.Reply.TheVariants.{Gives, Refuses}
 use Rattle.wrapped_prims.specs.Answers.{Sealed, dopen_answer, dseal_answer, open_answer, seal_answer, tag_answer, verify_answer}
 use Rattle.wrapped_prims.specs.Fitness.{unfit}
-use Rattle.wrapped_prims.specs.Laws.{HasSameKey, IsKeyset}
+use Rattle.wrapped_prims.specs.Laws.{HasKey, HasSameKey, IsKeyset}
 use Rattle.tinkey_plans.specs.Laws.{FitKeysetsAnswer, IsSession}
 use Rattle.tinkey_plans.specs.Plan.{Told, answer, writes}
+use Rattle.tinkey_plans.specs.Steps.{keyset_limit}
 use Rattle.tinkey_plans.specs.Using.{works}
 use Rattle.tinkey_words.specs.Words.{Asked, AskedWork, create_keyset, edit_keyset, list_keyset, convert_keyset, list_key_templates, use_keyset, seal_stream, open_stream, self_test, session, to_seal, to_open, to_dseal, to_dopen, to_tag, to_verify, primitive_for}
-use Rattle.tinkey_readable.specs.LineRuns.{HasTurn, IsRead, IsReadSomehow, MadeDopens, MadeDopensRaw, MadeOpens, MadeOpensRaw, MadeVerifies, WasMade, asks, by_line, by_run, done_reply}
+use Rattle.tinkey_readable.specs.LineRuns.{HasTurn, IsRead, IsReadSomehow, MadeDopens, MadeDopensPresent, MadeOpens, MadeOpensPresent, MadeVerifies, WasMade, asks, by_line, by_run, done_reply}
 use Rattle.tinkey_readable.specs.Runs.{Does, IsDone, RunStep, Written, keyset_of}
 use Rattle.tinkey_readable.proofs.ReachLemmas.{IsDoneAnswer}
 use Rattle.tinkey_readable.proofs.RunLemmas.{Started, done_within, dsealed_by, finished, hands_within, led, opens_so, read_keyset, sealed_by, started, still_fit, tagged_by, verifies_so}
@@ -66,6 +67,7 @@ record Origin (p : Primitive) (Makes : Keys → Type 0) (r : Record) (after : Wr
   old : Keys
   last : Keys
   lies : keyset_of after ≡ Some last
+  within : length after.bytes ≤ keyset_limit
   edited : IsEdited old last
   keyset : IsKeyset old
   primary : primary_of old ≡ Some r
@@ -105,15 +107,16 @@ origin : ReadKeysFit → RunStep → SessionIsEdits → EditedIsKeyset → (work
     → ((keys : Keys) (random : List ℕ) (x : Served) → serve standard_table keys (asks work input) random ≡ Some x → x.reply ≡ Gives output → (unfit keys (primitive_for work) standard_table ≡ None) × Makes keys)
     → WasMade work input output r after → Origin (primitive_for work) Makes r after
 origin fit law sessions keyset work input output r after Makes of_run of_line (by_run runs before old lead told was same primary) =
-    let l = led law sessions standard_table runs before after old lead.are lead.bytes lead.holds lead.read in
-    let k = read_keyset fit before.form before.bytes old (done_within work before told output was) lead.read in
+    let within = done_within work before told output was in
+    let l = led law sessions standard_table runs before after old lead.are lead.bytes lead.holds lead.read within in
+    let k = read_keyset fit before.form before.bytes old within lead.read in
     let b = started work before old told output lead.read was in
-    record { old = old; last = l.new; lies = l.read; edited = l.edited; keyset = k; primary = primary; fit = b.fit; makes = of_run old told k b same }
+    record { old = old; last = l.new; lies = l.read; within = l.within; edited = l.edited; keyset = k; primary = primary; fit = b.fit; makes = of_run old told k b same }
 origin fit law sessions keyset work input output r after Makes of_run of_line (by_line run runs before old lead is t has line reply primary) =
     let between = lead.are.0 in
     let hands = lead.are.1 in
     let step' = law standard_table run before between old hands lead.bytes.0 lead.holds lead.read in
-    let l = led law sessions standard_table runs between after step'.new lead.are.2 lead.bytes.1 step'.holds step'.read in
+    let l = led law sessions standard_table runs between after step'.new lead.are.2 lead.bytes.1 step'.holds step'.read step'.within in
     let there = subst (λ k. slice_get (turns standard_table k (asked_in run.told.input) run.told.random) has.place ≡ Some t) (same_Some _ _ (sym has.read ∙ lead.read)) has.there in
     let at = reached standard_table (asked_in run.told.input) old run.told.random has.place t there in
     let does = session_does standard_table run.told old step'.new run.asked is step'.does in
@@ -124,6 +127,7 @@ origin fit law sessions keyset work input output r after Makes of_run of_line (b
       old = t.before;
       last = l.new;
       lies = l.read;
+      within = l.within;
       edited = edited_on t.before step'.new l.new behind l.edited;
       keyset = keyset old t.before at.edited (read_keyset fit before.form before.bytes old (hands_within standard_table run before between hands) lead.read);
       primary = primary;
@@ -134,9 +138,9 @@ origin fit law sessions keyset work input output r after Makes of_run of_line (b
 -- ---- where it is read
 
 -- some output of this kind is read
-record Reads (work : AskedWork) (input : List ℕ) (Is : List ℕ → Type 0) (r : Record) (written : Written) : Type 0 where
-  of_run : (new : Keys) → keyset_of written ≡ Some new → HasSameKey r new → (other : List ℕ) × Is other × IsDone work written input other
-  of_line : (told : Told) (t : Turn) → HasTurn told written t → t.line ≡ asks work input → HasSameKey r t.before → (other : List ℕ) × Is other × (t.reply ≡ done_reply work other)
+record Reads (While : Record → Keys → Type 0) (work : AskedWork) (input : List ℕ) (Is : List ℕ → Type 0) (r : Record) (written : Written) : Type 0 where
+  of_run : (new : Keys) → keyset_of written ≡ Some new → While r new → (other : List ℕ) × Is other × IsDone work written input other
+  of_line : (told : Told) (t : Turn) → HasTurn told written t → t.line ≡ asks work input → While r t.before → (other : List ℕ) × Is other × (t.reply ≡ done_reply work other)
 
 -- what a run and a line answer over a keyset
 record Answers (work : AskedWork) (input : List ℕ) (Is : List ℕ → Type 0) (new : Keys) : Type 0 where
@@ -145,29 +149,29 @@ record Answers (work : AskedWork) (input : List ℕ) (Is : List ℕ → Type 0) 
   of_run : (told : Told) → (IsDoneAnswer (answer (works standard_table new work input writes) told)) × ((answer (works standard_table new work input writes) told).output ≡ other)
   of_line : (random : List ℕ) (x : Served) → unfit new (primitive_for work) standard_table ≡ None → serve standard_table new (asks work input) random ≡ Some x → x.reply ≡ done_reply work other
 
-reads : {Makes : Keys → Type 0} (work : AskedWork) (input : List ℕ) (Is : List ℕ → Type 0) (r : Record) (after : Written) → SoundIsUsable (primitive_for work) → EditedIsSound → EditedIsKeyset → (o : Origin (primitive_for work) Makes r after)
-    → ((new : Keys) → IsEdited o.old new → HasSameKey r new → Answers work input Is new) → Reads work input Is r after
-reads work input Is r after usable sound keyset o answers = record {
+reads : {Makes : Keys → Type 0} (While : Record → Keys → Type 0) (work : AskedWork) (input : List ℕ) (Is : List ℕ → Type 0) (r : Record) (after : Written) → SoundIsUsable (primitive_for work) → EditedIsSound → EditedIsKeyset → (o : Origin (primitive_for work) Makes r after)
+    → ((new : Keys) → While r new → Answers work input Is new) → Reads While work input Is r after
+reads While work input Is r after usable sound keyset o answers = record {
   of_run = λ new lies same.
       let edited = subst (λ k. IsEdited o.old k) (same_Some _ _ (sym o.lies ∙ lies)) o.edited in
-      let a = answers new edited same in
-      (a.other, a.is, finished work after new input a.other lies (still_fit (primitive_for work) usable sound keyset o.old new o.keyset edited o.fit) a.of_run);
+      let a = answers new same in
+      (a.other, a.is, finished work after new input a.other lies o.within (still_fit (primitive_for work) usable sound keyset o.old new o.keyset edited o.fit) a.of_run);
   of_line = λ told t has line same.
       let last = same_Some _ _ (sym has.read ∙ o.lies) in
       let at = reached standard_table (asked_in told.input) has.keys told.random has.place t has.there in
       let edited = edited_on o.old o.last t.before o.edited (subst (λ k. IsEdited k t.before) last at.edited) in
-      let a = answers t.before edited same in
+      let a = answers t.before same in
       let fit = still_fit (primitive_for work) usable sound keyset o.old t.before o.keyset edited o.fit in
       (a.other, a.is, at.reply ∙ a.of_line at.random at.served fit (subst (λ asked. serve standard_table t.before asked at.random ≡ Some at.served) line at.is));
 }
 
-is_read : (work : AskedWork) (input output : List ℕ) (r : Record) (written : Written) → Reads work input (λ other. other ≡ output) r written → IsRead work input output r written
-is_read work input output r written x = record {
+is_read : (While : Record → Keys → Type 0) (work : AskedWork) (input output : List ℕ) (r : Record) (written : Written) → Reads While work input (λ other. other ≡ output) r written → IsRead While work input output r written
+is_read While work input output r written x = record {
   by_run = λ new lies same. let d = x.of_run new lies same in subst (λ o. IsDone work written input o) d.1 d.2;
   by_line = λ told t has line same. let d = x.of_line told t has line same in d.2 ∙ ap (done_reply work) d.1;
 }
 
-is_read_somehow : (work : AskedWork) (input : List ℕ) (r : Record) (written : Written) → Reads work input (λ other. Unit {0}) r written → IsReadSomehow work input r written
+is_read_somehow : (work : AskedWork) (input : List ℕ) (r : Record) (written : Written) → Reads HasKey work input (λ other. Unit {0}) r written → IsReadSomehow work input r written
 is_read_somehow work input r written x = record {
   by_run = λ new lies same. let d = x.of_run new lies same in (d.0, d.2);
   by_line = λ told t has line same. let d = x.of_line told t has line same in (d.0, d.2);
@@ -204,15 +208,15 @@ pub made_opens : ReadKeysFit → RunStep → SessionIsEdits → SoundIsUsable Ae
 made_opens read_fit law sessions usable sound keyset kept ad plain sealed prefix r after is was =
     let o = seal_origin read_fit law sessions keyset ad plain sealed r after was in
     let m = o.makes in
-    is_read (to_open ad) sealed plain r after (reads (to_open ad) sealed (λ other. other ≡ plain) r after usable sound keyset o (λ new edited same.
-    open_answers (λ other. other ≡ plain) new sealed ad plain refl (ap (λ c. open_answer new standard_table c ad) (sym m.bytes) ∙ kept o.old new r prefix plain ad m.random m.made o.keyset edited same o.primary is m.is)))
+    is_read HasSameKey (to_open ad) sealed plain r after (reads HasSameKey (to_open ad) sealed (λ other. other ≡ plain) r after usable sound keyset o (λ new same.
+    open_answers (λ other. other ≡ plain) new sealed ad plain refl (ap (λ c. open_answer new standard_table c ad) (sym m.bytes) ∙ kept o.old new r prefix plain ad m.random m.made same o.primary is m.is)))
 
-pub made_opens_raw : ReadKeysFit → RunStep → SessionIsEdits → SoundIsUsable Aead → EditedIsSound → EditedIsKeyset → KeptOpenRaw → MadeOpensRaw
-made_opens_raw read_fit law sessions usable sound keyset kept ad plain sealed r after is was =
+pub made_opens_present : ReadKeysFit → RunStep → SessionIsEdits → SoundIsUsable Aead → EditedIsSound → EditedIsKeyset → KeptOpenPresent → MadeOpensPresent
+made_opens_present read_fit law sessions usable sound keyset kept ad plain sealed r after was =
     let o = seal_origin read_fit law sessions keyset ad plain sealed r after was in
     let m = o.makes in
-    is_read_somehow (to_open ad) sealed r after (reads (to_open ad) sealed (λ other. Unit {0}) r after usable sound keyset o (λ new edited same.
-    let opened = kept o.old new r plain ad m.random m.made same o.primary is m.is in
+    is_read_somehow (to_open ad) sealed r after (reads HasKey (to_open ad) sealed (λ other. Unit {0}) r after usable sound keyset o (λ new same.
+    let opened = kept o.old new r plain ad m.random m.made same o.primary m.is in
     open_answers (λ other. Unit {0}) new sealed ad opened.0 tt (ap (λ c. open_answer new standard_table c ad) (sym m.bytes) ∙ opened.1)))
 
 -- ---- seals without an IV
@@ -236,14 +240,14 @@ dopen_answers Is new sealed ad plain is e = record {
 pub made_dopens : FitKeysetsAnswer → ReadKeysFit → RunStep → SessionIsEdits → SoundIsUsable Daead → EditedIsSound → EditedIsKeyset → KeptDopen → MadeDopens
 made_dopens fits read_fit law sessions usable sound keyset kept ad plain sealed prefix r after is was =
     let o = dseal_origin fits read_fit law sessions keyset ad plain sealed r after was in
-    is_read (to_dopen ad) sealed plain r after (reads (to_dopen ad) sealed (λ other. other ≡ plain) r after usable sound keyset o (λ new edited same.
-    dopen_answers (λ other. other ≡ plain) new sealed ad plain refl (kept o.old new r prefix plain ad sealed o.keyset edited same o.primary is o.makes)))
+    is_read HasSameKey (to_dopen ad) sealed plain r after (reads HasSameKey (to_dopen ad) sealed (λ other. other ≡ plain) r after usable sound keyset o (λ new same.
+    dopen_answers (λ other. other ≡ plain) new sealed ad plain refl (kept o.old new r prefix plain ad sealed same o.primary is o.makes)))
 
-pub made_dopens_raw : FitKeysetsAnswer → ReadKeysFit → RunStep → SessionIsEdits → SoundIsUsable Daead → EditedIsSound → EditedIsKeyset → KeptDopenRaw → MadeDopensRaw
-made_dopens_raw fits read_fit law sessions usable sound keyset kept ad plain sealed r after is was =
+pub made_dopens_present : FitKeysetsAnswer → ReadKeysFit → RunStep → SessionIsEdits → SoundIsUsable Daead → EditedIsSound → EditedIsKeyset → KeptDopenPresent → MadeDopensPresent
+made_dopens_present fits read_fit law sessions usable sound keyset kept ad plain sealed r after was =
     let o = dseal_origin fits read_fit law sessions keyset ad plain sealed r after was in
-    is_read_somehow (to_dopen ad) sealed r after (reads (to_dopen ad) sealed (λ other. Unit {0}) r after usable sound keyset o (λ new edited same.
-    let opened = kept o.old new r plain ad sealed same o.primary is o.makes in
+    is_read_somehow (to_dopen ad) sealed r after (reads HasKey (to_dopen ad) sealed (λ other. Unit {0}) r after usable sound keyset o (λ new same.
+    let opened = kept o.old new r plain ad sealed same o.primary o.makes in
     dopen_answers (λ other. Unit {0}) new sealed ad opened.0 tt opened.1))
 
 -- ---- tags
@@ -267,5 +271,5 @@ verify_answers new tag body e = record {
 pub made_verifies : FitKeysetsAnswer → ReadKeysFit → RunStep → SessionIsEdits → SoundIsUsable Mac → EditedIsSound → EditedIsKeyset → KeptTag → MadeVerifies
 made_verifies fits read_fit law sessions usable sound keyset kept tag body r after was =
     let o = tag_origin fits read_fit law sessions keyset tag body r after was in
-    is_read (to_verify tag) body [] r after (reads (to_verify tag) body (λ other. other ≡ []) r after usable sound keyset o (λ new edited same.
-    verify_answers new tag body (kept o.old new r tag body edited same o.primary o.makes)))
+    is_read HasKey (to_verify tag) body [] r after (reads HasKey (to_verify tag) body (λ other. other ≡ []) r after usable sound keyset o (λ new same.
+    verify_answers new tag body (kept o.old new r tag body same o.primary o.makes)))

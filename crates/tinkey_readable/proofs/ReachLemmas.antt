@@ -175,23 +175,38 @@ made_done give next told done = by_draw (give told.random) refl done
 
 -- ---- the file or the output
 
-pub put_done : (out : Place) (keys : Keys) (told : Told) → IsDoneAnswer (answer (puts_keyset out keys) told)
-    → bytes_at out.file (answer (puts_keyset out keys) told).files (answer (puts_keyset out keys) told).output ≡ Some (written_in out.form keys)
-put_done out keys told done = by_file out.file done
+-- a keyset that was put out is within the limit, and this is what was put out
+pub record PutOut (out : Place) (keys : Keys) (told : Told) : Type 0 where
+  pub within : length (written_in out.form keys) ≤ keyset_limit
+  pub there : bytes_at out.file (answer (puts_keyset out keys) told).files (answer (puts_keyset out keys) told).output ≡ Some (written_in out.form keys)
+
+-- bytes that were put out
+bytes_put : (file : Option (List ℕ)) (bytes : List ℕ) (told : Told) → IsDoneAnswer (answer (puts file bytes) told) → bytes_at file (answer (puts file bytes) told).files (answer (puts file bytes) told).output ≡ Some bytes
+bytes_put None bytes told done = refl
+bytes_put (Some name) bytes told done = by_free (map.get told.files name) done
+  where
+    there : map.get (map.insert told.files name bytes) name ≡ Some bytes
+    there = map.get-insert nat_list_cmp_total told.files name bytes name ∙ ap (λ (b : Bool). cond b (Some bytes) (map.get told.files name)) ((eq_by_cmp_equiv nat_list_cmp_total).refl name)
+
+    by_free : (found : Option (List ℕ)) → IsDoneAnswer (create_answer found told name bytes (refused told status.OutExists)) → map.get (create_answer found told name bytes (refused told status.OutExists)).files name ≡ Some bytes
+    by_free (Some x) done = absurd (cc)
+    by_free None done = there
+
+pub put_done : (out : Place) (keys : Keys) (told : Told) → IsDoneAnswer (answer (puts_keyset out keys) told) → PutOut out keys told
+put_done out keys told done = by (nat_le (length bytes) keyset_limit) refl done
   where
     bytes : List ℕ
     bytes = written_in out.form keys
 
-    there : (name : List ℕ) (files : Files) → map.get (map.insert files name bytes) name ≡ Some bytes
-    there name files = map.get-insert nat_list_cmp_total files name bytes name ∙ ap (λ (b : Bool). cond b (Some bytes) (map.get files name)) ((eq_by_cmp_equiv nat_list_cmp_total).refl name)
+    goes : Bool → Answer
+    goes b = answer (if b then puts out.file bytes else ends status.KeysetTooLong tt) told
 
-    by_free : (name : List ℕ) (found : Option (List ℕ)) → IsDoneAnswer (create_answer found told name bytes (refused told status.OutExists)) → map.get (create_answer found told name bytes (refused told status.OutExists)).files name ≡ Some bytes
-    by_free name (Some x) done = absurd (cc)
-    by_free name None done = there name told.files
-
-    by_file : (file : Option (List ℕ)) → IsDoneAnswer (answer (puts file bytes) told) → bytes_at file (answer (puts file bytes) told).files (answer (puts file bytes) told).output ≡ Some bytes
-    by_file (Some name) done = by_free name (map.get told.files name) done
-    by_file None done = refl
+    by : (b : Bool) → nat_le (length bytes) keyset_limit ≡ b → IsDoneAnswer (goes b) → PutOut out keys told
+    by true is done = record {
+      within = grind (arith, nat_tests, is);
+      there = ap (λ b. bytes_at out.file (goes b).files (goes b).output) is ∙ bytes_put out.file bytes told done;
+    }
+    by false is done = absurd (cc)
 
 -- ---- the keys of a keyset
 

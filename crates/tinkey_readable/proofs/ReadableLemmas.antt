@@ -10,7 +10,7 @@ use Rattle.managers.specs.Table.{Table}
 use Rattle.tink_spec.specs.Outside.{Took}
 use Rattle.tinkey_session.specs.Lines.{Line, line_of}
 use Rattle.tinkey_session.specs.Session.{Turn, lines_of, turns}
-use Rattle.tinkey_session.specs.SessionLaws.{HasTurns, SessionDopens, SessionDopensRaw, SessionOpens, SessionOpensRaw, SessionVerifies}
+use Rattle.tinkey_session.specs.SessionLaws.{HasTurns, SessionDopens, SessionDopensPresent, SessionOpens, SessionOpensPresent, SessionVerifies}
 use Rattle.tinkey_session.specs.TalkLaws.{TalkIsTurns}
 use Rattle.tinkey_session.specs.Talking.{Stop, goes, wants, passes, long_line, many_lines, Talk, talk}
 use Rattle.wrapped_prims.specs.Laws.{IsKeyset}
@@ -19,7 +19,7 @@ use Rattle.tinkey_plans.specs.declared.status.Status.TheVariants as status
 use Rattle.tinkey_words.specs.declared.words.rows.Format.{Format}
 use Rattle.tinkey_plans.specs.Commands.{asked_plan}
 use Rattle.tinkey_plans.specs.Ends.{World}
-use Rattle.tinkey_plans.specs.Plan.{Told, Answer, answer, create_answer, IsStated, refused, talk_answer}
+use Rattle.tinkey_plans.specs.Plan.{Told, Answer, answer, create_answer, creates, ends, IsStated, refused, talk_answer}
 use Rattle.tinkey_plans.specs.Promises.{IsAnswer}
 use Rattle.tinkey_readable.specs.Readable.{AnswersAreReadable, AreAmong, AreReadable, HasReplies, turns_of}
 use Rattle.tinkey_readable.specs.Runs.{read_in}
@@ -41,12 +41,12 @@ not_unwritten s stated is = let h : IsStated status.WriteFault = rw is at stated
 has_turns : (keys : Keys) (lines : List Line) (random : List ℕ) (s t : Turn) → AreAmong (turns standard_table keys lines random) s t → HasTurns keys lines random s t
 has_turns keys lines random s t x = record { i = x.i; j = x.j; later = x.later; first = x.first; second = x.second }
 
-pub are_readable : SessionOpens → SessionDopens → SessionOpensRaw → SessionDopensRaw → SessionVerifies → (keys : Keys) (lines : List Line) (random : List ℕ) → IsKeyset keys → AreReadable (turns standard_table keys lines random)
-are_readable opens dopens opens_raw dopens_raw verifies keys lines random is = record {
+pub are_readable : SessionOpens → SessionDopens → SessionOpensPresent → SessionDopensPresent → SessionVerifies → (keys : Keys) (lines : List Line) (random : List ℕ) → IsKeyset keys → AreReadable (turns standard_table keys lines random)
+are_readable opens dopens opens_present dopens_present verifies keys lines random is = record {
   opens = λ s t r prefix plain ad sealed x. opens keys lines random prefix plain ad sealed s t r is (has_turns keys lines random s t x);
   dopens = λ s t r prefix plain ad sealed x. dopens keys lines random prefix plain ad sealed s t r is (has_turns keys lines random s t x);
-  opens_raw = λ s t r plain ad sealed x. opens_raw keys lines random plain ad sealed s t r is (has_turns keys lines random s t x);
-  dopens_raw = λ s t r plain ad sealed x. dopens_raw keys lines random plain ad sealed s t r is (has_turns keys lines random s t x);
+  opens_present = λ s t r plain ad sealed x. opens_present keys lines random plain ad sealed s t r is (has_turns keys lines random s t x);
+  dopens_present = λ s t r plain ad sealed x. dopens_present keys lines random plain ad sealed s t r is (has_turns keys lines random s t x);
   verifies = λ s t r tag body x. verifies keys lines random body tag s t r is (has_turns keys lines random s t x);
 }
 
@@ -58,8 +58,8 @@ none_readable : AreReadable []
 none_readable = record {
   opens = λ s t r prefix plain ad sealed x. none_among s t x;
   dopens = λ s t r prefix plain ad sealed x. none_among s t x;
-  opens_raw = λ s t r plain ad sealed x. none_among s t x;
-  dopens_raw = λ s t r plain ad sealed x. none_among s t x;
+  opens_present = λ s t r plain ad sealed x. none_among s t x;
+  dopens_present = λ s t r plain ad sealed x. none_among s t x;
   verifies = λ s t r tag body x. none_among s t x;
 }
 
@@ -68,16 +68,17 @@ none_readable = record {
 -- saving writes nothing
 saves_nothing : (file : Option (List ℕ)) (form : Format) (keys : Keys) (told : Told) → (answer (saves_as file form keys) told).output ≡ []
 saves_nothing None form keys told = refl
-saves_nothing (Some name) form keys told = by (map.get told.files name)
+saves_nothing (Some name) form keys told = by (nat_le (length (written_in form keys)) keyset_limit) (map.get told.files name) refl
   where
-    by : (found : Option (List ℕ)) → (create_answer found told name (written_in form keys) (refused told status.OutExists)).output ≡ []
-    by None = refl
-    by (Some bytes) = refl
+    by : (b : Bool) (found : Option (List ℕ)) → map.get told.files name ≡ found → (answer (if b then creates name (written_in form keys) status.OutExists tt else ends status.KeysetTooLong tt) told).output ≡ []
+    by true None is = ap (λ f. (create_answer f told name (written_in form keys) (refused told status.OutExists)).output) is
+    by true (Some bytes) is = ap (λ f. (create_answer f told name (written_in form keys) (refused told status.OutExists)).output) is
+    by false found is = refl
 
 -- what the answer of the session itself says of the run
-replied : SessionOpens → SessionDopens → SessionOpensRaw → SessionDopensRaw → SessionVerifies → TalkIsTurns → (table : Table) (out : Place) (keys : Keys) (told : Told) (old : World) (s : Status) (new : World)
+replied : SessionOpens → SessionDopens → SessionOpensPresent → SessionDopensPresent → SessionVerifies → TalkIsTurns → (table : Table) (out : Place) (keys : Keys) (told : Told) (old : World) (s : Status) (new : World)
     → IsKeyset keys → IsStated s → IsAnswer (answer (holds_session table out keys) told) old s new → HasReplies table keys told old s new
-replied opens dopens opens_raw dopens_raw verifies law table out keys told old s new is stated a = by_stop x.stop refl a
+replied opens dopens opens_present dopens_present verifies law table out keys told old s new is stated a = by_stop x.stop refl a
   where
     x : Talk
     x = talk table keys told.input told.random true
@@ -96,7 +97,7 @@ replied opens dopens opens_raw dopens_raw verifies law table out keys told old s
           whole = t.whole;
           took = λ other. subst (λ bytes. Took old.sink new.sink bytes) (same ∙ t.output) took;
           front = λ fault. absurd (not_unwritten s stated fault);
-          readable = λ standard. subst (λ (tb : Table). AreReadable (turns_of tb keys t.answered told.random)) (sym standard) (are_readable opens dopens opens_raw dopens_raw verifies keys (each line_of t.answered) told.random is);
+          readable = λ standard. subst (λ (tb : Table). AreReadable (turns_of tb keys t.answered told.random)) (sym standard) (are_readable opens dopens opens_present dopens_present verifies keys (each line_of t.answered) told.random is);
         }
 
     by_stop : (stop : Stop) → x.stop ≡ stop → IsAnswer (talk_answer stop x told next) old s new → HasReplies table keys told old s new
@@ -119,8 +120,8 @@ none_replied table keys told old s new undone other took = record {
   readable = λ standard. none_readable;
 }
 
-pub readable_answer : SessionOpens → SessionDopens → SessionOpensRaw → SessionDopensRaw → SessionVerifies → TalkIsTurns → ReadKeysFit → AnswersAreReadable
-readable_answer opens dopens opens_raw dopens_raw verifies law fit table words old s new stated answers = record {
+pub readable_answer : SessionOpens → SessionDopens → SessionOpensPresent → SessionDopensPresent → SessionVerifies → TalkIsTurns → ReadKeysFit → AnswersAreReadable
+readable_answer opens dopens opens_present dopens_present verifies law fit table words old s new stated answers = record {
   replies = λ told name bytes form out keys tells is there read.
       let a : IsAnswer (answer (loads_keyset name form (holds_session table out)) told) old s new = subst (λ p. IsAnswer (answer p told) old s new) (ap (asked_plan table) is) (answers.over told tells stated) in
       let b : IsAnswer (if nat_le (length bytes) keyset_limit then answer (keyset_in form bytes (holds_session table out)) told else refused told status.KeysetTooLong) old s new = rw there at a in
@@ -130,7 +131,7 @@ readable_answer opens dopens opens_raw dopens_raw verifies law fit table words o
     by_length : (told : Told) (bytes : List ℕ) (form : Format) (out : Place) (keys : Keys) → read_in form bytes ≡ Some keys → (t : Bool) → nat_le (length bytes) keyset_limit ≡ t
         → IsAnswer (if t then answer (keyset_in form bytes (holds_session table out)) told else refused told status.KeysetTooLong) old s new → HasReplies table keys told old s new
     by_length told bytes form out keys read true is a =
-        replied opens dopens opens_raw dopens_raw verifies law table out keys told old s new (read_keyset fit form bytes keys (grind (arith, nat_tests, is)) read) stated
+        replied opens dopens opens_present dopens_present verifies law table out keys told old s new (read_keyset fit form bytes keys (grind (arith, nat_tests, is)) read) stated
         (subst (λ x. IsAnswer x old s new) (keyset_reached form bytes keys (holds_session table out) told read) a)
     by_length told bytes form out keys read false is a =
         none_replied table keys told old s new (λ h. let clash : status.Done ≡ status.KeysetTooLong = sym h ∙ a.status in absurd (cc)) (not_unwritten s stated) a.output

@@ -30,14 +30,14 @@ use Rattle.tinkey_session.proofs.StoredLemmas.{byte_there}
 use Rattle.tinkey_session.proofs.TurnLemmas.{edited_on, template_there}
 use Rattle.tinkey_session.specs.Serving.{template_or}
 use Rattle.tinkey_session.specs.HeldLaws.{AreBytes, AreStored, EditsKeepStored, IsStored, SessionsKeepStored}
-use Rattle.tinkey_session.specs.Laws.{EditedIsKeyset, EditedIsSound, IsEdited, KeptDopen, KeptDopenRaw, KeptOpen, KeptOpenRaw, KeptTag, SoundIsUsable, after}
+use Rattle.tinkey_session.specs.Laws.{EditedIsKeyset, EditedIsSound, IsEdited, KeptDopen, KeptDopenPresent, KeptOpen, KeptOpenPresent, KeptTag, SoundIsUsable, after}
 use Rattle.tinkey_session.specs.Lines.{line_of}
 use Rattle.tinkey_session.specs.Session.{Remains, asked_in, lines_of, remains}
 use Rattle.tinkey_session.specs.Talking.{Stop, goes, wants, passes, long_line, many_lines, Talk, talk}
 use Rattle.tinkey_session.specs.SessionLaws.{SessionIsEdits}
 use Rattle.tinkey_session.specs.TalkLaws.{TalkIsTurns}
 use Rattle.wrapped_prims.specs.Answers.{Sealed, dopen_answer, dseal_answer, open_answer, seal_answer, tag_answer, verify_answer}
-use Rattle.wrapped_prims.specs.Laws.{HasSameKey, IsKeyset}
+use Rattle.wrapped_prims.specs.Laws.{IsKeyset}
 use Rattle.wrapped_prims.specs.Making.{HasWordId}
 use Rattle.wrapped_prims.specs.Fitness.{unfit}
 use Rattle.tinkey_plans.specs.declared.status.Status.TheVariants as status
@@ -46,7 +46,7 @@ use Rattle.tinkey_words.specs.declared.words.rows.Format.TheVariants as formats
 use Rattle.tinkey_plans.specs.Commands.{command_plan}
 use Rattle.tinkey_plans.specs.Plan.{Told, Answer, answer, writes, draw_answer, refused, talk_answer}
 use Rattle.tinkey_plans.specs.Session.{holds_session, saves, saves_as}
-use Rattle.tinkey_readable.specs.Runs.{Handing, hands_on, session_handing, AreRuns, DrawsBytes, Does, Gives, HandsOn, HoldsBytes, IsDone, LeadOn, ReadIsStored, Run, RunStep, RunsDopen, RunsDopenRaw, RunsOpen, RunsOpenRaw, RunsVerify, WasDone, Written, bytes_at, edit_of, keyset_of, read_in}
+use Rattle.tinkey_readable.specs.Runs.{Handing, hands_on, session_handing, AreRuns, DrawsBytes, Does, Gives, HandsOn, HoldsBytes, IsDone, LeadOn, ReadIsStored, Run, RunStep, RunsDopen, RunsDopenPresent, RunsOpen, RunsOpenPresent, RunsVerify, WasDone, Written, bytes_at, edit_of, keyset_of, read_in}
 use Rattle.tinkey_plans.specs.Laws.{FitKeysetsAnswer}
 use Rattle.tinkey_plans.specs.Steps.{input_limit, keyset_limit, takes_keyset, makes_keyset, puts_keyset, with_made, written_in}
 use Rattle.tinkey_plans.specs.Using.{as_drawn, made_bytes, with_opened, with_verified, works}
@@ -151,12 +151,13 @@ edit_template (edits.Delete id) edit e = subst HasTemplate (same_Some _ _ e) tt
 given : FaultlessKeysets → BinaryBack → JsonBack → (table : Table) (run : Run) (old new : Keys) (out : Place) (after : Written) → out.form ≡ after.form
     → bytes_at out.file (answer (command_plan table run.asked) run.told).files (answer (command_plan table run.asked) run.told).output ≡ Some after.bytes
     → bytes_at out.file (answer (command_plan table run.asked) run.told).files (answer (command_plan table run.asked) run.told).output ≡ Some (written_in out.form new)
-    → fault_of new ≡ None → AreStored new → Does table run.told old new run.asked → Gives table run old after
-given law binary json table run old new out after form put is faultless stored does = record {
+    → length (written_in out.form new) ≤ keyset_limit → fault_of new ≡ None → AreStored new → Does table run.told old new run.asked → Gives table run old after
+given law binary json table run old new out after form put is within faultless stored does = record {
   new = new;
   read = subst (λ f. read_in f after.bytes ≡ Some new) form (ap (read_in out.form) (same_Some _ _ (sym put ∙ is)) ∙ written_back law binary json out.form new faultless stored);
   does = does;
   stored = stored;
+  within = subst (λ bytes. length bytes ≤ keyset_limit) (same_Some _ _ (sym is ∙ put)) within;
   holds = subst AreBytes (same_Some _ _ (sym is ∙ put)) (written_bytes out.form new ((law new).0 faultless) (primary_word law new faultless stored) stored (json_back law json new faultless stored));
 }
 
@@ -183,7 +184,8 @@ edit_step law binary json keeps keeps_stored table edit in' out told before afte
     let template = edit_template edit f.edit f.is in
     let faultless = read_faultless before old is in
     given law binary json table (record { asked = edit_keyset edit in' out; told = told }) old m.new out after put_form put
-    (ap (λ (a : Answer). bytes_at out.file a.files a.output) whole ∙ p)
+    (ap (λ (a : Answer). bytes_at out.file a.files a.output) whole ∙ p.there)
+    p.within
     (keeps old m.new f.edit told.random m.drawn template faultless gave m.made)
     (keeps_stored old m.new f.edit told.random m.drawn template random stored gave m.made)
     (record { edit = f.edit; is = f.is; stepped = m.drawn; steps = gave; accepted = m.made })
@@ -198,7 +200,8 @@ convert_step law binary json table in' out told before after old done form read 
     let t = taken_done in' before.bytes old (puts_keyset out) told read (ap (λ x. read_in x before.bytes) form ∙ is) done in
     let p = put_done out old (behind in'.file told) (ap (λ (a : Answer). a.status) (sym t) ∙ done) in
     given law binary json table (record { asked = convert_keyset in' out; told = told }) old old out after put_form put
-    (ap (λ (a : Answer). bytes_at out.file a.files a.output) t ∙ p)
+    (ap (λ (a : Answer). bytes_at out.file a.files a.output) t ∙ p.there)
+    p.within
     (read_faultless before old is) stored refl
 
 -- the answer of a session over its whole input that is Done, and what goes on
@@ -236,13 +239,23 @@ session_done law table out old told done = by_stop x.stop refl done
     by_stop (passes long_line) is done = absurd (cc)
     by_stop (passes many_lines) is done = absurd (cc)
 
-saved : (out : Place) (keys : Keys) (told : Told) (file : List ℕ) → out.file ≡ Some file → IsDoneAnswer (answer (saves out keys) told) → map.get (answer (saves out keys) told).files file ≡ Some (written_in out.form keys)
-saved out keys told file is done = by out.file is done
+-- what a session saved is within the limit, and is there
+record SavedKeyset (out : Place) (keys : Keys) (told : Told) (file : List ℕ) : Type 0 where
+  within : length (written_in out.form keys) ≤ keyset_limit
+  there : map.get (answer (saves out keys) told).files file ≡ Some (written_in out.form keys)
+
+saved : (out : Place) (keys : Keys) (told : Told) (file : List ℕ) → out.file ≡ Some file → IsDoneAnswer (answer (saves out keys) told) → SavedKeyset out keys told file
+saved out keys told file is done = by out.file refl is done
   where
-    by : (f : Option (List ℕ)) → f ≡ Some file → IsDoneAnswer (answer (saves_as f out.form keys) told) → map.get (answer (saves_as f out.form keys) told).files file ≡ Some (written_in out.form keys)
-    by None is done = clash is
-    by (Some other) is done = subst (λ n. map.get (answer (saves_as (Some other) out.form keys) told).files n ≡ Some (written_in out.form keys)) (same_Some _ _ is)
-        (put_done (record { file = Some other; form = out.form }) keys told done)
+    by : (f : Option (List ℕ)) → out.file ≡ f → f ≡ Some file → IsDoneAnswer (answer (saves_as f out.form keys) told) → SavedKeyset out keys told file
+    by None at is done = clash is
+    by (Some other) at is done =
+        let p = put_done (record { file = Some other; form = out.form }) keys told done in
+        record {
+          within = p.within;
+          there = ap (λ f. map.get (answer (saves_as f out.form keys) told).files file) at
+              ∙ subst (λ n. map.get (answer (saves_as (Some other) out.form keys) told).files n ≡ Some (written_in out.form keys)) (same_Some _ _ is) p.there;
+        }
 
 session_step : FaultlessKeysets → BinaryBack → JsonBack → TalkIsTurns → SessionIsEdits → EditedIsKeyset → SessionsKeepStored → (table : Table) (name : List ℕ) (form : Format) (out : Place) (file : List ℕ) (told : Told) (before after : Written) (old : Keys)
     → out.file ≡ Some file → IsDoneAnswer (answer (command_plan table (session name form out)) told)
@@ -258,7 +271,8 @@ session_step law binary json turns sessions edited keeps table name form out fil
     let keyset : IsKeyset old = record { faultless = faultless; words = each_of old.records (λ r s. s.held.id) stored } in
     let files = ap (λ (a : Answer). a.files) l ∙ d.goes_on in
     given law binary json table (record { asked = session name form out; told = told }) old d.last.keys out after put_form put
-    (ap (λ f. bytes_at f (answer (command_plan table (session name form out)) told).files (answer (command_plan table (session name form out)) told).output) named ∙ ap (λ f. map.get f file) files ∙ p)
+    (ap (λ f. bytes_at f (answer (command_plan table (session name form out)) told).files (answer (command_plan table (session name form out)) told).output) named ∙ ap (λ f. map.get f file) files ∙ p.there)
+    p.within
     (edited old d.last.keys (sessions table old (asked_in told.input) told.random d.last d.is) keyset).faultless
     (keeps table old (asked_in told.input) told.random d.last random stored d.is)
     (d.last, d.is, refl)
@@ -351,19 +365,26 @@ pub record Led (old : Keys) (after : Written) : Type 0 where
   pub new : Keys
   pub read : keyset_of after ≡ Some new
   pub edited : IsEdited old new
+  pub within : length after.bytes ≤ keyset_limit
 
 no_edits : (old : Keys) → IsEdited old old
 unfolding after
 no_edits old = record { edits = []; asked = tt; last = refl }
 
-pub led : RunStep → SessionIsEdits → (table : Table) (runs : List Run) (before after : Written) (old : Keys) → AreRuns table runs before after → AllByRecursion DrawsBytes runs → HoldsBytes before → keyset_of before ≡ Some old → Led old after
-led law sessions table [] before after old are bytes holds is = record { new = old; read = ap keyset_of (sym are) ∙ is; edited = no_edits old }
-led law sessions table (run ∷ later) before after old (between, hands, are) bytes holds is =
+pub led : RunStep → SessionIsEdits → (table : Table) (runs : List Run) (before after : Written) (old : Keys) → AreRuns table runs before after → AllByRecursion DrawsBytes runs → HoldsBytes before → keyset_of before ≡ Some old → length before.bytes ≤ keyset_limit → Led old after
+led law sessions table [] before after old are bytes holds is within = record {
+  new = old;
+  read = ap keyset_of (sym are) ∙ is;
+  edited = no_edits old;
+  within = subst (λ (w : Written). length w.bytes ≤ keyset_limit) are within;
+}
+led law sessions table (run ∷ later) before after old (between, hands, are) bytes holds is within =
     let step' = law table run before between old hands bytes.0 holds is in
-    let rest = led law sessions table later between after step'.new are bytes.1 step'.holds step'.read in
+    let rest = led law sessions table later between after step'.new are bytes.1 step'.holds step'.read step'.within in
     record {
       new = rest.new;
       read = rest.read;
+      within = rest.within;
       edited = edited_on old step'.new rest.new (done_edits sessions table run.told run.asked old step'.new step'.does) rest.edited;
     }
 
@@ -372,20 +393,20 @@ record Ends (runs : List Run) (before after : Written) (r : Record) (old new : K
   edited : IsEdited old new
   keyset : IsKeyset old
   primary : primary_of old ≡ Some r
-  same : HasSameKey r new
   read : keyset_of before ≡ Some old
   read_again : keyset_of after ≡ Some new
+  within : length after.bytes ≤ keyset_limit
 
 lead_ends : ReadKeysFit → RunStep → SessionIsEdits → (runs : List Run) (before after : Written) (r : Record) → length before.bytes ≤ keyset_limit → (x : LeadOn runs before after r) → Ends runs before after r x.old x.new
 lead_ends fit law sessions runs before after r within x =
-    let l = led law sessions standard_table runs before after x.old x.are x.bytes x.holds x.read in
+    let l = led law sessions standard_table runs before after x.old x.are x.bytes x.holds x.read within in
     record {
       edited = subst (λ k. IsEdited x.old k) (same_Some _ _ (sym l.read ∙ x.read_again)) l.edited;
       keyset = read_keyset fit before.form before.bytes x.old within x.read;
       primary = x.primary;
-      same = x.same;
       read = x.read;
       read_again = x.read_again;
+      within = l.within;
     }
 
 -- each record of the last keyset serves where each of the first one does
@@ -415,10 +436,10 @@ pub done_within : (work : AskedWork) (written : Written) (told : Told) (output :
 done_within work written told output was = used_within standard_table was.name written.form work written.bytes told was.lies was.done
 
 -- work over the last one is done, where its keys answer so
-pub finished : (work : AskedWork) (written : Written) (new : Keys) (input output : List ℕ) → keyset_of written ≡ Some new → unfit new (primitive_for work) standard_table ≡ None
+pub finished : (work : AskedWork) (written : Written) (new : Keys) (input output : List ℕ) → keyset_of written ≡ Some new → length written.bytes ≤ keyset_limit → unfit new (primitive_for work) standard_table ≡ None
     → ((told : Told) → (IsDoneAnswer (answer (works standard_table new work input writes) told)) × ((answer (works standard_table new work input writes) told).output ≡ output))
     → IsDone work written input output
-finished work written new input output is fit gives told name lies same within fits =
+finished work written new input output is within fit gives told name lies same fits =
     let r = used_reached standard_table name written.form work written.bytes new told lies is within fit (subst (λ i. length i ≤ input_limit) (sym same) fits) ∙ ap (λ i. answer (works standard_table new work i writes) (record told { input = [] })) same in
     let g = gives (record told { input = [] }) in
     (ap (λ (a : Answer). a.status) r ∙ g.0, ap (λ (a : Answer). a.output) r ∙ g.1)
@@ -443,22 +464,22 @@ pub opens_so : (o : Option (List ℕ)) (plain : List ℕ) (told : Told) → o �
 opens_so o plain told is = rw is (refl, refl)
 
 pub runs_open : ReadKeysFit → RunStep → SessionIsEdits → SoundIsUsable Aead → EditedIsSound → EditedIsKeyset → KeptOpen → RunsOpen
-runs_open read_fit law sessions usable sound keyset kept runs before after r prefix ad sealed told x is was =
+runs_open read_fit law sessions usable sound keyset kept runs before after r prefix ad sealed told x same is was =
     let e = lead_ends read_fit law sessions runs before after r (done_within (to_seal ad) before told sealed was) x in
     let b = started (to_seal ad) before x.old told sealed e.read was in
     let s = sealed_by x.old ad told sealed b in
-    let opened = kept x.old x.new r prefix told.input ad told.random s.0 e.keyset e.edited e.same e.primary is s.1 in
-    finished (to_open ad) after x.new sealed told.input e.read_again (still_fit Aead usable sound keyset x.old x.new e.keyset e.edited b.fit)
+    let opened = kept x.old x.new r prefix told.input ad told.random s.0 same e.primary is s.1 in
+    finished (to_open ad) after x.new sealed told.input e.read_again e.within (still_fit Aead usable sound keyset x.old x.new e.keyset e.edited b.fit)
     (λ t. opens_so (open_answer x.new standard_table sealed ad) told.input t (ap (λ c. open_answer x.new standard_table c ad) (sym s.2) ∙ opened))
 
-pub runs_open_raw : ReadKeysFit → RunStep → SessionIsEdits → SoundIsUsable Aead → EditedIsSound → EditedIsKeyset → KeptOpenRaw → RunsOpenRaw
-runs_open_raw read_fit law sessions usable sound keyset kept runs before after r ad sealed told x is was =
+pub runs_open_present : ReadKeysFit → RunStep → SessionIsEdits → SoundIsUsable Aead → EditedIsSound → EditedIsKeyset → KeptOpenPresent → RunsOpenPresent
+runs_open_present read_fit law sessions usable sound keyset kept runs before after r ad sealed told x same was =
     let e = lead_ends read_fit law sessions runs before after r (done_within (to_seal ad) before told sealed was) x in
     let b = started (to_seal ad) before x.old told sealed e.read was in
     let s = sealed_by x.old ad told sealed b in
-    let opened = kept x.old x.new r told.input ad told.random s.0 e.same e.primary is s.1 in (
+    let opened = kept x.old x.new r told.input ad told.random s.0 same e.primary s.1 in (
       opened.0,
-      finished (to_open ad) after x.new sealed opened.0 e.read_again (still_fit Aead usable sound keyset x.old x.new e.keyset e.edited b.fit)
+      finished (to_open ad) after x.new sealed opened.0 e.read_again e.within (still_fit Aead usable sound keyset x.old x.new e.keyset e.edited b.fit)
           (λ t. opens_so (open_answer x.new standard_table sealed ad) opened.0 t (ap (λ c. open_answer x.new standard_table c ad) (sym s.2) ∙ opened.1)),
     )
 
@@ -474,20 +495,20 @@ tagged_by fit old told output is x =
     m.1 ∙ ap Some (sym (ap made_bytes m.1) ∙ x.gave)
 
 pub runs_dopen : FitKeysetsAnswer → ReadKeysFit → RunStep → SessionIsEdits → SoundIsUsable Daead → EditedIsSound → EditedIsKeyset → KeptDopen → RunsDopen
-runs_dopen fits read_fit law sessions usable sound keyset kept runs before after r prefix ad sealed told x is was =
+runs_dopen fits read_fit law sessions usable sound keyset kept runs before after r prefix ad sealed told x same is was =
     let e = lead_ends read_fit law sessions runs before after r (done_within (to_dseal ad) before told sealed was) x in
     let b = started (to_dseal ad) before x.old told sealed e.read was in
-    let opened = kept x.old x.new r prefix told.input ad sealed e.keyset e.edited e.same e.primary is (dsealed_by fits x.old ad told sealed e.keyset b) in
-    finished (to_dopen ad) after x.new sealed told.input e.read_again (still_fit Daead usable sound keyset x.old x.new e.keyset e.edited b.fit)
+    let opened = kept x.old x.new r prefix told.input ad sealed same e.primary is (dsealed_by fits x.old ad told sealed e.keyset b) in
+    finished (to_dopen ad) after x.new sealed told.input e.read_again e.within (still_fit Daead usable sound keyset x.old x.new e.keyset e.edited b.fit)
     (λ t. opens_so (dopen_answer x.new standard_table sealed ad) told.input t opened)
 
-pub runs_dopen_raw : FitKeysetsAnswer → ReadKeysFit → RunStep → SessionIsEdits → SoundIsUsable Daead → EditedIsSound → EditedIsKeyset → KeptDopenRaw → RunsDopenRaw
-runs_dopen_raw fits read_fit law sessions usable sound keyset kept runs before after r ad sealed told x is was =
+pub runs_dopen_present : FitKeysetsAnswer → ReadKeysFit → RunStep → SessionIsEdits → SoundIsUsable Daead → EditedIsSound → EditedIsKeyset → KeptDopenPresent → RunsDopenPresent
+runs_dopen_present fits read_fit law sessions usable sound keyset kept runs before after r ad sealed told x same was =
     let e = lead_ends read_fit law sessions runs before after r (done_within (to_dseal ad) before told sealed was) x in
     let b = started (to_dseal ad) before x.old told sealed e.read was in
-    let opened = kept x.old x.new r told.input ad sealed e.same e.primary is (dsealed_by fits x.old ad told sealed e.keyset b) in (
+    let opened = kept x.old x.new r told.input ad sealed same e.primary (dsealed_by fits x.old ad told sealed e.keyset b) in (
       opened.0,
-      finished (to_dopen ad) after x.new sealed opened.0 e.read_again (still_fit Daead usable sound keyset x.old x.new e.keyset e.edited b.fit)
+      finished (to_dopen ad) after x.new sealed opened.0 e.read_again e.within (still_fit Daead usable sound keyset x.old x.new e.keyset e.edited b.fit)
           (λ t. opens_so (dopen_answer x.new standard_table sealed ad) opened.0 t opened.1),
     )
 
@@ -496,9 +517,9 @@ pub verifies_so : (b : Bool) (told : Told) → b ≡ true → (IsDoneAnswer (ans
 verifies_so b told is = rw is (refl, refl)
 
 pub runs_verify : FitKeysetsAnswer → ReadKeysFit → RunStep → SessionIsEdits → SoundIsUsable Mac → EditedIsSound → EditedIsKeyset → KeptTag → RunsVerify
-runs_verify fits read_fit law sessions usable sound keyset kept runs before after r tag told x was =
+runs_verify fits read_fit law sessions usable sound keyset kept runs before after r tag told x same was =
     let e = lead_ends read_fit law sessions runs before after r (done_within to_tag before told tag was) x in
     let b = started to_tag before x.old told tag e.read was in
-    let verified = kept x.old x.new r tag told.input e.edited e.same e.primary (tagged_by fits x.old told tag e.keyset b) in
-    finished (to_verify tag) after x.new told.input [] e.read_again (still_fit Mac usable sound keyset x.old x.new e.keyset e.edited b.fit)
+    let verified = kept x.old x.new r tag told.input same e.primary (tagged_by fits x.old told tag e.keyset b) in
+    finished (to_verify tag) after x.new told.input [] e.read_again e.within (still_fit Mac usable sound keyset x.old x.new e.keyset e.edited b.fit)
     (λ t. verifies_so (verify_answer x.new standard_table tag told.input) t verified)

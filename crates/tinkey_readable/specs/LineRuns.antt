@@ -14,7 +14,7 @@ use Rattle.tinkey_session.specs.Session.{Turn, asked_in, turns}
 use Rattle.tinkey_session.specs.declared.reply.Reply.{Reply}
 use Rattle.tinkey_session.specs.declared.reply.Reply.TheVariants.{Done, Gives}
 use Rattle.wrapped_prims.specs.Candidates.{prefix_of}
-use Rattle.wrapped_prims.specs.Laws.{HasSameKey}
+use Rattle.wrapped_prims.specs.Laws.{HasKey, HasSameKey}
 use Rattle.tinkey_plans.specs.Laws.{IsSession}
 use Rattle.tinkey_plans.specs.Plan.{Told}
 use Rattle.tinkey_readable.specs.Runs.{AreRuns, DrawsBytes, HoldsBytes, IsDone, Run, WasDone, Written, keyset_of}
@@ -62,49 +62,50 @@ pub data WasMade (work : AskedWork) (input output : List ℕ) (r : Record) (afte
       (t : Turn) → HasTurn run.told before t → t.line ≡ asks work input → t.reply ≡ Gives output →
       primary_of t.before ≡ Some r → WasMade work input output r after
 
--- This work on this input is done with this output, while the keyset has that record's key, ENABLED:
--- by a run of the command over the keyset that lies here, in whichever file, and by each line of a
--- session over it.
-pub record IsRead (work : AskedWork) (input output : List ℕ) (r : Record) (written : Written)
-    : Type 0 where
-  pub by_run : (new : Keys) → keyset_of written ≡ Some new → HasSameKey r new
+-- This work on this input is done with this output, while that record's key is in the keyset as it is
+-- said here: by a run of the command over the keyset that lies here, in whichever file, and by each line
+-- of a session over it.
+pub record IsRead (While : Record → Keys → Type 0) (work : AskedWork) (input output : List ℕ)
+    (r : Record) (written : Written) : Type 0 where
+  pub by_run : (new : Keys) → keyset_of written ≡ Some new → While r new
       → IsDone work written input output
   pub by_line : (told : Told) (t : Turn) → HasTurn told written t → t.line ≡ asks work input
-      → HasSameKey r t.before → t.reply ≡ done_reply work output
+      → While r t.before → t.reply ≡ done_reply work output
 
--- the same with some output
+-- the same with some output, while the key is there, ENABLED
 pub record IsReadSomehow (work : AskedWork) (input : List ℕ) (r : Record) (written : Written)
     : Type 0 where
-  pub by_run : (new : Keys) → keyset_of written ≡ Some new → HasSameKey r new
+  pub by_run : (new : Keys) → keyset_of written ≡ Some new → HasKey r new
       → (other : List ℕ) × IsDone work written input other
   pub by_line : (told : Told) (t : Turn) → HasTurn told written t → t.line ≡ asks work input
-      → HasSameKey r t.before → (other : List ℕ) × (t.reply ≡ done_reply work other)
+      → HasKey r t.before → (other : List ℕ) × (t.reply ≡ done_reply work other)
 
--- what was sealed under a key with a prefix opens to its plaintext, with its associated data
+-- what was sealed under a key with a prefix opens to its plaintext, with its associated data, while that
+-- key is ENABLED and alone under its prefix
 abbrev pub MadeOpens : Type 0
 MadeOpens = (ad plain sealed prefix : List ℕ) (r : Record) (after : Written)
     → prefix_of r ≡ Some prefix → WasMade (to_seal ad) plain sealed r after
-    → IsRead (to_open ad) sealed plain r after
+    → IsRead HasSameKey (to_open ad) sealed plain r after
 
 -- the same without an IV
 abbrev pub MadeDopens : Type 0
 MadeDopens = (ad plain sealed prefix : List ℕ) (r : Record) (after : Written)
     → prefix_of r ≡ Some prefix → WasMade (to_dseal ad) plain sealed r after
-    → IsRead (to_dopen ad) sealed plain r after
+    → IsRead HasSameKey (to_dopen ad) sealed plain r after
 
--- under a RAW key it opens to some plaintext
-abbrev pub MadeOpensRaw : Type 0
-MadeOpensRaw = (ad plain sealed : List ℕ) (r : Record) (after : Written)
-    → prefix_of r ≡ None → WasMade (to_seal ad) plain sealed r after
+-- while the key is there, ENABLED, it opens to some plaintext, whatever the output prefix type
+abbrev pub MadeOpensPresent : Type 0
+MadeOpensPresent = (ad plain sealed : List ℕ) (r : Record) (after : Written)
+    → WasMade (to_seal ad) plain sealed r after
     → IsReadSomehow (to_open ad) sealed r after
 
 -- the same without an IV
-abbrev pub MadeDopensRaw : Type 0
-MadeDopensRaw = (ad plain sealed : List ℕ) (r : Record) (after : Written)
-    → prefix_of r ≡ None → WasMade (to_dseal ad) plain sealed r after
+abbrev pub MadeDopensPresent : Type 0
+MadeDopensPresent = (ad plain sealed : List ℕ) (r : Record) (after : Written)
+    → WasMade (to_dseal ad) plain sealed r after
     → IsReadSomehow (to_dopen ad) sealed r after
 
--- a tag verifies, whatever the output prefix type
+-- a tag verifies, while the key is there, ENABLED, whatever the output prefix type
 abbrev pub MadeVerifies : Type 0
 MadeVerifies = (tag body : List ℕ) (r : Record) (after : Written)
-    → WasMade to_tag body tag r after → IsRead (to_verify tag) body [] r after
+    → WasMade to_tag body tag r after → IsRead HasKey (to_verify tag) body [] r after

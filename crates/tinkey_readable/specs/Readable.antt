@@ -15,7 +15,7 @@ use Rattle.tinkey_session.specs.declared.reply.Reply.TheVariants.{Done, Gives}
 use Rattle.tinkey_session.specs.Session.{Turn, lines_of, turns}
 use Rattle.tinkey_session.specs.TalkLaws.{replies_text}
 use Rattle.wrapped_prims.specs.Candidates.{prefix_of}
-use Rattle.wrapped_prims.specs.Laws.{HasSameKey}
+use Rattle.wrapped_prims.specs.Laws.{HasKey, HasSameKey}
 use Rattle.tinkey_plans.specs.declared.status.Status.{Status}
 use Rattle.tinkey_plans.specs.declared.status.Status.TheVariants as status
 use Rattle.tinkey_words.specs.declared.words.rows.Format.{Format}
@@ -35,9 +35,10 @@ pub record AreAmong (ts : List Turn) (s t : Turn) : Type 0 where
   pub second : slice_get ts j ≡ Some t
 
 -- What a line `seal` or `dseal` gave, a later line `open` or `dopen` with the same associated data
--- answers with its plaintext, while the keyset before that line has the record that sealed, ENABLED,
--- with its id, output prefix type and key. Where that record is RAW it is some plaintext. And what a
--- line `tag` gave, a later line `verify` accepts, whatever the output prefix type.
+-- answers with its plaintext, while the one ENABLED record that the keyset before that line has under its
+-- prefix is the record that sealed, with its id, output prefix type and key. While the keyset has that
+-- record, ENABLED, alone or not and of whatever prefix type, it is some plaintext; and what a line `tag`
+-- gave, a later line `verify` accepts.
 pub record AreReadable (ts : List Turn) : Type 0 where
   pub opens : (s t : Turn) (r : Record) (prefix plain ad sealed : List ℕ) → AreAmong ts s t
       → s.line ≡ Seal plain ad → s.reply ≡ Gives sealed
@@ -47,19 +48,17 @@ pub record AreReadable (ts : List Turn) : Type 0 where
       → s.line ≡ Dseal plain ad → s.reply ≡ Gives sealed
       → primary_of s.before ≡ Some r → prefix_of r ≡ Some prefix
       → t.line ≡ Dopen sealed ad → HasSameKey r t.before → t.reply ≡ Gives plain
-  pub opens_raw : (s t : Turn) (r : Record) (plain ad sealed : List ℕ) → AreAmong ts s t
-      → s.line ≡ Seal plain ad → s.reply ≡ Gives sealed
-      → primary_of s.before ≡ Some r → prefix_of r ≡ None
-      → t.line ≡ Open sealed ad → HasSameKey r t.before
+  pub opens_present : (s t : Turn) (r : Record) (plain ad sealed : List ℕ) → AreAmong ts s t
+      → s.line ≡ Seal plain ad → s.reply ≡ Gives sealed → primary_of s.before ≡ Some r
+      → t.line ≡ Open sealed ad → HasKey r t.before
       → (other : List ℕ) × (t.reply ≡ Gives other)
-  pub dopens_raw : (s t : Turn) (r : Record) (plain ad sealed : List ℕ) → AreAmong ts s t
-      → s.line ≡ Dseal plain ad → s.reply ≡ Gives sealed
-      → primary_of s.before ≡ Some r → prefix_of r ≡ None
-      → t.line ≡ Dopen sealed ad → HasSameKey r t.before
+  pub dopens_present : (s t : Turn) (r : Record) (plain ad sealed : List ℕ) → AreAmong ts s t
+      → s.line ≡ Dseal plain ad → s.reply ≡ Gives sealed → primary_of s.before ≡ Some r
+      → t.line ≡ Dopen sealed ad → HasKey r t.before
       → (other : List ℕ) × (t.reply ≡ Gives other)
   pub verifies : (s t : Turn) (r : Record) (tag body : List ℕ) → AreAmong ts s t
       → s.line ≡ Tag body → s.reply ≡ Gives tag → primary_of s.before ≡ Some r
-      → t.line ≡ Verify tag body → HasSameKey r t.before → t.reply ≡ Done
+      → t.line ≡ Verify tag body → HasKey r t.before → t.reply ≡ Done
 
 -- the turns of the lines that were answered
 abbrev pub turns_of : Table → Keys → (answered : List (List ℕ)) → (random : List ℕ) → List Turn

@@ -22,7 +22,7 @@ use Rattle.tinkey_cmds.specs.Edits.{Edit, Stepped, edit_then, step}
 use Rattle.tinkey_session.specs.HeldLaws.{AreBytes, AreStored}
 use Rattle.tinkey_session.specs.Session.{Remains, asked_in, remains}
 use Rattle.wrapped_prims.specs.Candidates.{prefix_of}
-use Rattle.wrapped_prims.specs.Laws.{HasSameKey}
+use Rattle.wrapped_prims.specs.Laws.{HasKey, HasSameKey}
 use Rattle.tinkey_plans.specs.declared.status.Status.TheVariants as status
 use Rattle.tinkey_words.specs.declared.words.rows.Format.{Format}
 use Rattle.tinkey_words.specs.declared.words.rows.Format.TheVariants as formats
@@ -131,12 +131,14 @@ Does table told old new (session name form out) =
     (m : Remains) × (remains table old (asked_in told.input) told.random ≡ Some m) × (m.keys ≡ new)
 Does table told old new _ = ⊥
 
--- a run gave this keyset of that one, in bytes, and it is held to what the types of its records hold
+-- a run gave this keyset of that one, in bytes and within the limit of what is read, and it is held to
+-- what the types of its records hold
 pub record Gives (table : Table) (run : Run) (old : Keys) (after : Written) : Type 0 where
   pub new : Keys
   pub read : keyset_of after ≡ Some new
   pub does : Does table run.told old new run.asked
   pub stored : AreStored new
+  pub within : length after.bytes ≤ keyset_limit
   pub holds : HoldsBytes after
 
 -- What such a run puts out is read back, in its own form: it is the keyset that the run read, after
@@ -149,7 +151,7 @@ RunStep = (table : Table) (run : Run) (before after : Written) (old : Keys)
 
 -- ---- many runs
 
--- runs lead from one keyset to another, which has the key of the first one's primary record, ENABLED
+-- runs lead from one keyset, whose primary record this is, to another
 pub record LeadOn (runs : List Run) (before after : Written) (r : Record) : Type 0 where
   pub are : AreRuns standard_table runs before after
   pub bytes : AllByRecursion DrawsBytes runs
@@ -159,7 +161,6 @@ pub record LeadOn (runs : List Run) (before after : Written) (r : Record) : Type
   pub primary : primary_of old ≡ Some r
   pub new : Keys
   pub read_again : keyset_of after ≡ Some new
-  pub same : HasSameKey r new
 
 -- a keyset lies in the file of this name
 abbrev pub LiesIn : Written → Told → (name : List ℕ) → Type 0
@@ -178,45 +179,47 @@ pub record WasDone (work : AskedWork) (written : Written) (told : Told) (output 
   pub done : (work_answer work written name told).status ≡ status.Done
   pub gave : (work_answer work written name told).output ≡ output
 
--- Work over a keyset is answered Done, with this output, in whichever file the keyset lies. Its bytes
--- and the input are within their limits.
+-- Work over a keyset is answered Done, with this output, in whichever file the keyset lies. The input is
+-- within its limit.
 abbrev pub IsDone : AskedWork → Written → (input output : List ℕ) → Type 0
 IsDone work written input output = (told : Told) (name : List ℕ)
-    → LiesIn written told name → told.input ≡ input
-    → length written.bytes ≤ keyset_limit → length input ≤ input_limit
+    → LiesIn written told name → told.input ≡ input → length input ≤ input_limit
     → ((work_answer work written name told).status ≡ status.Done)
     × ((work_answer work written name told).output ≡ output)
 
--- what was sealed under a key with a prefix opens to its plaintext, with its associated data
+-- what was sealed under a key with a prefix opens to its plaintext, with its associated data, while that
+-- key is ENABLED and alone under its prefix
 abbrev pub RunsOpen : Type 0
 RunsOpen = (runs : List Run) (before after : Written) (r : Record) (prefix ad sealed : List ℕ)
-    (told : Told) → LeadOn runs before after r → prefix_of r ≡ Some prefix
+    (told : Told) (lead : LeadOn runs before after r) → HasSameKey r lead.new
+    → prefix_of r ≡ Some prefix
     → WasDone (to_seal ad) before told sealed
     → IsDone (to_open ad) after sealed told.input
 
 -- the same without an IV
 abbrev pub RunsDopen : Type 0
 RunsDopen = (runs : List Run) (before after : Written) (r : Record) (prefix ad sealed : List ℕ)
-    (told : Told) → LeadOn runs before after r → prefix_of r ≡ Some prefix
+    (told : Told) (lead : LeadOn runs before after r) → HasSameKey r lead.new
+    → prefix_of r ≡ Some prefix
     → WasDone (to_dseal ad) before told sealed
     → IsDone (to_dopen ad) after sealed told.input
 
--- under a RAW key it opens to some plaintext
-abbrev pub RunsOpenRaw : Type 0
-RunsOpenRaw = (runs : List Run) (before after : Written) (r : Record) (ad sealed : List ℕ)
-    (told : Told) → LeadOn runs before after r → prefix_of r ≡ None
+-- while the key is there, ENABLED, it opens to some plaintext, whatever the output prefix type
+abbrev pub RunsOpenPresent : Type 0
+RunsOpenPresent = (runs : List Run) (before after : Written) (r : Record) (ad sealed : List ℕ)
+    (told : Told) (lead : LeadOn runs before after r) → HasKey r lead.new
     → WasDone (to_seal ad) before told sealed
     → (other : List ℕ) × IsDone (to_open ad) after sealed other
 
 -- the same without an IV
-abbrev pub RunsDopenRaw : Type 0
-RunsDopenRaw = (runs : List Run) (before after : Written) (r : Record) (ad sealed : List ℕ)
-    (told : Told) → LeadOn runs before after r → prefix_of r ≡ None
+abbrev pub RunsDopenPresent : Type 0
+RunsDopenPresent = (runs : List Run) (before after : Written) (r : Record) (ad sealed : List ℕ)
+    (told : Told) (lead : LeadOn runs before after r) → HasKey r lead.new
     → WasDone (to_dseal ad) before told sealed
     → (other : List ℕ) × IsDone (to_dopen ad) after sealed other
 
--- a tag verifies, whatever the output prefix type
+-- a tag verifies, while the key is there, ENABLED, whatever the output prefix type
 abbrev pub RunsVerify : Type 0
 RunsVerify = (runs : List Run) (before after : Written) (r : Record) (tag : List ℕ) (told : Told)
-    → LeadOn runs before after r → WasDone to_tag before told tag
+    (lead : LeadOn runs before after r) → HasKey r lead.new → WasDone to_tag before told tag
     → IsDone (to_verify tag) after told.input []

@@ -2,18 +2,18 @@
 
 ghost use Rattle.keyset_json.specs.Writing.{JsonBack};
 ghost use Rattle.keyset_model.specs.Writing.{BinaryBack};
-ghost use Rattle.tinkey_readable.specs.LineRuns.{MadeDopens, MadeDopensRaw, MadeOpens, MadeOpensRaw, MadeVerifies};
+ghost use Rattle.tinkey_readable.specs.LineRuns.{MadeDopens, MadeDopensPresent, MadeOpens, MadeOpensPresent, MadeVerifies};
 ghost use Rattle.tinkey_readable.specs.Readable.{AnswersAreReadable, SessionsAreReadable};
-ghost use Rattle.tinkey_readable.specs.Runs.{ReadIsStored, RunStep, RunsDopen, RunsDopenRaw, RunsOpen, RunsOpenRaw, RunsVerify};
+ghost use Rattle.tinkey_readable.specs.Runs.{ReadIsStored, RunStep, RunsDopen, RunsDopenPresent, RunsOpen, RunsOpenPresent, RunsVerify};
 
 use keyset_json::laws::{json_back, json_is_stored};
 use keyset_model::laws::{binary_back, faultless_keysets, read_keysets_fit};
 use tinkey_cmds::laws::edits_keep_keysets;
 use tinkey_plans::laws::fit_keysets_answer;
 use tinkey_session::laws::{
-    edited_kept, kept_dopen, kept_dopen_raw, kept_open, kept_open_raw, kept_tag, session_dopens,
-    session_dopens_raw, session_is_edits, session_opens, session_opens_raw, session_verifies,
-    sound_usable, stored_kept, talk_is_turns,
+    edited_kept, kept_dopen, kept_dopen_present, kept_open, kept_open_present, kept_tag,
+    session_dopens, session_dopens_present, session_is_edits, session_opens, session_opens_present,
+    session_verifies, sound_usable, stored_kept, talk_is_turns,
 };
 
 /// What is written of a keyset without a fault, in either form, reads back to it: in the binary form
@@ -53,13 +53,14 @@ pub fn run_step()
 }
 
 /// What was sealed over a keyset opens after any runs that hand the keyset on, with its associated
-/// data, to its plaintext, while the last keyset has the key that sealed, ENABLED; under a RAW key to
-/// some plaintext. And a tag verifies so.
+/// data, to its plaintext, while the key that sealed is ENABLED in the last keyset and alone under its
+/// prefix. While the key is there, ENABLED, it opens to some plaintext, whatever the prefix type, and a tag
+/// verifies.
 pub fn kept_runs()
     ensures open { RunsOpen }
     ensures dopen { RunsDopen }
-    ensures open_raw { RunsOpenRaw }
-    ensures dopen_raw { RunsDopenRaw }
+    ensures open_present { RunsOpenPresent }
+    ensures dopen_present { RunsDopenPresent }
     ensures verify { RunsVerify }
 {
     run_step();
@@ -70,8 +71,8 @@ pub fn kept_runs()
     edited_kept();
     kept_open();
     kept_dopen();
-    kept_open_raw();
-    kept_dopen_raw();
+    kept_open_present();
+    kept_dopen_present();
     kept_tag();
 }
 
@@ -80,8 +81,8 @@ pub fn kept_runs()
 pub fn kept_lines()
     ensures open { MadeOpens }
     ensures dopen { MadeDopens }
-    ensures open_raw { MadeOpensRaw }
-    ensures dopen_raw { MadeDopensRaw }
+    ensures open_present { MadeOpensPresent }
+    ensures dopen_present { MadeDopensPresent }
     ensures verify { MadeVerifies }
 {
     run_step();
@@ -92,8 +93,8 @@ pub fn kept_lines()
     edited_kept();
     kept_open();
     kept_dopen();
-    kept_open_raw();
-    kept_dopen_raw();
+    kept_open_present();
+    kept_dopen_present();
     kept_tag();
 }
 
@@ -105,8 +106,8 @@ pub fn sessions_are_readable()
 {
     session_opens();
     session_dopens();
-    session_opens_raw();
-    session_dopens_raw();
+    session_opens_present();
+    session_dopens_present();
     session_verifies();
     talk_is_turns();
     read_keysets_fit();

@@ -10,6 +10,6 @@ pub use tinkey_plans::laws::{
 pub use tinkey_readable::laws::{
     forms_back, kept_lines, kept_runs, read_is_stored, run_step, sessions_are_readable,
 };
-pub use tinkey_session::laws::{kept_open, kept_tag, sound_kept, sound_usable};
+pub use tinkey_session::laws::{kept_open, kept_open_present, kept_tag, sound_kept, sound_usable};
 pub use tinkey_words::laws::{places_are_decided, words_are_spelled};
-pub use wrapped_prims::laws::one_prefix;
+pub use wrapped_prims::laws::sole_first;

@@ -5,10 +5,11 @@ ghost use Rattle.std.specs.List.{AllByRecursion};
 ghost use Rattle.keyset_model.specs.Keyset.{Keys, IsShort};
 ghost use Rattle.tinkey_plans.specs.Plan.{Plan, writes, creates};
 ghost use Rattle.tinkey_plans.specs.Ends.{Ends, World};
-ghost use Rattle.tinkey_plans.specs.Steps.{written_in, puts, puts_keyset, Passes};
+ghost use Rattle.tinkey_plans.specs.Steps.{written_in, within_limit, writes_keyset, puts, puts_keyset, Passes};
 ghost use Rattle.tinkey_words.specs.Words.{seen_name, seen_place};
 ghost use Rattle.tinkey_plans.specs.declared.status.Status.TheVariants as status;
 
+use crate::steps::KEYSET_LIMIT;
 use keyset_json::write_json;
 use keyset_model::{Keyset, write_binary};
 use std::alloc::Global;
@@ -75,19 +76,41 @@ fn put_keyset<K: Sink, D: Store>(
         (record w { sink = K.state sink.new; store = D.state store.new }) }
 {
     match written(alloc, out.form, keyset) {
-        Ok(bytes) => put(alloc, out.file, sink, store, &bytes),
-        Err(_) => Status::NoMemory,
+        Ok(bytes) => put(alloc, out.file, sink, store, bytes.as_slice()),
+        Err(status) => status,
+    }
+}
+
+/// The written form of a keyset, where it is no longer than what is read as one.
+pub(crate) fn written(alloc: Global, form: Format, keyset: &Keyset) -> Result<Bytes, Status>
+    requires short { AllByRecursion IsShort keyset.now.records }
+    ensures { (w : World) → Passes (writes_keyset form keyset.now) w result w }
+{
+    match write_as(alloc, form, keyset) {
+        Ok(bytes) => within(bytes),
+        Err(_) => Err(Status::NoMemory),
     }
 }
 
 /// A keyset written in this form.
-pub(crate) fn written(alloc: Global, form: Format, keyset: &Keyset) -> Result<Vec<u8>, NoMemory>
+fn write_as(alloc: Global, form: Format, keyset: &Keyset) -> Result<Vec<u8>, NoMemory>
     requires short { AllByRecursion IsShort keyset.now.records }
     ensures { IfOk result (λ bytes. bytes.items ≡ written_in form keyset.now) }
 {
     match form {
         Format::Json => write_json(alloc, keyset),
         Format::Binary => write_binary(alloc, keyset),
+    }
+}
+
+/// Bytes that are no longer than a keyset may be.
+fn within(bytes: Vec<u8>) -> Result<Bytes, Status>
+    ensures { (w : World) → Passes (λ next. within_limit next bytes.items) w result w }
+{
+    if bytes.len() <= KEYSET_LIMIT {
+        Ok(Bytes::own(bytes))
+    } else {
+        Err(Status::KeysetTooLong)
     }
 }
 

@@ -110,7 +110,7 @@ fn save_as<D: Store>(
         (record w { store = D.state store.old }) result (record w { store = D.state store.new }) }
 {
     match written(alloc, form, keyset) {
-        Ok(bytes) => create_file(alloc, name, store, &bytes),
-        Err(_) => Status::NoMemory,
+        Ok(bytes) => create_file(alloc, name, store, bytes.as_slice()),
+        Err(status) => status,
     }
 }

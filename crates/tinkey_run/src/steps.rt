@@ -18,7 +18,7 @@ use tinkey_plans::Status;
 use tinkey_words::{Format, Place};
 
 /// How many bytes a keyset may have.
-const KEYSET_LIMIT: usize = 1_048_576;
+pub(crate) const KEYSET_LIMIT: usize = 1_048_576;
 
 /// How many bytes a whole input may have.
 const INPUT_LIMIT: usize = 16_777_216;

@@ -20,13 +20,12 @@ use Rattle.tinkey_selftest.specs.declared.trial.Sealing.{Sealing}
 use Rattle.tinkey_session.proofs.Options.{clash}
 use Rattle.tinkey_session.proofs.TurnLemmas.{edited_on, serve_edits}
 use Rattle.tinkey_session.specs.Laws.{EditedIsKeyset, FirstsAreSound, IsEdited}
-use Rattle.tinkey_session.specs.LineLaws.{LinesOpen, LinesOpenRaw}
+use Rattle.tinkey_session.specs.LineLaws.{LinesOpenPresent}
 use Rattle.tinkey_session.specs.Lines.{Seal, Open}
 use Rattle.tinkey_session.specs.Serving.{Served, serve}
 use Rattle.tinkey_session.specs.declared.reply.Reply.{Reply}
 use Rattle.tinkey_session.specs.declared.reply.Reply.TheVariants.{Done, Gives, NewId, Refuses}
-use Rattle.wrapped_prims.specs.Candidates.{prefix_of}
-use Rattle.wrapped_prims.specs.Laws.{HasSameKey, IsKeyset}
+use Rattle.wrapped_prims.specs.Laws.{HasKey, IsKeyset}
 
 -- ---- what was sealed
 
@@ -65,13 +64,9 @@ sealed_there now (x ∷ sealings) zero s all at = subst (WasSealed now) (same_So
 sealed_there now (x ∷ sealings) (suc place) s all at = sealed_there now sealings place s all.1 at
 
 -- an open by the key that sealed gives something
-opens : LinesOpen → LinesOpenRaw → (now : Keys) (s : Sealing) (left : List ℕ) (x : Served) → WasSealed now s → HasSameKey s.sealer now
+opens : LinesOpenPresent → (now : Keys) (s : Sealing) (left : List ℕ) (x : Served) → WasSealed now s → HasKey s.sealer now
     → serve standard_table now (Open s.bytes s.ad) left ≡ Some x → (other : List ℕ) × (x.reply ≡ Gives other)
-opens law raw now s left x w has e = by (prefix_of s.sealer) refl
-  where
-    by : (prefix : Option (List ℕ)) → prefix_of s.sealer ≡ prefix → (other : List ℕ) × (x.reply ≡ Gives other)
-    by (Some prefix) t = (w.plain, law w.old now s.sealer prefix w.plain s.ad s.bytes w.random left w.served x w.keyset w.edited has w.primary t w.is w.gave e)
-    by None t = raw w.old now s.sealer w.plain s.ad s.bytes w.random left w.served x w.keyset w.edited has w.primary t w.is w.gave e
+opens law now s left x w has e = law w.old now s.sealer w.plain s.ad s.bytes w.random left w.served x w.keyset w.edited has w.primary w.is w.gave e
 
 -- ---- one line
 
@@ -97,19 +92,19 @@ open_unlost keys s Done n h = unlost keys s n (has_key s.sealer keys) refl (λ t
 open_unlost keys s (NewId id) n h = unlost keys s n (has_key s.sealer keys) refl (λ t. let opened = h t in absurd cc)
 open_unlost keys s (Refuses why) n h = unlost keys s n (has_key s.sealer keys) refl (λ t. let opened = h t in absurd cc)
 
-line_unlost : LinesOpen → LinesOpenRaw → (trial : Trial) (task : Task) (x : Served) → IsKnown trial task → serve standard_table trial.keys (line_of_task task) trial.left ≡ Some x
+line_unlost : LinesOpenPresent → (trial : Trial) (task : Task) (x : Served) → IsKnown trial task → serve standard_table trial.keys (line_of_task task) trial.left ≡ Some x
     → (counted trial.keys task x.reply trial.counts).lost ≡ trial.counts.lost
 unfolding IsKnown
-line_unlost law raw trial (Opens s) x known e = open_unlost trial.keys s x.reply trial.counts
-    (λ t. opens law raw trial.keys s trial.left x known ((keys_are_found s.sealer trial.keys).0 t) e)
-line_unlost law raw trial (Seals plain ad) x known e = by x.reply
+line_unlost law trial (Opens s) x known e = open_unlost trial.keys s x.reply trial.counts
+    (λ t. opens law trial.keys s trial.left x known ((keys_are_found s.sealer trial.keys).0 t) e)
+line_unlost law trial (Seals plain ad) x known e = by x.reply
   where
     by : (reply : Reply) → (counted trial.keys (Seals plain ad) reply trial.counts).lost ≡ trial.counts.lost
     by Done = refl
     by (Gives bytes) = refl
     by (NewId id) = refl
     by (Refuses why) = refl
-line_unlost law raw trial (Edits line) x known e = by x.reply
+line_unlost law trial (Edits line) x known e = by x.reply
   where
     by : (reply : Reply) → (counted trial.keys (Edits line) reply trial.counts).lost ≡ trial.counts.lost
     by Done = refl
@@ -134,17 +129,17 @@ newly_sealed keys (Seals plain ad) random x (Refuses why) k edited e gave = tt
 newly_sealed keys (Opens s) random x reply k edited e gave = tt
 newly_sealed keys (Edits line) random x reply k edited e gave = tt
 
-task_good : LinesOpen → LinesOpenRaw → EditedIsKeyset → (trial : Trial) (task : Task) (served : Option Served) → serve standard_table trial.keys (line_of_task task) trial.left ≡ served → IsKnown trial task → IsGood trial
+task_good : LinesOpenPresent → EditedIsKeyset → (trial : Trial) (task : Task) (served : Option Served) → serve standard_table trial.keys (line_of_task task) trial.left ≡ served → IsKnown trial task → IsGood trial
     → IsGood (after_line trial task served)
-task_good law raw kept trial task None e known good = record { keyset = good.keyset; sealings = good.sealings; lost = good.lost }
-task_good law raw kept trial task (Some x) e known good =
+task_good law kept trial task None e known good = record { keyset = good.keyset; sealings = good.sealings; lost = good.lost }
+task_good law kept trial task (Some x) e known good =
     let edited = serve_edits standard_table trial.keys (line_of_task task) trial.left x e in
     record {
       keyset = kept trial.keys x.keys edited good.keyset;
       sealings = each-append (WasSealed x.keys) trial.sealings (sealed_now trial.keys task x.reply)
           (all_still trial.keys x.keys trial.sealings edited good.sealings)
           (newly_sealed trial.keys task trial.left x x.reply good.keyset edited e refl);
-      lost = line_unlost law raw trial task x known e ∙ good.lost;
+      lost = line_unlost law trial task x known e ∙ good.lost;
     }
 
 -- ---- all lines
@@ -165,30 +160,30 @@ known_task w trial all =
     (known_if trial (nat_lt (w.a % 8) 6) (open_task w trial.sealings) _ (known_open w trial _ refl all)
     (known_if trial (w.a % 8 == 6) (Edits (grow_line w trial.keys)) (Edits (change_line w trial.keys)) tt tt))
 
-lines_good : LinesOpen → LinesOpenRaw → EditedIsKeyset → (seed : ℕ) (trial : Trial) (lines : ℕ) → IsGood trial → IsGood (after_lines standard_table seed trial lines)
+lines_good : LinesOpenPresent → EditedIsKeyset → (seed : ℕ) (trial : Trial) (lines : ℕ) → IsGood trial → IsGood (after_lines standard_table seed trial lines)
 unfolding after_lines
-lines_good law raw kept seed trial zero good = good
-lines_good law raw kept seed trial (suc k) good =
+lines_good law kept seed trial zero good = good
+lines_good law kept seed trial (suc k) good =
     let before = after_lines standard_table seed trial k in
     let task = task_of (words_of seed k) before in
-    let is_good = lines_good law raw kept seed trial k good in
-    task_good law raw kept before task _ refl (known_task (words_of seed k) before is_good.sealings) is_good
+    let is_good = lines_good law kept seed trial k good in
+    task_good law kept before task _ refl (known_task (words_of seed k) before is_good.sealings) is_good
 
 same_Ok : (a b : Counts) → ◌≡◌ {A = Result Counts CmdFault} (Ok a) (Ok b) → a ≡ b
 same_Ok a b e = cc
 
-answer_unlost : LinesOpen → LinesOpenRaw → EditedIsKeyset → (seed lines : ℕ) (answer : Result Keys CmdFault) (left : List ℕ) (n : Counts) → ((keys : Keys) → answer ≡ Ok keys → IsKeyset keys)
+answer_unlost : LinesOpenPresent → EditedIsKeyset → (seed lines : ℕ) (answer : Result Keys CmdFault) (left : List ℕ) (n : Counts) → ((keys : Keys) → answer ≡ Ok keys → IsKeyset keys)
     → counts_from standard_table seed lines answer left ≡ Ok n → n.lost ≡ 0
-answer_unlost law raw kept seed lines (Ok keys) left n there e =
+answer_unlost law kept seed lines (Ok keys) left n there e =
     ap (λ c. c.lost) (sym (same_Ok _ n e))
-    ∙ (lines_good law raw kept seed (start keys left) lines (record { keyset = there keys refl; sealings = tt; lost = refl })).lost
-answer_unlost law raw kept seed lines (Err fault) left n there e = absurd cc
+    ∙ (lines_good law kept seed (start keys left) lines (record { keyset = there keys refl; sealings = tt; lost = refl })).lost
+answer_unlost law kept seed lines (Err fault) left n there e = absurd cc
 
-first_unlost : LinesOpen → LinesOpenRaw → EditedIsKeyset → FirstsAreSound → (seed lines : ℕ) (made : Option Stepped) (n : Counts) → first first_row (random_bytes seed (random_size lines)) ≡ made
+first_unlost : LinesOpenPresent → EditedIsKeyset → FirstsAreSound → (seed lines : ℕ) (made : Option Stepped) (n : Counts) → first first_row (random_bytes seed (random_size lines)) ≡ made
     → counts_over standard_table seed lines made ≡ Ok n → n.lost ≡ 0
-first_unlost law raw kept sound seed lines None n t e = absurd cc
-first_unlost law raw kept sound seed lines (Some s) n t e =
-    answer_unlost law raw kept seed lines s.answer s.left n (λ keys is. (sound keys first_row _ s first_is_template t is).keyset) e
+first_unlost law kept sound seed lines None n t e = absurd cc
+first_unlost law kept sound seed lines (Some s) n t e =
+    answer_unlost law kept seed lines s.answer s.left n (λ keys is. (sound keys first_row _ s first_is_template t is).keyset) e
 
-pub nothing_is_lost : LinesOpen → LinesOpenRaw → EditedIsKeyset → FirstsAreSound → NothingIsLost
-nothing_is_lost law raw kept sound seed lines n e = first_unlost law raw kept sound seed lines _ n refl e
+pub nothing_is_lost : LinesOpenPresent → EditedIsKeyset → FirstsAreSound → NothingIsLost
+nothing_is_lost law kept sound seed lines n e = first_unlost law kept sound seed lines _ n refl e

@@ -9,7 +9,7 @@ use Rattle.tinkey_selftest.specs.Numbers.{random_bytes, words_of}
 use Rattle.tinkey_selftest.specs.Trial.{after_lines, first_row, has_key, line_of_task, random_size, self_test, start, task_of}
 use Rattle.tinkey_selftest.specs.declared.counts.Counts.{Counts}
 use Rattle.tinkey_session.specs.Serving.{Served, serve}
-use Rattle.wrapped_prims.specs.Laws.{HasSameKey}
+use Rattle.wrapped_prims.specs.Laws.{HasKey}
 
 -- each line counts once
 abbrev pub CountsAddUp : Type 0
@@ -33,4 +33,4 @@ EntropySuffices = (table : Table) (seed lines : ℕ) →
 
 -- the test is what the laws of keysets say of a key that is still there
 abbrev pub KeysAreFound : Type 0
-KeysAreFound = (r : Record) (keys : Keys) → (has_key r keys ≡ true) ↔ HasSameKey r keys
+KeysAreFound = (r : Record) (keys : Keys) → (has_key r keys ≡ true) ↔ HasKey r keys

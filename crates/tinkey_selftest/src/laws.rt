@@ -2,7 +2,7 @@
 
 ghost use Rattle.tinkey_selftest.specs.Laws.{CountsAddUp, EntropySuffices, KeysAreFound, NothingIsLost};
 
-use tinkey_session::laws::{edited_kept, lines_draw_few, lines_open, lines_open_raw, sound_kept};
+use tinkey_session::laws::{edited_kept, lines_draw_few, lines_open_present, sound_kept};
 
 /// Each line counts once: as a seal, an open, a refused open, an edit, or as declined.
 pub fn counts_add_up()
@@ -13,8 +13,7 @@ pub fn counts_add_up()
 pub fn nothing_is_lost()
     ensures { NothingIsLost }
 {
-    lines_open();
-    lines_open_raw();
+    lines_open_present();
     edited_kept();
     sound_kept();
 }

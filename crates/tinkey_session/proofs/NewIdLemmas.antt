@@ -29,8 +29,8 @@ grows : (old new : Keys) (edit : Edit) (random : List ℕ) (s : Stepped) → ste
 grows old new edit random s e ok = yielded (Grows old edit) (step old edit) random s new (edit_case old (Grows old) (record {
   add = λ row r room same is. (r, refl);
   rotate = λ row r room same is. (r, refl);
-  promote = λ id r e enabled. tt;
-  enable = λ id r e there same valid. tt;
+  promote = λ id r e enabled others. tt;
+  enable = λ id r e there clear same valid. tt;
   disable = λ id r e other there. tt;
   destroy = λ id r e other. tt;
   delete = λ id r e other. tt;

@@ -8,9 +8,9 @@ use Rattle.managers.specs.Standard.{standard_table}
 use Rattle.tinkey_session.proofs.Options.{map_some}
 use Rattle.tinkey_session.proofs.SoundLemmas.{edited_keyset, edited_sound}
 use Rattle.tinkey_session.proofs.TurnLemmas.{both_reached, handle_cases}
-use Rattle.tinkey_session.specs.Laws.{EditsKeepSound, IsEdited, KeptDopen, KeptDopenRaw, KeptOpen, KeptOpenRaw, KeptTag, SoundIsUsable}
-use Rattle.tinkey_session.specs.LineLaws.{LinesOpen, LinesOpenRaw}
-use Rattle.tinkey_session.specs.SessionLaws.{HasTurns, SessionDopens, SessionDopensRaw, SessionOpens, SessionOpensRaw, SessionVerifies}
+use Rattle.tinkey_session.specs.Laws.{EditsKeepSound, IsEdited, KeptDopen, KeptDopenPresent, KeptOpen, KeptOpenPresent, KeptTag, SoundIsUsable}
+use Rattle.tinkey_session.specs.LineLaws.{LinesOpen, LinesOpenPresent}
+use Rattle.tinkey_session.specs.SessionLaws.{HasTurns, SessionDopens, SessionDopensPresent, SessionOpens, SessionOpensPresent, SessionVerifies}
 use Rattle.tinkey_session.specs.Lines.{Line, Seal, Dseal, Open, Dopen, Tag, Verify}
 use Rattle.tinkey_session.specs.Serving.{cannot_serve, Served, answered, by_handle, computed, opened_reply, sealed_reply, serve, unless_unfit, verified_reply}
 use Rattle.tinkey_session.specs.declared.reply.Refusal.{Refusal}
@@ -118,13 +118,13 @@ lines_open usable kept_sound law old new r prefix plain ad sealed random drawn x
     let g = seal_gave old plain ad random sealed x x.reply first refl reply in
     answer_is Aead new drawn _ y (serves_later Aead usable kept_sound old new k edited g.fit) second
     ∙ ap (λ bytes. opened_reply (open_answer new standard_table bytes ad)) (sym g.bytes)
-    ∙ ap opened_reply (law old new r prefix plain ad random g.made k edited has primary is g.is)
+    ∙ ap opened_reply (law old new r prefix plain ad random g.made has primary is g.is)
 
-pub lines_open_raw : SoundIsUsable Aead → EditsKeepSound → KeptOpenRaw → LinesOpenRaw
+pub lines_open_present : SoundIsUsable Aead → EditsKeepSound → KeptOpenPresent → LinesOpenPresent
 unfolding serve
-lines_open_raw usable kept_sound law old new r plain ad sealed random drawn x y k edited has primary raw first reply second =
+lines_open_present usable kept_sound law old new r plain ad sealed random drawn x y k edited has primary first reply second =
     let g = seal_gave old plain ad random sealed x x.reply first refl reply in
-    let opened = law old new r plain ad random g.made has primary raw g.is in (
+    let opened = law old new r plain ad random g.made has primary g.is in (
       opened.0,
       answer_is Aead new drawn _ y (serves_later Aead usable kept_sound old new k edited g.fit) second
           ∙ ap (λ bytes. opened_reply (open_answer new standard_table bytes ad)) (sym g.bytes)
@@ -136,10 +136,10 @@ session_opens law keys lines random prefix plain ad sealed s t r k h s_line s_re
     let p = is_pair keys lines random s t (Seal plain ad) (Open sealed ad) k h s_line t_line in
     p.reply_two ∙ law s.before t.before r prefix plain ad sealed p.random p.drawn p.one p.two p.before p.edited has primary is p.serves_one (sym p.reply_one ∙ s_reply) p.serves_two
 
-pub session_opens_raw : LinesOpenRaw → SessionOpensRaw
-session_opens_raw law keys lines random plain ad sealed s t r k h s_line s_reply primary raw t_line has =
+pub session_opens_present : LinesOpenPresent → SessionOpensPresent
+session_opens_present law keys lines random plain ad sealed s t r k h s_line s_reply primary t_line has =
     let p = is_pair keys lines random s t (Seal plain ad) (Open sealed ad) k h s_line t_line in
-    let opened = law s.before t.before r plain ad sealed p.random p.drawn p.one p.two p.before p.edited has primary raw p.serves_one (sym p.reply_one ∙ s_reply) p.serves_two in
+    let opened = law s.before t.before r plain ad sealed p.random p.drawn p.one p.two p.before p.edited has primary p.serves_one (sym p.reply_one ∙ s_reply) p.serves_two in
     (opened.0, p.reply_two ∙ opened.1)
 
 pub session_dopens : SoundIsUsable Daead → EditsKeepSound → KeptDopen → SessionDopens
@@ -149,14 +149,14 @@ session_dopens usable kept_sound law keys lines random prefix plain ad sealed s 
     let g = computed_gave Daead s.before p.random (dseal_answer s.before standard_table plain ad) sealed p.one s.reply p.serves_one p.reply_one s_reply in
     p.reply_two
     ∙ answer_is Daead t.before p.drawn _ p.two (serves_later Daead usable kept_sound s.before t.before p.before p.edited g.0) p.serves_two
-    ∙ ap opened_reply (law s.before t.before r prefix plain ad sealed p.before p.edited has primary is g.1)
+    ∙ ap opened_reply (law s.before t.before r prefix plain ad sealed has primary is g.1)
 
-pub session_dopens_raw : SoundIsUsable Daead → EditsKeepSound → KeptDopenRaw → SessionDopensRaw
+pub session_dopens_present : SoundIsUsable Daead → EditsKeepSound → KeptDopenPresent → SessionDopensPresent
 unfolding serve
-session_dopens_raw usable kept_sound law keys lines random plain ad sealed s t r k h s_line s_reply primary raw t_line has =
+session_dopens_present usable kept_sound law keys lines random plain ad sealed s t r k h s_line s_reply primary t_line has =
     let p = is_pair keys lines random s t (Dseal plain ad) (Dopen sealed ad) k h s_line t_line in
     let g = computed_gave Daead s.before p.random (dseal_answer s.before standard_table plain ad) sealed p.one s.reply p.serves_one p.reply_one s_reply in
-    let opened = law s.before t.before r plain ad sealed has primary raw g.1 in (
+    let opened = law s.before t.before r plain ad sealed has primary g.1 in (
       opened.0,
       p.reply_two
           ∙ answer_is Daead t.before p.drawn _ p.two (serves_later Daead usable kept_sound s.before t.before p.before p.edited g.0) p.serves_two
@@ -170,4 +170,4 @@ session_verifies usable kept_sound law keys lines random body tag s t r k h s_li
     let g = computed_gave Mac s.before p.random (tag_answer s.before standard_table body) tag p.one s.reply p.serves_one p.reply_one s_reply in
     p.reply_two
     ∙ answer_is Mac t.before p.drawn _ p.two (serves_later Mac usable kept_sound s.before t.before p.before p.edited g.0) p.serves_two
-    ∙ ap verified_reply (law s.before t.before r tag body p.edited has primary g.1)
+    ∙ ap verified_reply (law s.before t.before r tag body has primary g.1)

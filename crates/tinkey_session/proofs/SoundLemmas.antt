@@ -105,8 +105,8 @@ usable_seven law primitive keys s =
     record {
       add = λ row r room same new is. grows row r same new is;
       rotate = λ row r room same new is. grows row r same new is;
-      promote = λ id r e enabled is. s.usable;
-      enable = λ id r e there same valid is. changed-each (IsUsable primitive) (with_status 1) id keys.records r e
+      promote = λ id r e enabled others is. s.usable;
+      enable = λ id r e there clear same valid is. changed-each (IsUsable primitive) (with_status 1) id keys.records r e
           (λ k. record { named = same_as_some _ _ (ap (is_same (primitive_of r.url)) (sym own) ∙ same); valid = valid }) s.usable;
       disable = λ id r e other there is. changed-each (IsUsable primitive) (with_status 2) id keys.records r e (λ k. no_truth k) s.usable;
       destroy = λ id r e other is. changed-each (IsUsable primitive) destroyed id keys.records r e (λ k. no_truth k) s.usable;

@@ -303,8 +303,8 @@ values_seven keys each =
     record {
       add = λ row r room same new none. absurd none;
       rotate = λ row r room same new none. absurd none;
-      promote = λ id r e enabled none. each;
-      enable = λ id r e there same valid none. changed-each HasValue (with_status 1) id keys.records r e (found id r e) each;
+      promote = λ id r e enabled others none. each;
+      enable = λ id r e there clear same valid none. changed-each HasValue (with_status 1) id keys.records r e (found id r e) each;
       disable = λ id r e other there none. changed-each HasValue (with_status 2) id keys.records r e (found id r e) each;
       destroy = λ id r e other none. changed-each HasValue destroyed id keys.records r e tt each;
       delete = λ id r e other none. without-each HasValue id keys.records each;

@@ -18,7 +18,7 @@ use Rattle.tinkey_cmds.specs.declared.command.CmdFault.{CmdFault}
 use Rattle.wrapped_prims.specs.Answers.{Sealed, dopen_answer, dseal_answer, open_answer, seal_answer, tag_answer, verify_answer}
 use Rattle.wrapped_prims.specs.Candidates.{prefix_of}
 use Rattle.wrapped_prims.specs.Fitness.{unfit}
-use Rattle.wrapped_prims.specs.Laws.{HasSameKey, IsKeyset}
+use Rattle.wrapped_prims.specs.Laws.{HasKey, HasSameKey, IsKeyset}
 
 -- ---- sound keysets
 
@@ -92,42 +92,41 @@ abbrev pub EditedIsSound : Type 0
 EditedIsSound = (primitive : Primitive) (old new : Keys)
     → IsEdited old new → IsSound primitive old → IsSound primitive new
 
--- What the primary record of a keyset sealed, the keyset opens to its plaintext after any edits,
--- while it has that record's key, ENABLED. The record has a prefix. That it is a valid key need not
--- be said, since it has sealed, and the other records may be anything.
+-- What the primary record of a keyset sealed, a keyset opens to its plaintext, while that record's
+-- key is ENABLED there and alone under its prefix. The record has a prefix. That it is a valid key need
+-- not be said, since it has sealed, and the other records may be anything. The two keysets may be any, so
+-- also one after edits of the other.
 abbrev pub KeptOpen : Type 0
 KeptOpen = (old new : Keys) (r : Record) (prefix plain ad random : List ℕ) (sealed : Sealed)
-    → IsKeyset old → IsEdited old new → HasSameKey r new
-    → primary_of old ≡ Some r → prefix_of r ≡ Some prefix
+    → HasSameKey r new → primary_of old ≡ Some r → prefix_of r ≡ Some prefix
     → seal_answer old standard_table plain ad random ≡ Some sealed
     → open_answer new standard_table sealed.bytes ad ≡ Some plain
 
 -- the same without an IV
 abbrev pub KeptDopen : Type 0
 KeptDopen = (old new : Keys) (r : Record) (prefix plain ad sealed : List ℕ)
-    → IsKeyset old → IsEdited old new → HasSameKey r new
-    → primary_of old ≡ Some r → prefix_of r ≡ Some prefix
+    → HasSameKey r new → primary_of old ≡ Some r → prefix_of r ≡ Some prefix
     → dseal_answer old standard_table plain ad ≡ Some sealed
     → dopen_answer new standard_table sealed ad ≡ Some plain
 
--- Of a RAW record it is some plaintext, since another RAW key may open the bytes by chance. The two
--- keysets may be any, so also one after edits of the other.
-abbrev pub KeptOpenRaw : Type 0
-KeptOpenRaw = (old new : Keys) (r : Record) (plain ad random : List ℕ) (sealed : Sealed)
-    → HasSameKey r new → primary_of old ≡ Some r → prefix_of r ≡ None
+-- Of a record of any prefix type it is some plaintext, while that record's key is there, ENABLED: another
+-- RAW key, or one under the same prefix, may open the bytes by chance.
+abbrev pub KeptOpenPresent : Type 0
+KeptOpenPresent = (old new : Keys) (r : Record) (plain ad random : List ℕ) (sealed : Sealed)
+    → HasKey r new → primary_of old ≡ Some r
     → seal_answer old standard_table plain ad random ≡ Some sealed
     → (other : List ℕ) × (open_answer new standard_table sealed.bytes ad ≡ Some other)
 
--- the same of sealing without an IV under a RAW key: it opens to some plaintext
-abbrev pub KeptDopenRaw : Type 0
-KeptDopenRaw = (old new : Keys) (r : Record) (plain ad sealed : List ℕ)
-    → HasSameKey r new → primary_of old ≡ Some r → prefix_of r ≡ None
+-- the same without an IV: it opens to some plaintext
+abbrev pub KeptDopenPresent : Type 0
+KeptDopenPresent = (old new : Keys) (r : Record) (plain ad sealed : List ℕ)
+    → HasKey r new → primary_of old ≡ Some r
     → dseal_answer old standard_table plain ad ≡ Some sealed
     → (other : List ℕ) × (dopen_answer new standard_table sealed ad ≡ Some other)
 
 -- a tag verifies, whatever the prefix type
 abbrev pub KeptTag : Type 0
 KeptTag = (old new : Keys) (r : Record) (tag body : List ℕ)
-    → IsEdited old new → HasSameKey r new → primary_of old ≡ Some r
+    → HasKey r new → primary_of old ≡ Some r
     → tag_answer old standard_table body ≡ Some tag
     → verify_answer new standard_table tag body ≡ true

@@ -14,7 +14,7 @@ use Rattle.tinkey_session.specs.Serving.{Served, serve}
 use Rattle.tinkey_session.specs.declared.reply.Refusal.{Refusal}
 use Rattle.tinkey_session.specs.declared.reply.Reply.TheVariants.{Gives, NewId, Refuses}
 use Rattle.wrapped_prims.specs.Candidates.{prefix_of}
-use Rattle.wrapped_prims.specs.Laws.{HasSameKey, IsKeyset}
+use Rattle.wrapped_prims.specs.Laws.{HasKey, HasSameKey, IsKeyset}
 
 -- a refused line leaves the keyset
 abbrev pub RefusalsLeave : Type 0
@@ -52,7 +52,8 @@ FirstsDrawFew = (row : Row) (random : List ℕ) → IsTemplate row → 320 ≤ l
     → (s : Stepped) × (first row random ≡ Some s) × (length random ≤ length s.left + 320)
 
 -- What a line `seal` gave under a key that isn't RAW, a line `open` with the same associated data
--- answers with its plaintext, after any edits, while the keyset has that key, ENABLED.
+-- answers with its plaintext, after any edits, while that key is ENABLED in the keyset and alone under its
+-- prefix.
 abbrev pub LinesOpen : Type 0
 LinesOpen = (old new : Keys) (r : Record) (prefix plain ad sealed random drawn : List ℕ)
     (x y : Served) → IsKeyset old → IsEdited old new → HasSameKey r new
@@ -61,11 +62,11 @@ LinesOpen = (old new : Keys) (r : Record) (prefix plain ad sealed random drawn :
     → serve standard_table new (Open sealed ad) drawn ≡ Some y
     → y.reply ≡ Gives plain
 
--- For a RAW key the answer is some plaintext.
-abbrev pub LinesOpenRaw : Type 0
-LinesOpenRaw = (old new : Keys) (r : Record) (plain ad sealed random drawn : List ℕ)
-    (x y : Served) → IsKeyset old → IsEdited old new → HasSameKey r new
-    → primary_of old ≡ Some r → prefix_of r ≡ None
+-- For a key of any prefix type the answer is some plaintext, while it is there, ENABLED.
+abbrev pub LinesOpenPresent : Type 0
+LinesOpenPresent = (old new : Keys) (r : Record) (plain ad sealed random drawn : List ℕ)
+    (x y : Served) → IsKeyset old → IsEdited old new → HasKey r new
+    → primary_of old ≡ Some r
     → serve standard_table old (Seal plain ad) random ≡ Some x → x.reply ≡ Gives sealed
     → serve standard_table new (Open sealed ad) drawn ≡ Some y
     → (other : List ℕ) × (y.reply ≡ Gives other)

@@ -13,7 +13,7 @@ use Rattle.tinkey_session.specs.Lines.{Line, Seal, Dseal, Open, Dopen, Tag, Veri
 use Rattle.tinkey_session.specs.declared.reply.Reply.TheVariants.{Done, Gives}
 use Rattle.tinkey_session.specs.Session.{Remains, Turn, asked_in, lines_of, remains, turns}
 use Rattle.wrapped_prims.specs.Candidates.{prefix_of}
-use Rattle.wrapped_prims.specs.Laws.{HasSameKey, IsKeyset}
+use Rattle.wrapped_prims.specs.Laws.{HasKey, HasSameKey, IsKeyset}
 
 -- two turns of the session of these lines over these keys, the second one later
 pub record HasTurns (keys : Keys) (lines : List Line) (random : List ℕ) (s t : Turn) : Type 0 where
@@ -24,7 +24,8 @@ pub record HasTurns (keys : Keys) (lines : List Line) (random : List ℕ) (s t :
   pub second : slice_get (turns standard_table keys lines random) j ≡ Some t
 
 -- What a line `seal` gave, a later line `open` with the same associated data answers with its
--- plaintext, while the keyset has the key that sealed, ENABLED. That key isn't RAW.
+-- plaintext, while the key that sealed is ENABLED in the keyset and alone under its prefix. That key isn't
+-- RAW.
 abbrev pub SessionOpens : Type 0
 SessionOpens = (keys : Keys) (lines : List Line) (random prefix plain ad sealed : List ℕ)
     (s t : Turn) (r : Record) → IsKeyset keys → HasTurns keys lines random s t
@@ -42,22 +43,22 @@ SessionDopens = (keys : Keys) (lines : List Line) (random prefix plain ad sealed
     → t.line ≡ Dopen sealed ad → HasSameKey r t.before
     → t.reply ≡ Gives plain
 
--- for a RAW key the answer is some plaintext
-abbrev pub SessionOpensRaw : Type 0
-SessionOpensRaw = (keys : Keys) (lines : List Line) (random plain ad sealed : List ℕ)
+-- for a key of any prefix type the answer is some plaintext, while it is there, ENABLED
+abbrev pub SessionOpensPresent : Type 0
+SessionOpensPresent = (keys : Keys) (lines : List Line) (random plain ad sealed : List ℕ)
     (s t : Turn) (r : Record) → IsKeyset keys → HasTurns keys lines random s t
     → s.line ≡ Seal plain ad → s.reply ≡ Gives sealed
-    → primary_of s.before ≡ Some r → prefix_of r ≡ None
-    → t.line ≡ Open sealed ad → HasSameKey r t.before
+    → primary_of s.before ≡ Some r
+    → t.line ≡ Open sealed ad → HasKey r t.before
     → (other : List ℕ) × (t.reply ≡ Gives other)
 
--- the same of sealing without an IV under a RAW key: the reply gives some plaintext
-abbrev pub SessionDopensRaw : Type 0
-SessionDopensRaw = (keys : Keys) (lines : List Line) (random plain ad sealed : List ℕ)
+-- the same of sealing without an IV: the reply gives some plaintext
+abbrev pub SessionDopensPresent : Type 0
+SessionDopensPresent = (keys : Keys) (lines : List Line) (random plain ad sealed : List ℕ)
     (s t : Turn) (r : Record) → IsKeyset keys → HasTurns keys lines random s t
     → s.line ≡ Dseal plain ad → s.reply ≡ Gives sealed
-    → primary_of s.before ≡ Some r → prefix_of r ≡ None
-    → t.line ≡ Dopen sealed ad → HasSameKey r t.before
+    → primary_of s.before ≡ Some r
+    → t.line ≡ Dopen sealed ad → HasKey r t.before
     → (other : List ℕ) × (t.reply ≡ Gives other)
 
 -- What a line `tag` gave, a later line `verify` accepts, whatever the prefix type.
@@ -65,7 +66,7 @@ abbrev pub SessionVerifies : Type 0
 SessionVerifies = (keys : Keys) (lines : List Line) (random body tag : List ℕ)
     (s t : Turn) (r : Record) → IsKeyset keys → HasTurns keys lines random s t
     → s.line ≡ Tag body → s.reply ≡ Gives tag → primary_of s.before ≡ Some r
-    → t.line ≡ Verify tag body → HasSameKey r t.before
+    → t.line ≡ Verify tag body → HasKey r t.before
     → t.reply ≡ Done
 
 -- the turn of a place is that of the line of that place

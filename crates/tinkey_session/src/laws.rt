@@ -3,20 +3,21 @@
 ghost use Rattle.key_msgs.specs.declared.primitive.Primitive.TheVariants.{Aead, Daead, Mac};
 ghost use Rattle.tinkey_session.specs.HeldLaws.{EditsKeepStored, FirstsAreStored, SessionsKeepStored};
 ghost use Rattle.tinkey_session.specs.Laws.{EditedIsKeyset, EditedIsSound, EditsKeepSound, FirstsAreSound};
-ghost use Rattle.tinkey_session.specs.Laws.{KeptDopen, KeptDopenRaw, KeptOpen, KeptOpenRaw, KeptTag, SoundIsUsable};
-ghost use Rattle.tinkey_session.specs.LineLaws.{FirstsDrawFew, LinesDrawFew, LinesDrawFronts, LinesOpen, LinesOpenRaw};
+ghost use Rattle.tinkey_session.specs.Laws.{KeptDopen, KeptDopenPresent, KeptOpen, KeptOpenPresent, KeptTag, SoundIsUsable};
+ghost use Rattle.tinkey_session.specs.LineLaws.{FirstsDrawFew, LinesDrawFew, LinesDrawFronts, LinesOpen, LinesOpenPresent};
 ghost use Rattle.tinkey_session.specs.LineLaws.{RefusalsLeave, TellsNewId, WordsReadBack};
 ghost use Rattle.tinkey_cmds.specs.Edits.{Add, Rotate};
 ghost use Rattle.tinkey_cmds.specs.Laws.{EditsFollow, EditsLeaveOthers};
 ghost use Rattle.tinkey_session.specs.SessionLaws.{LinesGoOn, SessionGoesOn, SessionIsEdits, SessionVerifies};
-ghost use Rattle.tinkey_session.specs.SessionLaws.{SessionDopens, SessionDopensRaw, SessionOpens, SessionOpensRaw};
+ghost use Rattle.tinkey_session.specs.SessionLaws.{SessionDopens, SessionDopensPresent, SessionOpens, SessionOpensPresent};
 ghost use Rattle.tinkey_session.specs.SessionLaws.{TurnIsEdits, TurnsAreLines, TurnsAreSpelled};
 ghost use Rattle.tinkey_session.specs.TalkLaws.{TalkIsTurns, TalksAreSteady};
 
 use key_msgs::laws::made_is_valid;
-use managers::laws::{dopens_sealings, sealings_open};
 use tinkey_cmds::laws::{edits_follow, edits_leave_others};
-use wrapped_prims::laws::{same_key_dopens, same_key_opens, same_key_verifies};
+use wrapped_prims::laws::{
+    enabled_key_dopens, enabled_key_opens, same_key_dopens, same_key_opens, same_key_verifies,
+};
 
 /// No record of a keyset is unfit under the standard table exactly where the keyset is sound: each
 /// ENABLED record has the URL of a key type for the primitive, and a valid key of that type.
@@ -52,8 +53,9 @@ pub fn edited_kept()
     sound_kept();
 }
 
-/// What a keyset sealed it opens after any edits, accepted or refused, while it has the key that
-/// sealed, ENABLED: with the same associated data, to the plaintext. The key isn't RAW.
+/// What a keyset sealed, another one opens, as it is after any edits, accepted or refused, while the key
+/// that sealed is ENABLED there and alone under its prefix: with the same associated data, to the plaintext.
+/// The key isn't RAW.
 pub fn kept_open()
     ensures { KeptOpen }
 {
@@ -67,18 +69,19 @@ pub fn kept_dopen()
     same_key_dopens();
 }
 
-/// What was sealed under a RAW key opens to some plaintext.
-pub fn kept_open_raw()
-    ensures { KeptOpenRaw }
+/// What was sealed under a key of any output prefix type opens to some plaintext, while the key is there,
+/// ENABLED.
+pub fn kept_open_present()
+    ensures { KeptOpenPresent }
 {
-    sealings_open();
+    enabled_key_opens();
 }
 
 /// The same of sealing without an IV.
-pub fn kept_dopen_raw()
-    ensures { KeptDopenRaw }
+pub fn kept_dopen_present()
+    ensures { KeptDopenPresent }
 {
-    dopens_sealings();
+    enabled_key_dopens();
 }
 
 /// A tag verifies after any edits, while the keyset has the key that made it, ENABLED. The key may
@@ -141,7 +144,8 @@ pub fn lines_draw_few()
 {}
 
 /// What a line `seal` gave, a line `open` with the same associated data answers with its plaintext,
-/// after any edits, while the keyset has the key that sealed, ENABLED. The key isn't RAW.
+/// after any edits, while the key that sealed is ENABLED in the keyset and alone under its prefix. The key
+/// isn't RAW.
 pub fn lines_open()
     ensures { LinesOpen }
 {
@@ -150,13 +154,14 @@ pub fn lines_open()
     kept_open();
 }
 
-/// What a line `seal` gave under a RAW key, a line `open` answers with some plaintext.
-pub fn lines_open_raw()
-    ensures { LinesOpenRaw }
+/// What a line `seal` gave, a line `open` answers with some plaintext, after any edits, while the keyset has
+/// the key that sealed, ENABLED. The key may be of any output prefix type.
+pub fn lines_open_present()
+    ensures { LinesOpenPresent }
 {
     sound_usable();
     sound_kept();
-    kept_open_raw();
+    kept_open_present();
 }
 
 /// A word that spells bytes in lower case is read as these bytes.
@@ -165,7 +170,8 @@ pub fn words_read_back()
 {}
 
 /// What a line `seal` gave, a later line `open` with the same associated data answers with its
-/// plaintext, while the keyset has the key that sealed, ENABLED. The key isn't RAW.
+/// plaintext, while the key that sealed is ENABLED in the keyset and alone under its prefix. The key isn't
+/// RAW.
 pub fn session_opens()
     ensures { SessionOpens }
 {
@@ -181,20 +187,21 @@ pub fn session_dopens()
     kept_dopen();
 }
 
-/// What a line `seal` gave under a RAW key, a later line `open` answers with some plaintext.
-pub fn session_opens_raw()
-    ensures { SessionOpensRaw }
+/// What a line `seal` gave, a later line `open` answers with some plaintext, while the keyset has the key
+/// that sealed, ENABLED. The key may be of any output prefix type.
+pub fn session_opens_present()
+    ensures { SessionOpensPresent }
 {
-    lines_open_raw();
+    lines_open_present();
 }
 
 /// The same of `dseal` and `dopen`.
-pub fn session_dopens_raw()
-    ensures { SessionDopensRaw }
+pub fn session_dopens_present()
+    ensures { SessionDopensPresent }
 {
     sound_usable();
     sound_kept();
-    kept_dopen_raw();
+    kept_dopen_present();
 }
 
 /// What a line `tag` gave, a later line `verify` accepts, while the keyset has the key that made

@@ -1,5 +1,0 @@
-use Rattle.tinkey_session.proofs.SessionLemmas.{lines_open_raw}
-use Rattle.tinkey_session.proofs.laws.lines_open_raw.Goals as goal
-
-pub returns : goal.returns
-returns c = lines_open_raw c.sound_usable.ensures.aead c.sound_kept.ensures.edits c.kept_open_raw.ensures
