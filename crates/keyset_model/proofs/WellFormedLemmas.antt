@@ -1,9 +1,9 @@
 -- Records without a fault, by their parts.
-use Rattle.std.proofs.Common.{◌≡◌, ◌∙◌, ◌⊎◌, inl, inr, ℕ, suc, ◌+◌, ◌<◌, ◌≤◌, ◌==◌, nat_lt, Bool, true, false, cond, not, ◌&&◌, ◌||◌, ltb, List, [], ◌∷◌, ◌++◌, length, position, Option, Some, None, option_map, refl, sym, ap, arith, eq-eqb, subst, zero}
+use Rattle.std.proofs.Common.{◌≡◌, ◌∙◌, ◌⊎◌, inl, inr, ℕ, suc, ◌+◌, ◌<◌, ◌≤◌, ◌==◌, nat_lt, Bool, true, false, cond, not, ◌&&◌, ◌||◌, ltb, List, [], ◌∷◌, ◌++◌, length, position, Option, Some, None, option_map, refl, sym, ap, arith, subst, zero}
 use Rattle.std.specs.Prelude.{slice_get, nat_le, drop, ◌↔◌}
 use Rattle.std.specs.Option.{option_and_then}
 use Rattle.std.specs.List.{list_any, prefix_len, AllByRecursion}
-use Rattle.std.proofs.lemmas.Bool.{true≢false, or_parts, ne_eqb, ltb-false, le-ltb, lt-ltb}
+use Rattle.std.proofs.lemmas.Bool.{true≢false, or_parts, ltb-false, le-ltb, lt-ltb}
 use Rattle.std.proofs.lemmas.Bool.Decides.{nat_tests}
 use Rattle.keyset_model.specs.declared.record.Record.{Record}
 use Rattle.keyset_model.specs.declared.keyset.KeysetFault.{KeysetFault}
@@ -60,9 +60,6 @@ map-none f (Some x) e = absurd (some≢none e)
 pub not-false' : (b : Bool) → not b ≡ false → b ≡ true
 not-false' true e = refl
 not-false' false e = absurd (true≢false e)
-
-pub eqb-flip : (a b : ℕ) → (a == b) ≡ false → (b == a) ≡ false
-eqb-flip a b e = ne_eqb b a (λ k. true≢false (sym (eq-eqb a b (sym k)) ∙ e))
 
 -- ---- one record that passes
 

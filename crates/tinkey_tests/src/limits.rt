@@ -2,7 +2,7 @@
 //! the longest bytes in words.
 
 use crate::keysets::{run_by_keyset, run_by_keysets};
-use crate::rows::{Column, Row, rows_of, run_row};
+use crate::rows::{Column, Row, rows_of, run_row, run_table};
 use std::alloc::Global;
 use std::test::Fail;
 
@@ -101,4 +101,22 @@ fn others(alloc: Global) -> Result<String, Fail> {
 fn run_behind(alloc: Global, keys: &str, row: &Row<'_>) -> Result<(), Fail> {
     let file = format!(in alloc; "{keys}; {}", row.cell(Column::File))?;
     run_by_keyset(alloc, &row.with(Column::File, &file))
+}
+
+// The key has as many zero bytes as its JSON takes to be as long as a keyset may be. Each base64 text of
+// them is a run of `A`.
+const WRITTEN: &str = "piece: 4096
+
+shows | words | file | input | status | line | output | made
+JSON of 1,048,576 bytes | convert-keyset --in-format binary | none | 0807 12a2ff2f 0a98ff2f 0a026161 128eff2f 786318x00 1801 1001 1807 2001 | 0 Done | | `{'key':[{'keyData':{'keyMaterialType':'SYMMETRIC','typeUrl':'aa','value':'AAAA` ~1048576 `AAAA'},'keyId':7,'outputPrefixType':'TINK','status':'ENABLED'}],'primaryKeyId':7}` 0a | none
+one byte more | convert-keyset --in-format binary | none | 0807 12a3ff2f 0a99ff2f 0a03616161 128eff2f 786318x00 1801 1001 1807 2001 | 6 KeysetTooLong | tinkey: keyset too long | | none
+to a file | convert-keyset --in-format binary --out n | none | 0807 12a3ff2f 0a99ff2f 0a03616161 128eff2f 786318x00 1801 1001 1807 2001 | 6 KeysetTooLong | tinkey: keyset too long | | none
+after an edit | promote-key --key-id 7 --in-format binary --out n | none | 0807 12a3ff2f 0a99ff2f 0a03616161 128eff2f 786318x00 1801 1001 1807 2001 | 6 KeysetTooLong | tinkey: keyset too long | | none
+behind the replies of a session | session --keyset k --keyset-format binary --out n --out-format json | 0807 12a3ff2f 0a99ff2f 0a03616161 128eff2f 786318x00 1801 1001 1807 2001 | `promote^7` 0a | 6 KeysetTooLong | tinkey: keyset too long | `ok` 0a | none
+in the form in which it was read | convert-keyset --in-format binary --out-format binary | none | 0807 12a3ff2f 0a99ff2f 0a03616161 128eff2f 786318x00 1801 1001 1807 2001 | 0 Done | | 0807 12a3ff2f 0a99ff2f 0a03616161 128eff2f 786318x00 1801 1001 1807 2001 | none
+";
+
+#[test]
+fn writes_no_keyset_that_it_would_not_read(rt: HostRuntime) -> Result<(), Fail> {
+    run_table(rt.alloc(), WRITTEN, 6)
 }
