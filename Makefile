@@ -1,5 +1,8 @@
 # The commands of this repository. The first run of each proves every crate below it.
-.PHONY: run test wrong try bench
+.PHONY: run test wrong try bench install
+
+# Where `make install` puts things.
+PREFIX ?= /usr/local
 
 # Proves the program and the crates below it side by side, leaves it as ./tinkey, and lists the
 # example's keyset with it. With CPU=x86-64-v3 it has instructions of newer processors.
@@ -21,6 +24,14 @@ try:
 	@echo "nothing is proved in this run" >&2
 	@cd crates/tinkey && rt try -- list-keyset --in-format binary \
 	    < ../../examples/aes128-gcm.binary
+
+# Puts the program that `make run` left, its manual page and the completions of bash and zsh in their places.
+install:
+	@test -x tinkey || { echo "make run builds ./tinkey first" >&2; exit 1; }
+	install -D -m 755 tinkey $(DESTDIR)$(PREFIX)/bin/tinkey
+	install -D -m 644 docs/tinkey.1 $(DESTDIR)$(PREFIX)/share/man/man1/tinkey.1
+	install -D -m 644 completions/tinkey.bash $(DESTDIR)$(PREFIX)/share/bash-completion/completions/tinkey
+	install -D -m 644 completions/_tinkey $(DESTDIR)$(PREFIX)/share/zsh/site-functions/_tinkey
 
 # Times the kernels and the program beside OpenSSL, and prints a table.
 bench:
