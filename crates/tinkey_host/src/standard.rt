@@ -1,6 +1,8 @@
 //! Runs over the managers of the program.
 
-ghost use Rattle.std.specs.Prelude.{◌≡◌, map, string_bytes};
+ghost use Rattle.std.specs.Prelude.{◌≡◌, IfOk, map, string_bytes};
+ghost use Rattle.key_msgs.specs.KeyTypes.{url_of_type};
+ghost use Rattle.managers.specs.Schemes.{aead_scheme};
 ghost use Rattle.managers.specs.Standard.{standard_table};
 ghost use Rattle.tinkey_plans.specs.Ends.{world};
 ghost use Rattle.tinkey_plans.specs.Promises.{Promised};
@@ -10,8 +12,8 @@ ghost use Rattle.tinkey_host.specs.Program.{start_plan, IsStarted};
 
 use key_msgs::KeyType;
 use managers::{
-    AeadManager, AeadScheme, DaeadManager, KeyList, MacManager, MacScheme, Managers, PrfManager,
-    PrfScheme, SameUrl, StandardAead, StandardDaead, StandardMac, StandardPrf,
+    AeadManager, AeadScheme, DaeadManager, KeyList, KeyManager, MacManager, MacScheme, Managers,
+    PrfManager, PrfScheme, SameUrl, StandardAead, StandardDaead, StandardMac, StandardPrf,
 };
 use std::alloc::Global;
 use tink_base::{Entropy, NoMemory, Sink, Source, Store};
@@ -94,15 +96,24 @@ fn with_aeads<S: Source, K: Sink, G: Sink, E: Entropy, D: Store>(
         (G.state diag.new) }
 {
     let mut aead: Vec<Box<dyn AeadManager>> = Vec::new(alloc);
-    let gcm = String::from_str(alloc, KeyType::AesGcm.url())?;
-    aead.push(Box::new(alloc, StandardAead::new(gcm, AeadScheme::Gcm))?)?;
-    let eax = String::from_str(alloc, KeyType::AesEax.url())?;
-    aead.push(Box::new(alloc, StandardAead::new(eax, AeadScheme::Eax))?)?;
-    let ctr_hmac = String::from_str(alloc, KeyType::AesCtrHmac.url())?;
-    aead.push(Box::new(alloc, StandardAead::new(ctr_hmac, AeadScheme::CtrHmac))?)?;
-    let gcm_siv = String::from_str(alloc, KeyType::AesGcmSiv.url())?;
-    aead.push(Box::new(alloc, StandardAead::new(gcm_siv, AeadScheme::GcmSiv))?)?;
+    aead.push(aead_manager(alloc, KeyType::AesGcm, AeadScheme::Gcm)?)?;
+    aead.push(aead_manager(alloc, KeyType::AesEax, AeadScheme::Eax)?)?;
+    aead.push(aead_manager(alloc, KeyType::AesCtrHmac, AeadScheme::CtrHmac)?)?;
+    aead.push(aead_manager(alloc, KeyType::AesGcmSiv, AeadScheme::GcmSiv)?)?;
     with_macs(alloc, words, prf, aead, source, sink, diag, entropy, store)
+}
+
+/// A manager of a scheme of AEADs, under the type URL of these keys.
+fn aead_manager(
+    alloc: Global,
+    of: KeyType,
+    scheme: AeadScheme,
+) -> Result<Box<StandardAead>, NoMemory>
+    ensures url { IfOk result (λ m. ⟦<StandardAead as KeyManager>⟧.url m.value ≡ url_of_type of) }
+    ensures scheme { IfOk result (λ m. ⟦<StandardAead as KeyManager>⟧.scheme m.value ≡ aead_scheme scheme) }
+{
+    let url = String::from_str(alloc, of.url())?;
+    Ok(Box::new(alloc, StandardAead::new(url, scheme))?)
 }
 
 /// Makes the managers of MACs, and goes on.
