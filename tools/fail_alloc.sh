@@ -210,7 +210,7 @@ ends same '' "same $(digits "$files/gcm")1206100318092001"
 refuse destroy destroy-key --key-id 9 --in both --out n "${binary[@]}"
 ends same '' "same $(digits "$files/gcm")"
 refuse delete delete-key --key-id 9 --in both --out n "${binary[@]}"
-ends size 597 none
+ends size 665 none
 refuse templates list-key-templates
 
 zeros 16 | takes
