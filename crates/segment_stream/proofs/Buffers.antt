@@ -1,6 +1,6 @@
 -- A buffer that is filled from behind and emptied from the front.
 use Rattle.std.proofs.Common.{◌≡◌, ℕ, ◌+◌, ◌-◌, ◌<◌, ◌≤◌, List, [], ◌∷◌, ◌++◌, length, set, take, drop, refl, sym, ◌∙◌, ap, arith}
-use Rattle.std.proofs.lemmas.List.{length-set, take_all, length-take-le, take-take, drop-take, length-drop, take_at}
+use Rattle.std.proofs.lemmas.List.{length-set, length-append, take_all, length-take-le, take-take, drop-take, length-drop, take_at}
 use Rattle.std.proofs.lemmas.Slice.{take-put_mid}
 use Rattle.std.proofs.Math.Seq.{take-append-add}
 use borrow.Rule.Slice.PartMut.{put_mid}
@@ -26,6 +26,18 @@ pub record Filling (old new : SourceState) (before after : List ℕ) (held len :
   pub gave : Gave old new piece
   pub is : after ≡ before ++ piece
   pub size : held + length piece ≡ len
+
+-- after reads the buffer holds no fewer bytes
+pub holds_more : (held len : ℕ) (before after piece : List ℕ) → held ≤ length before → len ≤ length after → take len after ≡ take held before ++ piece → held ≤ len
+holds_more held len before after piece fits there e =
+    let whole : length (take len after) ≡ length (take held before ++ piece) = ap length e in
+    omega (arith, whole, length-take-le len after there, length-append (take held before) piece, length-take-le held before fits)
+
+-- and those that it held are in front
+pub still_front : (held len : ℕ) (before after piece : List ℕ) → held ≤ length before → len ≤ length after → take len after ≡ take held before ++ piece → take held after ≡ take held before
+still_front held len before after piece fits there e =
+    sym (take-take held len after (holds_more held len before after piece fits there e)) ∙ ap (take held) e
+    ∙ take_at (take held before) piece held (length-take-le held before fits)
 
 -- a byte in front, and bytes behind it
 first_set : (buffer : List ℕ) (byte : ℕ) → 0 < length buffer → take 1 (set buffer 0 byte) ≡ byte ∷ []

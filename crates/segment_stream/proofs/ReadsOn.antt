@@ -33,3 +33,8 @@ after_deciding false later was mid now r last same more = record {
 pub rest_stops : (seen : Bool) (was mid now : SourceState) → ReadsOn seen was mid → (seen ≡ true → now ≡ mid) → (seen ≡ false → StopsAtEnd mid now) → StopsAtEnd was now
 rest_stops true was mid now r same more = subst (λ (s : SourceState). StopsAtEnd was s) (sym (same refl)) r.stops
 rest_stops false was mid now r same more = goes_on_stops was mid now (r.goes_on refl) (more refl)
+
+-- while the end isn't seen it wasn't seen before, and the room that is there only then is there
+pub room_left : {X : Type 0} (whole seen : Bool) → (whole ≡ true → seen ≡ true) → seen ≡ false → (whole ≡ false → X) → X
+room_left true seen last e room = absurd (not_both seen (last refl) e)
+room_left false seen last e room = room refl

@@ -131,3 +131,10 @@ header_unwritten key header source old new rose t =
     let f = sealing_front key header [] 0 header header false (sealing_begins key header) in
     unwritten [] t.front (t.rest ++ f.0) false refl rose (gave_nothing source) (λ n. absurd cc) (λ n. absurd cc) t.took (omega (arith, t.some, length-append t.rest f.0))
     (sym (append_assoc t.front t.rest f.0) ∙ ap (λ (l : List ℕ). l ++ f.0) t.whole ∙ f.1)
+
+-- a read fails before the first segment is settled
+pub header_unread : (key : SegmentCipher) (header piece : List ℕ) (was now : SourceState) (old new : SinkState) → IsCipher key → length header + length piece ≤ plain_size key → Rose was.faults now.faults → Gave was now piece → Took old new header → Pumps (sealing key header) [] [] false (Err fault.ReadFault) was now old new
+header_unread key header piece was now old new is short rose gave took =
+    let stands = sealing_more key header [] 0 header header piece is (sealing_begins key header) in
+    let s = sealing_waits key header piece 0 (header ++ piece) header is stands (omega (arith, short, length-append header piece)) (omega arith) in
+    unread piece header refl rose gave (λ n. absurd cc) took (sym s.sealed) s.decided

@@ -13,3 +13,4 @@ pub mod KeysModel
 pub mod Streams
 pub mod Ending
 pub mod PumpModels
+pub mod Lending

@@ -13,13 +13,13 @@ use Rattle.segment_stream.specs.declared.fault.SealPumpFault.TheVariants as of_s
 use Rattle.segment_stream.specs.declared.sealer.SealerFault.{SealerFault}
 use Rattle.segment_stream.specs.declared.sealer.SealerFault.TheVariants as faults
 
--- the keys and the associated data, and the length of the buffer
+-- the keys and the associated data, and how many bytes are reserved for the buffer
 pub record OpenerState : Type 0 where
   pub keys : KeysForStreams
   pub ad : List ℕ
   pub room : ℕ
 
--- what seals the segments, the header, and the length of the buffer
+-- what seals the segments, the header, and how many bytes are reserved for the buffer
 pub record SealerState : Type 0 where
   pub stream : StreamState
   pub header : List ℕ

@@ -1,7 +1,14 @@
 -- What a pass reads into its buffer.
 use Rattle.std.specs.Prelude.{◌≡◌, ℕ, ◌+◌, ◌<◌, ◌≤◌, List, ◌++◌, length, Bool, true, false, ◌||◌, nat_lt}
 use Rattle.tink_spec.specs.Outside.{SourceState, Rose, RoseOnce, Gave, GoesOn, IsAtEnd, StopsAtEnd}
+use Rattle.std.specs.Vec.{vec_capacity, vec_ptr}
+use Rattle.std.specs.Global.{Vec}
 use Rattle.segment_stream.specs.Pumping.{Follows}
+
+-- the block of a buffer is the one that it had, and as large: for what was added no memory was taken
+pub record IsInPlace (old new : Vec ℕ) : Type 0 where
+  pub block : vec_ptr new ≡ vec_ptr old
+  pub capacity : vec_capacity new ≡ vec_capacity old
 
 -- so many bytes were read, and lie behind those that were there
 pub record ReadBehind (old new : SourceState) (before after : List ℕ) (n : ℕ) : Type 0 where

@@ -1,10 +1,55 @@
-//! A buffer that is filled from behind and emptied from the front.
+//! A buffer that is filled from behind and emptied from the front. It lies in a block that is reserved
+//! once, and is lengthened there as bytes come, so that what isn't used isn't touched.
 
 ghost use Rattle.std.specs.Prelude.{◌≡◌, ◌+◌, ◌-◌, ◌≤◌, ◌<◌, [], length, take, drop, OnErr, OnOk, IfOk};
+ghost use Rattle.std.specs.Borrow.{sem};
+ghost use Rattle.std.specs.Vec.{vec_capacity, vec_len};
 ghost use Rattle.tink_spec.specs.Outside.{Gave, GoesOn, IsAtEnd, Rose, RoseOnce, Stood, StopsAtEnd};
-ghost use Rattle.segment_stream.specs.Reading.{GaveBelow, ReadBehind, ReadOn};
+ghost use Rattle.segment_stream.specs.Lending.{lends_bytes};
+ghost use Rattle.segment_stream.specs.Reading.{GaveBelow, IsInPlace, ReadBehind, ReadOn};
 
-use tink_base::{Failed, Source};
+use std::alloc::Global;
+use tink_base::{Failed, NoMemory, Source};
+
+/// How many bytes a buffer is lengthened by at once, at most.
+const STEP: usize = 65536;
+
+/// Bytes in a block that was reserved for as many as there may ever be. `reserved` alone takes memory,
+/// and no call hands out the allocator.
+#[derive(Drop)]
+pub(crate) struct Buffer {
+    bytes: Vec<u8>,
+}
+
+impl Buffer {
+    /// No bytes, in a block for so many.
+    pub(crate) fn reserved(alloc: Global, size: usize) -> Result<Buffer, NoMemory>
+        ensures empty { IfOk result (λ buffer. buffer.bytes.items ≡ []) }
+        ensures room { IfOk result (λ buffer. vec_capacity buffer.bytes ≡ size) }
+    {
+        match Vec::with_capacity(alloc, size) {
+            Ok(bytes) => Ok(Buffer { bytes }),
+            Err(_) => Err(NoMemory),
+        }
+    }
+
+    /// The bytes.
+    pub(crate) fn as_slice(&self) -> &[u8]
+        ensures value { result.now ≡ self.now.bytes.items }
+        ensures len { length result.now ≡ vec_len self.now.bytes }
+    {
+        self.bytes.as_slice()
+    }
+
+    /// The bytes, to be written over.
+    pub(crate) fn as_mut_slice(&mut self) -> &mut [u8]
+        ensures* writes_back { sem 𝓛 (lends_bytes self.entry result) }
+        ensures value { result.now ≡ self.old.bytes.items }
+        ensures len { length result.now ≡ vec_len self.old.bytes }
+    {
+        self.bytes.as_mut_slice()
+    }
+}
 
 /// Reads once behind the first `len` bytes of the buffer, up to `end`, and answers how many bytes
 /// came: none only at the end.
@@ -35,19 +80,68 @@ pub(crate) fn fill<S: Source>(
     }
 }
 
+/// Adds so many zero bytes to the buffer. No memory is taken: its block has room for them, and stays.
+pub(crate) fn lengthen(buffer: &mut Buffer, count: usize)
+    requires room { vec_len buffer.old.bytes + count ≤ vec_capacity buffer.old.bytes }
+    ensures len { vec_len buffer.new.bytes ≡ vec_len buffer.old.bytes + count }
+    ensures kept { take (vec_len buffer.old.bytes) buffer.new.bytes.items ≡ buffer.old.bytes.items }
+    ensures in_place { IsInPlace buffer.old.bytes buffer.new.bytes }
+{
+    let end = buffer.bytes.len() + count;
+    while buffer.bytes.len() < end {
+        buffer.bytes.push_reserved(0);
+    }
+}
+
+/// Reads once behind the first `len` bytes, up to `end`, as `fill` does. A buffer of no more than
+/// `len` bytes is lengthened first, by at most `STEP`. No memory is taken: its block stays.
+fn fill_reserved<S: Source>(
+    source: &mut S,
+    buffer: &mut Buffer,
+    len: usize,
+    end: usize,
+) -> Result<usize, Failed>
+    requires room { len < end }
+    requires fits { end ≤ vec_capacity buffer.old.bytes }
+    requires within { len ≤ vec_len buffer.old.bytes }
+    ensures bound { IfOk result (λ n. len + n ≤ end) }
+    ensures within { IfOk result (λ n. len + n ≤ vec_len buffer.new.bytes) }
+    ensures in_place { IsInPlace buffer.old.bytes buffer.new.bytes }
+    ensures reads { IfOk result (λ n. ReadBehind (S.state source.old) (S.state source.new)
+        (take len buffer.old.bytes.items) (take (len + n) buffer.new.bytes.items) n) }
+    ensures end { IfOk result (λ n. n ≡ 0 → IsAtEnd (S.state source.new)) }
+    ensures goes_on { IfOk result (λ n. 0 < n →
+        GoesOn (S.state source.old) (S.state source.new)) }
+    ensures stops { StopsAtEnd (S.state source.old) (S.state source.new) }
+    ensures once { OnErr result
+        (RoseOnce (S.state source.old).faults (S.state source.new).faults) }
+    ensures no_fault { OnOk result (Stood (S.state source.old).faults (S.state source.new).faults) }
+    ensures failed { OnErr result (Rose (S.state source.old).faults (S.state source.new).faults) }
+    ensures kept { OnErr result (Gave (S.state source.old) (S.state source.new) []) }
+{
+    if buffer.bytes.len() == len {
+        lengthen(buffer, STEP.min(end - len));
+    }
+    let there = end.min(buffer.bytes.len());
+    fill(source, buffer.bytes.as_mut_slice(), len, there)
+}
+
 /// Reads behind the first `held` bytes of the buffer until it holds `end`, or the end was seen, and
-/// answers how many it holds then.
+/// answers how many it holds then. No memory is taken: the buffer's block stays.
 pub(crate) fn fill_until<S: Source>(
     source: &mut S,
-    buffer: &mut [u8],
+    buffer: &mut Buffer,
     held: usize,
     end: usize,
 ) -> Result<usize, Failed>
-    requires fits { end ≤ length buffer.old }
+    requires fits { end ≤ vec_capacity buffer.old.bytes }
     requires within { held ≤ end }
+    requires holds { held ≤ vec_len buffer.old.bytes }
     ensures bound { IfOk result (λ len. len ≤ end) }
+    ensures holds { IfOk result (λ len. len ≤ vec_len buffer.new.bytes) }
+    ensures in_place { IsInPlace buffer.old.bytes buffer.new.bytes }
     ensures reads { IfOk result (λ len. ReadOn (S.state source.old) (S.state source.new)
-        (take held buffer.old) (take len buffer.new)) }
+        (take held buffer.old.bytes.items) (take len buffer.new.bytes.items)) }
     ensures end { IfOk result (λ len. len < end → IsAtEnd (S.state source.new)) }
     ensures goes_on { IfOk result (λ len. end ≤ len →
         GoesOn (S.state source.old) (S.state source.new)) }
@@ -60,7 +154,7 @@ pub(crate) fn fill_until<S: Source>(
 {
     let mut len = held;
     while len < end {
-        let n = match fill(source, buffer, len, end) {
+        let n = match fill_reserved(source, buffer, len, end) {
             Ok(n) => n,
             Err(_) => return Err(Failed),
         };

@@ -6,10 +6,10 @@ ghost use Rattle.segment_stream.specs.Pumping.{Pumps, ShowsFaults, opening_any};
 ghost use Rattle.segment_stream.specs.Segments.{ciphers_of};
 ghost use Rattle.segment_stream.specs.StreamKeys.{largest_of};
 
+use crate::buffer::Buffer;
 use crate::trying::open_any;
 use crate::{OpenPumpFault, StreamKeys};
 use std::alloc::Global;
-use std::boxed::BoxedSlice;
 use std::marker::Model;
 use tink_base::{NoMemory, Sink, Source};
 
@@ -18,36 +18,33 @@ use tink_base::{NoMemory, Sink, Source};
 pub struct Opener<'k> {
     keys: &'k StreamKeys,
     ad: &'k [u8],
-    buffer: BoxedSlice<u8>,
+    buffer: Buffer,
 }
 
 impl<'k> Model for Opener<'k> {
     ghost use Rattle.std.specs.Prelude.{◌≡◌, ◌+◌};
-    ghost use Rattle.std.specs.Box.{boxed_slice_len};
+    ghost use Rattle.std.specs.Vec.{vec_capacity};
     ghost use Rattle.segment_stream.specs.PumpModels.{OpenerState};
     ghost use Rattle.segment_stream.specs.StreamKeys.{largest_of};
 
     ghost Value = { OpenerState };
 
-    ghost view = { λ o. record { keys = o.keys.now; ad = o.ad.now; room = boxed_slice_len o.buffer } };
+    ghost view = { λ o. record { keys = o.keys.now; ad = o.ad.now; room = vec_capacity o.buffer.bytes } };
 
-    ghost invariant = { λ o. boxed_slice_len o.buffer ≡ largest_of o.keys.now.keys + 1 };
+    ghost invariant = { λ o. vec_capacity o.buffer.bytes ≡ largest_of o.keys.now.keys + 1 };
 }
 
 impl<'k> Opener<'k> {
     /// Makes ready to open a stream with this associated data, which may have any length.
     ///
     /// The buffer is reserved here, once: one byte more than the largest segment under these keys.
+    /// It is lengthened in its block as bytes come, by at most 65,536 at once.
     pub fn new(alloc: Global, keys: &'k StreamKeys, ad: &'k [u8]) -> Result<Opener<'k>, NoMemory>
         ensures { IfOk result (λ opener. opener ≡
             record { keys = keys.now; ad = ad.now; room = largest_of keys.now.keys + 1 }) }
     {
-        match vec![in alloc; 0; keys.largest() + 1] {
-            Ok(buffer) => Ok(Opener {
-                keys,
-                ad,
-                buffer: buffer.into_boxed_slice(),
-            }),
+        match Buffer::reserved(alloc, keys.largest() + 1) {
+            Ok(buffer) => Ok(Opener { keys, ad, buffer }),
             Err(_) => Err(NoMemory),
         }
     }

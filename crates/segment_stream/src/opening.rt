@@ -62,7 +62,8 @@ fn refused(number: u64) -> OpenPumpFault
 }
 
 /// Opens the rest of a stream, when its first segment has opened and the first `held` bytes of the
-/// buffer are what was taken behind it, up to the end or not.
+/// buffer are what was taken behind it, up to the end or not. Where the end wasn't seen, the buffer
+/// has room for one byte more than a segment.
 pub(crate) fn open_rest<S: Source, K: Sink>(
     stream: &Stream,
     buffer: &mut [u8],
@@ -72,7 +73,7 @@ pub(crate) fn open_rest<S: Source, K: Sink>(
     sink: &mut K,
 ) -> Result<(), OpenPumpFault>
     requires some { 0 < stream.now.size }
-    requires fits { stream.now.size + 1 ≤ length buffer.old }
+    requires fits { whole ≡ false → stream.now.size + 1 ≤ length buffer.old }
     requires within { held ≤ length buffer.old }
     requires end { whole ≡ true → IsAtEnd (S.state source.old) }
     ensures pumps { (cipher : SegmentCipher) (header taken written : List ℕ)

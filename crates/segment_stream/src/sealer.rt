@@ -1,19 +1,20 @@
 //! Streams sealed in one pass.
 
-ghost use Rattle.std.specs.Prelude.{◌≡◌, ℕ, ◌+◌, ◌-◌, ◌≤◌, ◌<◌, ◌^◌, List, [], length, take, false, IfErr, IfOk, OnErr, OnOk};
-ghost use Rattle.tink_spec.specs.Outside.{Drew, RanShort, Rose, RoseOnce, SinkState, Stood, StopsAtEnd, Took, TookPrefix};
+ghost use Rattle.std.specs.Prelude.{◌≡◌, ℕ, ◌+◌, ◌-◌, ◌≤◌, ◌<◌, ◌^◌, List, [], length, take, false, true, IfErr, IfOk, OnErr, OnOk};
+ghost use Rattle.std.specs.Vec.{vec_capacity, vec_len};
+ghost use Rattle.tink_spec.specs.Outside.{Drew, IsAtEnd, RanShort, Rose, RoseOnce, SinkState, SourceState, Stood, StopsAtEnd, Took, TookPrefix};
 ghost use Rattle.segment_stream.specs.Cipher.{SegmentCipher};
 ghost use Rattle.segment_stream.specs.PumpModels.{HasRoom, IsHeader, IsMade, IsSealerFault, SealsUnder, pump_result};
 ghost use Rattle.segment_stream.specs.Pumping.{Pumps, ShowsFaults, sealing};
+ghost use Rattle.segment_stream.specs.Reading.{IsInPlace, ReadOn};
 ghost use Rattle.segment_stream.specs.Segments.{seals_under, tag_size_under};
 ghost use Rattle.segment_stream.specs.StreamKeys.{largest_of};
 ghost use Rattle.segment_stream.specs.Streams.{IsUnder};
 
-use crate::buffer::{fill, turn};
+use crate::buffer::{Buffer, fill, fill_until, lengthen, turn};
 use crate::segments::{LAST_NUMBER, Stream};
 use crate::{SealPumpFault, StreamKeys};
 use std::alloc::Global;
-use std::boxed::BoxedSlice;
 use std::marker::Model;
 use tink_base::{Entropy, Failed, Sink, Source, write_all};
 
@@ -32,23 +33,24 @@ pub struct Sealer {
     stream: Stream,
     /// The bytes of the header, which stands in front of the buffer.
     header: usize,
-    buffer: BoxedSlice<u8>,
+    buffer: Buffer,
 }
 
 impl Model for Sealer {
-    ghost use Rattle.std.specs.Prelude.{take};
-    ghost use Rattle.std.specs.Box.{boxed_slice_items, boxed_slice_len};
+    ghost use Rattle.std.specs.Prelude.{◌≤◌, take};
+    ghost use Rattle.std.specs.Vec.{vec_capacity, vec_len};
     ghost use Rattle.segment_stream.specs.PumpModels.{HasRoom, SealerState};
 
     ghost Value = { SealerState };
 
     ghost view = { λ s. record {
       stream = s.stream;
-      header = take s.header (boxed_slice_items s.buffer);
-      room = boxed_slice_len s.buffer;
+      header = take s.header s.buffer.bytes.items;
+      room = vec_capacity s.buffer.bytes;
     } };
 
-    ghost invariant = { λ s. HasRoom s.stream s.header (boxed_slice_len s.buffer) };
+    ghost invariant = { λ s. HasRoom s.stream s.header (vec_capacity s.buffer.bytes)
+        × (s.header ≤ vec_len s.buffer.bytes) };
 }
 
 impl Sealer {
@@ -56,7 +58,8 @@ impl Sealer {
     /// have any length.
     ///
     /// The buffer is reserved here, once: one byte more than the largest segment under these keys.
-    /// Then salt and nonce prefix are drawn, in one fill. `EntropyFault` comes only where the
+    /// It is lengthened in its block as bytes come, by at most 65,536 at once. Then salt and nonce
+    /// prefix are drawn, in one fill. `EntropyFault` comes only where the
     /// entropy failed at that, and nothing was drawn then. After `NoMemory` nothing was drawn.
     pub fn new<E: Entropy>(
         alloc: Global,
@@ -72,20 +75,21 @@ impl Sealer {
         ensures fault { IfErr result
             (IsSealerFault keys.now (E.state entropy.old) (E.state entropy.new)) }
     {
-        let Ok(mut buffer) = vec![in alloc; 0; keys.largest() + 1] else {
+        let Ok(mut buffer) = Buffer::reserved(alloc, keys.largest() + 1) else {
             return Err(SealerFault::NoMemory);
         };
         let key = keys.primary();
         let header = key.header_size();
-        match draw_header(&mut buffer, header, entropy) {
+        lengthen(&mut buffer, header);
+        match draw_header(buffer.as_mut_slice(), header, entropy) {
             Ok(()) => {}
             Err(_) => return Err(SealerFault::EntropyFault),
         }
-        let stream = Stream::new(key, ad, &buffer[..header]);
+        let stream = Stream::new(key, ad, &buffer.as_slice()[..header]);
         Ok(Sealer {
             stream,
             header,
-            buffer: buffer.into_boxed_slice(),
+            buffer,
         })
     }
 
@@ -107,7 +111,7 @@ impl Sealer {
             (K.state sink.old) (K.state sink.new) }
     {
         let mut buffer = self.buffer;
-        match write_all(sink, &buffer[..self.header]) {
+        match write_all(sink, &buffer.as_slice()[..self.header]) {
             Ok(()) => seal_behind(&self.stream, self.header, &mut buffer, source, sink),
             Err(_) => Err(SealPumpFault::WriteFault),
         }
@@ -174,27 +178,74 @@ fn plain_from(number: u64, header: usize) -> usize
     if number == 0 { header } else { 0 }
 }
 
-/// Seals a stream whose header was written, and stands in front of the buffer.
+/// Seals a stream whose header was written, and stands in front of the buffer. No memory is taken:
+/// the buffer's block stays.
 fn seal_behind<S: Source, K: Sink>(
     stream: &Stream,
     header: usize,
-    buffer: &mut [u8],
+    buffer: &mut Buffer,
     source: &mut S,
     sink: &mut K,
 ) -> Result<(), SealPumpFault>
-    requires room { HasRoom stream.now header (length buffer.old) }
+    requires room { HasRoom stream.now header (vec_capacity buffer.old.bytes) }
+    requires within { header ≤ vec_len buffer.old.bytes }
     ensures pumps { (cipher : SegmentCipher) (old : SinkState)
-        → IsUnder stream.now cipher (take header buffer.old)
-        → Took old (K.state sink.old) (take header buffer.old)
-        → Pumps (sealing cipher (take header buffer.old)) [] [] false (pump_result result)
+        → IsUnder stream.now cipher (take header buffer.old.bytes.items)
+        → Took old (K.state sink.old) (take header buffer.old.bytes.items)
+        → Pumps (sealing cipher (take header buffer.old.bytes.items)) [] [] false (pump_result result)
         (S.state source.old) (S.state source.new) old (K.state sink.new) }
+    ensures in_place { IsInPlace buffer.old.bytes buffer.new.bytes }
     ensures stops { StopsAtEnd (S.state source.old) (S.state source.new) }
     ensures shown { ShowsFaults (pump_result result) (S.state source.old) (S.state source.new)
         (K.state sink.old) (K.state sink.new) }
 {
     let size = stream.size() - stream.tag_size();
-    let mut len = header;
-    let mut ended = false;
+    match fill_until(source, buffer, header, size + 1) {
+        Ok(len) => seal_rest(
+            stream,
+            header,
+            buffer.as_mut_slice(),
+            len,
+            len <= size,
+            source,
+            sink,
+        ),
+        Err(_) => Err(SealPumpFault::ReadFault),
+    }
+}
+
+/// Seals a stream whose header was written, when the first `held` bytes of the buffer are the header
+/// and what was taken, up to the end or not. Where the end wasn't seen, the buffer has room for one
+/// byte more than the plaintext of a segment.
+fn seal_rest<S: Source, K: Sink>(
+    stream: &Stream,
+    header: usize,
+    buffer: &mut [u8],
+    held: usize,
+    whole: bool,
+    source: &mut S,
+    sink: &mut K,
+) -> Result<(), SealPumpFault>
+    requires segment { header + tag_size_under stream.now.keys < stream.now.size }
+    requires fits { whole ≡ false
+        → stream.now.size - tag_size_under stream.now.keys + 1 ≤ length buffer.old }
+    requires front { header ≤ held }
+    requires within { held ≤ length buffer.old }
+    requires end { whole ≡ true → IsAtEnd (S.state source.old) }
+    ensures pumps { (cipher : SegmentCipher) (was : SourceState) (old : SinkState)
+        → IsUnder stream.now cipher (take header buffer.old)
+        → Took old (K.state sink.old) (take header buffer.old)
+        → ReadOn was (S.state source.old) (take header buffer.old) (take held buffer.old)
+        → Pumps (sealing cipher (take header buffer.old)) [] [] false (pump_result result)
+        was (S.state source.new) old (K.state sink.new) }
+    ensures still { whole ≡ true → S.state source.new ≡ S.state source.old }
+    ensures stops { whole ≡ false → StopsAtEnd (S.state source.old) (S.state source.new) }
+    ensures shown { ShowsFaults (pump_result result) (S.state source.old) (S.state source.new)
+        (K.state sink.old) (K.state sink.new) }
+{
+    let size = stream.size() - stream.tag_size();
+    let mut len = held;
+    let mut ended = whole;
     let mut number = 0u64;
     loop {
         let from = plain_from(number, header);

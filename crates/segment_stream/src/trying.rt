@@ -2,15 +2,16 @@
 
 ghost use Rattle.std.specs.Prelude.{◌≡◌, ◌+◌, ◌≤◌, [], length, take, drop, false, true, OnErr, OnOk, IfOk, All};
 ghost use Rattle.std.specs.List.{AllByRecursion};
+ghost use Rattle.std.specs.Vec.{vec_capacity, vec_len};
 ghost use Rattle.tink_spec.specs.Outside.{IsAtEnd, Stood, StopsAtEnd};
 ghost use Rattle.segment_stream.specs.Ending.{EndsFirst};
 ghost use Rattle.segment_stream.specs.Opening.{has_header};
 ghost use Rattle.segment_stream.specs.Pumping.{Pumps, ShowsFaults, opening_any};
-ghost use Rattle.segment_stream.specs.Reading.{Decided, ReadsOn, Undecided};
+ghost use Rattle.segment_stream.specs.Reading.{Decided, IsInPlace, ReadsOn, Undecided};
 ghost use Rattle.segment_stream.specs.Segments.{IsSound, cipher_of, ciphers_of};
 
 use crate::OpenPumpFault;
-use crate::buffer::{fill_until, turn};
+use crate::buffer::{Buffer, fill_until, turn};
 use crate::key::StreamKey;
 use crate::opening::{SegmentEnd, open_rest, write_segment};
 use crate::segments::Stream;
@@ -31,17 +32,18 @@ pub(crate) enum Trial {
 /// of this segment size. Answers how many bytes the buffer holds, and whether the end was seen.
 fn decide<S: Source>(
     source: &mut S,
-    buffer: &mut [u8],
+    buffer: &mut Buffer,
     held: usize,
     whole: bool,
     size: usize,
 ) -> Result<(usize, bool), Failed>
-    requires fits { size + 1 ≤ length buffer.old }
-    requires within { held ≤ length buffer.old }
+    requires fits { size + 1 ≤ vec_capacity buffer.old.bytes }
+    requires within { held ≤ vec_len buffer.old.bytes }
     requires end { whole ≡ true → IsAtEnd (S.state source.old) }
-    ensures bound { IfOk result (λ r. r.0 ≤ length buffer.old) }
+    ensures bound { IfOk result (λ r. r.0 ≤ vec_len buffer.new.bytes) }
+    ensures in_place { IsInPlace buffer.old.bytes buffer.new.bytes }
     ensures decides { IfOk result (λ r. Decided (S.state source.old) (S.state source.new)
-        (take held buffer.old) (take r.0 buffer.new) whole r.1 size) }
+        (take held buffer.old.bytes.items) (take r.0 buffer.new.bytes.items) whole r.1 size) }
     ensures short { IfOk result (λ r. r.0 ≤ size → r.1 ≡ true) }
     ensures still { whole ≡ true → S.state source.new ≡ S.state source.old }
     ensures reads_on { IfOk result (λ r. whole ≡ false →
@@ -49,7 +51,7 @@ fn decide<S: Source>(
     ensures stops { OnErr result (StopsAtEnd (S.state source.old) (S.state source.new)) }
     ensures no_fault { OnOk result (Stood (S.state source.old).faults (S.state source.new).faults) }
     ensures failed { OnErr result (Undecided (S.state source.old) (S.state source.new)
-        (take held buffer.old) whole size) }
+        (take held buffer.old.bytes.items) whole size) }
 {
     if whole || held > size {
         return Ok((held, whole));
@@ -102,16 +104,17 @@ fn open_first<K: Sink>(
 }
 
 /// Opens a stream under the first of the keys that opens its first segment. The keys are tried in
-/// their order, each when it is decided.
+/// their order, each when it is decided. No memory is taken: the buffer's block stays.
 pub(crate) fn open_any<S: Source, K: Sink>(
     keys: &[StreamKey],
     ad: &[u8],
-    buffer: &mut [u8],
+    buffer: &mut Buffer,
     source: &mut S,
     sink: &mut K,
 ) -> Result<(), OpenPumpFault>
     requires sound { AllByRecursion IsSound keys.now }
-    requires fits { AllByRecursion (λ key. key.segment + 1 ≤ length buffer.old) keys.now }
+    requires fits { AllByRecursion (λ key. key.segment + 1 ≤ vec_capacity buffer.old.bytes) keys.now }
+    ensures in_place { IsInPlace buffer.old.bytes buffer.new.bytes }
     ensures pumps { Pumps (opening_any (ciphers_of ad.now keys.now)) [] [] false result
         (S.state source.old) (S.state source.new) (K.state sink.old) (K.state sink.new) }
     ensures stops { StopsAtEnd (S.state source.old) (S.state source.new) }
@@ -129,15 +132,16 @@ pub(crate) fn open_any<S: Source, K: Sink>(
             }
             Err(_) => return Err(OpenPumpFault::ReadFault),
         }
-        match open_first(key, ad, buffer, len, sink) {
+        let bytes = buffer.as_mut_slice();
+        match open_first(key, ad, bytes, len, sink) {
             Trial::Refused => {}
             Trial::Unwritten => return Err(OpenPumpFault::WriteFault),
             Trial::Written(stream) => {
                 if len <= size {
                     return Ok(());
                 }
-                turn(buffer, size, len);
-                return open_rest(&stream, buffer, len - size, ended, source, sink);
+                turn(bytes, size, len);
+                return open_rest(&stream, bytes, len - size, ended, source, sink);
             }
         }
     }

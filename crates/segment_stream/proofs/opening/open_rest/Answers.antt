@@ -6,7 +6,7 @@ use Rattle.segment_stream.specs.declared.fault.OpenPumpFault.TheVariants as faul
 use Rattle.segment_stream.proofs.Pass.{Going, going_begins, going_read, going_next, going_many, going_fails, going_unread, going_ends, going_ends_badly, going_unwritten, going_ends_unwritten, opens_held, last_held, full_held, short_held, held_next}
 use Rattle.segment_stream.proofs.Slices.{length-put}
 use Rattle.tink_spec.proofs.Moves.{goes_on_stops}
-use Rattle.segment_stream.proofs.ReadsOn.{after_read, reads_nothing}
+use Rattle.segment_stream.proofs.ReadsOn.{after_read, reads_nothing, room_left}
 use Rattle.segment_stream.proofs.opening.open_rest.Goals as goal
 use Rattle.segment_stream.proofs.opening.open_rest.Goals.{then-n-eq0, else-n-eq0}
 
@@ -68,7 +68,7 @@ returns-in-Err-clause-pumps g c = λ cipher header taken written u s.
 pub loop-len-preserved : goal.loop-len-preserved
 loop-len-preserved g c = record {
   same = omega arith;
-  len = omega (arith, c.in-Ok.ensures.bound, c.requires.fits, c.size-size.ensures.size, c.fill.auto.buffer, c.turn.auto.buffer, c.loop-len.invariant.same);
+  len = omega (arith, c.in-Ok.ensures.bound, room_left c.args.whole c.loop-len.ended (λ e. (c.loop-len.invariant.still e).0) c.if-ended.false c.requires.fits, c.size-size.ensures.size, c.fill.auto.buffer, c.turn.auto.buffer, c.loop-len.invariant.same);
   start = omega arith;
   least = c.loop-len.invariant.least;
   most = c.loop-len.invariant.most;
@@ -90,3 +90,7 @@ returns-in-Err-clause-still g c = λ e. let no : true ≡ false = sym (c.loop-le
 pub returns-in-Err-clause-stops : goal.returns-in-Err-clause-stops
 returns-in-Err-clause-stops g c = λ e.
     goes_on_stops (g.S.Source.state c.args.source.now) (g.S.Source.state c.loop-len.source) (g.S.Source.state c.fill.new.source) ((c.loop-len.invariant.reads_on e).goes_on c.if-ended.false) c.in-Err.ensures.stops
+
+pub fill-requires-clause-fits : goal.fill-requires-clause-fits
+fill-requires-clause-fits g c =
+    omega (arith, room_left c.args.whole c.loop-len.ended (λ e. (c.loop-len.invariant.still e).0) c.if-ended.false c.requires.fits, c.size-size.ensures.size, c.turn.auto.buffer, c.loop-len.invariant.same)

@@ -9,10 +9,10 @@ pub returns-clause-made : goal.returns-clause-made
 returns-clause-made g c =
     let drawn = c.in-Ok-draw_header.ensures.drawn in
     let size = c.header_size-header.result in
-    let kept = c.into_boxed_slice.ensures.items ∙ sym c.deref.ensures.value in
-    let front : take c.header_size-header.result c.deref.result.now ≡ c.header_size-header.result ∷ drawn.random
-    = ap (take c.header_size-header.result) (c.deref.ensures.value
-    ∙ take_at c.draw_header.new.buffer _ c.in-Ok.buffer.len (c.draw_header.auto.buffer ∙ c.deref_mut.ensures.len))
+    let kept = sym c.as_slice.ensures.value in
+    let front : take c.header_size-header.result c.as_slice.result.now ≡ c.header_size-header.result ∷ drawn.random
+    = ap (take c.header_size-header.result) (c.as_slice.ensures.value
+    ∙ take_at c.draw_header.new.buffer _ c.lengthen.new.buffer.bytes.len (c.draw_header.auto.buffer ∙ c.as_mut_slice.ensures.len))
     ∙ drawn.is in
     record {
       random = drawn.random;
@@ -27,6 +27,6 @@ returns-clause-made g c =
           ∙ ap (λ n. n ∷ drawn.random)
           (c.header_size-header.ensures ∙ ap (λ (k : StreamKey). header_size k) c.primary-key.ensures.key);
       under = subst (λ (l : List ℕ). IsUnder c.new-stream.result (cipher_of c.args.ad.now c.args.keys.now.primary) (take c.header_size-header.result l)) (sym kept)
-          (subst (λ (k : StreamKey). IsUnder c.new-stream.result (cipher_of c.args.ad.now k) (take c.header_size-header.result c.deref.result.now)) c.primary-key.ensures.key
+          (subst (λ (k : StreamKey). IsUnder c.new-stream.result (cipher_of c.args.ad.now k) (take c.header_size-header.result c.as_slice.result.now)) c.primary-key.ensures.key
           c.new-stream.ensures);
     }

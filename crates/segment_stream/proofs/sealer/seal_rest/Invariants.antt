@@ -1,14 +1,14 @@
 -- Since the pass began all that was settled has been sealed and written, and the buffer holds what
 -- isn't.
 use Rattle.std.proofs.Common.{◌≡◌, ◌≤◌, ◌+◌, ◌*◌, ◌-◌, length, take}
-use Rattle.std.specs.Prelude.{if◌then◌else◌}
-use Rattle.tink_spec.specs.Outside.{SinkState, Stood, Took}
+use Rattle.std.specs.Prelude.{true, false, if◌then◌else◌}
+use Rattle.tink_spec.specs.Outside.{SinkState, SourceState, Stood, Took}
 use Rattle.segment_stream.specs.Cipher.{SegmentCipher}
 use Rattle.segment_stream.specs.Segments.{tag_size_under}
 use Rattle.segment_stream.specs.Streams.{IsUnder}
-use Rattle.segment_stream.specs.Reading.{ReadsOn}
+use Rattle.segment_stream.specs.Reading.{ReadOn, ReadsOn}
 use Rattle.segment_stream.proofs.SealPass.{SealGoing}
-use Rattle.segment_stream.proofs.sealer.seal_behind.Given as goal
+use Rattle.segment_stream.proofs.sealer.seal_rest.Given as goal
 
 abbrev pub invariant-loop-len : goal.invariant-loop-len
 invariant-loop-len g l = record {
@@ -17,13 +17,15 @@ invariant-loop-len g l = record {
   len : l.len ≤ length l.buffer;
   head : l.number ≡ 0 → l.fn.header ≤ l.len;
   most : l.number ≤ 4294967295;
-  reads_on : ReadsOn l.ended (g.S.Source.state l.fn.source) (g.S.Source.state l.source);
+  still : l.fn.whole ≡ true → (l.ended ≡ true) × (g.S.Source.state l.source ≡ g.S.Source.state l.fn.source);
+  reads_on : l.fn.whole ≡ false → ReadsOn l.ended (g.S.Source.state l.fn.source) (g.S.Source.state l.source);
   read : Stood (g.S.Source.state l.fn.source).faults (g.S.Source.state l.source).faults;
   written : Stood (g.K.Sink.state l.fn.sink).faults (g.K.Sink.state l.sink).faults;
-  goes : (cipher : SegmentCipher) (old : SinkState)
+  goes : (cipher : SegmentCipher) (was : SourceState) (old : SinkState)
       → IsUnder l.fn.stream cipher (take l.fn.header l.fn.buffer)
       → Took old (g.K.Sink.state l.fn.sink) (take l.fn.header l.fn.buffer)
-      → SealGoing cipher (take l.fn.header l.fn.buffer) l.ended (g.S.Source.state l.fn.source)
+      → ReadOn was (g.S.Source.state l.fn.source) (take l.fn.header l.fn.buffer) (take l.held l.fn.buffer)
+      → SealGoing cipher (take l.fn.header l.fn.buffer) l.ended was
       (g.S.Source.state l.source) old (g.K.Sink.state l.sink) (take l.len l.buffer) l.number;
 }
 
