@@ -21,7 +21,7 @@ use Rattle.key_msgs.specs.declared.key.KeyKind.{KeyKind}
 use Rattle.key_msgs.specs.declared.key.KeyKind.TheVariants as kinds
 use Rattle.key_msgs.specs.declared.key_type.KeyType.TheVariants as types
 use Rattle.key_msgs.specs.declared.primitive.Primitive.{Primitive}
-use Rattle.key_msgs.specs.declared.primitive.Primitive.TheVariants.{Aead}
+use Rattle.key_msgs.specs.declared.primitive.Primitive.TheVariants.{Aead, Daead}
 use Rattle.key_msgs.specs.declared.rule.Rule.{Rule}
 use Rattle.key_msgs.specs.declared.rule.Rule.TheVariants as broken
 use Rattle.keyset_model.specs.Keyset.{Keys, primary_of}
@@ -31,11 +31,12 @@ use Rattle.mac_prf.specs.Hmac.{hmac}
 use Rattle.managers.proofs.ReadingLemmas.{read_of_type}
 use Rattle.managers.specs.Schemes.{Scheme, key_under, type_under}
 use Rattle.managers.specs.Table.{Table, scheme_at}
-use Rattle.managers.specs.Uses.{iv_size, seal_of}
+use Rattle.managers.specs.Uses.{dseal_of, iv_size, seal_of}
+use Rattle.siv_daead.proofs.SivLemmas.{length-siv_seal}
 use Rattle.tink_base.specs.Hash.{hash_size}
 use Rattle.tink_base.specs.declared.hash.Hash.{Hash}
 use Rattle.tink_base.specs.declared.hash.Hash.TheVariants.{Sha1, Sha224, Sha256, Sha384, Sha512}
-use Rattle.wrapped_prims.specs.Answers.{Sealed, seal_answer, seal_behind, seal_under}
+use Rattle.wrapped_prims.specs.Answers.{Sealed, dseal_answer, made_by, seal_answer, seal_behind, seal_under}
 use Rattle.wrapped_prims.specs.Candidates.{first_byte, is_raw, prefix_bytes, prefix_of}
 use Rattle.wrapped_prims.specs.Fitness.{key_of_record, read_key}
 
@@ -174,3 +175,36 @@ sealing-long table keys plain ad random s e =
       iv-short key (key-valid table Aead r key second.1),
       length-prefix r,
     )
+
+-- ---- without an IV
+
+length-dseal_of : (key : KeyKind) (plain ad : List ℕ) → length (dseal_of key plain ad) ≤ length plain + 16
+length-dseal_of (kinds.AesGcm key) plain ad = omega arith
+length-dseal_of (kinds.AesEax key size) plain ad = omega arith
+length-dseal_of (kinds.AesCtrHmac aes size hash mac tag_size) plain ad = omega arith
+length-dseal_of (kinds.AesSiv key) plain ad = let is = length-siv_seal key plain ad in omega (arith, is)
+length-dseal_of (kinds.AesGcmSiv key) plain ad = omega arith
+length-dseal_of (kinds.Hmac key hash tag_size) plain ad = omega arith
+length-dseal_of (kinds.AesCmac key tag_size) plain ad = omega arith
+length-dseal_of (kinds.HkdfPrf key hash salt) plain ad = omega arith
+length-dseal_of (kinds.HmacPrf key hash) plain ad = omega arith
+length-dseal_of (kinds.CmacPrf key) plain ad = omega arith
+length-dseal_of (kinds.GcmStream key segment derived hash) plain ad = omega arith
+length-dseal_of (kinds.CtrStream key segment derived hash mac_hash tag_size) plain ad = omega arith
+
+dsealed_under : (table : Table) (r : Record) (plain ad bytes : List ℕ) (key : Option KeyKind) → option_map (λ key. prefix_bytes (prefix_of r) ++ dseal_of key plain ad) key ≡ Some bytes
+    → length bytes ≤ length plain + 21
+dsealed_under table r plain ad bytes None e = cc
+dsealed_under table r plain ad bytes (Some key) e =
+    omega (
+      arith,
+      ap length (same_Some _ _ e),
+      length-append (prefix_bytes (prefix_of r)) (dseal_of key plain ad),
+      length-dseal_of key plain ad,
+      length-prefix r,
+    )
+
+pub dsealing-long : (table : Table) (keys : Keys) (plain ad bytes : List ℕ) → dseal_answer keys table plain ad ≡ Some bytes → length bytes ≤ length plain + 21
+dsealing-long table keys plain ad bytes e =
+    let first = then_some (made_by table Daead (λ key r. dseal_of key plain ad)) (primary_of keys) bytes e in
+    dsealed_under table first.0 plain ad bytes (key_of_record table Daead first.0) first.2

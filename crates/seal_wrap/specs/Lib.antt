@@ -1,5 +1,6 @@
 pub mod Info
 pub mod Laws
+pub mod Sealings
 pub mod Steps
 pub mod Unwrapped
 pub mod Wrapped

@@ -1,6 +1,7 @@
 //! Laws of the definitions. Each is the contract of a function that does nothing else.
 
 ghost use Rattle.seal_wrap.specs.Laws.{TextHidesKeys, WrapBack};
+ghost use Rattle.seal_wrap.specs.Sealings.{DsealingsFit, SealingsFit};
 
 use keyset_model::laws::binary_back;
 use wrapped_prims::laws::same_key_opens;
@@ -13,6 +14,13 @@ pub fn wrap_back()
     binary_back();
     same_key_opens();
 }
+
+/// What a keyset seals has at most 85 bytes more than the plaintext, whatever its key and the random
+/// bytes, and at most 21 where it is sealed without an IV.
+pub fn sealings_fit()
+    ensures sealed { SealingsFit }
+    ensures dsealed { DsealingsFit }
+{}
 
 /// A wrapped text is made of the sealed bytes and the info alone, and no key message is in the info.
 pub fn text_hides_keys()
