@@ -2,6 +2,7 @@ pub mod BackLemmas
 pub mod FieldLemmas
 pub mod JsonLemmas
 pub mod OpenedSizes
+pub mod SealedBytes
 pub mod SealedSizes
 pub mod UnwrapLemmas
 pub mod WrapLemmas

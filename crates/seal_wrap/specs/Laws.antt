@@ -10,6 +10,7 @@ use Rattle.wrapped_prims.specs.Answers.{Sealed, seal_answer}
 use Rattle.wrapped_prims.specs.Candidates.{prefix_of}
 use Rattle.wrapped_prims.specs.Laws.{GivesKeyFor, HasSameKey}
 use Rattle.seal_wrap.specs.Info.{info_of, without_keys}
+use Rattle.seal_wrap.specs.Sealings.{AreBytes, HasByteValues}
 use Rattle.seal_wrap.specs.Unwrapped.{unwrap_of}
 use Rattle.seal_wrap.specs.Wrapped.{Wrapped, wrap_of, wrapped_text}
 use Rattle.seal_wrap.specs.Wrapping.{SealsBytes}
@@ -24,6 +25,17 @@ WrapBack = (json : Bool) (table : Table) (keys old new : Keys) (r : Record) (pre
     → GivesKeyFor table Aead r → HasSameKey r new
     → fault_of keys ≡ None → AllByRecursion HasWireBounds keys.records
     → (IsTrue json → SealsBytes keys old table random)
+    → wrap_of keys old table random json ≡ Some wrapped
+    → unwrap_of new table wrapped.text json ≡ Ok keys
+
+-- The same where the key messages of the old master, the keyset's binary form and the random bytes are
+-- bytes. What was sealed are bytes then, and nothing is asked of it.
+abbrev pub WrapBackBytes : Type 0
+WrapBackBytes = (json : Bool) (table : Table) (keys old new : Keys) (r : Record)
+    (prefix random : List ℕ) (wrapped : Wrapped) → primary_of old ≡ Some r
+    → prefix_of r ≡ Some prefix → GivesKeyFor table Aead r → HasSameKey r new
+    → fault_of keys ≡ None → AllByRecursion HasWireBounds keys.records
+    → HasByteValues old → AreBytes (binary_of keys) → AreBytes random
     → wrap_of keys old table random json ≡ Some wrapped
     → unwrap_of new table wrapped.text json ≡ Ok keys
 

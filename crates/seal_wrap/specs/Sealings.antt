@@ -1,9 +1,15 @@
 -- The laws of what keysets seal, over the definitions alone.
 --
---   SealingsFit    how long it is
---   DsealingsFit   the same without an IV
-use Rattle.std.specs.Prelude.{◌≡◌, ℕ, ◌+◌, ◌≤◌, List, length, Some}
+--   SealingsFit        how long it is
+--   DsealingsFit       the same without an IV
+--   AreBytes           these numbers are bytes
+--   HasByteValues      the key messages of a keyset are
+--   SealingsAreBytes   what is sealed of bytes is
+use Rattle.std.specs.Prelude.{◌≡◌, ℕ, ◌+◌, ◌<◌, ◌≤◌, List, length, Some}
+use Rattle.std.specs.List.{AllByRecursion}
+use Rattle.base64.specs.GeneralPurpose.{IsBytes}
 use Rattle.keyset_model.specs.Keyset.{Keys}
+use Rattle.keyset_model.specs.declared.record.Record.{Record}
 use Rattle.managers.specs.Table.{Table}
 use Rattle.wrapped_prims.specs.Answers.{Sealed, dseal_answer, seal_answer}
 
@@ -18,3 +24,18 @@ SealingsFit = (table : Table) (keys : Keys) (plain ad random : List ℕ) (sealed
 abbrev pub DsealingsFit : Type 0
 DsealingsFit = (table : Table) (keys : Keys) (plain ad bytes : List ℕ)
     → dseal_answer keys table plain ad ≡ Some bytes → length bytes ≤ length plain + 21
+
+-- each is below 256, one after another; `IsBytes` of base64 says so place by place
+abbrev pub AreBytes : List ℕ → Type 0
+AreBytes bytes = AllByRecursion (λ b. b < 256) bytes
+
+-- the key messages of a keyset are bytes
+abbrev pub HasByteValues : Keys → Type 0
+HasByteValues keys = AllByRecursion (λ (r : Record). AreBytes r.value) keys.records
+
+-- What is sealed of bytes are bytes, whatever the associated data, where the key messages of the keyset
+-- and the random bytes are.
+abbrev pub SealingsAreBytes : Type 0
+SealingsAreBytes = (table : Table) (keys : Keys) (plain ad random : List ℕ) (sealed : Sealed)
+    → HasByteValues keys → AreBytes plain → AreBytes random
+    → seal_answer keys table plain ad random ≡ Some sealed → IsBytes sealed.bytes

@@ -1,8 +1,10 @@
 //! Laws of the definitions. Each is the contract of a function that does nothing else.
 
-ghost use Rattle.seal_wrap.specs.Laws.{TextHidesKeys, WrapBack};
-ghost use Rattle.seal_wrap.specs.Sealings.{DsealingsFit, SealingsFit};
+ghost use Rattle.seal_wrap.specs.Laws.{TextHidesKeys, WrapBack, WrapBackBytes};
+ghost use Rattle.seal_wrap.specs.Sealings.{DsealingsFit, SealingsAreBytes, SealingsFit};
 
+use aead_kinds::laws::{ctr_hmac_seals_bytes, eax_seals_bytes, gcm_seals_bytes};
+use gcm_siv::laws::gcm_siv_seals_bytes;
 use keyset_model::laws::binary_back;
 use wrapped_prims::laws::same_key_opens;
 
@@ -15,12 +17,31 @@ pub fn wrap_back()
     same_key_opens();
 }
 
+/// The same where the key messages of the master, the keyset's binary form and the random bytes are
+/// bytes: nothing is asked of what was sealed.
+pub fn wrap_back_bytes()
+    ensures { WrapBackBytes }
+{
+    wrap_back();
+    sealings_are_bytes();
+}
+
 /// What a keyset seals has at most 85 bytes more than the plaintext, whatever its key and the random
 /// bytes, and at most 21 where it is sealed without an IV.
 pub fn sealings_fit()
     ensures sealed { SealingsFit }
     ensures dsealed { DsealingsFit }
 {}
+
+/// What is sealed of bytes are bytes, where the key messages of the keyset and the random bytes are.
+pub fn sealings_are_bytes()
+    ensures { SealingsAreBytes }
+{
+    gcm_seals_bytes();
+    eax_seals_bytes();
+    ctr_hmac_seals_bytes();
+    gcm_siv_seals_bytes();
+}
 
 /// A wrapped text is made of the sealed bytes and the info alone, and no key message is in the info.
 pub fn text_hides_keys()
