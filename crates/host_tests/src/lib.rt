@@ -11,6 +11,8 @@ mod files;
 #[cfg(test)]
 mod listed;
 #[cfg(test)]
+mod naming;
+#[cfg(test)]
 mod opened;
 #[cfg(test)]
 mod streams;

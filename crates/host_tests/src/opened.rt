@@ -1,6 +1,6 @@
 //! Files in memory, of which each call fails in turn, and opens that failed.
 
-ghost use Rattle.std.specs.Prelude.{true};
+ghost use Rattle.std.specs.Prelude.{◌≡◌, true};
 
 use real_objects::{NewFile, fill_opened, load_opened};
 use std::io::{self, ErrorKind, Read, Write};
@@ -10,7 +10,7 @@ use tink_base::{Created, Loaded, StoreError};
 /// A file in memory, of which one call moves some bytes at the most. The call of this number fails,
 /// from 1.
 #[derive(Drop)]
-struct Page {
+pub(crate) struct Page {
     bytes: Vec<u8>,
     read: usize,
     piece: usize,
@@ -20,7 +20,7 @@ struct Page {
 }
 
 impl Page {
-    fn new(bytes: Vec<u8>, piece: usize, fails: u32) -> Page {
+    pub(crate) fn new(bytes: Vec<u8>, piece: usize, fails: u32) -> Page {
         Page {
             bytes,
             read: 0,
@@ -29,6 +29,13 @@ impl Page {
             calls: 0,
             put_away: false,
         }
+    }
+
+    /// Whether what was written was put away.
+    pub(crate) fn lasts(&self) -> bool
+        ensures { result ≡ self.now.put_away }
+    {
+        self.put_away
     }
 
     /// Counts a call, and fails where its turn has come.

@@ -1,3 +1,4 @@
 pub mod KnownBytes
 pub mod ListedWords
 pub mod FillingSlices
+pub mod KeptNames

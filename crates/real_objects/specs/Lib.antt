@@ -1,4 +1,5 @@
 pub mod Device
 pub mod Folder
+pub mod Naming
 pub mod Streams
 pub mod Words

@@ -1,13 +1,15 @@
 //! The files of the file system as a store, which tells no bytes of its own; the clauses of what reads
-//! and fills one file speak of the bytes of the file, where it knows them.
+//! and fills one file speak of the bytes of the file, where it knows them. How a new one gets its name is
+//! in `naming`.
 
-ghost use Rattle.std.specs.Prelude.{◌≡◌, ◌+◌, ◌^◌, ◌<◌, ◌≤◌, ◌⊎◌, ℕ, Bool, IsTrue, true, [], min, IfOk, IfErr, IsOkAnd, IfSome, OnOk};
+ghost use Rattle.std.specs.Prelude.{◌≡◌, ◌+◌, ◌^◌, ◌<◌, ◌≤◌, ◌⊎◌, ℕ, Bool, IsTrue, true, false, None, [], min, IfOk, IfErr, IsOk, IsOkAnd, IfSome, OnOk};
 ghost use Rattle.std.specs.Io.KnownBytes.{Appends, Keeps};
 ghost use Rattle.std.specs.IoError.{error_kind};
 ghost use Rattle.tink_base.specs.Store.{Loads};
 ghost use Rattle.real_objects.specs.Folder.{IsLoaded};
 ghost use Rattle.real_objects.specs.Streams.{untold_store};
 
+use crate::naming::{NewName, make_file};
 use std::alloc::Global;
 use std::fs::{self, File, OpenFile, OpenOptions};
 use std::io::{self, ErrorKind, Read, Write};
@@ -49,8 +51,8 @@ impl Store for DirStore<'_> {
         }
     }
 
-    fn create(&mut self, _alloc: Global, name: &str, bytes: &[u8]) -> Result<Created, StoreError> {
-        match fill_opened(&mut open_new(self.rt, name), bytes) {
+    fn create(&mut self, alloc: Global, name: &str, bytes: &[u8]) -> Result<Created, StoreError> {
+        match make_file(&mut DirName::new(alloc, self.rt, name), bytes) {
             Ok(created) => Ok(created),
             Err(error) => {
                 if error == StoreError::Failed {
@@ -59,6 +61,100 @@ impl Store for DirStore<'_> {
                 Err(error)
             }
         }
+    }
+}
+
+/// What a name aside begins with, before its number. It doesn't depend on the name that is asked for.
+const ASIDE: &str = ".tinkey-new-";
+
+/// The path of a new file. The names aside are those of its folder.
+#[derive(Drop)]
+pub struct DirName<'a> {
+    rt: &'a HostRuntime,
+    alloc: Global,
+    name: &'a str,
+    // the folder, once the name was looked up, and the path aside, while a file of ours has it
+    folder: Option<File>,
+    aside: Option<String>,
+}
+
+impl<'a> DirName<'a> {
+    /// The path, before it is looked up. The memory is for the path of a name aside.
+    pub fn new(alloc: Global, rt: &'a HostRuntime, name: &'a str) -> DirName<'a> {
+        DirName {
+            rt,
+            alloc,
+            name,
+            folder: None,
+            aside: None,
+        }
+    }
+}
+
+impl NewName for DirName<'_> {
+    type File = File;
+
+    ghost fresh = { None };
+
+    ghost stage = { λ _. None };
+
+    ghost aside = { λ _. false };
+
+    /// Looks whether anything has the path, a link that leads nowhere too, and opens the folder. A path
+    /// without a last part is refused.
+    fn look_up(&mut self) -> io::Result<()> {
+        if self.name.is_empty() || self.name.ends_with('/') {
+            return Err(io::Error::from(ErrorKind::IsADirectory));
+        }
+        match fs::symlink_metadata(self.rt, self.name) {
+            Ok(_) => Err(io::Error::from(ErrorKind::AlreadyExists)),
+            Err(error) if error.kind() == ErrorKind::NotFound => {
+                self.folder = Some(fs::open(self.rt, folder_of(self.name))?);
+                Ok(())
+            }
+            Err(error) => Err(error),
+        }
+    }
+
+    fn open_aside(&mut self, number: u32) -> io::Result<File> {
+        let folder = folder_of(self.name);
+        let aside = format!(in self.alloc; "{folder}/{ASIDE}{number}")?;
+        let file = open_new(self.rt, &aside)?;
+        self.aside = Some(aside);
+        Ok(file)
+    }
+
+    fn link(&mut self, _file: &File) -> io::Result<()> {
+        match &self.aside {
+            Some(aside) => fs::hard_link(self.rt, aside.as_str(), self.name),
+            None => Err(io::Error::from(ErrorKind::NotFound)),
+        }
+    }
+
+    fn clear(&mut self) {
+        if let Some(aside) = self.aside.take() {
+            let _ = fs::remove_file(self.rt, aside.as_str());
+        }
+    }
+
+    fn open(&mut self) -> io::Result<File> {
+        open_new(self.rt, self.name)
+    }
+
+    fn put_away(&mut self, _file: &File) -> io::Result<()> {
+        match &self.folder {
+            Some(folder) => folder.sync_all(),
+            None => Err(io::Error::from(ErrorKind::NotFound)),
+        }
+    }
+}
+
+/// The path of the folder that a path leads into: what stands before its last slash.
+fn folder_of(name: &str) -> &str {
+    match name.rsplit_once('/') {
+        Some(("", _)) => "/",
+        Some((folder, _)) => folder,
+        None => ".",
     }
 }
 
@@ -139,22 +235,34 @@ pub fn fill_opened<F: NewFile>(
         Appends (F.contents file) (F.contents filled) bytes.now))) }
     ensures exists { IfErr opened.old (λ error. IfOk result (λ made. (made ≡ Created.Exists) ×
         (error_kind error ≡ ErrorKind.AlreadyExists))) }
+    ensures taken { IfErr opened.old (λ error. error_kind error ≡ ErrorKind.AlreadyExists →
+        result ≡ Ok Created.Exists) }
+    ensures unfilled { IsOk opened.old → IfErr result (λ error. error ≡ StoreError.Failed) }
+    ensures unopened { IfErr opened.old (λ error. opened.new ≡ Err error) }
 {
     match opened {
         Ok(file) => match fill_file(file, bytes) {
             Ok(()) => Ok(Created::Made),
             Err(_) => Err(StoreError::Failed),
         },
-        Err(error) => match error.kind() {
-            ErrorKind::AlreadyExists => Ok(Created::Exists),
-            ErrorKind::OutOfMemory => Err(StoreError::NoMemory),
-            _ => Err(StoreError::Failed),
-        },
+        Err(error) => unmade(error.kind()),
+    }
+}
+
+/// What a file is told as that couldn't be made, by the kind of the error.
+pub(crate) fn unmade(kind: ErrorKind) -> Result<Created, StoreError>
+    ensures exists { IfOk result (λ made. (made ≡ Created.Exists) × (kind ≡ ErrorKind.AlreadyExists)) }
+    ensures taken { kind ≡ ErrorKind.AlreadyExists → result ≡ Ok Created.Exists }
+{
+    match kind {
+        ErrorKind::AlreadyExists => Ok(Created::Exists),
+        ErrorKind::OutOfMemory => Err(StoreError::NoMemory),
+        _ => Err(StoreError::Failed),
     }
 }
 
 /// Writes all the bytes, flushes them, and waits until they last.
-fn fill_file<F: NewFile>(file: &mut F, bytes: &[u8]) -> io::Result<()>
+pub(crate) fn fill_file<F: NewFile>(file: &mut F, bytes: &[u8]) -> io::Result<()>
     ensures { OnOk result (IsTrue (F.lasts file.new) ×
         Appends (F.contents file.old) (F.contents file.new) bytes.now) }
 {

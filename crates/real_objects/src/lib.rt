@@ -8,9 +8,11 @@
 mod args;
 mod entropy;
 mod folder;
+mod naming;
 mod streams;
 
 pub use args::{Arguments, NoWords, words};
 pub use entropy::{FileEntropy, Opens, RandomDevice};
-pub use folder::{DirStore, NewFile, fill_opened, load_opened};
+pub use folder::{DirName, DirStore, NewFile, fill_opened, load_opened};
+pub use naming::{NewName, make_file};
 pub use streams::{StdSink, StdSource};

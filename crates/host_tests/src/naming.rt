@@ -1,0 +1,216 @@
+//! How a new file gets its name, over names that tell each call and refuse some.
+
+ghost use Rattle.std.specs.Prelude.{Some, None, false};
+ghost use Rattle.host_tests.specs.Names.{stage_of};
+
+use crate::opened::Page;
+use real_objects::{NewName, make_file};
+use std::alloc::Global;
+use std::io::{self, ErrorKind};
+use std::test::Fail;
+use test_words::{cell, unlike};
+use tink_base::{Created, StoreError};
+
+/// How far a name has come. Of a file that was linked it tells whether it lasted then.
+#[derive(Clone, Copy)]
+pub(crate) enum Came {
+    Free,
+    Taken,
+    Linkless,
+    Linked(bool),
+    Opened,
+    Kept(bool),
+}
+
+/// A name that tells its calls, and refuses those that a text names, each with its error.
+#[derive(Drop)]
+struct Traced<'a> {
+    alloc: Global,
+    refused: &'a str,
+    calls: String,
+    came: Came,
+}
+
+/// The kind of the error of this name.
+fn kind_named(name: &str) -> ErrorKind {
+    for (known, kind) in [
+        ("exists", ErrorKind::AlreadyExists),
+        ("denied", ErrorKind::PermissionDenied),
+        ("unsupported", ErrorKind::Unsupported),
+        ("links", ErrorKind::TooManyLinks),
+        ("missing", ErrorKind::NotFound),
+        ("memory", ErrorKind::OutOfMemory),
+    ] {
+        if known == name {
+            return kind;
+        }
+    }
+    ErrorKind::StorageFull
+}
+
+/// The error with which a text like `link denied, open exists` refuses this call.
+fn refusal(refused: &str, call: &str) -> io::Result<()> {
+    for part in refused.split(", ") {
+        if let Some((of, error)) = part.split_once(' ')
+            && of == call
+        {
+            return Err(io::Error::from(kind_named(error)));
+        }
+    }
+    Ok(())
+}
+
+impl Traced<'_> {
+    /// Tells the call, and refuses it where the text says so.
+    fn call(&mut self, call: &str) -> io::Result<()> {
+        if !self.calls.is_empty() {
+            self.calls.push_str(" ")?;
+        }
+        self.calls.push_str(call)?;
+        refusal(self.refused, call)
+    }
+
+    /// A new file, of whose calls the first is refused where writes are.
+    fn page(&self) -> Page {
+        let fails = if refusal(self.refused, "write").is_err() {
+            1
+        } else {
+            0
+        };
+        Page::new(Vec::new(self.alloc), 4, fails)
+    }
+}
+
+impl NewName for Traced<'_> {
+    type File = Page;
+
+    ghost fresh = { None };
+
+    ghost stage = { λ s. Some (stage_of s.came) };
+
+    ghost aside = { λ _. false };
+
+    fn look_up(&mut self) -> io::Result<()> {
+        let answer = self.call("look");
+        if let Err(error) = &answer
+            && error.kind() == ErrorKind::AlreadyExists
+        {
+            self.came = Came::Taken;
+        }
+        answer
+    }
+
+    fn open_aside(&mut self, number: u32) -> io::Result<Page> {
+        self.call(if number == 0 { "aside" } else { "again" })?;
+        Ok(self.page())
+    }
+
+    fn link(&mut self, file: &Page) -> io::Result<()> {
+        let answer = self.call("link");
+        match &answer {
+            Ok(()) => self.came = Came::Linked(file.lasts()),
+            Err(error) => match error.kind() {
+                ErrorKind::AlreadyExists => self.came = Came::Taken,
+                ErrorKind::PermissionDenied | ErrorKind::Unsupported | ErrorKind::TooManyLinks => {
+                    self.came = Came::Linkless;
+                }
+                _ => {}
+            },
+        }
+        answer
+    }
+
+    fn clear(&mut self) {
+        let _ = self.call("clear");
+    }
+
+    fn open(&mut self) -> io::Result<Page> {
+        match self.call("open") {
+            Ok(()) => {
+                self.came = Came::Opened;
+                Ok(self.page())
+            }
+            Err(error) => {
+                self.came = if error.kind() == ErrorKind::AlreadyExists {
+                    Came::Taken
+                } else {
+                    Came::Free
+                };
+                Err(error)
+            }
+        }
+    }
+
+    fn put_away(&mut self, file: &Page) -> io::Result<()> {
+        self.call("put")?;
+        self.came = Came::Kept(match self.came {
+            Came::Linked(lasted) | Came::Kept(lasted) => lasted,
+            _ => file.lasts(),
+        });
+        Ok(())
+    }
+}
+
+// The calls that are refused, what is told then, and the calls in their order: `aside` and `again` make
+// files under names aside, `clear` removes one, `open` makes one under the name, `put` puts it away.
+const WAYS: [&str; 16] = [
+    "a new file | | made | look aside link clear put",
+    "the name is taken | look exists | exists | look",
+    "the name can't be looked up | look denied | failed | look",
+    "there is no folder | look missing | failed | look",
+    "there is no memory | look memory | no memory | look",
+    "a name aside is taken | aside exists | made | look aside again link clear put",
+    "no file can be made | aside denied | failed | look aside",
+    "no memory for a name aside | aside memory | no memory | look aside",
+    "a write fails | write full | failed | look aside clear",
+    "the name was taken since | link exists | exists | look aside link clear",
+    "another failure of the link | link full | failed | look aside link clear",
+    "a link isn't permitted | link denied | made | look aside link clear open put",
+    "links aren't supported | link unsupported | made | look aside link clear open put",
+    "no second link | link links | made | look aside link clear open put",
+    "taken, and no links | link denied, open exists | exists | look aside link clear open",
+    "the name isn't put away | put full | failed | look aside link clear put",
+];
+
+/// What is told of a new file of ten bytes.
+fn told(made: Result<Created, StoreError>) -> &'static str {
+    match made {
+        Ok(Created::Made) => "made",
+        Ok(Created::Exists) => "exists",
+        Err(StoreError::Failed) => "failed",
+        Err(StoreError::NoMemory) => "no memory",
+    }
+}
+
+#[test]
+fn links_a_file_once_it_is_whole_and_lasts(rt: HostRuntime) -> Result<(), Fail> {
+    for row in WAYS {
+        let mut name = Traced {
+            alloc: rt.alloc(),
+            refused: cell(row, 1)?,
+            calls: String::new(rt.alloc()),
+            came: Came::Free,
+        };
+        let made = told(make_file(&mut name, b"ten bytes."));
+        if made != cell(row, 2)? {
+            return Err(unlike(row, "the answer", cell(row, 2)?, made));
+        }
+        if name.calls.as_str() != cell(row, 3)? {
+            return Err(unlike(row, "the calls", cell(row, 3)?, &name.calls));
+        }
+    }
+    Ok(())
+}
+
+// All 1,000 names aside are taken, of which only the first is told as `aside`.
+#[test]
+fn gives_up_where_each_name_aside_is_taken(rt: HostRuntime) {
+    let mut name = Traced {
+        alloc: rt.alloc(),
+        refused: "aside exists, again exists",
+        calls: String::new(rt.alloc()),
+        came: Came::Free,
+    };
+    assert_eq!(rt; told(make_file(&mut name, b"x")), "failed");
+    assert_eq!(rt; name.calls.len(), "look aside".len() + 999 * " again".len());
+}

@@ -1,0 +1,58 @@
+-- How a new file gets its name: how far that has come, by what the calls have answered.
+--
+--   held, lasted   what a file held when it got the name, where files tell that, and whether it lasted then
+--   fresh          what a file holds that was just made, where files tell that
+use Rattle.std.specs.Prelude.{◌≡◌, ◌⊎◌, ℕ, List, Bool, IsTrue, Option, IfSome, Result, Ok, Err, IsErr}
+use Rattle.std.specs.Io.KnownBytes.{Appends}
+use Rattle.std.specs.declared.io.ErrorKind.{ErrorKind}
+use Rattle.std.specs.declared.io.ErrorKind.TheVariants as kind
+use Rattle.tink_base.specs.declared.store.Created.{Created}
+use Rattle.tink_base.specs.declared.store.Created.TheVariants as created
+use Rattle.tink_base.specs.declared.store.StoreError.{StoreError}
+use Rattle.tink_base.specs.declared.store.StoreError.TheVariants as error
+
+pub data Stage : Type 0 where
+  -- no file of ours has the name, and no call has said that another one has it
+  Free : Stage
+  -- a call has said that something has the name
+  Taken : Stage
+  -- a link was refused, as there are none
+  Linkless : Stage
+  -- a link gave the name to a file, as it was then
+  Linked : (held : Option (List ℕ)) (lasted : Bool) → Stage
+  -- a new file was opened under the name itself
+  Opened : Stage
+  -- the name lasts: of a file that a link gave it to, as it was then, or of one that was opened under it, as it is
+  Kept : (held : Option (List ℕ)) (lasted : Bool) → Stage
+
+-- that far, where it is told
+abbrev pub IsAt : Option Stage → Stage → Type 0
+IsAt told stage = IfSome told (λ s. s ≡ stage)
+
+-- an error of this kind says that there are no links: a link isn't permitted in a folder in which a file was just
+-- made, or isn't supported, or a file can have no second name
+abbrev pub HasNoLinks : ErrorKind → Type 0
+HasNoLinks k = (k ≡ kind.PermissionDenied) ⊎ (k ≡ kind.Unsupported) ⊎ (k ≡ kind.TooManyLinks)
+
+-- a file that was made for these bytes has them all, and they last
+abbrev pub IsWhole : Option (List ℕ) → List ℕ → Option (List ℕ) → Bool → Type 0
+IsWhole fresh bytes held lasted = IsTrue lasted × Appends fresh held bytes
+
+-- where the name comes to last: a file that was linked counts as it was then, and an opened one as it is
+abbrev pub kept_as : Option (List ℕ) → Bool → Stage → Stage
+kept_as held lasted (Linked first did) = Kept first did
+kept_as held lasted Free = Kept held lasted
+kept_as held lasted Taken = Kept held lasted
+kept_as held lasted Linkless = Kept held lasted
+kept_as held lasted Opened = Kept held lasted
+kept_as held lasted (Kept first did) = Kept first did
+
+-- what a new file of these bytes is told as, by how far its name came: each name that a link gave, it gave to the
+-- whole file; and nobody stops where there are no links
+abbrev pub EndsAs : Option (List ℕ) → List ℕ → Result Created StoreError → Stage → Type 0
+EndsAs fresh bytes result Free = IsErr result
+EndsAs fresh bytes result Taken = result ≡ Ok created.Exists
+EndsAs fresh bytes result Linkless = ⊥
+EndsAs fresh bytes result (Linked held lasted) = IsWhole fresh bytes held lasted × (result ≡ Err error.Failed)
+EndsAs fresh bytes result Opened = result ≡ Err error.Failed
+EndsAs fresh bytes result (Kept held lasted) = IsWhole fresh bytes held lasted × (result ≡ Ok created.Made)

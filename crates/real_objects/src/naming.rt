@@ -1,0 +1,173 @@
+//! How a new file gets its name: it is filled under a name aside until it lasts, and then a link gives
+//! it the name, under which so is all of the file or nothing. Where there are no links, it is filled
+//! under the name itself.
+
+ghost use Rattle.std.specs.Prelude.{◌≡◌, ◌≢◌, ℕ, List, Bool, Option, true, false, IsTrue, IfOk, IfErr, IfSome, OnOk, OnErr, option_map};
+ghost use Rattle.std.specs.Io.KnownBytes.{Keeps};
+ghost use Rattle.std.specs.IoError.{error_kind};
+ghost use Rattle.real_objects.specs.Naming.{Stage, Free, Taken, Linkless, Linked, Opened, IsAt, HasNoLinks, IsWhole, kept_as, EndsAs};
+
+use crate::folder::{NewFile, fill_file, fill_opened, unmade};
+use std::io::{self, ErrorKind};
+use tink_base::{Created, StoreError};
+
+/// How many names aside are tried at the most. Runs that were killed leave one each.
+const NAMES_ASIDE: u32 = 1_000;
+
+/// A name in a folder, under which a new file is to stand.
+pub trait NewName {
+    /// A new file.
+    type File: NewFile + Drop;
+
+    /// What a file holds that was just made, where files tell that.
+    ghost fresh: { Option (List ℕ) };
+
+    /// How far the name has come, where that is told.
+    ghost stage: { Self → Option Stage };
+
+    /// Whether a file may stand under a name aside.
+    ghost aside: { Self → Bool };
+
+    /// Looks whether the name is free. The error is `AlreadyExists` where something has it.
+    fn look_up(&mut self) -> io::Result<()>
+        ensures free { OnOk result (stage self.new ≡ stage self.old) }
+        ensures taken { IfErr result (λ error. error_kind error ≡ ErrorKind.AlreadyExists →
+            IsAt (stage self.new) Taken) }
+        ensures unknown { IfErr result (λ error. error_kind error ≢ ErrorKind.AlreadyExists →
+            stage self.new ≡ stage self.old) }
+        ensures kept { aside self.new ≡ aside self.old };
+
+    /// Makes a new file under the name aside of this number. The error is `AlreadyExists` where
+    /// something has that name.
+    fn open_aside(&mut self, number: u32) -> io::Result<Self::File>
+        ensures fresh { IfOk result (λ file. Keeps fresh (Self.File.contents file)) }
+        ensures unopened { OnErr result (aside self.new ≡ aside self.old) }
+        ensures kept { stage self.new ≡ stage self.old };
+
+    /// Gives the name to the file that was opened last under a name aside. The error is
+    /// `AlreadyExists` where something has the name.
+    fn link(&mut self, file: &Self::File) -> io::Result<()>
+        requires free { IsAt (stage self.old) Free }
+        ensures linked { OnOk result (IsAt (stage self.new)
+            (Linked (Self.File.contents file.now) (Self.File.lasts file.now))) }
+        ensures taken { IfErr result (λ error. error_kind error ≡ ErrorKind.AlreadyExists →
+            IsAt (stage self.new) Taken) }
+        ensures linkless { IfErr result (λ error. HasNoLinks (error_kind error) →
+            IsAt (stage self.new) Linkless) }
+        ensures unlinked { IfErr result (λ error. error_kind error ≢ ErrorKind.AlreadyExists →
+            ¬ (HasNoLinks (error_kind error)) → stage self.new ≡ stage self.old) }
+        ensures kept { aside self.new ≡ aside self.old };
+
+    /// Removes the name aside under which a file was opened last, as best it can.
+    fn clear(&mut self)
+        ensures cleared { aside self.new ≡ false }
+        ensures kept { stage self.new ≡ stage self.old };
+
+    /// Makes a new file under the name itself. The error is `AlreadyExists` where something has it.
+    fn open(&mut self) -> io::Result<Self::File>
+        requires linkless { IsAt (stage self.old) Linkless }
+        ensures fresh { IfOk result (λ file. Keeps fresh (Self.File.contents file)) }
+        ensures opened { OnOk result (IsAt (stage self.new) Opened) }
+        ensures taken { IfErr result (λ error. error_kind error ≡ ErrorKind.AlreadyExists →
+            IsAt (stage self.new) Taken) }
+        ensures unopened { IfErr result (λ error. error_kind error ≢ ErrorKind.AlreadyExists →
+            IsAt (stage self.new) Free) }
+        ensures kept { aside self.new ≡ aside self.old };
+
+    /// Waits until the system has put away that the file has the name.
+    fn put_away(&mut self, file: &Self::File) -> io::Result<()>
+        ensures lasts { OnOk result (stage self.new ≡ option_map
+            (kept_as (Self.File.contents file.now) (Self.File.lasts file.now)) (stage self.old)) }
+        ensures unknown { OnErr result (stage self.new ≡ stage self.old) }
+        ensures kept { aside self.new ≡ aside self.old };
+}
+
+/// Makes a new file of this name with all the bytes.
+///
+/// The answer is `Exists` exactly where a call on the name said that something has it, and `Made` exactly
+/// where the file is whole and its name was put away. A link gives the name to a file that is whole and
+/// lasts, or to none. Exactly where a link was refused, as there are none, a file is filled under the name
+/// itself, and may be there after `Failed` with the first of the bytes. Each name aside is asked to go.
+pub fn make_file<N: NewName>(name: &mut N, bytes: &[u8]) -> Result<Created, StoreError>
+    requires free { IsAt (N.stage name.old) Free }
+    ensures named { IfSome (N.stage name.new) (λ s. EndsAs N.fresh bytes.now result s) }
+    ensures cleared { N.aside name.old ≡ false → N.aside name.new ≡ false }
+{
+    if let Err(error) = name.look_up() {
+        return unmade(error.kind());
+    }
+    match open_aside(name) {
+        Ok(mut file) => match fill_file(&mut file, bytes) {
+            Ok(()) => give_name(name, &file, bytes),
+            Err(_) => {
+                name.clear();
+                Err(StoreError::Failed)
+            }
+        },
+        Err(error) => unmade(error.kind()),
+    }
+}
+
+/// Makes a new file under the first name aside that is free.
+fn open_aside<N: NewName>(name: &mut N) -> io::Result<N::File>
+    ensures fresh { IfOk result (λ file. Keeps N.fresh (N.File.contents file)) }
+    ensures untaken { IfErr result (λ error. error_kind error ≢ ErrorKind.AlreadyExists) }
+    ensures unopened { OnErr result (N.aside name.new ≡ N.aside name.old) }
+    ensures kept { N.stage name.new ≡ N.stage name.old }
+{
+    for number in 0..NAMES_ASIDE {
+        match name.open_aside(number) {
+            Err(error) if error.kind() == ErrorKind::AlreadyExists => {}
+            opened => return opened,
+        }
+    }
+    Err(io::Error::from(ErrorKind::ResourceBusy))
+}
+
+/// Gives the name to a file that is whole and lasts, and removes the name aside.
+fn give_name<N: NewName>(name: &mut N, file: &N::File, bytes: &[u8]) -> Result<Created, StoreError>
+    requires free { IsAt (N.stage name.old) Free }
+    requires whole { IsWhole N.fresh bytes.now (N.File.contents file.now) (N.File.lasts file.now) }
+    ensures named { IfSome (N.stage name.new) (λ s. EndsAs N.fresh bytes.now result s) }
+    ensures cleared { N.aside name.new ≡ false }
+{
+    let linked = name.link(file);
+    name.clear();
+    match linked {
+        Ok(()) => keep_name(name, file),
+        Err(error) => match error.kind() {
+            ErrorKind::PermissionDenied | ErrorKind::Unsupported | ErrorKind::TooManyLinks => {
+                fill_named(name, bytes)
+            }
+            kind => unmade(kind),
+        },
+    }
+}
+
+/// Fills a new file under the name itself, where there are no links.
+fn fill_named<N: NewName>(name: &mut N, bytes: &[u8]) -> Result<Created, StoreError>
+    requires linkless { IsAt (N.stage name.old) Linkless }
+    ensures named { IfSome (N.stage name.new) (λ s. EndsAs N.fresh bytes.now result s) }
+    ensures kept { N.aside name.new ≡ N.aside name.old }
+{
+    let mut opened = name.open();
+    let made = fill_opened(&mut opened, bytes)?;
+    match opened {
+        Ok(file) => keep_name(name, &file),
+        Err(_) => Ok(made),
+    }
+}
+
+/// Waits until the name lasts that the file has.
+fn keep_name<N: NewName>(name: &mut N, file: &N::File) -> Result<Created, StoreError>
+    ensures made { IfOk result (λ made. (made ≡ Created.Made) × (N.stage name.new ≡ option_map
+        (kept_as (N.File.contents file.now) (N.File.lasts file.now)) (N.stage name.old))) }
+    ensures failed { IfErr result (λ error. (error ≡ StoreError.Failed) ×
+        (N.stage name.new ≡ N.stage name.old)) }
+    ensures kept { N.aside name.new ≡ N.aside name.old }
+{
+    match name.put_away(file) {
+        Ok(()) => Ok(Created::Made),
+        Err(_) => Err(StoreError::Failed),
+    }
+}
