@@ -2,8 +2,8 @@
 use Rattle.std.specs.Prelude.{None}
 use Rattle.real_objects.specs.Naming.{Stage}
 use Rattle.real_objects.specs.Naming as stage
-use Rattle.host_tests.specs.declared.naming.Came.{Came}
-use Rattle.host_tests.specs.declared.naming.Came.TheVariants as came
+use Rattle.host_tests.specs.declared.came.Came.{Came}
+use Rattle.host_tests.specs.declared.came.Came.TheVariants as came
 
 abbrev pub stage_of : Came → Stage
 stage_of came.Free = stage.Free

@@ -1,7 +1,8 @@
 //! Tests of the real objects and of what `main` does with them: files, random bytes, words, streams
-//! that a signal interrupts, and exit codes. There is no code here but tests.
+//! that a signal interrupts, and exit codes. There is no code here but tests, and a type of one.
 #![tactic(auto)]
 
+pub mod came;
 #[cfg(test)]
 mod codes;
 #[cfg(test)]

@@ -1,8 +1,10 @@
 //! How a new file gets its name, over names that tell each call and refuse some.
 
-ghost use Rattle.std.specs.Prelude.{Some, None, false};
+ghost use Rattle.std.specs.Prelude.{◌≡◌, ◌≢◌, Some, None, false};
+ghost use Rattle.real_objects.specs.Naming.{HasNoLinks, kept_as};
 ghost use Rattle.host_tests.specs.Names.{stage_of};
 
+use crate::came::Came;
 use crate::opened::Page;
 use real_objects::{NewName, make_file};
 use std::alloc::Global;
@@ -10,17 +12,6 @@ use std::io::{self, ErrorKind};
 use std::test::Fail;
 use test_words::{cell, unlike};
 use tink_base::{Created, StoreError};
-
-/// How far a name has come. Of a file that was linked it tells whether it lasted then.
-#[derive(Clone, Copy)]
-pub(crate) enum Came {
-    Free,
-    Taken,
-    Linkless,
-    Linked(bool),
-    Opened,
-    Kept(bool),
-}
 
 /// A name that tells its calls, and refuses those that a text names, each with its error.
 #[derive(Drop)]
@@ -62,7 +53,9 @@ fn refusal(refused: &str, call: &str) -> io::Result<()> {
 
 impl Traced<'_> {
     /// Tells the call, and refuses it where the text says so.
-    fn call(&mut self, call: &str) -> io::Result<()> {
+    fn call(&mut self, call: &str) -> io::Result<()>
+        ensures kept { self.new.came ≡ self.old.came }
+    {
         if !self.calls.is_empty() {
             self.calls.push_str(" ")?;
         }
@@ -91,13 +84,13 @@ impl NewName for Traced<'_> {
     ghost aside = { λ _. false };
 
     fn look_up(&mut self) -> io::Result<()> {
-        let answer = self.call("look");
-        if let Err(error) = &answer
-            && error.kind() == ErrorKind::AlreadyExists
-        {
-            self.came = Came::Taken;
+        match self.call("look") {
+            Ok(()) => Ok(()),
+            Err(error) => {
+                self.came = after_look(self.came, error.kind());
+                Err(error)
+            }
         }
-        answer
     }
 
     fn open_aside(&mut self, number: u32) -> io::Result<Page> {
@@ -106,18 +99,16 @@ impl NewName for Traced<'_> {
     }
 
     fn link(&mut self, file: &Page) -> io::Result<()> {
-        let answer = self.call("link");
-        match &answer {
-            Ok(()) => self.came = Came::Linked(file.lasts()),
-            Err(error) => match error.kind() {
-                ErrorKind::AlreadyExists => self.came = Came::Taken,
-                ErrorKind::PermissionDenied | ErrorKind::Unsupported | ErrorKind::TooManyLinks => {
-                    self.came = Came::Linkless;
-                }
-                _ => {}
-            },
+        match self.call("link") {
+            Ok(()) => {
+                self.came = Came::Linked(file.lasts());
+                Ok(())
+            }
+            Err(error) => {
+                self.came = after_link(self.came, error.kind());
+                Err(error)
+            }
         }
-        answer
     }
 
     fn clear(&mut self) {
@@ -143,11 +134,44 @@ impl NewName for Traced<'_> {
 
     fn put_away(&mut self, file: &Page) -> io::Result<()> {
         self.call("put")?;
-        self.came = Came::Kept(match self.came {
-            Came::Linked(lasted) | Came::Kept(lasted) => lasted,
-            _ => file.lasts(),
-        });
+        self.came = put(self.came, file.lasts());
         Ok(())
+    }
+}
+
+/// How far the name has come after a look that was refused so.
+fn after_look(came: Came, kind: ErrorKind) -> Came
+    ensures taken { kind ≡ ErrorKind.AlreadyExists → result ≡ Came.Taken }
+    ensures kept { kind ≢ ErrorKind.AlreadyExists → result ≡ came }
+{
+    match kind {
+        ErrorKind::AlreadyExists => Came::Taken,
+        _ => came,
+    }
+}
+
+/// How far the name has come after a link that was refused so.
+fn after_link(came: Came, kind: ErrorKind) -> Came
+    ensures taken { kind ≡ ErrorKind.AlreadyExists → result ≡ Came.Taken }
+    ensures linkless { HasNoLinks kind → result ≡ Came.Linkless }
+    ensures kept { kind ≢ ErrorKind.AlreadyExists → ¬ (HasNoLinks kind) → result ≡ came }
+{
+    match kind {
+        ErrorKind::AlreadyExists => Came::Taken,
+        ErrorKind::PermissionDenied | ErrorKind::Unsupported | ErrorKind::TooManyLinks => {
+            Came::Linkless
+        }
+        _ => came,
+    }
+}
+
+/// How far the name has come once it was put away, of a file that lasts or doesn't.
+fn put(came: Came, lasts: bool) -> Came
+    ensures { stage_of result ≡ kept_as None lasts (stage_of came) }
+{
+    match came {
+        Came::Linked(lasted) | Came::Kept(lasted) => Came::Kept(lasted),
+        Came::Free | Came::Taken | Came::Linkless | Came::Opened => Came::Kept(lasts),
     }
 }
 
