@@ -66,6 +66,8 @@ command_found commands.Verify = refl
 command_found commands.Derive = refl
 command_found commands.Session = refl
 command_found commands.Selftest = refl
+command_found commands.WrapKeyset = refl
+command_found commands.UnwrapKeyset = refl
 
 pub command_named : (text : List ℕ) (command : CommandName) → command_of text ≡ Some command → text ≡ (row_of command).word
 unfolding command_of
@@ -93,6 +95,8 @@ is_found options.TagHex = record { word = refl; plain = refl; place = refl }
 is_found options.Length = record { word = refl; plain = refl; place = refl }
 is_found options.Seed = record { word = refl; plain = refl; place = refl }
 is_found options.Lines = record { word = refl; plain = refl; place = refl }
+is_found options.Master = record { word = refl; plain = refl; place = refl }
+is_found options.MasterFormat = record { word = refl; plain = refl; place = refl }
 
 pub option_found : (name : OptionName) → option_of (option_row name).word ≡ Some name
 option_found name = (is_found name).word
@@ -131,6 +135,8 @@ are_rivals options.TagHex b is = absurd (cc)
 are_rivals options.Length b is = absurd (cc)
 are_rivals options.Seed b is = absurd (cc)
 are_rivals options.Lines b is = absurd (cc)
+are_rivals options.Master b is = absurd (cc)
+are_rivals options.MasterFormat b is = absurd (cc)
 
 -- Words that are cut at their equals sign.
 

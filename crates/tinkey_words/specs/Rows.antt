@@ -51,6 +51,14 @@ by_key = options.KeyId ∷ []
 abbrev pub by_keyset : List OptionName
 by_keyset = options.Keyset ∷ []
 
+-- what a command requires that seals or opens a keyset under another one
+abbrev pub by_master : List OptionName
+by_master = options.Master ∷ []
+
+-- what such a command may have
+abbrev pub under_master : List OptionName
+under_master = options.MasterFormat ∷ in_and_out
+
 -- what a command may have that uses a keyset and takes associated data
 abbrev pub with_ad : List OptionName
 with_ad = options.KeysetFormat ∷ options.Ad ∷ options.AdHex ∷ []
@@ -82,6 +90,8 @@ row_of commands.Derive =
 row_of commands.Selftest =
     row (codes "selftest") (options.Seed ∷ []) (options.Lines ∷ [])
 row_of commands.Session = row (codes "session") by_keyset (options.KeysetFormat ∷ put_out)
+row_of commands.WrapKeyset = row (codes "wrap-keyset") by_master under_master
+row_of commands.UnwrapKeyset = row (codes "unwrap-keyset") by_master under_master
 
 -- all commands
 abbrev pub all_commands : List CommandName
@@ -90,7 +100,8 @@ all_commands =
     ∷ commands.EnableKey ∷ commands.DisableKey ∷ commands.DestroyKey ∷ commands.DeleteKey
     ∷ commands.ListKeyset ∷ commands.ConvertKeyset ∷ commands.ListKeyTemplates ∷ commands.Seal
     ∷ commands.Open ∷ commands.Dseal ∷ commands.Dopen ∷ commands.Sseal ∷ commands.Sopen
-    ∷ commands.Tag ∷ commands.Verify ∷ commands.Derive ∷ commands.Session ∷ commands.Selftest ∷ []
+    ∷ commands.Tag ∷ commands.Verify ∷ commands.Derive ∷ commands.Session ∷ commands.Selftest
+    ∷ commands.WrapKeyset ∷ commands.UnwrapKeyset ∷ []
 
 -- the command of this name
 unfoldable pub command_of : List ℕ → Option CommandName
@@ -124,13 +135,16 @@ option_row options.TagHex = option 10 (codes "--tag-hex") forms.Hex
 option_row options.Length = option 11 (codes "--length") forms.Number
 option_row options.Seed = option 12 (codes "--seed") forms.Number
 option_row options.Lines = option 13 (codes "--lines") forms.LineCount
+option_row options.Master = option 14 (codes "--master") forms.FileName
+option_row options.MasterFormat = option 15 (codes "--master-format") forms.Format
 
 -- all options, in the order of their places
 abbrev pub all_options : List OptionName
 all_options =
     options.KeyTemplate ∷ options.KeyId ∷ options.In ∷ options.InFormat ∷ options.Out
     ∷ options.OutFormat ∷ options.Keyset ∷ options.KeysetFormat ∷ options.Ad ∷ options.AdHex
-    ∷ options.TagHex ∷ options.Length ∷ options.Seed ∷ options.Lines ∷ []
+    ∷ options.TagHex ∷ options.Length ∷ options.Seed ∷ options.Lines ∷ options.Master
+    ∷ options.MasterFormat ∷ []
 
 -- the option of this name
 unfoldable pub option_of : List ℕ → Option OptionName

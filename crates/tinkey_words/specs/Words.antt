@@ -88,6 +88,9 @@ pub data Asked : Type 0 where
   -- the input as a stream, sealed or opened by such a keyset, with this associated data
   seal_stream : (keyset : List ℕ) (form : Format) (ad : List ℕ) → Asked
   open_stream : (keyset : List ℕ) (form : Format) (ad : List ℕ) → Asked
+  -- a keyset, sealed under the keyset in the file of this name, its master; or one that was so, opened
+  wrap_keyset : (master : List ℕ) (form : Format) (in' out : Place) → Asked
+  unwrap_keyset : (master : List ℕ) (form : Format) (in' out : Place) → Asked
   -- the lines of the input, answered over such a keyset, and where the last keyset is put
   session : (keyset : List ℕ) (form : Format) (out : Place) → Asked
   -- so many lines of a session, made from a number, and what becomes of them
@@ -205,6 +208,12 @@ asked_with commands.Selftest values =
     self_test (number (values options.Seed)) (lines_in (values options.Lines))
 asked_with commands.Session values =
     session (text (values options.Keyset)) (form_in (values options.KeysetFormat)) (put_to values)
+asked_with commands.WrapKeyset values =
+    wrap_keyset (text (values options.Master)) (form_in (values options.MasterFormat))
+    (taken_from values) (put_to values)
+asked_with commands.UnwrapKeyset values =
+    unwrap_keyset (text (values options.Master)) (form_in (values options.MasterFormat))
+    (taken_from values) (put_to values)
 
 -- The words, one after another.
 
@@ -353,6 +362,10 @@ seen_command (asks.SealStream keyset form ad) = seal_stream keyset.now form (see
 seen_command (asks.OpenStream keyset form ad) = open_stream keyset.now form (seen_datum ad)
 seen_command (asks.Session keyset form output) = session keyset.now form (seen_place output)
 seen_command (asks.SelfTest seed lines) = self_test seed lines
+seen_command (asks.WrapKeyset master form input output) =
+    wrap_keyset master.now form (seen_place input) (seen_place output)
+seen_command (asks.UnwrapKeyset master form input output) =
+    unwrap_keyset master.now form (seen_place input) (seen_place output)
 
 -- the values, which the code keeps at the places of their options
 abbrev pub seen_values : List (Option (Bor (List ℕ))) → Values

@@ -94,6 +94,28 @@ pub enum Request<'a> {
         /// How many lines there are.
         lines: u32,
     },
+    /// Seal a keyset under another one, the master.
+    WrapKeyset {
+        /// The file of the master.
+        master: &'a str,
+        /// The form of the master.
+        form: Format,
+        /// Where the keyset is taken from.
+        input: Place<'a>,
+        /// Where the sealed one is put, and in which form.
+        output: Place<'a>,
+    },
+    /// Open a keyset that was sealed so.
+    UnwrapKeyset {
+        /// The file of the master.
+        master: &'a str,
+        /// The form of the master.
+        form: Format,
+        /// Where the sealed keyset is taken from, and its form.
+        input: Place<'a>,
+        /// Where the keyset is put.
+        output: Place<'a>,
+    },
 }
 
 /// What is done with the whole input by the keys of a keyset.
@@ -233,6 +255,18 @@ fn command_with<'a>(command: CommandName, given: &Options<'a>) -> Request<'a>
         CommandName::Selftest => Request::SelfTest {
             seed: given.number(OptionName::Seed),
             lines: given.lines(),
+        },
+        CommandName::WrapKeyset => Request::WrapKeyset {
+            master: given.text(OptionName::Master),
+            form: given.form(OptionName::MasterFormat),
+            input: given.taken_from(),
+            output: given.put_to(),
+        },
+        CommandName::UnwrapKeyset => Request::UnwrapKeyset {
+            master: given.text(OptionName::Master),
+            form: given.form(OptionName::MasterFormat),
+            input: given.taken_from(),
+            output: given.put_to(),
         },
     }
 }

@@ -55,6 +55,10 @@ pub enum CommandName {
     Session,
     /// `selftest`
     Selftest,
+    /// `wrap-keyset`
+    WrapKeyset,
+    /// `unwrap-keyset`
+    UnwrapKeyset,
 }
 
 /// An option by its name.
@@ -88,10 +92,14 @@ pub enum OptionName {
     Seed,
     /// `--lines`, how many lines it has.
     Lines,
+    /// `--master`, the file of the keyset under which another one is sealed.
+    Master,
+    /// `--master-format`, the form of that keyset.
+    MasterFormat,
 }
 
 /// How many options there are.
-pub const OPTION_COUNT: usize = 14;
+pub const OPTION_COUNT: usize = 16;
 
 /// How many lines a self-test may have.
 const MOST_LINES: u32 = 100_000;
@@ -172,6 +180,8 @@ impl CommandName {
             }
             CommandName::Session => row("session", &BY_KEYSET, &WITH_OUT),
             CommandName::Selftest => row("selftest", &[OptionName::Seed], &[OptionName::Lines]),
+            CommandName::WrapKeyset => row("wrap-keyset", &BY_MASTER, &UNDER_MASTER),
+            CommandName::UnwrapKeyset => row("unwrap-keyset", &BY_MASTER, &UNDER_MASTER),
         }
     }
 }
@@ -184,6 +194,9 @@ const BY_KEY: [OptionName; 1] = [OptionName::KeyId];
 
 /// What a command requires that uses the keys of a keyset.
 const BY_KEYSET: [OptionName; 1] = [OptionName::Keyset];
+
+/// What a command requires that seals or opens a keyset under another one.
+const BY_MASTER: [OptionName; 1] = [OptionName::Master];
 
 const BY_KEYSET_AND_TAG: [OptionName; 2] = [OptionName::Keyset, OptionName::TagHex];
 
@@ -207,6 +220,15 @@ const OUT: [OptionName; 2] = [OptionName::Out, OptionName::OutFormat];
 
 /// Both.
 const IN_AND_OUT: [OptionName; 4] = [
+    OptionName::In,
+    OptionName::InFormat,
+    OptionName::Out,
+    OptionName::OutFormat,
+];
+
+/// What a command may have that seals or opens a keyset under another one.
+const UNDER_MASTER: [OptionName; 5] = [
+    OptionName::MasterFormat,
     OptionName::In,
     OptionName::InFormat,
     OptionName::Out,
@@ -248,6 +270,8 @@ impl OptionName {
             OptionName::Length => option("--length", Form::Number),
             OptionName::Seed => option("--seed", Form::Number),
             OptionName::Lines => option("--lines", Form::LineCount),
+            OptionName::Master => option("--master", Form::FileName),
+            OptionName::MasterFormat => option("--master-format", Form::Format),
         }
     }
 
@@ -279,7 +303,7 @@ fn option(word: &'static str, form: Form) -> OptionRow
 }
 
 /// All commands.
-const COMMANDS: [CommandName; 22] = [
+const COMMANDS: [CommandName; 24] = [
     CommandName::CreateKeyset,
     CommandName::AddKey,
     CommandName::RotateKeyset,
@@ -302,6 +326,8 @@ const COMMANDS: [CommandName; 22] = [
     CommandName::Derive,
     CommandName::Session,
     CommandName::Selftest,
+    CommandName::WrapKeyset,
+    CommandName::UnwrapKeyset,
 ];
 
 /// All options, in the order of their places.
@@ -320,6 +346,8 @@ const OPTIONS: [OptionName; OPTION_COUNT] = [
     OptionName::Length,
     OptionName::Seed,
     OptionName::Lines,
+    OptionName::Master,
+    OptionName::MasterFormat,
 ];
 
 /// The command of this name.
