@@ -1,5 +1,5 @@
 -- What holds of a plan where it holds of its ends: the parts of which the commands' plans are made.
-use Rattle.std.proofs.Common.{inl, inr, ℕ, Bool, true, false, List, [], Option, Some, None, Result, Ok, Err}
+use Rattle.std.proofs.Common.{ℕ, Bool, true, false, List, [], Option, Some, None, Result, Ok, Err}
 use Rattle.std.specs.Prelude.{if◌then◌else◌, length, nat_le}
 use Rattle.key_msgs.specs.Templates.{Row, row_named, is_asymmetric}
 use Rattle.keyset_json.specs.Reading as Json
@@ -8,22 +8,19 @@ use Rattle.keyset_model.specs.Keyset.{Keys}
 use Rattle.keyset_model.specs.Reading.{Refusal, Wire, Fault, reads_binary}
 use Rattle.managers.specs.Table.{Table}
 use Rattle.tinkey_cmds.specs.Draws.{Draw}
-use Rattle.tinkey_cmds.specs.Edits.{Edit, Add, Rotate, Promote, Enable, Disable, Destroy, Delete, first, step}
+use Rattle.tinkey_cmds.specs.Edits.{Edit, Add, Rotate, Promote, Enable, Disable, Destroy, Delete}
 use Rattle.tinkey_cmds.specs.declared.command.CmdFault.{CmdFault}
 use Rattle.wrapped_prims.specs.Answers.{open_answer, dopen_answer, verify_answer, derive_answer}
-use Rattle.wrapped_prims.specs.Fitness.{Unfit, NoManager, BadKey, NotRaw, unfit}
+use Rattle.wrapped_prims.specs.Fitness.{Unfit, NoManager, BadKey, NotRaw}
 use Rattle.tinkey_plans.specs.declared.status.Status.TheVariants as status
 use Rattle.tinkey_words.specs.declared.words.rows.Format.{Format}
 use Rattle.tinkey_words.specs.declared.words.rows.Format.TheVariants as formats
-use Rattle.tinkey_plans.specs.Laws.{CommandsAreWhole}
-use Rattle.tinkey_plans.specs.Plan.{writes, Plan, ends}
-use Rattle.tinkey_plans.specs.Promises.{IsWhole}
-use Rattle.tinkey_plans.specs.Steps.{with_keyset, with_json, keyset_in, takes_keyset, with_row, finds_edit, with_made, makes_keyset, keyset_limit, puts, puts_keyset, writes_keyset, written_in}
+use Rattle.tinkey_plans.specs.Plan.{Plan, ends}
+use Rattle.tinkey_plans.specs.Steps.{with_keyset, with_json, keyset_in, with_row, finds_edit, with_made, keyset_limit, writes_keyset, written_in}
 use Rattle.tinkey_plans.specs.Using.{unless_unfit, with_opened, with_verified, with_derived, works}
-use Rattle.tinkey_selftest.specs.Trial as trial
-use Rattle.tinkey_selftest.specs.declared.counts.Counts.{Counts}
-use Rattle.tinkey_plans.specs.SelfTesting.{tells_counts}
-use Rattle.tinkey_words.specs.Words.{self_test, Place, AskedEdit, AskedWork, to_seal, to_open, to_dseal, to_dopen, to_tag, to_verify, to_derive, primitive_for, create_keyset, edit_keyset, list_keyset, convert_keyset, list_key_templates, use_keyset, seal_stream, open_stream, session}
+use Rattle.tinkey_plans.specs.Wrapping.{makes_wrapped, with_unwrapped, wrapped_limit}
+use Rattle.seal_wrap.specs.Unwrapped as unwrapped
+use Rattle.tinkey_words.specs.Words.{AskedEdit, AskedWork, to_seal, to_open, to_dseal, to_dopen, to_tag, to_verify, to_derive}
 use Rattle.tinkey_plans.specs.Plan.{IsStated, Made, Of, allocates, draws}
 use Rattle.tinkey_plans.specs.declared.status.Status.{Status}
 
@@ -94,6 +91,18 @@ opened_each P c (Some plain) next all = all plain
 pub verified_each : (P : Plan → Type 0) → IsClosed P → (b : Bool) (next : List ℕ → Plan) → AreAll P next → P (with_verified b next)
 verified_each P c true next all = all []
 verified_each P c false next all = c.ended _ _
+
+pub wrapped_each : (P : Plan → Type 0) → IsClosed P → (keys master : Keys) (table : Table) (form : Format) (next : List ℕ → Plan) → AreAll P next → P (makes_wrapped keys master table form next)
+wrapped_each P c keys master table form next all = c.allocated _ (c.drawn _ _ _ (λ made. c.allocated _ (made_each P c made _ (λ text. within_each P c (nat_le (length text) wrapped_limit) (next text) (all text)))))
+
+pub unwrapped_each : (P : Plan → Type 0) → IsClosed P → (r : Result Keys unwrapped.Refusal) (next : Keys → Plan) → AreAll P next → P (with_unwrapped r next)
+unwrapped_each P c (Ok keys) next all = all keys
+unwrapped_each P c (Err (unwrapped.OuterWire at)) next all = c.ended _ _
+unwrapped_each P c (Err unwrapped.NotJson) next all = c.ended _ _
+unwrapped_each P c (Err unwrapped.Member) next all = c.ended _ _
+unwrapped_each P c (Err unwrapped.NotOpened) next all = c.ended _ _
+unwrapped_each P c (Err (unwrapped.InnerWire at)) next all = c.ended _ _
+unwrapped_each P c (Err (unwrapped.Fault fault)) next all = c.ended _ _
 
 pub derived_each : (P : Plan → Type 0) → IsClosed P → (asked : ℕ) (found : Option (Result (List ℕ) ℕ)) (next : List ℕ → Plan) → AreAll P next → P (with_derived asked found next)
 derived_each P c asked None next all = all []

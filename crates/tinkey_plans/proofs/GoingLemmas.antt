@@ -3,29 +3,27 @@ use Rattle.std.proofs.Common.{arith, ◌≡◌, ◌≢◌, sym, refl, subst, ℕ
 use Rattle.std.specs.Prelude.{◌↔◌, if◌then◌else◌}
 use Rattle.std.specs.FinMap as map
 use Rattle.std.proofs.lemmas.Bool.Decides.{nat_tests}
-use Rattle.key_msgs.specs.Templates.{Row, row_named, is_asymmetric}
-use Rattle.keyset_json.specs.Reading as Json
-use Rattle.keyset_json.specs.Reading.{reads_json}
+use Rattle.key_msgs.specs.Templates.{row_named}
+use Rattle.key_msgs.specs.declared.primitive.Primitive.TheVariants.{Aead}
 use Rattle.keyset_model.specs.Keyset.{Keys}
-use Rattle.keyset_model.specs.Reading.{Refusal, Wire, Fault, reads_binary}
 use Rattle.managers.specs.Table.{Table}
 use Rattle.segment_stream.specs.Opening.{StreamRefusal, too_many, failed}
 use Rattle.segment_stream.specs.Pumping.{Part}
 use Rattle.segment_stream.specs.KeysModel.{KeysForStreams}
 use Rattle.segment_stream.specs.StreamKeys as streams
 use Rattle.tinkey_cmds.specs.Draws.{Draw, Drawn}
-use Rattle.tinkey_cmds.specs.Edits.{Edit, Add, Rotate, Promote, Enable, Disable, Destroy, Delete, first, step}
+use Rattle.tinkey_cmds.specs.Edits.{first, step}
 use Rattle.tinkey_cmds.specs.declared.command.CmdFault.{CmdFault}
-use Rattle.wrapped_prims.specs.Answers.{open_answer, dopen_answer, verify_answer, derive_answer}
-use Rattle.wrapped_prims.specs.Fitness.{Unfit, NoManager, BadKey, NotRaw, unfit}
+use Rattle.wrapped_prims.specs.Fitness.{unfit}
 use Rattle.tinkey_plans.specs.declared.status.Status.{Status}
 use Rattle.tinkey_plans.specs.declared.status.Status.TheVariants as status
 use Rattle.tinkey_words.specs.declared.words.rows.Format.{Format}
 use Rattle.tinkey_words.specs.declared.words.rows.Format.TheVariants as formats
 use Rattle.tinkey_plans.specs.Going.{DoneExactly, NoneRefuses}
 use Rattle.tinkey_plans.specs.Plan.{Answer, Of, Plan, Told, answer, create_answer, draw_answer, load_answer, pump_answer, refused, stream_status, talk_answer, limit_status, ends, writes, creates, allocates, loads, reads_all, draws, pumps, exchanges}
-use Rattle.tinkey_plans.specs.Steps.{with_keyset, with_json, keyset_in, takes_keyset, with_row, finds_edit, with_made, makes_keyset, puts, puts_keyset}
-use Rattle.tinkey_plans.specs.Using.{unless_unfit, with_opened, with_verified, with_derived, works}
+use Rattle.tinkey_plans.specs.Steps.{takes_keyset, makes_keyset, puts, puts_keyset}
+use Rattle.seal_wrap.specs.Unwrapped.{unwrap_of}
+use Rattle.tinkey_plans.specs.Wrapping.{is_json, makes_wrapped, takes_wrapped}
 use Rattle.tinkey_selftest.specs.Trial as trial
 use Rattle.tinkey_selftest.specs.declared.counts.Counts.{Counts}
 use Rattle.tinkey_plans.specs.SelfTesting.{tells_counts}
@@ -35,8 +33,8 @@ use Rattle.tinkey_plans.specs.Streaming as streaming
 use Rattle.tinkey_session.proofs.Options.{clash}
 use Rattle.tinkey_session.specs.Talking.{Stop, goes, wants, passes, long_line, many_lines, Talk, Limit}
 use Rattle.tinkey_plans.specs.Commands.{command_plan}
-use Rattle.tinkey_words.specs.Words.{Asked, self_test, Place, AskedEdit, AskedWork, to_seal, to_open, to_dseal, to_dopen, to_tag, to_verify, to_derive, primitive_for, create_keyset, edit_keyset, list_keyset, convert_keyset, list_key_templates, use_keyset, seal_stream, open_stream, session}
-use Rattle.tinkey_plans.proofs.EachLemmas.{AreAll, IsClosed, edit_each, fit_each, keyset_each, made_each, row_each, work_each, written_each}
+use Rattle.tinkey_words.specs.Words.{Asked, self_test, Place, primitive_for, create_keyset, edit_keyset, list_keyset, convert_keyset, list_key_templates, use_keyset, seal_stream, open_stream, session, wrap_keyset, unwrap_keyset}
+use Rattle.tinkey_plans.proofs.EachLemmas.{AreAll, IsClosed, edit_each, fit_each, keyset_each, made_each, row_each, work_each, written_each, wrapped_each, unwrapped_each}
 
 -- the refusals of its steps aren't Done
 abbrev IsProper : Plan → Type 0
@@ -146,6 +144,10 @@ put_proper None output = tt
 out_proper : (out : Place) (keys : Keys) → IsProper (puts_keyset out keys)
 out_proper out keys = written_each IsProper closed out.form keys (puts out.file) (put_proper out.file)
 
+text_proper : (file : Option (List ℕ)) (next : List ℕ → Plan) → AreAll IsProper next → IsProper (takes_wrapped file next)
+text_proper (Some name) next proper = (λ e. cc, λ e. cc, proper)
+text_proper None next proper = (λ e. cc, proper)
+
 counts_proper : (r : Result Counts CmdFault) (lines : ℕ) → IsProper (tells_counts lines r writes)
 counts_proper (Ok n) lines = tt
 counts_proper (Err fault) lines = tt
@@ -177,6 +179,8 @@ commands_are_proper table (use_keyset name form work) = (λ e. cc, λ e. cc, λ 
 commands_are_proper table (seal_stream name form ad) = (λ e. cc, λ e. cc, λ bytes. keyset_each IsProper closed form bytes _ (λ keys. stream_fit_proper (streams.stream_unfit keys) _ (stream_keys_proper (keys_for keys) _ (seals_proper ad))))
 commands_are_proper table (open_stream name form ad) = (λ e. cc, λ e. cc, λ bytes. keyset_each IsProper closed form bytes _ (λ keys. stream_fit_proper (streams.stream_unfit keys) _ (stream_keys_proper (keys_for keys) _ (λ k. tt))))
 commands_are_proper table (self_test seed lines) = counts_proper (trial.self_test table seed lines) lines
+commands_are_proper table (wrap_keyset name form in' out) = (λ e. cc, λ e. cc, λ bytes. keyset_each IsProper closed form bytes _ (λ master. fit_each IsProper closed (unfit master Aead table) _ (taken_proper in'.file in'.form _ (λ keys. written_each IsProper closed formats.Binary keys (λ plain. makes_wrapped keys master table out.form (puts out.file)) (λ plain. wrapped_each IsProper closed keys master table out.form (puts out.file) (put_proper out.file))))))
+commands_are_proper table (unwrap_keyset name form in' out) = (λ e. cc, λ e. cc, λ bytes. keyset_each IsProper closed form bytes _ (λ master. fit_each IsProper closed (unfit master Aead table) _ (text_proper in'.file _ (λ text. unwrapped_each IsProper closed (unwrap_of master table text (is_json in'.form)) _ (out_proper out)))))
 commands_are_proper table (session name form out) = (λ e. cc, λ e. cc, λ bytes. keyset_each IsProper closed form bytes _ (λ keys. λ last. saves_proper out.file out.form last))
 
 pub commands_done_exactly : DoneExactly

@@ -1,20 +1,18 @@
 -- Steps of a plan, one behind another.
-use Rattle.std.proofs.Common.{◌≡◌, refl, inl, inr, Result, Ok, Err, Some, ℕ, ◌≤◌, List, length}
+use Rattle.std.proofs.Common.{◌≡◌, refl, inl, inr, Result, Ok, Err}
 use Rattle.std.specs.Result.{IsErrAnd}
 use Rattle.keyset_model.specs.declared.keyset.Keyset.{Keyset}
 use Rattle.keyset_model.specs.Keyset.{Keys}
-use Rattle.tink_spec.specs.Files.{StoreState, KeptFiles, Holds}
-use Rattle.tink_spec.specs.Outside.{SourceState, EntropyState, Stood, Gave, IsAtEnd}
+use Rattle.tink_spec.specs.Outside.{EntropyState}
 use Rattle.tinkey_cmds.specs.Draws.{Draw}
 use Rattle.tinkey_cmds.specs.Applying.{Applied}
 use Rattle.tinkey_cmds.specs.declared.command.CmdError.{CmdError}
 use Rattle.tinkey_cmds.specs.declared.command.CmdError.TheVariants as errors
-use Rattle.tinkey_words.specs.declared.words.rows.Format.{Format}
 use Rattle.tinkey_plans.specs.declared.status.Status.{Status}
 use Rattle.tinkey_plans.specs.declared.status.Status.TheVariants as status
-use Rattle.tinkey_plans.specs.Ends.{World, Ends, loaded, read, settled, draw_failed}
+use Rattle.tinkey_plans.specs.Ends.{World, Ends, settled, draw_failed}
 use Rattle.tinkey_plans.specs.Plan.{Plan}
-use Rattle.tinkey_plans.specs.Steps.{keyset_limit, keyset_in, loads_keyset, reads_keyset, works_out, makes_keyset, edit_refusal, Passes, PassesAs}
+use Rattle.tinkey_plans.specs.Steps.{works_out, makes_keyset, edit_refusal, Passes, PassesAs}
 
 -- a step that gave a value, and then another
 pub passes_then : {A B : Type 0} (first : (A → Plan) → Plan) (second : A → (B → Plan) → Plan) (old mid new : World) (value : A) (r : Result B Status) → Passes first old (Ok value) mid → Passes (second value) mid r new → Passes (λ next. first (λ x. second x next)) old r new
@@ -34,16 +32,7 @@ pub starved_there : {A : Type 0} (value : A) (w : World) (r : Result A Status) �
 starved_there value w (Ok given) is = absurd is
 starved_there value w (Err e) is = λ next. inr (is, refl)
 
--- a file that was loaded, or a whole input that was read, and then its keyset
-pub loaded_passes : (name : List ℕ) (form : Format) (old : World) (bytes : List ℕ) (store : StoreState) (r : Result Keys Status) → KeptFiles old.store store → Stood old.store.faults store.faults → length bytes ≤ keyset_limit → Holds old.store name (Some bytes) → Passes (keyset_in form bytes) (record old { store = store }) r (record old { store = store }) → Passes (loads_keyset name form) old r (record old { store = store })
-loaded_passes name form old bytes store (Ok keys) kept stood within holds passes = λ next s last run. loaded bytes store kept stood within holds (passes next s last run)
-loaded_passes name form old bytes store (Err s) kept stood within holds passes = λ next. loaded bytes store kept stood within holds (passes next)
-
-pub read_passes : (form : Format) (old : World) (all : List ℕ) (source : SourceState) (r : Result Keys Status) → Gave old.source source all → Stood old.source.faults source.faults → length all ≤ keyset_limit → IsAtEnd source → Passes (keyset_in form all) (record old { source = source }) r (record old { source = source }) → Passes (reads_keyset form) old r (record old { source = source })
-read_passes form old all source (Ok keys) gave stood within end passes = λ next s last run. read all source gave stood within end (passes next s last run)
-read_passes form old all source (Err s) gave stood within end passes = λ next. read all source gave stood within end (passes next)
-
--- the same behind a step whose value the rest takes as it is seen
+-- a step whose value the rest takes as it is seen, and then another
 pub passes_then_as : {A B C : Type 0} (view : A → B) (first : (B → Plan) → Plan) (second : B → (C → Plan) → Plan) (old mid new : World) (value : A) (r : Result C Status) → PassesAs view first old (Ok value) mid → Passes (second (view value)) mid r new → Passes (λ next. first (λ x. second x next)) old r new
 passes_then_as view first second old mid new value (Ok given) one two = λ next s last run. one (λ x. second x next) s last (two next s last run)
 passes_then_as view first second old mid new value (Err s) one two = λ next. one (λ x. second x next) s new (two next)

@@ -1,30 +1,25 @@
 -- Plans that write nothing but at their end.
-use Rattle.std.proofs.Common.{inl, inr, ℕ, Bool, true, false, List, [], Option, Some, None, Result, Ok, Err}
-use Rattle.std.specs.Prelude.{if◌then◌else◌}
-use Rattle.key_msgs.specs.Templates.{Row, row_named, is_asymmetric}
-use Rattle.keyset_json.specs.Reading as Json
-use Rattle.keyset_json.specs.Reading.{reads_json}
+use Rattle.std.proofs.Common.{inl, inr, ℕ, List, Option, Some, None, Result, Ok, Err}
+use Rattle.key_msgs.specs.Templates.{row_named}
+use Rattle.key_msgs.specs.declared.primitive.Primitive.TheVariants.{Aead}
 use Rattle.keyset_model.specs.Keyset.{Keys}
-use Rattle.keyset_model.specs.Reading.{Refusal, Wire, Fault, reads_binary}
-use Rattle.managers.specs.Table.{Table}
 use Rattle.tinkey_cmds.specs.Draws.{Draw}
-use Rattle.tinkey_cmds.specs.Edits.{Edit, Add, Rotate, Promote, Enable, Disable, Destroy, Delete, first, step}
+use Rattle.tinkey_cmds.specs.Edits.{first, step}
 use Rattle.tinkey_cmds.specs.declared.command.CmdFault.{CmdFault}
-use Rattle.wrapped_prims.specs.Answers.{open_answer, dopen_answer, verify_answer, derive_answer}
-use Rattle.wrapped_prims.specs.Fitness.{Unfit, NoManager, BadKey, NotRaw, unfit}
-use Rattle.tinkey_plans.specs.declared.status.Status.TheVariants as status
+use Rattle.wrapped_prims.specs.Fitness.{unfit}
 use Rattle.tinkey_words.specs.declared.words.rows.Format.{Format}
 use Rattle.tinkey_words.specs.declared.words.rows.Format.TheVariants as formats
 use Rattle.tinkey_plans.specs.Laws.{CommandsAreWhole}
-use Rattle.tinkey_plans.specs.Plan.{writes, Plan, ends}
+use Rattle.tinkey_plans.specs.Plan.{writes, Plan}
 use Rattle.tinkey_plans.specs.Promises.{IsWhole}
-use Rattle.tinkey_plans.proofs.EachLemmas.{AreAll, IsClosed, edit_each, fit_each, keyset_each, made_each, row_each, work_each, written_each}
-use Rattle.tinkey_plans.specs.Steps.{with_keyset, with_json, keyset_in, takes_keyset, with_row, finds_edit, with_made, makes_keyset, puts, puts_keyset}
-use Rattle.tinkey_plans.specs.Using.{unless_unfit, with_opened, with_verified, with_derived, works}
+use Rattle.tinkey_plans.proofs.EachLemmas.{AreAll, IsClosed, edit_each, fit_each, keyset_each, made_each, row_each, work_each, written_each, wrapped_each, unwrapped_each}
+use Rattle.tinkey_plans.specs.Steps.{takes_keyset, makes_keyset, puts, puts_keyset}
+use Rattle.seal_wrap.specs.Unwrapped.{unwrap_of}
+use Rattle.tinkey_plans.specs.Wrapping.{is_json, makes_wrapped, takes_wrapped}
 use Rattle.tinkey_selftest.specs.Trial as trial
 use Rattle.tinkey_selftest.specs.declared.counts.Counts.{Counts}
 use Rattle.tinkey_plans.specs.SelfTesting.{tells_counts}
-use Rattle.tinkey_words.specs.Words.{self_test, Place, AskedEdit, AskedWork, to_seal, to_open, to_dseal, to_dopen, to_tag, to_verify, to_derive, primitive_for, create_keyset, edit_keyset, list_keyset, convert_keyset, list_key_templates, use_keyset, seal_stream, open_stream, session}
+use Rattle.tinkey_words.specs.Words.{self_test, Place, primitive_for, create_keyset, edit_keyset, list_keyset, convert_keyset, list_key_templates, use_keyset, seal_stream, open_stream, session, wrap_keyset, unwrap_keyset}
 
 closed : IsClosed IsWhole
 closed = record { ended = λ s stated. tt; allocated = λ next all. all; drawn = λ kind give next all. all }
@@ -43,6 +38,10 @@ put_whole None output = tt
 out_whole : (out : Place) (keys : Keys) → IsWhole (puts_keyset out keys)
 out_whole out keys = written_each IsWhole closed out.form keys (puts out.file) (put_whole out.file)
 
+text_whole : (file : Option (List ℕ)) (next : List ℕ → Plan) → AreAll IsWhole next → IsWhole (takes_wrapped file next)
+text_whole (Some name) next whole = whole
+text_whole None next whole = whole
+
 counts_whole : (r : Result Counts CmdFault) (lines : ℕ) → IsWhole (tells_counts lines r writes)
 counts_whole (Ok n) lines = tt
 counts_whole (Err fault) lines = tt
@@ -58,3 +57,5 @@ commands_are_whole table (seal_stream name form ad) = inr (inl tt)
 commands_are_whole table (open_stream name form ad) = inr (inl tt)
 commands_are_whole table (self_test seed lines) = inl (counts_whole (trial.self_test table seed lines) lines)
 commands_are_whole table (session name form out) = inr (inr tt)
+commands_are_whole table (wrap_keyset name form in' out) = inl (λ bytes. keyset_each IsWhole closed form bytes _ (λ master. fit_each IsWhole closed (unfit master Aead table) _ (taken_whole in'.file in'.form _ (λ keys. written_each IsWhole closed formats.Binary keys (λ plain. makes_wrapped keys master table out.form (puts out.file)) (λ plain. wrapped_each IsWhole closed keys master table out.form (puts out.file) (put_whole out.file))))))
+commands_are_whole table (unwrap_keyset name form in' out) = inl (λ bytes. keyset_each IsWhole closed form bytes _ (λ master. fit_each IsWhole closed (unfit master Aead table) _ (text_whole in'.file _ (λ text. unwrapped_each IsWhole closed (unwrap_of master table text (is_json in'.form)) _ (out_whole out)))))

@@ -1,5 +1,5 @@
 -- The plan of each command: its steps, in the order of refusals. What a keyset answers is said apart
--- from plans, in keyset_model's Listing and in wrapped_prims' Answers.
+-- from plans, in keyset_model's Listing, in wrapped_prims' Answers and in seal_wrap's Wrapped and Unwrapped.
 use Rattle.std.specs.Prelude.{ℕ, List, ◌++◌, Result, Ok, Err, codes}
 use Rattle.std.specs.List.{flat_map}
 use Rattle.key_msgs.specs.Templates.{templates}
@@ -11,10 +11,11 @@ use Rattle.tinkey_plans.specs.declared.status.Status.TheVariants as status
 use Rattle.tinkey_plans.specs.Plan.{Plan, ends, writes}
 use Rattle.tinkey_plans.specs.Session.{holds_session}
 use Rattle.tinkey_plans.specs.SelfTesting.{self_test_output}
-use Rattle.tinkey_plans.specs.Steps.{takes_keyset, loads_keyset, works_out, finds_template, finds_edit, makes_keyset, puts_keyset}
+use Rattle.tinkey_plans.specs.Steps.{takes_keyset, loads_keyset, works_out, finds_template, finds_edit, makes_keyset, puts, puts_keyset}
 use Rattle.tinkey_plans.specs.Streaming.{loads_stream_keys, seals_stream, opens_stream}
 use Rattle.tinkey_plans.specs.Using.{use_output}
-use Rattle.tinkey_words.specs.Words.{Place, AskedEdit, Asked, create_keyset, edit_keyset, list_keyset, convert_keyset, list_key_templates, use_keyset, seal_stream, open_stream, self_test, session, words_of}
+use Rattle.tinkey_plans.specs.Wrapping.{wrap_output, unwrap_output}
+use Rattle.tinkey_words.specs.Words.{Place, AskedEdit, Asked, create_keyset, edit_keyset, list_keyset, convert_keyset, list_key_templates, use_keyset, seal_stream, open_stream, self_test, session, wrap_keyset, unwrap_keyset, words_of}
 
 -- create-keyset: a keyset of one new key
 abbrev pub create_output : List ℕ → (Keys → Plan) → Plan
@@ -49,6 +50,10 @@ command_plan table (open_stream name form ad) =
     loads_stream_keys name form (λ keys. opens_stream keys ad)
 command_plan table (self_test seed lines) = self_test_output table seed lines writes
 command_plan table (session name form out) = loads_keyset name form (holds_session table out)
+command_plan table (wrap_keyset master form in' out) =
+    wrap_output table master form in' out.form (puts out.file)
+command_plan table (unwrap_keyset master form in' out) =
+    unwrap_output table master form in' (puts_keyset out)
 
 -- the command's plan, or the word at fault is the answer
 abbrev pub asked_plan : Table → Result Asked ℕ → Plan

@@ -9,4 +9,5 @@ pub mod Status
 pub mod Steps
 pub mod Streaming
 pub mod Using
+pub mod Wrapping
 pub mod Going

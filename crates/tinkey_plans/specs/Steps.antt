@@ -33,6 +33,11 @@ keyset_limit = 1048576
 abbrev pub input_limit : ℕ
 input_limit = 16777216
 
+-- What is to be opened may have 1,024 bytes more, so that what was sealed of an input within its limit
+-- is within this one.
+abbrev pub sealed_limit : ℕ
+sealed_limit = 16778240
+
 -- the status of a keyset that can't be read, and of want of memory
 abbrev pub refusal_of : ReadError → Status
 refusal_of (errors.Wire wire) = status.BadProto wire.at
@@ -64,16 +69,21 @@ abbrev pub keyset_in : Format → List ℕ → (Keys → Plan) → Plan
 keyset_in formats.Json bytes next = allocates (with_json (reads_json bytes) next)
 keyset_in formats.Binary bytes next = allocates (with_keyset (reads_binary bytes) next)
 
+-- the bytes of a keyset in the file of this name, within a limit
+abbrev pub loads_bytes : (limit : ℕ) → (name : List ℕ) → (List ℕ → Plan) → Plan
+loads_bytes limit name next = loads name limit status.InMissing status.KeysetTooLong tt tt next
+
+-- those that the whole input is
+abbrev pub reads_bytes : (limit : ℕ) → (List ℕ → Plan) → Plan
+reads_bytes limit next = reads_all limit status.KeysetTooLong tt next
+
 -- the keyset in the file of this name
 abbrev pub loads_keyset : List ℕ → Format → (Keys → Plan) → Plan
-loads_keyset name form next =
-    loads name keyset_limit status.InMissing status.KeysetTooLong tt tt
-    (λ bytes. keyset_in form bytes next)
+loads_keyset name form next = loads_bytes keyset_limit name (λ bytes. keyset_in form bytes next)
 
 -- the keyset that the whole input is
 abbrev pub reads_keyset : Format → (Keys → Plan) → Plan
-reads_keyset form next =
-    reads_all keyset_limit status.KeysetTooLong tt (λ bytes. keyset_in form bytes next)
+reads_keyset form next = reads_bytes keyset_limit (λ bytes. keyset_in form bytes next)
 
 -- the keyset in a file, or where none is named, the one that the whole input is
 abbrev pub keyset_at : Option (List ℕ) → Format → (Keys → Plan) → Plan
@@ -84,9 +94,9 @@ keyset_at None form next = reads_keyset form next
 abbrev pub takes_keyset : Place → (Keys → Plan) → Plan
 takes_keyset place next = keyset_at place.file place.form next
 
--- the whole input
-abbrev pub reads_input : (List ℕ → Plan) → Plan
-reads_input next = reads_all input_limit status.InputTooLong tt next
+-- the whole input, within this limit
+abbrev pub reads_input : (limit : ℕ) → (List ℕ → Plan) → Plan
+reads_input limit next = reads_all limit status.InputTooLong tt next
 
 -- a value that is worked out in memory
 abbrev pub works_out : {A : Type 0} → A → (A → Plan) → Plan
@@ -132,15 +142,15 @@ abbrev pub written_in : Format → Keys → List ℕ
 written_in formats.Json keys = json_of keys
 written_in formats.Binary keys = binary_of keys
 
--- bytes within a keyset's limit go on
-abbrev pub within_limit : (List ℕ → Plan) → List ℕ → Plan
-within_limit next bytes =
-    if nat_le (length bytes) keyset_limit then next bytes else ends status.KeysetTooLong tt
+-- bytes within a limit of keysets go on
+abbrev pub within_limit : (limit : ℕ) → (List ℕ → Plan) → List ℕ → Plan
+within_limit limit next bytes =
+    if nat_le (length bytes) limit then next bytes else ends status.KeysetTooLong tt
 
 -- The written form of a keyset. One that is longer than what is read as a keyset is refused, before
 -- anything is put out.
 abbrev pub writes_keyset : Format → Keys → (List ℕ → Plan) → Plan
-writes_keyset form keys next = works_out (written_in form keys) (within_limit next)
+writes_keyset form keys next = works_out (written_in form keys) (within_limit keyset_limit next)
 
 -- the keyset in its written form becomes a new file, or where none is named, goes to the sink
 abbrev pub puts_keyset : Place → Keys → Plan

@@ -17,7 +17,7 @@ use Rattle.tinkey_plans.specs.declared.status.Status.TheVariants as status
 use Rattle.tinkey_words.specs.declared.words.rows.Format.{Format}
 use Rattle.tinkey_plans.specs.Plan.{Plan, ends, allocates, draws, sealings}
 use Rattle.tinkey_plans.specs.Ends.{World}
-use Rattle.tinkey_plans.specs.Steps.{loads_keyset, reads_input, works_out, with_made, Passes}
+use Rattle.tinkey_plans.specs.Steps.{input_limit, sealed_limit, loads_keyset, reads_input, works_out, with_made, Passes}
 use Rattle.tinkey_words.specs.Words.{AskedWork, to_seal, to_open, to_dseal, to_dopen, to_tag, to_verify, to_derive, primitive_for}
 
 -- the rest goes on, or the record that can't serve is refused
@@ -76,12 +76,18 @@ works table keys (to_verify tag) input next =
 works table keys (to_derive size) input next =
     allocates (with_derived size (derive_answer keys table input size) next)
 
+-- how many bytes the input of such work may have
+abbrev pub limit_for : AskedWork → ℕ
+limit_for (to_open ad) = sealed_limit
+limit_for (to_dopen ad) = sealed_limit
+limit_for _ = input_limit
+
 -- work on the whole input, by the keys of the keyset in a file
 abbrev pub use_output : Table → List ℕ → Format → AskedWork → (List ℕ → Plan) → Plan
 use_output table name form work next =
     loads_keyset name form (λ keys.
     handles table (primitive_for work) keys (λ fit.
-    reads_input (λ input.
+    reads_input (limit_for work) (λ input.
     works table keys work input next)))
 
 -- the status of a keyset that can't serve, and of want of memory

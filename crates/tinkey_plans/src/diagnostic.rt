@@ -66,6 +66,7 @@ fn push_text(line: &mut ShortText, status: Status)
         }
         Status::NotJson => line.push("not JSON"),
         Status::Shape(path) => push_path(line, path),
+        Status::WrappedMember => line.push("bad JSON member encryptedKeyset"),
         Status::Keyset(fault) => push_fault(line, fault),
         Status::KeysetTooLong => line.push("keyset too long"),
         Status::InMissing => line.push("input file missing"),

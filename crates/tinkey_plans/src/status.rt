@@ -30,9 +30,11 @@ pub enum Status {
     NotJson,
     /// This member of the keyset is the first that isn't of its form.
     Shape(Path),
+    /// The JSON of a wrapped keyset isn't an object, or its encrypted bytes aren't of their form.
+    WrappedMember,
     /// The keyset has this fault.
     Keyset(KeysetFault),
-    /// The keyset has more than 1,048,576 bytes.
+    /// The keyset has more than 1,048,576 bytes, or a wrapped one more than 4,194,304.
     KeysetTooLong,
     /// The keyset's file is missing.
     InMissing,
@@ -42,7 +44,7 @@ pub enum Status {
     BadKey(usize, Rule),
     /// The record of this place has an output prefix, where the command has no place for one.
     NotRaw(usize),
-    /// The input has more than 16,777,216 bytes.
+    /// The input has more than 16,777,216 bytes, or 16,778,240 where it is to be opened.
     InputTooLong,
     /// A byte follows 2^32 segments of the stream.
     TooManySegments,
@@ -89,6 +91,7 @@ impl Status {
             Status::BadProto(_)
             | Status::NotJson
             | Status::Shape(_)
+            | Status::WrappedMember
             | Status::Keyset(_)
             | Status::NoManager(_)
             | Status::BadKey(_, _)

@@ -1,0 +1,101 @@
+-- Encrypted keysets, as steps of plans. What a wrapped text is, and what one gives, is said apart from
+-- plans, in Wrapped and Unwrapped of seal_wrap.
+use Rattle.std.specs.Prelude.{ℕ, Bool, true, false, List, Option, Some, None, Result, Ok, Err}
+use Rattle.std.specs.Option.{option_map}
+use Rattle.key_msgs.specs.declared.primitive.Primitive.TheVariants.{Aead}
+use Rattle.keyset_model.specs.Keyset.{Keys}
+use Rattle.managers.specs.Table.{Table}
+use Rattle.seal_wrap.specs.Unwrapped.{Refusal, OuterWire, NotJson, Member, NotOpened, InnerWire, Fault, unwrap_of}
+use Rattle.seal_wrap.specs.Wrapped.{Wrapped, wrap_of}
+use Rattle.seal_wrap.specs.declared.unwrapping.UnwrapFault.{UnwrapFault}
+use Rattle.seal_wrap.specs.declared.unwrapping.UnwrapFault.TheVariants as faults
+use Rattle.tinkey_cmds.specs.Draws.{Draw, Drawn}
+use Rattle.tinkey_plans.specs.declared.status.Status.{Status}
+use Rattle.tinkey_plans.specs.declared.status.Status.TheVariants as status
+use Rattle.tinkey_plans.specs.Plan.{Plan, ends, allocates, draws, sealings}
+use Rattle.tinkey_plans.specs.Steps.{loads_bytes, loads_keyset, reads_bytes, takes_keyset, with_made, within_limit, writes_keyset}
+use Rattle.tinkey_plans.specs.Using.{handles}
+use Rattle.tinkey_words.specs.declared.words.rows.Format.{Format}
+use Rattle.tinkey_words.specs.declared.words.rows.Format.TheVariants as formats
+use Rattle.tinkey_words.specs.Words.{Place}
+
+-- a wrapped text of more bytes is too long
+abbrev pub wrapped_limit : ℕ
+wrapped_limit = 4194304
+
+-- the form is JSON, and not the binary one
+abbrev pub is_json : Format → Bool
+is_json formats.Json = true
+is_json formats.Binary = false
+
+-- the keyset in the file of this name, each ENABLED record of which can serve as an AEAD
+abbrev pub loads_master : Table → (name : List ℕ) → Format → (Keys → Plan) → Plan
+loads_master table name form next =
+    loads_keyset name form (λ master. handles table Aead master (λ fit. next master))
+
+-- ---- wrapping
+
+-- a text, and the random bytes that it leaves
+abbrev pub as_wrapping : Wrapped → Drawn (List ℕ)
+as_wrapping wrapped = record { answer = Ok wrapped.text; left = wrapped.left }
+
+-- the text of a keyset under its master, in this form, of random bytes
+abbrev pub wraps : Keys → (master : Keys) → Table → Format → Draw (List ℕ)
+wraps keys master table form random =
+    option_map as_wrapping (wrap_of keys master table random (is_json form))
+
+-- that text goes on, unless it is longer than what is read as one
+abbrev pub makes_wrapped : Keys → (master : Keys) → Table → Format → (List ℕ → Plan) → Plan
+makes_wrapped keys master table form next =
+    allocates (draws sealings (wraps keys master table form)
+    (λ made. allocates (with_made made (within_limit wrapped_limit next))))
+
+-- wrap-keyset: a keyset is sealed under its master. One whose binary form is longer than what is read as
+-- a keyset is refused, so that what is wrapped can be read again.
+abbrev pub wrap_output : Table → (master : List ℕ) → Format → (in' : Place) → (out : Format)
+    → (List ℕ → Plan) → Plan
+wrap_output table master form in' out next =
+    loads_master table master form (λ master.
+    takes_keyset in' (λ keys.
+    writes_keyset formats.Binary keys (λ plain.
+    makes_wrapped keys master table out next)))
+
+-- ---- unwrapping
+
+-- the wrapped text in a file, or where none is named, the whole input
+abbrev pub takes_wrapped : (file : Option (List ℕ)) → (List ℕ → Plan) → Plan
+takes_wrapped (Some name) next = loads_bytes wrapped_limit name next
+takes_wrapped None next = reads_bytes wrapped_limit next
+
+-- the keyset goes on, or why the text gives none is the answer. A place in the keyset inside is told as
+-- one in the text around it is.
+abbrev pub with_unwrapped : Result Keys Refusal → (Keys → Plan) → Plan
+with_unwrapped (Err (OuterWire at)) next = ends (status.BadProto at) tt
+with_unwrapped (Err NotJson) next = ends status.NotJson tt
+with_unwrapped (Err Member) next = ends status.WrappedMember tt
+with_unwrapped (Err NotOpened) next = ends status.OpenFailed tt
+with_unwrapped (Err (InnerWire at)) next = ends (status.BadProto at) tt
+with_unwrapped (Err (Fault fault)) next = ends (status.Keyset fault) tt
+with_unwrapped (Ok keys) next = next keys
+
+-- the same statuses, of the code's faults
+abbrev pub unwrap_refusal : UnwrapFault → Status
+unwrap_refusal (faults.OuterWire at) = status.BadProto at
+unwrap_refusal faults.NotJson = status.NotJson
+unwrap_refusal faults.Member = status.WrappedMember
+unwrap_refusal faults.NotOpened = status.OpenFailed
+unwrap_refusal (faults.InnerWire at) = status.BadProto at
+unwrap_refusal (faults.Fault fault) = status.Keyset fault
+unwrap_refusal faults.NoMemory = status.NoMemory
+
+-- the keyset that a wrapped text gives under its master
+abbrev pub unwraps : (master : Keys) → Table → Format → (text : List ℕ) → (Keys → Plan) → Plan
+unwraps master table form text next =
+    allocates (with_unwrapped (unwrap_of master table text (is_json form)) next)
+
+-- unwrap-keyset: a keyset that was sealed under its master is opened
+abbrev pub unwrap_output : Table → (master : List ℕ) → Format → (in' : Place) → (Keys → Plan) → Plan
+unwrap_output table master form in' next =
+    loads_master table master form (λ master.
+    takes_wrapped in'.file (λ text.
+    unwraps master table in'.form text next))
