@@ -4,4 +4,5 @@ pub mod ReachLemmas
 pub mod ReadableLemmas
 pub mod RunLemmas
 pub mod ReadBytesLemmas
+pub mod WrappedRunLemmas
 pub mod WrittenBytesLemmas

@@ -25,10 +25,10 @@ use Rattle.wrapped_prims.specs.Laws.{HasKey, HasSameKey, IsKeyset}
 use Rattle.tinkey_plans.specs.Laws.{FitKeysetsAnswer, IsSession}
 use Rattle.tinkey_plans.specs.Plan.{Told, answer, writes}
 use Rattle.tinkey_plans.specs.Steps.{keyset_limit}
-use Rattle.tinkey_plans.specs.Using.{works}
-use Rattle.tinkey_words.specs.Words.{Asked, AskedWork, create_keyset, edit_keyset, list_keyset, convert_keyset, list_key_templates, use_keyset, seal_stream, open_stream, self_test, session, to_seal, to_open, to_dseal, to_dopen, to_tag, to_verify, primitive_for}
+use Rattle.tinkey_plans.specs.Using.{limit_for, works}
+use Rattle.tinkey_words.specs.Words.{Asked, AskedWork, create_keyset, edit_keyset, list_keyset, convert_keyset, list_key_templates, use_keyset, seal_stream, open_stream, self_test, session, wrap_keyset, unwrap_keyset, to_seal, to_open, to_dseal, to_dopen, to_tag, to_verify, primitive_for}
 use Rattle.tinkey_readable.specs.LineRuns.{HasTurn, IsRead, IsReadSomehow, MadeDopens, MadeDopensPresent, MadeOpens, MadeOpensPresent, MadeVerifies, WasMade, asks, by_line, by_run, done_reply}
-use Rattle.tinkey_readable.specs.Runs.{Does, IsDone, RunStep, Written, keyset_of}
+use Rattle.tinkey_readable.specs.Runs.{Does, IsDone, RunStep, WrapStep, Written, keyset_of}
 use Rattle.tinkey_readable.proofs.ReachLemmas.{IsDoneAnswer}
 use Rattle.tinkey_readable.proofs.RunLemmas.{Started, done_within, dsealed_by, finished, hands_within, led, opens_so, read_keyset, sealed_by, started, still_fit, tagged_by, verifies_so}
 
@@ -101,22 +101,24 @@ session_does table told old new (use_keyset name form work) is does = absurd is
 session_does table told old new (seal_stream name form ad) is does = absurd is
 session_does table told old new (open_stream name form ad) is does = absurd is
 session_does table told old new (self_test seed lines) is does = absurd is
+session_does table told old new (wrap_keyset name form in' out) is does = absurd is
+session_does table told old new (unwrap_keyset name form in' out) is does = absurd is
 
-origin : ReadKeysFit → RunStep → SessionIsEdits → EditedIsKeyset → (work : AskedWork) (input output : List ℕ) (r : Record) (after : Written) (Makes : Keys → Type 0)
+origin : ReadKeysFit → RunStep → WrapStep → SessionIsEdits → EditedIsKeyset → (work : AskedWork) (input output : List ℕ) (r : Record) (after : Written) (Makes : Keys → Type 0)
     → ((old : Keys) (told : Told) → IsKeyset old → Started work old told output → told.input ≡ input → Makes old)
     → ((keys : Keys) (random : List ℕ) (x : Served) → serve standard_table keys (asks work input) random ≡ Some x → x.reply ≡ Gives output → (unfit keys (primitive_for work) standard_table ≡ None) × Makes keys)
     → WasMade work input output r after → Origin (primitive_for work) Makes r after
-origin fit law sessions keyset work input output r after Makes of_run of_line (by_run runs before old lead told was same primary) =
+origin fit law wrap sessions keyset work input output r after Makes of_run of_line (by_run runs before old lead told was same primary) =
     let within = done_within work before told output was in
-    let l = led law sessions standard_table runs before after old lead.are lead.bytes lead.holds lead.read within in
+    let l = led law wrap sessions runs before after old lead.are lead.bytes lead.holds lead.read within in
     let k = read_keyset fit before.form before.bytes old within lead.read in
     let b = started work before old told output lead.read was in
     record { old = old; last = l.new; lies = l.read; within = l.within; edited = l.edited; keyset = k; primary = primary; fit = b.fit; makes = of_run old told k b same }
-origin fit law sessions keyset work input output r after Makes of_run of_line (by_line run runs before old lead is t has line reply primary) =
+origin fit law wrap sessions keyset work input output r after Makes of_run of_line (by_line run runs before old lead is t has line reply primary) =
     let between = lead.are.0 in
     let hands = lead.are.1 in
     let step' = law standard_table run before between old hands lead.bytes.0 lead.holds lead.read in
-    let l = led law sessions standard_table runs between after step'.new lead.are.2 lead.bytes.1 step'.holds step'.read step'.within in
+    let l = led law wrap sessions runs between after step'.new lead.are.2 lead.bytes.1 step'.holds step'.read step'.within in
     let there = subst (λ k. slice_get (turns standard_table k (asked_in run.told.input) run.told.random) has.place ≡ Some t) (same_Some _ _ (sym has.read ∙ lead.read)) has.there in
     let at = reached standard_table (asked_in run.told.input) old run.told.random has.place t there in
     let does = session_does standard_table run.told old step'.new run.asked is step'.does in
@@ -139,7 +141,7 @@ origin fit law sessions keyset work input output r after Makes of_run of_line (b
 
 -- some output of this kind is read
 record Reads (While : Record → Keys → Type 0) (work : AskedWork) (input : List ℕ) (Is : List ℕ → Type 0) (r : Record) (written : Written) : Type 0 where
-  of_run : (new : Keys) → keyset_of written ≡ Some new → While r new → (other : List ℕ) × Is other × IsDone work written input other
+  of_run : (new : Keys) → keyset_of written ≡ Some new → While r new → length input ≤ limit_for work → (other : List ℕ) × Is other × IsDone work written input other
   of_line : (told : Told) (t : Turn) → HasTurn told written t → t.line ≡ asks work input → While r t.before → (other : List ℕ) × Is other × (t.reply ≡ done_reply work other)
 
 -- what a run and a line answer over a keyset
@@ -152,10 +154,10 @@ record Answers (work : AskedWork) (input : List ℕ) (Is : List ℕ → Type 0) 
 reads : {Makes : Keys → Type 0} (While : Record → Keys → Type 0) (work : AskedWork) (input : List ℕ) (Is : List ℕ → Type 0) (r : Record) (after : Written) → SoundIsUsable (primitive_for work) → EditedIsSound → EditedIsKeyset → (o : Origin (primitive_for work) Makes r after)
     → ((new : Keys) → While r new → Answers work input Is new) → Reads While work input Is r after
 reads While work input Is r after usable sound keyset o answers = record {
-  of_run = λ new lies same.
+  of_run = λ new lies same fits.
       let edited = subst (λ k. IsEdited o.old k) (same_Some _ _ (sym o.lies ∙ lies)) o.edited in
       let a = answers new same in
-      (a.other, a.is, finished work after new input a.other lies o.within (still_fit (primitive_for work) usable sound keyset o.old new o.keyset edited o.fit) a.of_run);
+      (a.other, a.is, finished work after new input a.other lies o.within (still_fit (primitive_for work) usable sound keyset o.old new o.keyset edited o.fit) fits a.of_run);
   of_line = λ told t has line same.
       let last = same_Some _ _ (sym has.read ∙ o.lies) in
       let at = reached standard_table (asked_in told.input) has.keys told.random has.place t has.there in
@@ -167,13 +169,13 @@ reads While work input Is r after usable sound keyset o answers = record {
 
 is_read : (While : Record → Keys → Type 0) (work : AskedWork) (input output : List ℕ) (r : Record) (written : Written) → Reads While work input (λ other. other ≡ output) r written → IsRead While work input output r written
 is_read While work input output r written x = record {
-  by_run = λ new lies same. let d = x.of_run new lies same in subst (λ o. IsDone work written input o) d.1 d.2;
+  by_run = λ new lies same fits. let d = x.of_run new lies same fits in subst (λ o. IsDone work written input o) d.1 d.2;
   by_line = λ told t has line same. let d = x.of_line told t has line same in d.2 ∙ ap (done_reply work) d.1;
 }
 
 is_read_somehow : (work : AskedWork) (input : List ℕ) (r : Record) (written : Written) → Reads HasKey work input (λ other. Unit {0}) r written → IsReadSomehow work input r written
 is_read_somehow work input r written x = record {
-  by_run = λ new lies same. let d = x.of_run new lies same in (d.0, d.2);
+  by_run = λ new lies same fits. let d = x.of_run new lies same fits in (d.0, d.2);
   by_line = λ told t has line same. let d = x.of_line told t has line same in (d.0, d.2);
 }
 
@@ -185,9 +187,9 @@ record MakesSeal (plain ad sealed : List ℕ) (keys : Keys) : Type 0 where
   is : seal_answer keys standard_table plain ad random ≡ Some made
   bytes : made.bytes ≡ sealed
 
-seal_origin : ReadKeysFit → RunStep → SessionIsEdits → EditedIsKeyset → (ad plain sealed : List ℕ) (r : Record) (after : Written) → WasMade (to_seal ad) plain sealed r after → Origin Aead (MakesSeal plain ad sealed) r after
+seal_origin : ReadKeysFit → RunStep → WrapStep → SessionIsEdits → EditedIsKeyset → (ad plain sealed : List ℕ) (r : Record) (after : Written) → WasMade (to_seal ad) plain sealed r after → Origin Aead (MakesSeal plain ad sealed) r after
 unfolding serve
-seal_origin read_fit law sessions keyset ad plain sealed r after was = origin read_fit law sessions keyset (to_seal ad) plain sealed r after (MakesSeal plain ad sealed)
+seal_origin read_fit law wrap sessions keyset ad plain sealed r after was = origin read_fit law wrap sessions keyset (to_seal ad) plain sealed r after (MakesSeal plain ad sealed)
     (λ old told k b same. let s = sealed_by old ad told sealed b in record { random = told.random; made = s.0; is = ap (λ i. seal_answer old standard_table i ad told.random) (sym same) ∙ s.1; bytes = s.2 })
     (λ keys random x e is.
     let g = gave Aead keys random (option_map (sealed_reply keys) (seal_answer keys standard_table plain ad random)) x sealed e is in
@@ -204,16 +206,16 @@ open_answers Is new sealed ad plain is e = record {
   of_line = λ random x fit served. answer_is Aead new random _ x fit served ∙ ap opened_reply e;
 }
 
-pub made_opens : ReadKeysFit → RunStep → SessionIsEdits → SoundIsUsable Aead → EditedIsSound → EditedIsKeyset → KeptOpen → MadeOpens
-made_opens read_fit law sessions usable sound keyset kept ad plain sealed prefix r after is was =
-    let o = seal_origin read_fit law sessions keyset ad plain sealed r after was in
+pub made_opens : ReadKeysFit → RunStep → WrapStep → SessionIsEdits → SoundIsUsable Aead → EditedIsSound → EditedIsKeyset → KeptOpen → MadeOpens
+made_opens read_fit law wrap sessions usable sound keyset kept ad plain sealed prefix r after is was =
+    let o = seal_origin read_fit law wrap sessions keyset ad plain sealed r after was in
     let m = o.makes in
     is_read HasSameKey (to_open ad) sealed plain r after (reads HasSameKey (to_open ad) sealed (λ other. other ≡ plain) r after usable sound keyset o (λ new same.
     open_answers (λ other. other ≡ plain) new sealed ad plain refl (ap (λ c. open_answer new standard_table c ad) (sym m.bytes) ∙ kept o.old new r prefix plain ad m.random m.made same o.primary is m.is)))
 
-pub made_opens_present : ReadKeysFit → RunStep → SessionIsEdits → SoundIsUsable Aead → EditedIsSound → EditedIsKeyset → KeptOpenPresent → MadeOpensPresent
-made_opens_present read_fit law sessions usable sound keyset kept ad plain sealed r after was =
-    let o = seal_origin read_fit law sessions keyset ad plain sealed r after was in
+pub made_opens_present : ReadKeysFit → RunStep → WrapStep → SessionIsEdits → SoundIsUsable Aead → EditedIsSound → EditedIsKeyset → KeptOpenPresent → MadeOpensPresent
+made_opens_present read_fit law wrap sessions usable sound keyset kept ad plain sealed r after was =
+    let o = seal_origin read_fit law wrap sessions keyset ad plain sealed r after was in
     let m = o.makes in
     is_read_somehow (to_open ad) sealed r after (reads HasKey (to_open ad) sealed (λ other. Unit {0}) r after usable sound keyset o (λ new same.
     let opened = kept o.old new r plain ad m.random m.made same o.primary m.is in
@@ -221,9 +223,9 @@ made_opens_present read_fit law sessions usable sound keyset kept ad plain seale
 
 -- ---- seals without an IV
 
-dseal_origin : FitKeysetsAnswer → ReadKeysFit → RunStep → SessionIsEdits → EditedIsKeyset → (ad plain sealed : List ℕ) (r : Record) (after : Written) → WasMade (to_dseal ad) plain sealed r after → Origin Daead (λ keys. dseal_answer keys standard_table plain ad ≡ Some sealed) r after
+dseal_origin : FitKeysetsAnswer → ReadKeysFit → RunStep → WrapStep → SessionIsEdits → EditedIsKeyset → (ad plain sealed : List ℕ) (r : Record) (after : Written) → WasMade (to_dseal ad) plain sealed r after → Origin Daead (λ keys. dseal_answer keys standard_table plain ad ≡ Some sealed) r after
 unfolding serve
-dseal_origin fits read_fit law sessions keyset ad plain sealed r after was = origin read_fit law sessions keyset (to_dseal ad) plain sealed r after (λ keys. dseal_answer keys standard_table plain ad ≡ Some sealed)
+dseal_origin fits read_fit law wrap sessions keyset ad plain sealed r after was = origin read_fit law wrap sessions keyset (to_dseal ad) plain sealed r after (λ keys. dseal_answer keys standard_table plain ad ≡ Some sealed)
     (λ old told k b same. ap (λ i. dseal_answer old standard_table i ad) (sym same) ∙ dsealed_by fits old ad told sealed k b)
     (λ keys random x e is. computed_gave Daead keys random (dseal_answer keys standard_table plain ad) sealed x e is)
     was
@@ -237,24 +239,24 @@ dopen_answers Is new sealed ad plain is e = record {
   of_line = λ random x fit served. answer_is Daead new random _ x fit served ∙ ap opened_reply e;
 }
 
-pub made_dopens : FitKeysetsAnswer → ReadKeysFit → RunStep → SessionIsEdits → SoundIsUsable Daead → EditedIsSound → EditedIsKeyset → KeptDopen → MadeDopens
-made_dopens fits read_fit law sessions usable sound keyset kept ad plain sealed prefix r after is was =
-    let o = dseal_origin fits read_fit law sessions keyset ad plain sealed r after was in
+pub made_dopens : FitKeysetsAnswer → ReadKeysFit → RunStep → WrapStep → SessionIsEdits → SoundIsUsable Daead → EditedIsSound → EditedIsKeyset → KeptDopen → MadeDopens
+made_dopens fits read_fit law wrap sessions usable sound keyset kept ad plain sealed prefix r after is was =
+    let o = dseal_origin fits read_fit law wrap sessions keyset ad plain sealed r after was in
     is_read HasSameKey (to_dopen ad) sealed plain r after (reads HasSameKey (to_dopen ad) sealed (λ other. other ≡ plain) r after usable sound keyset o (λ new same.
     dopen_answers (λ other. other ≡ plain) new sealed ad plain refl (kept o.old new r prefix plain ad sealed same o.primary is o.makes)))
 
-pub made_dopens_present : FitKeysetsAnswer → ReadKeysFit → RunStep → SessionIsEdits → SoundIsUsable Daead → EditedIsSound → EditedIsKeyset → KeptDopenPresent → MadeDopensPresent
-made_dopens_present fits read_fit law sessions usable sound keyset kept ad plain sealed r after was =
-    let o = dseal_origin fits read_fit law sessions keyset ad plain sealed r after was in
+pub made_dopens_present : FitKeysetsAnswer → ReadKeysFit → RunStep → WrapStep → SessionIsEdits → SoundIsUsable Daead → EditedIsSound → EditedIsKeyset → KeptDopenPresent → MadeDopensPresent
+made_dopens_present fits read_fit law wrap sessions usable sound keyset kept ad plain sealed r after was =
+    let o = dseal_origin fits read_fit law wrap sessions keyset ad plain sealed r after was in
     is_read_somehow (to_dopen ad) sealed r after (reads HasKey (to_dopen ad) sealed (λ other. Unit {0}) r after usable sound keyset o (λ new same.
     let opened = kept o.old new r plain ad sealed same o.primary o.makes in
     dopen_answers (λ other. Unit {0}) new sealed ad opened.0 tt opened.1))
 
 -- ---- tags
 
-tag_origin : FitKeysetsAnswer → ReadKeysFit → RunStep → SessionIsEdits → EditedIsKeyset → (tag body : List ℕ) (r : Record) (after : Written) → WasMade to_tag body tag r after → Origin Mac (λ keys. tag_answer keys standard_table body ≡ Some tag) r after
+tag_origin : FitKeysetsAnswer → ReadKeysFit → RunStep → WrapStep → SessionIsEdits → EditedIsKeyset → (tag body : List ℕ) (r : Record) (after : Written) → WasMade to_tag body tag r after → Origin Mac (λ keys. tag_answer keys standard_table body ≡ Some tag) r after
 unfolding serve
-tag_origin fits read_fit law sessions keyset tag body r after was = origin read_fit law sessions keyset to_tag body tag r after (λ keys. tag_answer keys standard_table body ≡ Some tag)
+tag_origin fits read_fit law wrap sessions keyset tag body r after was = origin read_fit law wrap sessions keyset to_tag body tag r after (λ keys. tag_answer keys standard_table body ≡ Some tag)
     (λ old told k b same. ap (λ i. tag_answer old standard_table i) (sym same) ∙ tagged_by fits old told tag k b)
     (λ keys random x e is. computed_gave Mac keys random (tag_answer keys standard_table body) tag x e is)
     was
@@ -268,8 +270,8 @@ verify_answers new tag body e = record {
   of_line = λ random x fit served. answer_is Mac new random _ x fit served ∙ ap verified_reply e;
 }
 
-pub made_verifies : FitKeysetsAnswer → ReadKeysFit → RunStep → SessionIsEdits → SoundIsUsable Mac → EditedIsSound → EditedIsKeyset → KeptTag → MadeVerifies
-made_verifies fits read_fit law sessions usable sound keyset kept tag body r after was =
-    let o = tag_origin fits read_fit law sessions keyset tag body r after was in
+pub made_verifies : FitKeysetsAnswer → ReadKeysFit → RunStep → WrapStep → SessionIsEdits → SoundIsUsable Mac → EditedIsSound → EditedIsKeyset → KeptTag → MadeVerifies
+made_verifies fits read_fit law wrap sessions usable sound keyset kept tag body r after was =
+    let o = tag_origin fits read_fit law wrap sessions keyset tag body r after was in
     is_read HasKey (to_verify tag) body [] r after (reads HasKey (to_verify tag) body (λ other. other ≡ []) r after usable sound keyset o (λ new same.
     verify_answers new tag body (kept o.old new r tag body same o.primary o.makes)))

@@ -12,7 +12,6 @@ use Rattle.keyset_json.specs.Reading.{reads_json}
 use Rattle.keyset_model.specs.Keyset.{Keys}
 use Rattle.keyset_model.specs.Reading.{reads_binary}
 use Rattle.managers.specs.Table.{Table}
-use Rattle.tink_spec.specs.Files.{Files}
 use Rattle.tinkey_cmds.specs.Draws.{Draw, Drawn}
 use Rattle.tinkey_cmds.specs.Edits.{Edit, Stepped}
 use Rattle.tinkey_cmds.specs.Edits as edits
@@ -25,8 +24,8 @@ use Rattle.tinkey_words.specs.declared.words.rows.Format.{Format}
 use Rattle.tinkey_words.specs.declared.words.rows.Format.TheVariants as formats
 use Rattle.tinkey_plans.specs.Plan.{Plan, Told, Answer, answer, refused, load_answer, create_answer, draw_answer, ends, writes}
 use Rattle.tinkey_readable.specs.Runs.{read_in, bytes_at, edit_of}
-use Rattle.tinkey_plans.specs.Steps.{keyset_limit, input_limit, keyset_in, with_keyset, with_json, loads_keyset, reads_keyset, takes_keyset, keyset_at, reads_input, finds_edit, with_row, makes_keyset, with_made, puts, puts_keyset, written_in}
-use Rattle.tinkey_plans.specs.Using.{handles, unless_unfit, use_output, works}
+use Rattle.tinkey_plans.specs.Steps.{keyset_limit, keyset_in, with_keyset, with_json, loads_keyset, reads_keyset, takes_keyset, keyset_at, reads_input, finds_edit, with_row, makes_keyset, with_made, puts, puts_keyset, written_in}
+use Rattle.tinkey_plans.specs.Using.{handles, limit_for, unless_unfit, use_output, works}
 use Rattle.tinkey_words.specs.Words.{AskedEdit, AskedWork, Place, primitive_for}
 
 -- what was told, with these bytes left of the input and of the random ones
@@ -41,7 +40,7 @@ not_done : {P : Type 0} (s : Status) → (s ≡ status.Done → ⊥) → s ≡ s
 not_done s other is = absurd (other is)
 
 -- where the other answer isn't Done, it went on
-went_done : (b : Bool) (went long : Answer) → (long.status ≡ status.Done → ⊥) → (if b then went else long).status ≡ status.Done → (if b then went else long) ≡ went
+pub went_done : (b : Bool) (went long : Answer) → (long.status ≡ status.Done → ⊥) → (if b then went else long).status ≡ status.Done → (if b then went else long) ≡ went
 went_done true went long other done = refl
 went_done false went long other done = absurd (other done)
 
@@ -49,7 +48,7 @@ went_test : (b : Bool) (went long : Answer) → (long.status ≡ status.Done →
 went_test true went long other done = refl
 went_test false went long other done = absurd (other done)
 
-went_on : (b : Bool) (went long : Answer) → b ≡ true → (if b then went else long) ≡ went
+pub went_on : (b : Bool) (went long : Answer) → b ≡ true → (if b then went else long) ≡ went
 went_on b went long is = ap (λ (x : Bool). if x then went else long) is
 
 -- ---- a keyset
@@ -63,10 +62,10 @@ keyset_reached formats.Json bytes keys next told e = ap (λ r. answer (with_json
 keyset_reached formats.Binary bytes keys next told e = ap (λ r. answer (with_keyset r next) told) (same_ok (reads_binary bytes) keys e)
 
 -- within its limit a file is loaded
-loaded : (found : Option (List ℕ)) (bytes : List ℕ) (limit : ℕ) (absent long : Answer) (next : List ℕ → Answer) → found ≡ Some bytes → length bytes ≤ limit → load_answer found limit absent long next ≡ next bytes
+pub loaded : (found : Option (List ℕ)) (bytes : List ℕ) (limit : ℕ) (absent long : Answer) (next : List ℕ → Answer) → found ≡ Some bytes → length bytes ≤ limit → load_answer found limit absent long next ≡ next bytes
 loaded found bytes limit absent long next is within = ap (λ f. load_answer f limit absent long next) is ∙ went_on (nat_le (length bytes) limit) (next bytes) long (grind (arith, nat_tests, within))
 
-loaded_done : (found : Option (List ℕ)) (bytes : List ℕ) (limit : ℕ) (absent long : Answer) (next : List ℕ → Answer) → found ≡ Some bytes → (long.status ≡ status.Done → ⊥) → (load_answer found limit absent long next).status ≡ status.Done
+pub loaded_done : (found : Option (List ℕ)) (bytes : List ℕ) (limit : ℕ) (absent long : Answer) (next : List ℕ → Answer) → found ≡ Some bytes → (long.status ≡ status.Done → ⊥) → (load_answer found limit absent long next).status ≡ status.Done
     → load_answer found limit absent long next ≡ next bytes
 loaded_done found bytes limit absent long next is other done =
     let e = ap (λ f. load_answer f limit absent long next) is in
@@ -181,7 +180,7 @@ pub record PutOut (out : Place) (keys : Keys) (told : Told) : Type 0 where
   pub there : bytes_at out.file (answer (puts_keyset out keys) told).files (answer (puts_keyset out keys) told).output ≡ Some (written_in out.form keys)
 
 -- bytes that were put out
-bytes_put : (file : Option (List ℕ)) (bytes : List ℕ) (told : Told) → IsDoneAnswer (answer (puts file bytes) told) → bytes_at file (answer (puts file bytes) told).files (answer (puts file bytes) told).output ≡ Some bytes
+pub bytes_put : (file : Option (List ℕ)) (bytes : List ℕ) (told : Told) → IsDoneAnswer (answer (puts file bytes) told) → bytes_at file (answer (puts file bytes) told).files (answer (puts file bytes) told).output ≡ Some bytes
 bytes_put None bytes told done = refl
 bytes_put (Some name) bytes told done = by_free (map.get told.files name) done
   where
@@ -210,7 +209,7 @@ put_done out keys told done = by (nat_le (length bytes) keyset_limit) refl done
 
 -- ---- the keys of a keyset
 
-unfit_done : (u : Option (ℕ × Unfit)) (next : Plan) (told : Told) → IsDoneAnswer (answer (unless_unfit u next) told) → u ≡ None
+pub unfit_done : (u : Option (ℕ × Unfit)) (next : Plan) (told : Told) → IsDoneAnswer (answer (unless_unfit u next) told) → u ≡ None
 unfit_done None next told done = refl
 unfit_done (Some (i, NoManager)) next told done = absurd (cc)
 unfit_done (Some (i, BadKey rule)) next told done = absurd (cc)
@@ -218,20 +217,25 @@ unfit_done (Some (i, NotRaw)) next told done = absurd (cc)
 
 -- work behind the keyset and its fitness
 abbrev work_behind : Table → Keys → AskedWork → Plan
-work_behind table keys work = reads_input (λ input. works table keys work input writes)
+work_behind table keys work = reads_input (limit_for work) (λ input. works table keys work input writes)
 
 input_done : (table : Table) (keys : Keys) (work : AskedWork) (told : Told) → IsDoneAnswer (answer (work_behind table keys work) told)
     → answer (work_behind table keys work) told ≡ answer (works table keys work told.input writes) (record told { input = [] })
 input_done table keys work told done =
-    went_done (nat_le (length told.input) input_limit) (answer (works table keys work told.input writes) (record told { input = [] })) (record (refused told status.InputTooLong) { input = Some (drop (input_limit + 1) told.input) }) (λ h. absurd (cc)) done
+    went_done (nat_le (length told.input) (limit_for work)) (answer (works table keys work told.input writes) (record told { input = [] })) (record (refused told status.InputTooLong) { input = Some (drop (limit_for work + 1) told.input) }) (λ h. absurd (cc)) done
 
-input_reached : (table : Table) (keys : Keys) (work : AskedWork) (told : Told) → length told.input ≤ input_limit
+input_within : (table : Table) (keys : Keys) (work : AskedWork) (told : Told) → IsDoneAnswer (answer (work_behind table keys work) told) → length told.input ≤ limit_for work
+input_within table keys work told done =
+    leb-true (length told.input) (limit_for work) (went_test (nat_le (length told.input) (limit_for work)) (answer (works table keys work told.input writes) (record told { input = [] })) (record (refused told status.InputTooLong) { input = Some (drop (limit_for work + 1) told.input) }) (λ h. absurd (cc)) done)
+
+input_reached : (table : Table) (keys : Keys) (work : AskedWork) (told : Told) → length told.input ≤ limit_for work
     → answer (work_behind table keys work) told ≡ answer (works table keys work told.input writes) (record told { input = [] })
 input_reached table keys work told within =
-    went_on (nat_le (length told.input) input_limit) (answer (works table keys work told.input writes) (record told { input = [] })) (record (refused told status.InputTooLong) { input = Some (drop (input_limit + 1) told.input) }) (grind (arith, nat_tests, within))
+    went_on (nat_le (length told.input) (limit_for work)) (answer (works table keys work told.input writes) (record told { input = [] })) (record (refused told status.InputTooLong) { input = Some (drop (limit_for work + 1) told.input) }) (grind (arith, nat_tests, within))
 
 pub record UsedKeys (table : Table) (keys : Keys) (work : AskedWork) (told : Told) (a : Answer) : Type 0 where
   pub fit : unfit keys (primitive_for work) table ≡ None
+  pub fits : length told.input ≤ limit_for work
   pub goes_on : a ≡ answer (works table keys work told.input writes) (record told { input = [] })
 
 pub used_done : (table : Table) (name : List ℕ) (form : Format) (work : AskedWork) (bytes : List ℕ) (keys : Keys) (told : Told) → map.get told.files name ≡ Some bytes → read_in form bytes ≡ Some keys → IsDoneAnswer (answer (use_output table name form work writes) told)
@@ -243,6 +247,7 @@ used_done table name form work bytes keys told there e done =
     let f : answer (unless_unfit (unfit keys (primitive_for work) table) (work_behind table keys work)) told ≡ answer (work_behind table keys work) told = ap (λ u. answer (unless_unfit u (work_behind table keys work)) told) fit in
     record {
       fit = fit;
+      fits = input_within table keys work told (ap (λ (a : Answer). a.status) (sym f) ∙ d);
       goes_on = l ∙ f ∙ input_done table keys work told (ap (λ (a : Answer). a.status) (sym f) ∙ d);
     }
 
@@ -250,7 +255,7 @@ pub used_within : (table : Table) (name : List ℕ) (form : Format) (work : Aske
 used_within table name form work bytes told there done = load_within name form bytes (λ k. handles table (primitive_for work) k (λ fit. work_behind table k work)) told there done
 
 pub used_reached : (table : Table) (name : List ℕ) (form : Format) (work : AskedWork) (bytes : List ℕ) (keys : Keys) (told : Told) → map.get told.files name ≡ Some bytes → read_in form bytes ≡ Some keys → length bytes ≤ keyset_limit
-    → unfit keys (primitive_for work) table ≡ None → length told.input ≤ input_limit
+    → unfit keys (primitive_for work) table ≡ None → length told.input ≤ limit_for work
     → answer (use_output table name form work writes) told ≡ answer (works table keys work told.input writes) (record told { input = [] })
 used_reached table name form work bytes keys told there e within fit fits =
     load_reached name form bytes keys (λ k. handles table (primitive_for work) k (λ x. work_behind table k work)) told there e within

@@ -46,11 +46,12 @@ use Rattle.tinkey_words.specs.declared.words.rows.Format.TheVariants as formats
 use Rattle.tinkey_plans.specs.Commands.{command_plan}
 use Rattle.tinkey_plans.specs.Plan.{Told, Answer, answer, writes, draw_answer, refused, talk_answer}
 use Rattle.tinkey_plans.specs.Session.{holds_session, saves, saves_as}
-use Rattle.tinkey_readable.specs.Runs.{Handing, hands_on, session_handing, AreRuns, DrawsBytes, Does, Gives, HandsOn, HoldsBytes, IsDone, LeadOn, ReadIsStored, Run, RunStep, RunsDopen, RunsDopenPresent, RunsOpen, RunsOpenPresent, RunsVerify, WasDone, Written, bytes_at, edit_of, keyset_of, read_in}
+use Rattle.tinkey_readable.specs.Runs.{Handing, hands_on, session_handing, AreRuns, Does, Gives, HandsOn, HoldsBytes, IsDone, Keeps, LeadOn, ReadIsStored, Passage, PassesBytes, Run, RunStep, RunsDopen, RunsDopenPresent, RunsOpen, RunsOpenPresent, RunsVerify, WasDone, WrapStep, Written, by_run, by_wrap, bytes_at, edit_of, keyset_of, read_in}
 use Rattle.tinkey_plans.specs.Laws.{FitKeysetsAnswer}
-use Rattle.tinkey_plans.specs.Steps.{input_limit, keyset_limit, takes_keyset, makes_keyset, puts_keyset, with_made, written_in}
-use Rattle.tinkey_plans.specs.Using.{as_drawn, made_bytes, with_opened, with_verified, works}
-use Rattle.tinkey_words.specs.Words.{Asked, AskedEdit, AskedWork, Place, create_keyset, edit_keyset, list_keyset, convert_keyset, list_key_templates, use_keyset, seal_stream, open_stream, self_test, session, to_seal, to_open, to_dseal, to_dopen, to_tag, to_verify, primitive_for}
+use Rattle.tinkey_plans.specs.Steps.{input_limit, sealed_limit, keyset_limit, takes_keyset, makes_keyset, puts_keyset, with_made, written_in}
+use Rattle.tinkey_plans.specs.Using.{as_drawn, limit_for, made_bytes, with_opened, with_verified, works}
+use Rattle.tinkey_words.specs.Words.{Asked, AskedEdit, AskedWork, Place, create_keyset, edit_keyset, list_keyset, convert_keyset, list_key_templates, use_keyset, seal_stream, open_stream, self_test, session, wrap_keyset, unwrap_keyset, to_seal, to_open, to_dseal, to_dopen, to_tag, to_verify, primitive_for}
+use Rattle.seal_wrap.specs.Sealings.{DsealingsFit, SealingsFit}
 use Rattle.tinkey_readable.proofs.ReachLemmas.{load_done, load_within, IsDoneAnswer, behind, found_edit, made_done, put_done, taken_done, taken_within, used_done, used_reached, used_within}
 use Rattle.tinkey_readable.proofs.WrittenBytesLemmas.{written_bytes}
 
@@ -119,13 +120,13 @@ found_each P test (y ∷ xs) x e all = (elim (test y) as (λ (b : Bool). cond b 
   | false ↦ λ h. found_each P test xs x h all.1
 ]) e
 
-primary_word : FaultlessKeysets → (keys : Keys) → fault_of keys ≡ None → AreStored keys → keys.primary < 2 ^ 32
+pub primary_word : FaultlessKeysets → (keys : Keys) → fault_of keys ≡ None → AreStored keys → keys.primary < 2 ^ 32
 primary_word law keys faultless stored =
     let there = ((law keys).0 faultless).primary in
     let r = found_each IsStored (is_primary keys.primary) keys.records there.0 there.1 stored in
     subst (λ n. n < 2 ^ 32) there.2 r.held.id
 
-json_back : FaultlessKeysets → JsonBack → (keys : Keys) → fault_of keys ≡ None → AreStored keys → reads_json (json_of keys) ≡ Ok keys
+pub json_back : FaultlessKeysets → JsonBack → (keys : Keys) → fault_of keys ≡ None → AreStored keys → reads_json (json_of keys) ≡ Ok keys
 json_back law json keys faultless stored = json keys faultless (primary_word law keys faultless stored) (each_of keys.records (λ r s. record { id = s.held.id; utf8 = s.held.utf8; bytes = byte_there r.value s.bytes }) stored)
 
 pub written_back : FaultlessKeysets → BinaryBack → JsonBack → (form : Format) (keys : Keys) → fault_of keys ≡ None → AreStored keys → read_in form (written_in form keys) ≡ Some keys
@@ -147,19 +148,24 @@ edit_template (edits.Disable id) edit e = subst HasTemplate (same_Some _ _ e) tt
 edit_template (edits.Destroy id) edit e = subst HasTemplate (same_Some _ _ e) tt
 edit_template (edits.Delete id) edit e = subst HasTemplate (same_Some _ _ e) tt
 
+-- a keyset that was put out is there, and is read back
+pub kept : FaultlessKeysets → BinaryBack → JsonBack → (new : Keys) (form : Format) (after : Written) (found : Option (List ℕ)) → form ≡ after.form → found ≡ Some after.bytes → found ≡ Some (written_in form new) → length (written_in form new) ≤ keyset_limit → fault_of new ≡ None → AreStored new
+    → Keeps new after
+kept law binary json new form after found same put is within faultless stored = record {
+  read = subst (λ f. read_in f after.bytes ≡ Some new) same (ap (read_in form) (same_Some _ _ (sym put ∙ is)) ∙ written_back law binary json form new faultless stored);
+  stored = stored;
+  within = subst (λ bytes. length bytes ≤ keyset_limit) (same_Some _ _ (sym is ∙ put)) within;
+  holds = subst AreBytes (same_Some _ _ (sym is ∙ put)) (written_bytes form new ((law new).0 faultless) (primary_word law new faultless stored) stored (json_back law json new faultless stored));
+}
+
 -- what a run did, and so what keyset was written
 given : FaultlessKeysets → BinaryBack → JsonBack → (table : Table) (run : Run) (old new : Keys) (out : Place) (after : Written) → out.form ≡ after.form
     → bytes_at out.file (answer (command_plan table run.asked) run.told).files (answer (command_plan table run.asked) run.told).output ≡ Some after.bytes
     → bytes_at out.file (answer (command_plan table run.asked) run.told).files (answer (command_plan table run.asked) run.told).output ≡ Some (written_in out.form new)
     → length (written_in out.form new) ≤ keyset_limit → fault_of new ≡ None → AreStored new → Does table run.told old new run.asked → Gives table run old after
-given law binary json table run old new out after form put is within faultless stored does = record {
-  new = new;
-  read = subst (λ f. read_in f after.bytes ≡ Some new) form (ap (read_in out.form) (same_Some _ _ (sym put ∙ is)) ∙ written_back law binary json out.form new faultless stored);
-  does = does;
-  stored = stored;
-  within = subst (λ bytes. length bytes ≤ keyset_limit) (same_Some _ _ (sym is ∙ put)) within;
-  holds = subst AreBytes (same_Some _ _ (sym is ∙ put)) (written_bytes out.form new ((law new).0 faultless) (primary_word law new faultless stored) stored (json_back law json new faultless stored));
-}
+given law binary json table run old new out after form put is within faultless stored does =
+    let k = kept law binary json new out.form after _ form put is within faultless stored in
+    record { new = new; read = k.read; does = does; stored = stored; within = k.within; holds = k.holds }
 
 behind_random : (file : Option (List ℕ)) (told : Told) → (behind file told).random ≡ told.random
 behind_random (Some name) told = refl
@@ -312,6 +318,8 @@ by_asked law binary json keeps keeps_stored turns sessions edited keep_sessions 
 by_asked law binary json keeps keeps_stored turns sessions edited keep_sessions table (seal_stream name form' ad) told before after old h e done form read put_form put random is stored = clash e
 by_asked law binary json keeps keeps_stored turns sessions edited keep_sessions table (open_stream name form' ad) told before after old h e done form read put_form put random is stored = clash e
 by_asked law binary json keeps keeps_stored turns sessions edited keep_sessions table (self_test seed lines) told before after old h e done form read put_form put random is stored = clash e
+by_asked law binary json keeps keeps_stored turns sessions edited keep_sessions table (wrap_keyset name form' in' out) told before after old h e done form read put_form put random is stored = clash e
+by_asked law binary json keeps keeps_stored turns sessions edited keep_sessions table (unwrap_keyset name form' in' out) told before after old h e done form read put_form put random is stored = clash e
 
 -- what it read is within the limit
 asked_within : (table : Table) (asked : Asked) (told : Told) (bytes : List ℕ) (h : Handing) → hands_on asked ≡ Some h → IsDoneAnswer (answer (command_plan table asked) told)
@@ -332,13 +340,16 @@ asked_within table (use_keyset name form work) told bytes h e done read = clash 
 asked_within table (seal_stream name form ad) told bytes h e done read = clash e
 asked_within table (open_stream name form ad) told bytes h e done read = clash e
 asked_within table (self_test seed lines) told bytes h e done read = clash e
+asked_within table (wrap_keyset name form in' out) told bytes h e done read = clash e
+asked_within table (unwrap_keyset name form in' out) told bytes h e done read = clash e
 
 pub hands_within : (table : Table) (run : Run) (before after : Written) → HandsOn table run before after → length before.bytes ≤ keyset_limit
-hands_within table run before after h = asked_within table run.asked run.told before.bytes h.handing h.hands h.done h.read
+hands_within table run before after h = asked_within table run.asked run.told before.bytes h.handing h.hands h.handed.done h.handed.read
 
 pub run_step : FaultlessKeysets → BinaryBack → JsonBack → EditsKeepKeysets → EditsKeepStored → TalkIsTurns → SessionIsEdits → EditedIsKeyset → SessionsKeepStored → ReadIsStored → RunStep
 run_step law binary json keeps keeps_stored turns sessions edited keep_sessions read_stored table run before after old h random holds is =
-    by_asked law binary json keeps keeps_stored turns sessions edited keep_sessions table run.asked run.told before after old h.handing h.hands h.done h.read_form h.read h.put_form h.put random is
+    let d = h.handed in
+    by_asked law binary json keeps keeps_stored turns sessions edited keep_sessions table run.asked run.told before after old h.handing h.hands d.done d.read_form d.read d.put_form d.put random is
     (read_stored before old holds (hands_within table run before after h) is)
 
 -- ---- many runs
@@ -360,6 +371,8 @@ done_edits sessions table told (use_keyset name form work) old new does = absurd
 done_edits sessions table told (seal_stream name form ad) old new does = absurd does
 done_edits sessions table told (open_stream name form ad) old new does = absurd does
 done_edits sessions table told (self_test seed lines) old new does = absurd does
+done_edits sessions table told (wrap_keyset name form in' out) old new does = absurd does
+done_edits sessions table told (unwrap_keyset name form in' out) old new does = absurd does
 
 pub record Led (old : Keys) (after : Written) : Type 0 where
   pub new : Keys
@@ -371,35 +384,38 @@ no_edits : (old : Keys) → IsEdited old old
 unfolding after
 no_edits old = record { edits = []; asked = tt; last = refl }
 
-pub led : RunStep → SessionIsEdits → (table : Table) (runs : List Run) (before after : Written) (old : Keys) → AreRuns table runs before after → AllByRecursion DrawsBytes runs → HoldsBytes before → keyset_of before ≡ Some old → length before.bytes ≤ keyset_limit → Led old after
-led law sessions table [] before after old are bytes holds is within = record {
+pub led : RunStep → WrapStep → SessionIsEdits → (runs : List Passage) (before after : Written) (old : Keys) → AreRuns standard_table runs before after → AllByRecursion PassesBytes runs → HoldsBytes before → keyset_of before ≡ Some old → length before.bytes ≤ keyset_limit → Led old after
+led law wrap sessions [] before after old are bytes holds is within = record {
   new = old;
   read = ap keyset_of (sym are) ∙ is;
   edited = no_edits old;
   within = subst (λ (w : Written). length w.bytes ≤ keyset_limit) are within;
 }
-led law sessions table (run ∷ later) before after old (between, hands, are) bytes holds is within =
-    let step' = law table run before between old hands bytes.0 holds is in
-    let rest = led law sessions table later between after step'.new are bytes.1 step'.holds step'.read step'.within in
+led law wrap sessions (by_wrap wrap_run unwrap_run ∷ later) before after old (between, went, are) bytes holds is within =
+    let k = wrap wrap_run unwrap_run before between old went bytes.0 holds is in
+    led law wrap sessions later between after old are bytes.1 k.holds k.read k.within
+led law wrap sessions (by_run run ∷ later) before after old (between, hands, are) bytes holds is within =
+    let step' = law standard_table run before between old hands bytes.0 holds is in
+    let rest = led law wrap sessions later between after step'.new are bytes.1 step'.holds step'.read step'.within in
     record {
       new = rest.new;
       read = rest.read;
       within = rest.within;
-      edited = edited_on old step'.new rest.new (done_edits sessions table run.told run.asked old step'.new step'.does) rest.edited;
+      edited = edited_on old step'.new rest.new (done_edits sessions standard_table run.told run.asked old step'.new step'.does) rest.edited;
     }
 
 -- the two keysets that runs lead from and to
-record Ends (runs : List Run) (before after : Written) (r : Record) (old new : Keys) : Type 0 where
-  edited : IsEdited old new
-  keyset : IsKeyset old
-  primary : primary_of old ≡ Some r
-  read : keyset_of before ≡ Some old
-  read_again : keyset_of after ≡ Some new
-  within : length after.bytes ≤ keyset_limit
+pub record Ends (runs : List Passage) (before after : Written) (r : Record) (old new : Keys) : Type 0 where
+  pub edited : IsEdited old new
+  pub keyset : IsKeyset old
+  pub primary : primary_of old ≡ Some r
+  pub read : keyset_of before ≡ Some old
+  pub read_again : keyset_of after ≡ Some new
+  pub within : length after.bytes ≤ keyset_limit
 
-lead_ends : ReadKeysFit → RunStep → SessionIsEdits → (runs : List Run) (before after : Written) (r : Record) → length before.bytes ≤ keyset_limit → (x : LeadOn runs before after r) → Ends runs before after r x.old x.new
-lead_ends fit law sessions runs before after r within x =
-    let l = led law sessions standard_table runs before after x.old x.are x.bytes x.holds x.read within in
+pub lead_ends : ReadKeysFit → RunStep → WrapStep → SessionIsEdits → (runs : List Passage) (before after : Written) (r : Record) → length before.bytes ≤ keyset_limit → (x : LeadOn runs before after r) → Ends runs before after r x.old x.new
+lead_ends fit law wrap sessions runs before after r within x =
+    let l = led law wrap sessions runs before after x.old x.are x.bytes x.holds x.read within in
     record {
       edited = subst (λ k. IsEdited x.old k) (same_Some _ _ (sym l.read ∙ x.read_again)) l.edited;
       keyset = read_keyset fit before.form before.bytes x.old within x.read;
@@ -419,6 +435,7 @@ still_fit p usable sound keyset old new is edited fit =
 -- work over the first keyset was done
 pub record Started (work : AskedWork) (old : Keys) (told : Told) (output : List ℕ) : Type 0 where
   pub fit : unfit old (primitive_for work) standard_table ≡ None
+  pub fits : length told.input ≤ limit_for work
   pub status' : IsDoneAnswer (answer (works standard_table old work told.input writes) (record told { input = [] }))
   pub gave : (answer (works standard_table old work told.input writes) (record told { input = [] })).output ≡ output
 
@@ -427,6 +444,7 @@ started work written old told output is was =
     let u = used_done standard_table was.name written.form work written.bytes old told was.lies is was.done in
     record {
       fit = u.fit;
+      fits = u.fits;
       status' = ap (λ (a : Answer). a.status) (sym u.goes_on) ∙ was.done;
       gave = ap (λ (a : Answer). a.output) (sym u.goes_on) ∙ was.gave;
     }
@@ -436,11 +454,11 @@ pub done_within : (work : AskedWork) (written : Written) (told : Told) (output :
 done_within work written told output was = used_within standard_table was.name written.form work written.bytes told was.lies was.done
 
 -- work over the last one is done, where its keys answer so
-pub finished : (work : AskedWork) (written : Written) (new : Keys) (input output : List ℕ) → keyset_of written ≡ Some new → length written.bytes ≤ keyset_limit → unfit new (primitive_for work) standard_table ≡ None
+pub finished : (work : AskedWork) (written : Written) (new : Keys) (input output : List ℕ) → keyset_of written ≡ Some new → length written.bytes ≤ keyset_limit → unfit new (primitive_for work) standard_table ≡ None → length input ≤ limit_for work
     → ((told : Told) → (IsDoneAnswer (answer (works standard_table new work input writes) told)) × ((answer (works standard_table new work input writes) told).output ≡ output))
     → IsDone work written input output
-finished work written new input output is within fit gives told name lies same fits =
-    let r = used_reached standard_table name written.form work written.bytes new told lies is within fit (subst (λ i. length i ≤ input_limit) (sym same) fits) ∙ ap (λ i. answer (works standard_table new work i writes) (record told { input = [] })) same in
+finished work written new input output is within fit fits gives told name lies same =
+    let r = used_reached standard_table name written.form work written.bytes new told lies is within fit (subst (λ i. length i ≤ limit_for work) (sym same) fits) ∙ ap (λ i. answer (works standard_table new work i writes) (record told { input = [] })) same in
     let g = gives (record told { input = [] }) in
     (ap (λ (a : Answer). a.status) r ∙ g.0, ap (λ (a : Answer). a.output) r ∙ g.1)
 
@@ -463,23 +481,32 @@ made_some None some = no_truth some
 pub opens_so : (o : Option (List ℕ)) (plain : List ℕ) (told : Told) → o ≡ Some plain → (IsDoneAnswer (answer (with_opened o writes) told)) × ((answer (with_opened o writes) told).output ≡ plain)
 opens_so o plain told is = rw is (refl, refl)
 
-pub runs_open : ReadKeysFit → RunStep → SessionIsEdits → SoundIsUsable Aead → EditedIsSound → EditedIsKeyset → KeptOpen → RunsOpen
-runs_open read_fit law sessions usable sound keyset kept runs before after r prefix ad sealed told x same is was =
-    let e = lead_ends read_fit law sessions runs before after r (done_within (to_seal ad) before told sealed was) x in
+-- what was sealed is within the limit of what is opened
+sealed_fits : SealingsFit → (old : Keys) (plain ad random : List ℕ) (s : Sealed) (sealed : List ℕ) → seal_answer old standard_table plain ad random ≡ Some s → s.bytes ≡ sealed → length plain ≤ input_limit → length sealed ≤ sealed_limit
+sealed_fits sizes old plain ad random s sealed is same within = subst (λ bytes. length bytes ≤ sealed_limit) same (omega (arith, sizes standard_table old plain ad random s is, within))
+
+dsealed_fits : DsealingsFit → (old : Keys) (plain ad sealed : List ℕ) → dseal_answer old standard_table plain ad ≡ Some sealed → length plain ≤ input_limit → length sealed ≤ sealed_limit
+dsealed_fits sizes old plain ad sealed is within = omega (arith, sizes standard_table old plain ad sealed is, within)
+
+pub runs_open : SealingsFit → ReadKeysFit → RunStep → WrapStep → SessionIsEdits → SoundIsUsable Aead → EditedIsSound → EditedIsKeyset → KeptOpen → RunsOpen
+runs_open sizes read_fit law wrap sessions usable sound keyset kept runs before after r prefix ad sealed told x same is was =
+    let e = lead_ends read_fit law wrap sessions runs before after r (done_within (to_seal ad) before told sealed was) x in
     let b = started (to_seal ad) before x.old told sealed e.read was in
     let s = sealed_by x.old ad told sealed b in
     let opened = kept x.old x.new r prefix told.input ad told.random s.0 same e.primary is s.1 in
     finished (to_open ad) after x.new sealed told.input e.read_again e.within (still_fit Aead usable sound keyset x.old x.new e.keyset e.edited b.fit)
+    (sealed_fits sizes x.old told.input ad told.random s.0 sealed s.1 s.2 b.fits)
     (λ t. opens_so (open_answer x.new standard_table sealed ad) told.input t (ap (λ c. open_answer x.new standard_table c ad) (sym s.2) ∙ opened))
 
-pub runs_open_present : ReadKeysFit → RunStep → SessionIsEdits → SoundIsUsable Aead → EditedIsSound → EditedIsKeyset → KeptOpenPresent → RunsOpenPresent
-runs_open_present read_fit law sessions usable sound keyset kept runs before after r ad sealed told x same was =
-    let e = lead_ends read_fit law sessions runs before after r (done_within (to_seal ad) before told sealed was) x in
+pub runs_open_present : SealingsFit → ReadKeysFit → RunStep → WrapStep → SessionIsEdits → SoundIsUsable Aead → EditedIsSound → EditedIsKeyset → KeptOpenPresent → RunsOpenPresent
+runs_open_present sizes read_fit law wrap sessions usable sound keyset kept runs before after r ad sealed told x same was =
+    let e = lead_ends read_fit law wrap sessions runs before after r (done_within (to_seal ad) before told sealed was) x in
     let b = started (to_seal ad) before x.old told sealed e.read was in
     let s = sealed_by x.old ad told sealed b in
     let opened = kept x.old x.new r told.input ad told.random s.0 same e.primary s.1 in (
       opened.0,
       finished (to_open ad) after x.new sealed opened.0 e.read_again e.within (still_fit Aead usable sound keyset x.old x.new e.keyset e.edited b.fit)
+          (sealed_fits sizes x.old told.input ad told.random s.0 sealed s.1 s.2 b.fits)
           (λ t. opens_so (open_answer x.new standard_table sealed ad) opened.0 t (ap (λ c. open_answer x.new standard_table c ad) (sym s.2) ∙ opened.1)),
     )
 
@@ -494,21 +521,23 @@ tagged_by fit old told output is x =
     let m = made_some (tag_answer old standard_table told.input) (fit.tag standard_table old told.input (record { faultless = is.faultless; fit = x.fit })) in
     m.1 ∙ ap Some (sym (ap made_bytes m.1) ∙ x.gave)
 
-pub runs_dopen : FitKeysetsAnswer → ReadKeysFit → RunStep → SessionIsEdits → SoundIsUsable Daead → EditedIsSound → EditedIsKeyset → KeptDopen → RunsDopen
-runs_dopen fits read_fit law sessions usable sound keyset kept runs before after r prefix ad sealed told x same is was =
-    let e = lead_ends read_fit law sessions runs before after r (done_within (to_dseal ad) before told sealed was) x in
+pub runs_dopen : DsealingsFit → FitKeysetsAnswer → ReadKeysFit → RunStep → WrapStep → SessionIsEdits → SoundIsUsable Daead → EditedIsSound → EditedIsKeyset → KeptDopen → RunsDopen
+runs_dopen sizes fits read_fit law wrap sessions usable sound keyset kept runs before after r prefix ad sealed told x same is was =
+    let e = lead_ends read_fit law wrap sessions runs before after r (done_within (to_dseal ad) before told sealed was) x in
     let b = started (to_dseal ad) before x.old told sealed e.read was in
     let opened = kept x.old x.new r prefix told.input ad sealed same e.primary is (dsealed_by fits x.old ad told sealed e.keyset b) in
     finished (to_dopen ad) after x.new sealed told.input e.read_again e.within (still_fit Daead usable sound keyset x.old x.new e.keyset e.edited b.fit)
+    (dsealed_fits sizes x.old told.input ad sealed (dsealed_by fits x.old ad told sealed e.keyset b) b.fits)
     (λ t. opens_so (dopen_answer x.new standard_table sealed ad) told.input t opened)
 
-pub runs_dopen_present : FitKeysetsAnswer → ReadKeysFit → RunStep → SessionIsEdits → SoundIsUsable Daead → EditedIsSound → EditedIsKeyset → KeptDopenPresent → RunsDopenPresent
-runs_dopen_present fits read_fit law sessions usable sound keyset kept runs before after r ad sealed told x same was =
-    let e = lead_ends read_fit law sessions runs before after r (done_within (to_dseal ad) before told sealed was) x in
+pub runs_dopen_present : DsealingsFit → FitKeysetsAnswer → ReadKeysFit → RunStep → WrapStep → SessionIsEdits → SoundIsUsable Daead → EditedIsSound → EditedIsKeyset → KeptDopenPresent → RunsDopenPresent
+runs_dopen_present sizes fits read_fit law wrap sessions usable sound keyset kept runs before after r ad sealed told x same was =
+    let e = lead_ends read_fit law wrap sessions runs before after r (done_within (to_dseal ad) before told sealed was) x in
     let b = started (to_dseal ad) before x.old told sealed e.read was in
     let opened = kept x.old x.new r told.input ad sealed same e.primary (dsealed_by fits x.old ad told sealed e.keyset b) in (
       opened.0,
       finished (to_dopen ad) after x.new sealed opened.0 e.read_again e.within (still_fit Daead usable sound keyset x.old x.new e.keyset e.edited b.fit)
+          (dsealed_fits sizes x.old told.input ad sealed (dsealed_by fits x.old ad told sealed e.keyset b) b.fits)
           (λ t. opens_so (dopen_answer x.new standard_table sealed ad) opened.0 t opened.1),
     )
 
@@ -516,10 +545,10 @@ runs_dopen_present fits read_fit law sessions usable sound keyset kept runs befo
 pub verifies_so : (b : Bool) (told : Told) → b ≡ true → (IsDoneAnswer (answer (with_verified b writes) told)) × ((answer (with_verified b writes) told).output ≡ [])
 verifies_so b told is = rw is (refl, refl)
 
-pub runs_verify : FitKeysetsAnswer → ReadKeysFit → RunStep → SessionIsEdits → SoundIsUsable Mac → EditedIsSound → EditedIsKeyset → KeptTag → RunsVerify
-runs_verify fits read_fit law sessions usable sound keyset kept runs before after r tag told x same was =
-    let e = lead_ends read_fit law sessions runs before after r (done_within to_tag before told tag was) x in
+pub runs_verify : FitKeysetsAnswer → ReadKeysFit → RunStep → WrapStep → SessionIsEdits → SoundIsUsable Mac → EditedIsSound → EditedIsKeyset → KeptTag → RunsVerify
+runs_verify fits read_fit law wrap sessions usable sound keyset kept runs before after r tag told x same was =
+    let e = lead_ends read_fit law wrap sessions runs before after r (done_within to_tag before told tag was) x in
     let b = started to_tag before x.old told tag e.read was in
     let verified = kept x.old x.new r tag told.input same e.primary (tagged_by fits x.old told tag e.keyset b) in
-    finished (to_verify tag) after x.new told.input [] e.read_again e.within (still_fit Mac usable sound keyset x.old x.new e.keyset e.edited b.fit)
+    finished (to_verify tag) after x.new told.input [] e.read_again e.within (still_fit Mac usable sound keyset x.old x.new e.keyset e.edited b.fit) b.fits
     (λ t. verifies_so (verify_answer x.new standard_table tag told.input) t verified)

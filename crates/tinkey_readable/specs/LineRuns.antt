@@ -4,7 +4,7 @@
 --   asks      the line of a session that asks for work of keys
 --   WasMade   what a run or a line made of an input, and the runs that led on from there
 --   IsRead    what a run or a line reads of that, over the keyset that they led to
-use Rattle.std.specs.Prelude.{◌≡◌, ℕ, List, [], ◌∷◌, Some, None, slice_get}
+use Rattle.std.specs.Prelude.{◌≡◌, ◌≤◌, ℕ, List, [], ◌∷◌, length, Some, slice_get}
 use Rattle.std.specs.List.{AllByRecursion}
 use Rattle.keyset_model.specs.Keyset.{Keys, primary_of}
 use Rattle.keyset_model.specs.declared.record.Record.{Record}
@@ -17,7 +17,9 @@ use Rattle.wrapped_prims.specs.Candidates.{prefix_of}
 use Rattle.wrapped_prims.specs.Laws.{HasKey, HasSameKey}
 use Rattle.tinkey_plans.specs.Laws.{IsSession}
 use Rattle.tinkey_plans.specs.Plan.{Told}
-use Rattle.tinkey_readable.specs.Runs.{AreRuns, DrawsBytes, HoldsBytes, IsDone, Run, WasDone, Written, keyset_of}
+use Rattle.tinkey_plans.specs.Using.{limit_for}
+use Rattle.tinkey_readable.specs.Runs.{AreRuns, HoldsBytes, IsDone, Passage, PassesBytes, Run, WasDone, Written, keyset_of}
+use Rattle.tinkey_readable.specs.Runs as passages
 use Rattle.tinkey_words.specs.Words.{AskedWork, to_seal, to_open, to_dseal, to_dopen, to_tag, to_verify, to_derive}
 
 -- the line of a session that asks for this work on this input
@@ -43,9 +45,9 @@ pub record HasTurn (told : Told) (written : Written) (t : Turn) : Type 0 where
   pub there : slice_get (turns standard_table keys (asked_in told.input) told.random) place ≡ Some t
 
 -- runs, of which each reads what the one before put out, from this keyset on
-pub record Lead (runs : List Run) (before after : Written) (old : Keys) : Type 0 where
+pub record Lead (runs : List Passage) (before after : Written) (old : Keys) : Type 0 where
   pub are : AreRuns standard_table runs before after
-  pub bytes : AllByRecursion DrawsBytes runs
+  pub bytes : AllByRecursion PassesBytes runs
   pub holds : HoldsBytes before
   pub read : keyset_of before ≡ Some old
 
@@ -54,21 +56,21 @@ pub record Lead (runs : List Run) (before after : Written) (old : Keys) : Type 0
 -- to the keyset that lies here.
 pub data WasMade (work : AskedWork) (input output : List ℕ) (r : Record) (after : Written)
     : Type 0 where
-  by_run : (runs : List Run) (before : Written) (old : Keys) → Lead runs before after old →
+  by_run : (runs : List Passage) (before : Written) (old : Keys) → Lead runs before after old →
       (told : Told) → WasDone work before told output → told.input ≡ input →
       primary_of old ≡ Some r → WasMade work input output r after
-  by_line : (run : Run) (runs : List Run) (before : Written) (old : Keys) →
-      Lead (run ∷ runs) before after old → IsSession run.asked →
+  by_line : (run : Run) (runs : List Passage) (before : Written) (old : Keys) →
+      Lead (passages.by_run run ∷ runs) before after old → IsSession run.asked →
       (t : Turn) → HasTurn run.told before t → t.line ≡ asks work input → t.reply ≡ Gives output →
       primary_of t.before ≡ Some r → WasMade work input output r after
 
 -- This work on this input is done with this output, while that record's key is in the keyset as it is
--- said here: by a run of the command over the keyset that lies here, in whichever file, and by each line
--- of a session over it.
+-- said here: by a run of the command over the keyset that lies here, in whichever file, where the input
+-- is within its limit, and by each line of a session over it.
 pub record IsRead (While : Record → Keys → Type 0) (work : AskedWork) (input output : List ℕ)
     (r : Record) (written : Written) : Type 0 where
   pub by_run : (new : Keys) → keyset_of written ≡ Some new → While r new
-      → IsDone work written input output
+      → length input ≤ limit_for work → IsDone work written input output
   pub by_line : (told : Told) (t : Turn) → HasTurn told written t → t.line ≡ asks work input
       → While r t.before → t.reply ≡ done_reply work output
 
@@ -76,7 +78,7 @@ pub record IsRead (While : Record → Keys → Type 0) (work : AskedWork) (input
 pub record IsReadSomehow (work : AskedWork) (input : List ℕ) (r : Record) (written : Written)
     : Type 0 where
   pub by_run : (new : Keys) → keyset_of written ≡ Some new → HasKey r new
-      → (other : List ℕ) × IsDone work written input other
+      → length input ≤ limit_for work → (other : List ℕ) × IsDone work written input other
   pub by_line : (told : Told) (t : Turn) → HasTurn told written t → t.line ≡ asks work input
       → HasKey r t.before → (other : List ℕ) × (t.reply ≡ done_reply work other)
 

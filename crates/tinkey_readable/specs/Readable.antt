@@ -3,7 +3,7 @@
 --   AreReadable   of turns: what one sealed or tagged, a later one opens or verifies
 --   IsReadable    of a run: where it is that of a session, however it ended, what it wrote are the
 --                 replies of such turns
-use Rattle.std.specs.Prelude.{◌≡◌, ◌≢◌, ℕ, ◌<◌, List, [], ◌++◌, length, map, Some, None, Ok, slice_get}
+use Rattle.std.specs.Prelude.{◌≡◌, ◌≢◌, ℕ, ◌<◌, List, [], ◌++◌, length, map, Some, Ok, slice_get}
 use Rattle.std.specs.FinMap as map
 use Rattle.keyset_model.specs.Keyset.{Keys, primary_of}
 use Rattle.keyset_model.specs.declared.record.Record.{Record}

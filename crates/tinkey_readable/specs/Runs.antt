@@ -2,9 +2,12 @@
 --
 --   ReadIsStored   what is read is held to what the types of a record hold
 --   hands_on       where a command takes a keyset, and where it puts one
---   AreRuns        each run reads what the one before put out, and is answered Done
---   RunStep        what one of them does to the keyset
---   RunsOpen ..    what was sealed or tagged before them opens or verifies after them
+--   Passage        one run that hands a keyset on, or two that wrap it and unwrap it later
+--   AreRuns        each reads what the one before put out, and is answered Done
+--   RunStep        what one run does to the keyset
+--   WrapStep       a keyset that was wrapped and unwrapped is the keyset
+--   RunsUnwrap     what was wrapped before runs over the master is unwrapped after them
+--   RunsOpen ..    what was sealed or tagged before runs opens or verifies after them
 use Rattle.std.specs.Prelude.{◌≡◌, ℕ, ◌<◌, ◌≤◌, List, [], ◌∷◌, length, Option, Some, None, Ok}
 use Rattle.std.specs.FinMap as map
 use Rattle.std.specs.List.{AllByRecursion}
@@ -28,8 +31,8 @@ use Rattle.tinkey_words.specs.declared.words.rows.Format.{Format}
 use Rattle.tinkey_words.specs.declared.words.rows.Format.TheVariants as formats
 use Rattle.tinkey_plans.specs.Commands.{command_plan}
 use Rattle.tinkey_plans.specs.Plan.{Answer, Told, answer}
-use Rattle.tinkey_plans.specs.Steps.{input_limit, keyset_limit}
-use Rattle.tinkey_words.specs.Words.{Asked, AskedEdit, AskedWork, Place, convert_keyset, edit_keyset, session, use_keyset, to_seal, to_open, to_dseal, to_dopen, to_tag, to_verify}
+use Rattle.tinkey_plans.specs.Steps.{keyset_limit, written_in}
+use Rattle.tinkey_words.specs.Words.{Asked, AskedEdit, AskedWork, Place, convert_keyset, edit_keyset, session, use_keyset, wrap_keyset, unwrap_keyset, to_seal, to_open, to_dseal, to_dopen, to_tag, to_verify}
 
 -- the keyset that these bytes are, in this form
 abbrev pub read_in : Format → List ℕ → Option Keys
@@ -88,10 +91,8 @@ pub record Run : Type 0 where
 abbrev pub answer_of : Table → Run → Answer
 answer_of table run = answer (command_plan table run.asked) run.told
 
--- the run is answered Done, reads the keyset that lies there, and puts out one that lies here
-pub record HandsOn (table : Table) (run : Run) (before after : Written) : Type 0 where
-  pub handing : Handing
-  pub hands : hands_on run.asked ≡ Some handing
+-- the run is answered Done, reads what lies there, and puts out what lies here
+pub record Hands (table : Table) (run : Run) (handing : Handing) (before after : Written) : Type 0 where
   pub done : (answer_of table run).status ≡ status.Done
   pub read_form : handing.taken.form ≡ before.form
   pub read : bytes_at handing.taken.file run.told.files run.told.input ≡ Some before.bytes
@@ -99,15 +100,80 @@ pub record HandsOn (table : Table) (run : Run) (before after : Written) : Type 0
   pub put : bytes_at handing.put.file (answer_of table run).files (answer_of table run).output
       ≡ Some after.bytes
 
--- runs, of which each reads what the one before put out
-abbrev pub AreRuns : Table → List Run → (before after : Written) → Type 0
-AreRuns table [] before after = before ≡ after
-AreRuns table (run ∷ later) before after =
-    (between : Written) × HandsOn table run before between × AreRuns table later between after
+-- a run hands a keyset on: both are keysets in clear
+pub record HandsOn (table : Table) (run : Run) (before after : Written) : Type 0 where
+  pub handing : Handing
+  pub hands : hands_on run.asked ≡ Some handing
+  pub handed : Hands table run handing before after
 
--- what is drawn are bytes
+-- a keyset lies in the file of this name
+abbrev pub LiesIn : Written → Told → (name : List ℕ) → Type 0
+LiesIn written told name = map.get told.files name ≡ Some written.bytes
+
+-- a run wrapped a keyset under the master that lies in a file of it, as this text
+pub record Wraps (table : Table) (run : Run) (master before text : Written) : Type 0 where
+  pub name : List ℕ
+  pub lies : LiesIn master run.told name
+  pub handing : Handing
+  pub asked : run.asked ≡ wrap_keyset name master.form handing.taken handing.put
+  pub handed : Hands table run handing before text
+
+-- a run unwrapped a text under such a master, as this keyset
+pub record Unwraps (table : Table) (run : Run) (master text after : Written) : Type 0 where
+  pub name : List ℕ
+  pub lies : LiesIn master run.told name
+  pub handing : Handing
+  pub asked : run.asked ≡ unwrap_keyset name master.form handing.taken handing.put
+  pub handed : Hands table run handing text after
+
+-- the primary record of the master has a prefix, and its key is in a later one, ENABLED and alone under
+-- that prefix
+pub record StillOpens (master later : Written) : Type 0 where
+  pub holds : HoldsBytes master
+  pub old : Keys
+  pub read : keyset_of master ≡ Some old
+  pub r : Record
+  pub primary : primary_of old ≡ Some r
+  pub prefix : List ℕ
+  pub prefixed : prefix_of r ≡ Some prefix
+  pub new : Keys
+  pub read_again : keyset_of later ≡ Some new
+  pub same : HasSameKey r new
+
+-- one run wrapped a keyset, and another one unwrapped that text, in its form, under a master that still
+-- opens it
+pub record GoesWrapped (table : Table) (wrap unwrap : Run) (before after : Written) : Type 0 where
+  pub master : Written
+  pub text : Written
+  pub wraps : Wraps table wrap master before text
+  pub later : Written
+  pub opens : StillOpens master later
+  pub unwraps : Unwraps table unwrap later text after
+
+-- what hands a keyset on: one run, or two that wrap it and later unwrap it
+pub data Passage : Type 0 where
+  by_run : (run : Run) → Passage
+  by_wrap : (wrap unwrap : Run) → Passage
+
+-- it leads from one keyset to another
+abbrev pub LeadsTo : Table → Passage → (before after : Written) → Type 0
+LeadsTo table (by_run run) before after = HandsOn table run before after
+LeadsTo table (by_wrap wrap unwrap) before after = GoesWrapped table wrap unwrap before after
+
+-- runs, of which each reads what the one before put out
+abbrev pub AreRuns : Table → List Passage → (before after : Written) → Type 0
+AreRuns table [] before after = before ≡ after
+AreRuns table (passage ∷ later) before after =
+    (between : Written) × LeadsTo table passage before between × AreRuns table later between after
+
+-- what a run draws are bytes
 abbrev pub DrawsBytes : Run → Type 0
 DrawsBytes run = AllByRecursion (λ b. b < 256) run.told.random
+
+-- what is drawn on the way are bytes
+abbrev pub PassesBytes : Passage → Type 0
+PassesBytes (by_run run) = DrawsBytes run
+PassesBytes (by_wrap wrap unwrap) = DrawsBytes wrap
 
 -- ---- one run
 
@@ -149,12 +215,28 @@ RunStep = (table : Table) (run : Run) (before after : Written) (old : Keys)
     → HoldsBytes before → keyset_of before ≡ Some old
     → Gives table run old after
 
+-- a keyset lies here, in bytes and within the limit of what is read, and it is held to what the types of
+-- its records hold
+pub record Keeps (keys : Keys) (after : Written) : Type 0 where
+  pub read : keyset_of after ≡ Some keys
+  pub stored : AreStored keys
+  pub within : length after.bytes ≤ keyset_limit
+  pub holds : HoldsBytes after
+
+-- What went wrapped from a run to a later one, in either form of its text, is the keyset that the first
+-- one read, under the managers of the program.
+abbrev pub WrapStep : Type 0
+WrapStep = (wrap unwrap : Run) (before after : Written) (old : Keys)
+    → GoesWrapped standard_table wrap unwrap before after → DrawsBytes wrap
+    → HoldsBytes before → keyset_of before ≡ Some old
+    → Keeps old after
+
 -- ---- many runs
 
 -- runs lead from one keyset, whose primary record this is, to another
-pub record LeadOn (runs : List Run) (before after : Written) (r : Record) : Type 0 where
+pub record LeadOn (runs : List Passage) (before after : Written) (r : Record) : Type 0 where
   pub are : AreRuns standard_table runs before after
-  pub bytes : AllByRecursion DrawsBytes runs
+  pub bytes : AllByRecursion PassesBytes runs
   pub holds : HoldsBytes before
   pub old : Keys
   pub read : keyset_of before ≡ Some old
@@ -162,9 +244,31 @@ pub record LeadOn (runs : List Run) (before after : Written) (r : Record) : Type
   pub new : Keys
   pub read_again : keyset_of after ≡ Some new
 
--- a keyset lies in the file of this name
-abbrev pub LiesIn : Written → Told → (name : List ℕ) → Type 0
-LiesIn written told name = map.get told.files name ≡ Some written.bytes
+-- a new file may have the name, where one is given
+abbrev pub IsFree : Option (List ℕ) → Files → Type 0
+IsFree (Some name) files = map.get files name ≡ None
+IsFree None files = Unit {0}
+
+-- The text is unwrapped under this master to this keyset, in whichever file or input both lie, and put
+-- where it is asked to be, in the form that is asked for: where the name of a new file is free, and the
+-- keyset in that form is within the limit of what is read.
+abbrev pub IsUnwrapped : (master text : Written) → Keys → Type 0
+IsUnwrapped master text keys = (told : Told) (name : List ℕ) (in' out : Place)
+    → LiesIn master told name → in'.form ≡ text.form
+    → bytes_at in'.file told.files told.input ≡ Some text.bytes
+    → IsFree out.file told.files → length (written_in out.form keys) ≤ keyset_limit
+    → let a = answer (command_plan standard_table (unwrap_keyset name master.form in' out)) told in
+    (a.status ≡ status.Done) × (bytes_at out.file a.files a.output ≡ Some (written_in out.form keys))
+
+-- What was wrapped under a master, under a key with a prefix, is unwrapped under the master that any runs
+-- lead to, to the keyset, while that key is ENABLED in it and alone under its prefix.
+abbrev pub RunsUnwrap : Type 0
+RunsUnwrap = (runs : List Passage) (master later : Written) (r : Record) (prefix : List ℕ)
+    (lead : LeadOn runs master later r) → HasSameKey r lead.new → prefix_of r ≡ Some prefix
+    → (wrap : Run) (before text : Written) (old : Keys)
+    → Wraps standard_table wrap master before text → DrawsBytes wrap
+    → HoldsBytes before → keyset_of before ≡ Some old
+    → IsUnwrapped later text old
 
 -- the answer of work by the keys of the keyset that lies in the file of this name
 abbrev pub work_answer : AskedWork → Written → (name : List ℕ) → Told → Answer
@@ -179,18 +283,17 @@ pub record WasDone (work : AskedWork) (written : Written) (told : Told) (output 
   pub done : (work_answer work written name told).status ≡ status.Done
   pub gave : (work_answer work written name told).output ≡ output
 
--- Work over a keyset is answered Done, with this output, in whichever file the keyset lies. The input is
--- within its limit.
+-- work over a keyset is answered Done, with this output, in whichever file the keyset lies
 abbrev pub IsDone : AskedWork → Written → (input output : List ℕ) → Type 0
 IsDone work written input output = (told : Told) (name : List ℕ)
-    → LiesIn written told name → told.input ≡ input → length input ≤ input_limit
+    → LiesIn written told name → told.input ≡ input
     → ((work_answer work written name told).status ≡ status.Done)
     × ((work_answer work written name told).output ≡ output)
 
 -- what was sealed under a key with a prefix opens to its plaintext, with its associated data, while that
 -- key is ENABLED and alone under its prefix
 abbrev pub RunsOpen : Type 0
-RunsOpen = (runs : List Run) (before after : Written) (r : Record) (prefix ad sealed : List ℕ)
+RunsOpen = (runs : List Passage) (before after : Written) (r : Record) (prefix ad sealed : List ℕ)
     (told : Told) (lead : LeadOn runs before after r) → HasSameKey r lead.new
     → prefix_of r ≡ Some prefix
     → WasDone (to_seal ad) before told sealed
@@ -198,7 +301,7 @@ RunsOpen = (runs : List Run) (before after : Written) (r : Record) (prefix ad se
 
 -- the same without an IV
 abbrev pub RunsDopen : Type 0
-RunsDopen = (runs : List Run) (before after : Written) (r : Record) (prefix ad sealed : List ℕ)
+RunsDopen = (runs : List Passage) (before after : Written) (r : Record) (prefix ad sealed : List ℕ)
     (told : Told) (lead : LeadOn runs before after r) → HasSameKey r lead.new
     → prefix_of r ≡ Some prefix
     → WasDone (to_dseal ad) before told sealed
@@ -206,20 +309,20 @@ RunsDopen = (runs : List Run) (before after : Written) (r : Record) (prefix ad s
 
 -- while the key is there, ENABLED, it opens to some plaintext, whatever the output prefix type
 abbrev pub RunsOpenPresent : Type 0
-RunsOpenPresent = (runs : List Run) (before after : Written) (r : Record) (ad sealed : List ℕ)
+RunsOpenPresent = (runs : List Passage) (before after : Written) (r : Record) (ad sealed : List ℕ)
     (told : Told) (lead : LeadOn runs before after r) → HasKey r lead.new
     → WasDone (to_seal ad) before told sealed
     → (other : List ℕ) × IsDone (to_open ad) after sealed other
 
 -- the same without an IV
 abbrev pub RunsDopenPresent : Type 0
-RunsDopenPresent = (runs : List Run) (before after : Written) (r : Record) (ad sealed : List ℕ)
+RunsDopenPresent = (runs : List Passage) (before after : Written) (r : Record) (ad sealed : List ℕ)
     (told : Told) (lead : LeadOn runs before after r) → HasKey r lead.new
     → WasDone (to_dseal ad) before told sealed
     → (other : List ℕ) × IsDone (to_dopen ad) after sealed other
 
 -- a tag verifies, while the key is there, ENABLED, whatever the output prefix type
 abbrev pub RunsVerify : Type 0
-RunsVerify = (runs : List Run) (before after : Written) (r : Record) (tag : List ℕ) (told : Told)
+RunsVerify = (runs : List Passage) (before after : Written) (r : Record) (tag : List ℕ) (told : Told)
     (lead : LeadOn runs before after r) → HasKey r lead.new → WasDone to_tag before told tag
     → IsDone (to_verify tag) after told.input []

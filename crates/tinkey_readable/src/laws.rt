@@ -4,10 +4,11 @@ ghost use Rattle.keyset_json.specs.Writing.{JsonBack};
 ghost use Rattle.keyset_model.specs.Writing.{BinaryBack};
 ghost use Rattle.tinkey_readable.specs.LineRuns.{MadeDopens, MadeDopensPresent, MadeOpens, MadeOpensPresent, MadeVerifies};
 ghost use Rattle.tinkey_readable.specs.Readable.{AnswersAreReadable, SessionsAreReadable};
-ghost use Rattle.tinkey_readable.specs.Runs.{ReadIsStored, RunStep, RunsDopen, RunsDopenPresent, RunsOpen, RunsOpenPresent, RunsVerify};
+ghost use Rattle.tinkey_readable.specs.Runs.{ReadIsStored, RunStep, RunsDopen, RunsDopenPresent, RunsOpen, RunsOpenPresent, RunsUnwrap, RunsVerify, WrapStep};
 
 use keyset_json::laws::{json_back, json_is_stored};
 use keyset_model::laws::{binary_back, faultless_keysets, read_keysets_fit};
+use seal_wrap::laws::{sealings_fit, wrap_back_bytes};
 use tinkey_cmds::laws::edits_keep_keysets;
 use tinkey_plans::laws::fit_keysets_answer;
 use tinkey_session::laws::{
@@ -52,9 +53,40 @@ pub fn run_step()
     read_is_stored();
 }
 
-/// What was sealed over a keyset opens after any runs that hand the keyset on, with its associated
-/// data, to its plaintext, while the key that sealed is ENABLED in the last keyset and alone under its
-/// prefix. While the key is there, ENABLED, it opens to some plaintext, whatever the prefix type, and a tag
+/// A keyset that one run wrapped under a master, and a later one unwrapped, is the keyset that the first
+/// one read: in either form of the text and of both keysets, while the master has the key that sealed,
+/// ENABLED and alone under its prefix.
+pub fn wrap_step()
+    ensures { WrapStep }
+{
+    faultless_keysets();
+    forms_back();
+    read_is_stored();
+    wrap_back_bytes();
+}
+
+/// What was wrapped under a key with a prefix is unwrapped after any runs that hand the master on, to the
+/// keyset, while that key is ENABLED in the last master and alone under its prefix: a run that reads the
+/// text there is Done, where the name of its new file is free and the keyset in the form that is asked
+/// for is within the limit.
+pub fn kept_wrapped()
+    ensures { RunsUnwrap }
+{
+    run_step();
+    wrap_step();
+    faultless_keysets();
+    forms_back();
+    read_is_stored();
+    wrap_back_bytes();
+    read_keysets_fit();
+    session_is_edits();
+    sound_usable();
+    edited_kept();
+}
+
+/// What was sealed over a keyset opens after any runs that hand the keyset on, as it is or wrapped in
+/// between, with its associated data, to its plaintext, while the key that sealed is ENABLED in the last
+/// keyset and alone under its prefix. While the key is there, ENABLED, it opens to some plaintext, whatever the prefix type, and a tag
 /// verifies.
 pub fn kept_runs()
     ensures open { RunsOpen }
@@ -64,6 +96,8 @@ pub fn kept_runs()
     ensures verify { RunsVerify }
 {
     run_step();
+    wrap_step();
+    sealings_fit();
     read_keysets_fit();
     fit_keysets_answer();
     session_is_edits();
@@ -86,6 +120,7 @@ pub fn kept_lines()
     ensures verify { MadeVerifies }
 {
     run_step();
+    wrap_step();
     read_keysets_fit();
     fit_keysets_answer();
     session_is_edits();
