@@ -2,3 +2,4 @@ pub mod SelfTestLemmas
 pub mod StreamLemmas
 pub mod TemplateLemmas
 pub mod UseLemmas
+pub mod WrapLemmas

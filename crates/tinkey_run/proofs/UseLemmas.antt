@@ -24,12 +24,14 @@ use Rattle.wrapped_prims.specs.declared.sealing.SealFault.TheVariants as seal_fa
 use Rattle.tinkey_plans.specs.declared.status.Status.{Status}
 use Rattle.tinkey_plans.specs.declared.status.Status.TheVariants as status
 use Rattle.tinkey_plans.specs.Ends.{World, Ends, settled, draw_failed}
-use Rattle.tinkey_plans.specs.Plan.{Plan, allocates}
+use Rattle.tinkey_cmds.specs.Draws.{Draw, Drawn}
+use Rattle.tinkey_cmds.specs.declared.command.CmdFault.{CmdFault}
+use Rattle.tinkey_plans.specs.Plan.{Plan, allocates, draws, sealings}
 use Rattle.tinkey_plans.specs.Steps.{loads_keyset, reads_input, Passes}
 use Rattle.tinkey_words.specs.declared.words.rows.Format.{Format}
 use Rattle.tinkey_plans.proofs.StepLemmas.{passes_then, ends_there}
 use Rattle.std.specs.Result.{IsErrAnd}
-use Rattle.tinkey_plans.specs.Using.{handles, as_drawn, with_opened, seals, works, use_output}
+use Rattle.tinkey_plans.specs.Using.{handles, as_drawn, limit_for, with_opened, works, use_output}
 use Rattle.tinkey_words.specs.Words.{AskedWork, to_seal, primitive_for}
 
 -- a step behind which memory isn't wanting
@@ -56,29 +58,38 @@ primary_is table None key is = absurd (cc)
 primary_is table (Some r) key is = (r, refl, is)
 
 -- too few random bytes seal nothing
-too_few : (b : Bool) (sealed : Sealed) → b ≡ true → option_map as_drawn (if b then None else Some sealed) ≡ None
+too_few : (b : Bool) (sealed : Sealed) → b ≡ true → (if b then None else Some sealed) ≡ None
 too_few true sealed is = refl
 too_few false sealed is = absurd (cc)
 
-short_random : (key : KeyKind) (table : Table) (keys : Keys) (plain ad random : List ℕ) → primary_key keys table Aead ≡ Some key → length random < iv_size key → seals keys table plain ad random ≡ None
+short_random : (key : KeyKind) (table : Table) (keys : Keys) (plain ad random : List ℕ) → primary_key keys table Aead ≡ Some key → length random < iv_size key → seal_answer keys table plain ad random ≡ None
 short_random key table keys plain ad random primary short =
     let under = primary_is table (primary_of keys) key primary in
-    ap (option_map as_drawn) (sealed_with under.0 key table keys plain ad random under.1 under.2)
-    ∙ too_few (nat_lt (length random) (iv_size key)) _ (grind (arith, nat_tests))
+    sealed_with under.0 key table keys plain ad random under.1 under.2 ∙ too_few (nat_lt (length random) (iv_size key)) _ (grind (arith, nat_tests))
 
-short_left : (key : KeyKind) (table : Table) (keys : Keys) (plain ad : List ℕ) (left : Option (List ℕ)) → primary_key keys table Aead ≡ Some key → IfSome left (λ random. length random < iv_size key) → IfSome left (λ random. seals keys table plain ad random ≡ None)
-short_left key table keys plain ad None primary short = tt
-short_left key table keys plain ad (Some random) primary short = short_random key table keys plain ad random primary short
+-- what is made of a sealing: a text of its bytes
+abbrev pub made_so : (List ℕ → List ℕ) → Sealed → Drawn (List ℕ)
+made_so text sealed = record { answer = Ok (text sealed.bytes); left = sealed.left }
+
+-- what is drawn so is made of the sealing of this plaintext
+abbrev pub IsMadeSo : (List ℕ → List ℕ) → Keys → Table → (plain ad : List ℕ) → Draw (List ℕ) → Type 0
+IsMadeSo text keys table plain ad give = (random : List ℕ) → give random ≡ option_map (made_so text) (seal_answer keys table plain ad random)
+
+short_left : (key : KeyKind) (table : Table) (keys : Keys) (plain ad : List ℕ) (text : List ℕ → List ℕ) (give : Draw (List ℕ)) → IsMadeSo text keys table plain ad give → (left : Option (List ℕ)) → primary_key keys table Aead ≡ Some key → IfSome left (λ random. length random < iv_size key)
+    → IfSome left (λ random. give random ≡ None)
+short_left key table keys plain ad text give made None primary short = tt
+short_left key table keys plain ad text give made (Some random) primary short = made random ∙ ap (option_map (made_so text)) (short_random key table keys plain ad random primary short)
 
 -- the entropy failed at the IV
-pub draw_failed_there : (table : Table) (keys : Keys) (plain ad : List ℕ) (old : World) (entropy : EntropyState) → IsSealFault keys table old.entropy entropy seal_faults.EntropyFault → (next : List ℕ → Plan) → Ends (works table keys (to_seal ad) plain next) old status.EntropyFault (record old { entropy = entropy })
-draw_failed_there table keys plain ad old entropy fault next =
+pub draw_failed_there : (table : Table) (keys : Keys) (plain ad : List ℕ) (text : List ℕ → List ℕ) (give : Draw (List ℕ)) → IsMadeSo text keys table plain ad give → (old : World) (entropy : EntropyState) → IsSealFault keys table old.entropy entropy seal_faults.EntropyFault
+    → (next : Result (List ℕ) CmdFault → Plan) → Ends (allocates (draws sealings give next)) old status.EntropyFault (record old { entropy = entropy })
+draw_failed_there table keys plain ad text give made old entropy fault next =
     inl (draw_failed refl (record { source = refl; sink = refl; store = refl }) (record {
       rose = fault.entropy.1.rose;
       drawn = [];
       drew = fault.entropy.2;
-      undecided = short_random fault.key table keys plain ad [] fault.primary fault.entropy.0;
-      short = λ steady. short_left fault.key table keys plain ad old.entropy.left fault.primary (fault.entropy.1.short steady);
+      undecided = made [] ∙ ap (option_map (made_so text)) (short_random fault.key table keys plain ad [] fault.primary fault.entropy.0);
+      short = λ steady. short_left fault.key table keys plain ad text give made old.entropy.left fault.primary (fault.entropy.1.short steady);
     }))
 
 -- an IV that was drawn whole
@@ -107,53 +118,78 @@ same_entropy old new drew stood =
     rw (← left, ← faults, ← steady) refl
 
 -- memory was wanting, before the IV was drawn or behind it
-pub starved_sealing : (table : Table) (keys : Keys) (plain ad : List ℕ) (old : World) (entropy : EntropyState) → IsSealFault keys table old.entropy entropy seal_faults.NoMemory → (next : List ℕ → Plan) → Ends (works table keys (to_seal ad) plain next) old status.NoMemory (record old { entropy = entropy })
-starved_sealing table keys plain ad old entropy fault next = elim fault.entropy.1 [
+pub starved_sealing : (table : Table) (keys : Keys) (plain ad : List ℕ) (text : List ℕ → List ℕ) (give : Draw (List ℕ)) → IsMadeSo text keys table plain ad give → (old : World) (entropy : EntropyState) → IsSealFault keys table old.entropy entropy seal_faults.NoMemory
+    → (next : Result (List ℕ) CmdFault → Plan) → Ends (allocates (draws sealings give (λ made. allocates (next made)))) old status.NoMemory (record old { entropy = entropy })
+starved_sealing table keys plain ad text give made old entropy fault next = elim fault.entropy.1 [
   | inl none ↦ inr (refl, ap (λ (e : EntropyState). record old { entropy = e }) (same_entropy old.entropy entropy none fault.entropy.0))
-  | inr iv ↦ inl (settled iv.drawn entropy (Ok (prefix_bytes (prefix_of under.0) ++ seal_of fault.key iv.drawn plain ad)) iv.drew fault.entropy.0 (settles iv.drawn iv.whole) (inr (refl, refl)))
+  | inr iv ↦ inl (settled iv.drawn entropy (Ok (text (prefix_bytes (prefix_of under.0) ++ seal_of fault.key iv.drawn plain ad))) iv.drew fault.entropy.0 (settles iv.drawn iv.whole) (inr (refl, refl)))
 ]
   where
     under : (r : Record) × (primary_of keys ≡ Some r) × (key_of_record table Aead r ≡ Some fault.key)
     under = primary_is table (primary_of keys) fault.key fault.primary
 
-    settles : (drawn : List ℕ) → length drawn ≡ iv_size fault.key → (more : List ℕ) → seals keys table plain ad (drawn ++ more) ≡ Some (record { answer = Ok (prefix_bytes (prefix_of under.0) ++ seal_of fault.key drawn plain ad); left = more })
+    settles : (drawn : List ℕ) → length drawn ≡ iv_size fault.key → (more : List ℕ) → give (drawn ++ more) ≡ Some (record { answer = Ok (text (prefix_bytes (prefix_of under.0) ++ seal_of fault.key drawn plain ad)); left = more })
     settles drawn whole more =
-        ap (option_map as_drawn) (sealed_with under.0 fault.key table keys plain ad (drawn ++ more) under.1 under.2 ∙ whole_iv fault.key (prefix_bytes (prefix_of under.0)) plain ad drawn more whole)
+        made (drawn ++ more)
+        ∙ ap (option_map (made_so text)) (sealed_with under.0 fault.key table keys plain ad (drawn ++ more) under.1 under.2 ∙ whole_iv fault.key (prefix_bytes (prefix_of under.0)) plain ad drawn more whole)
 
 -- The steps of work, one behind another.
 
--- the plan from the input on, and from the handle on
-abbrev reads : Table → AskedWork → Keys → (List ℕ → Plan) → Plan
-reads table work keys next = reads_input (λ input. works table keys work input next)
+-- the plan from the handle on, and from the keyset on: its records can serve, and then the rest
+abbrev pub Rest : Type 0 → Type 0
+Rest B = Keys → (B → Plan) → Plan
 
-abbrev checks : Table → AskedWork → Keys → (List ℕ → Plan) → Plan
-checks table work keys next = handles table (primitive_for work) keys (λ fit. reads table work keys next)
+abbrev checks : {B : Type 0} → Table → Primitive → Rest B → Rest B
+checks table primitive rest keys next = handles table primitive keys (λ fit. rest keys next)
+
+abbrev pub serves : {B : Type 0} → Table → Primitive → (name : List ℕ) → Format → Rest B → (B → Plan) → Plan
+serves table primitive name form rest next = loads_keyset name form (λ keys. checks table primitive rest keys next)
 
 -- no keyset was loaded
-pub no_keyset : (table : Table) (name : List ℕ) (form : Format) (work : AskedWork) (old new : World) (r : Result (List ℕ) Status) (s : Status) → IsErrAnd r (λ e. e ≡ s) → Passes {A = Keys} (loads_keyset name form) old (Err s) new → Passes (use_output table name form work) old r new
-no_keyset table name form work old new r s is one = ends_there (loads_keyset name form) (checks table work) old new r s is one
+pub no_keyset : {B : Type 0} (table : Table) (p : Primitive) (name : List ℕ) (form : Format) (rest : Rest B) (old new : World) (r : Result B Status) (s : Status) → IsErrAnd r (λ e. e ≡ s) → Passes {A = Keys} (loads_keyset name form) old (Err s) new → Passes (serves table p name form rest) old r new
+no_keyset table p name form rest old new r s is one = ends_there (loads_keyset name form) (checks table p rest) old new r s is one
 
 -- its records can't serve
-pub no_handle : (table : Table) (name : List ℕ) (form : Format) (work : AskedWork) (old mid : World) (keys : Keys) (primitive : Primitive) (r : Result (List ℕ) Status) (s : Status) → IsErrAnd r (λ e. e ≡ s) → primitive ≡ primitive_for work → Passes (loads_keyset name form) old (Ok keys) mid → ((next : Unit {0} → Plan) → Ends (handles table primitive keys next) mid s mid) → Passes (use_output table name form work) old r mid
-no_handle table name form work old mid keys primitive r s is same one two =
-    passes_then (loads_keyset name form) (checks table work) old mid mid keys r one
-    (ends_there (handles table (primitive_for work) keys) (λ fit. reads table work keys) mid mid r s is (λ next. subst (λ (p : Primitive). Ends (handles table p keys next) mid s mid) same (two next)))
+pub no_handle : {B : Type 0} (table : Table) (p : Primitive) (name : List ℕ) (form : Format) (rest : Rest B) (old mid : World) (keys : Keys) (primitive : Primitive) (r : Result B Status) (s : Status) → IsErrAnd r (λ e. e ≡ s) → primitive ≡ p → Passes (loads_keyset name form) old (Ok keys) mid
+    → ((next : Unit {0} → Plan) → Ends (handles table primitive keys next) mid s mid) → Passes (serves table p name form rest) old r mid
+no_handle table p name form rest old mid keys primitive r s is same one two =
+    passes_then (loads_keyset name form) (checks table p rest) old mid mid keys r one
+    (ends_there (handles table p keys) (λ fit. rest keys) mid mid r s is (λ next. subst (λ (p : Primitive). Ends (handles table p keys next) mid s mid) same (two next)))
 
 -- the records can serve, and the rest ended so
-pub with_handle : (table : Table) (name : List ℕ) (form : Format) (work : AskedWork) (old mid new : World) (keys : Keys) (primitive : Primitive) (r : Result (List ℕ) Status) → primitive ≡ primitive_for work → Passes (loads_keyset name form) old (Ok keys) mid → Passes (handles table primitive keys) mid (Ok tt) mid → Passes (reads table work keys) mid r new → Passes (use_output table name form work) old r new
-with_handle table name form work old mid new keys primitive r same one two rest =
-    passes_then (loads_keyset name form) (checks table work) old mid new keys r one
-    (passes_then (handles table (primitive_for work) keys) (λ fit. reads table work keys) mid mid new tt r (subst (λ (p : Primitive). Passes (handles table p keys) mid (Ok tt) mid) same two) rest)
+pub with_handle : {B : Type 0} (table : Table) (p : Primitive) (name : List ℕ) (form : Format) (rest : Rest B) (old mid new : World) (keys : Keys) (primitive : Primitive) (r : Result B Status) → primitive ≡ p → Passes (loads_keyset name form) old (Ok keys) mid → Passes (handles table primitive keys) mid (Ok tt) mid
+    → Passes (rest keys) mid r new → Passes (serves table p name form rest) old r new
+with_handle table p name form rest old mid new keys primitive r same one two three =
+    passes_then (loads_keyset name form) (checks table p rest) old mid new keys r one
+    (passes_then (handles table p keys) (λ fit. rest keys) mid mid new tt r (subst (λ (p : Primitive). Passes (handles table p keys) mid (Ok tt) mid) same two) three)
+
+-- the plan of work from the input on
+abbrev pub reads : Table → AskedWork → Rest (List ℕ)
+reads table work keys next = reads_input (limit_for work) (λ input. works table keys work input next)
+
+pub use_no_keyset : (table : Table) (name : List ℕ) (form : Format) (work : AskedWork) (old new : World) (r : Result (List ℕ) Status) (s : Status) → IsErrAnd r (λ e. e ≡ s) → Passes {A = Keys} (loads_keyset name form) old (Err s) new → Passes (use_output table name form work) old r new
+use_no_keyset table name form work old new r s is one = no_keyset table (primitive_for work) name form (reads table work) old new r s is one
+
+pub use_no_handle : (table : Table) (name : List ℕ) (form : Format) (work : AskedWork) (old mid : World) (keys : Keys) (primitive : Primitive) (r : Result (List ℕ) Status) (s : Status) → IsErrAnd r (λ e. e ≡ s) → primitive ≡ primitive_for work → Passes (loads_keyset name form) old (Ok keys) mid
+    → ((next : Unit {0} → Plan) → Ends (handles table primitive keys next) mid s mid) → Passes (use_output table name form work) old r mid
+use_no_handle table name form work old mid keys primitive r s is same one two = no_handle table (primitive_for work) name form (reads table work) old mid keys primitive r s is same one two
+
+pub use_with_handle : (table : Table) (name : List ℕ) (form : Format) (work : AskedWork) (old mid new : World) (keys : Keys) (primitive : Primitive) (r : Result (List ℕ) Status) → primitive ≡ primitive_for work → Passes (loads_keyset name form) old (Ok keys) mid → Passes (handles table primitive keys) mid (Ok tt) mid
+    → Passes (reads table work keys) mid r new → Passes (use_output table name form work) old r new
+use_with_handle table name form work old mid new keys primitive r same one two three = with_handle table (primitive_for work) name form (reads table work) old mid new keys primitive r same one two three
 
 -- the input wasn't read
-pub no_input : (table : Table) (name : List ℕ) (form : Format) (work : AskedWork) (old mid new : World) (keys : Keys) (primitive : Primitive) (r : Result (List ℕ) Status) (s : Status) → primitive ≡ primitive_for work → Passes (loads_keyset name form) old (Ok keys) mid → Passes (handles table primitive keys) mid (Ok tt) mid → IsErrAnd r (λ e. e ≡ s) → Passes {A = List ℕ} reads_input mid (Err s) new → Passes (use_output table name form work) old r new
-no_input table name form work old mid new keys primitive r s same one two is three =
-    with_handle table name form work old mid new keys primitive r same one two (ends_there reads_input (works table keys work) mid new r s is three)
+no_input : (table : Table) (work : AskedWork) (old new : World) (keys : Keys) (r : Result (List ℕ) Status) (s : Status) → IsErrAnd r (λ e. e ≡ s) → Passes {A = List ℕ} (reads_input (limit_for work)) old (Err s) new → Passes (reads table work keys) old r new
+no_input table work old new keys r s is one = ends_there (reads_input (limit_for work)) (works table keys work) old new r s is one
+
+pub use_no_input : (table : Table) (name : List ℕ) (form : Format) (work : AskedWork) (old mid new : World) (keys : Keys) (primitive : Primitive) (r : Result (List ℕ) Status) (s : Status) → primitive ≡ primitive_for work → Passes (loads_keyset name form) old (Ok keys) mid → Passes (handles table primitive keys) mid (Ok tt) mid
+    → IsErrAnd r (λ e. e ≡ s) → Passes {A = List ℕ} (reads_input (limit_for work)) mid (Err s) new → Passes (use_output table name form work) old r new
+use_no_input table name form work old mid new keys primitive r s same one two is three = use_with_handle table name form work old mid new keys primitive r same one two (no_input table work mid new keys r s is three)
 
 -- it was, and the work ended so
-pub with_input : (table other : Table) (work : AskedWork) (old mid new : World) (keys : Keys) (input : List ℕ) (r : Result (List ℕ) Status) → other ≡ table → Passes reads_input old (Ok input) mid → Passes (works other keys work input) mid r new → Passes (reads table work keys) old r new
+pub with_input : (table other : Table) (work : AskedWork) (old mid new : World) (keys : Keys) (input : List ℕ) (r : Result (List ℕ) Status) → other ≡ table → Passes (reads_input (limit_for work)) old (Ok input) mid → Passes (works other keys work input) mid r new → Passes (reads table work keys) old r new
 with_input table other work old mid new keys input r same one two =
-    passes_then reads_input (works table keys work) old mid new input r one (subst (λ (t : Table). Passes (works t keys work input) mid r new) same two)
+    passes_then (reads_input (limit_for work)) (works table keys work) old mid new input r one (subst (λ (t : Table). Passes (works t keys work input) mid r new) same two)
 
 -- Data in hexadecimal.
 

@@ -16,6 +16,7 @@ mod streaming;
 mod templates;
 mod top;
 mod using;
+mod wrapping;
 
 pub use key_msgs::Rule;
 pub use keyset_model::KeysetFault;

@@ -1,6 +1,6 @@
 //! The last step of a command: its output is written, or becomes a new file.
 
-ghost use Rattle.std.specs.Prelude.{◌≡◌, List, ℕ, IfOk};
+ghost use Rattle.std.specs.Prelude.{◌≡◌, ◌≤◌, List, ℕ, length, IfOk};
 ghost use Rattle.std.specs.List.{AllByRecursion};
 ghost use Rattle.keyset_model.specs.Keyset.{Keys, IsShort};
 ghost use Rattle.tinkey_plans.specs.Plan.{Plan, writes, creates};
@@ -25,6 +25,27 @@ pub(crate) fn finish<K: Sink>(sink: &mut K, output: Result<Bytes, Status>) -> St
 {
     match output {
         Ok(bytes) => write_output(sink, bytes.as_slice()),
+        Err(status) => status,
+    }
+}
+
+/// Puts out the text that a command gives, as its last step: into a new file, or where none is named,
+/// to the sink. Or hands on why there is none.
+pub(crate) fn finish_text<K: Sink, D: Store>(
+    alloc: Global,
+    out: Option<&str>,
+    sink: &mut K,
+    store: &mut D,
+    made: Result<Bytes, Status>,
+) -> Status
+    ensures { (step : (List ℕ → Plan) → Plan) (first w : World) →
+        Passes step first made
+        (record w { sink = K.state sink.old; store = D.state store.old }) →
+        Ends (step (puts (seen_name out.entry))) first result
+        (record w { sink = K.state sink.new; store = D.state store.new }) }
+{
+    match made {
+        Ok(bytes) => put(alloc, out, sink, store, bytes.as_slice()),
         Err(status) => status,
     }
 }
@@ -84,10 +105,11 @@ fn put_keyset<K: Sink, D: Store>(
 /// The written form of a keyset, where it is no longer than what is read as one.
 pub(crate) fn written(alloc: Global, form: Format, keyset: &Keyset) -> Result<Bytes, Status>
     requires short { AllByRecursion IsShort keyset.now.records }
-    ensures { (w : World) → Passes (writes_keyset form keyset.now) w result w }
+    ensures passes { (w : World) → Passes (writes_keyset form keyset.now) w result w }
+    ensures within { IfOk result (λ bytes. length (written_in form keyset.now) ≤ KEYSET_LIMIT) }
 {
     match write_as(alloc, form, keyset) {
-        Ok(bytes) => within(bytes),
+        Ok(bytes) => within(bytes, KEYSET_LIMIT),
         Err(_) => Err(Status::NoMemory),
     }
 }
@@ -103,11 +125,12 @@ fn write_as(alloc: Global, form: Format, keyset: &Keyset) -> Result<Vec<u8>, NoM
     }
 }
 
-/// Bytes that are no longer than a keyset may be.
-fn within(bytes: Vec<u8>) -> Result<Bytes, Status>
-    ensures { (w : World) → Passes (λ next. within_limit next bytes.items) w result w }
+/// Bytes of which there are at most `limit`, that of a keyset.
+pub(crate) fn within(bytes: Vec<u8>, limit: usize) -> Result<Bytes, Status>
+    ensures passes { (w : World) → Passes (λ next. within_limit limit next bytes.items) w result w }
+    ensures within { IfOk result (λ kept. length bytes.items ≤ limit) }
 {
-    if bytes.len() <= KEYSET_LIMIT {
+    if bytes.len() <= limit {
         Ok(Bytes::own(bytes))
     } else {
         Err(Status::KeysetTooLong)

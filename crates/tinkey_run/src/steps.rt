@@ -1,5 +1,5 @@
-//! The steps that commands share: a keyset loaded or read, the whole input, and a template by its
-//! name.
+//! The steps that commands share: a keyset, or the bytes of one, loaded or read, the whole input, and
+//! a template by its name.
 
 ghost use Rattle.std.specs.Prelude.{◌≡◌, ◌≤◌, ◌^◌, List, ℕ, length, IfOk};
 ghost use Rattle.std.specs.List.{AllByRecursion};
@@ -7,7 +7,7 @@ ghost use Rattle.key_msgs.specs.Templates.{seen};
 ghost use Rattle.keyset_model.specs.Keyset.{IsShort};
 ghost use Rattle.tinkey_plans.specs.Ends.{World};
 ghost use Rattle.tinkey_words.specs.Words.{seen_place};
-ghost use Rattle.tinkey_plans.specs.Steps.{refusal_of, json_refusal_of, keyset_in, loads_keyset, reads_keyset, takes_keyset, reads_input, finds_template, Passes, PassesAs};
+ghost use Rattle.tinkey_plans.specs.Steps.{refusal_of, json_refusal_of, keyset_in, loads_bytes, reads_bytes, loads_keyset, reads_keyset, takes_keyset, reads_input, finds_template, Passes, PassesAs};
 
 use key_msgs::{Template, TemplateFault, template_named};
 use keyset_json::{JsonError, read_json};
@@ -19,9 +19,6 @@ use tinkey_words::{Format, Place};
 
 /// How many bytes a keyset may have.
 pub(crate) const KEYSET_LIMIT: usize = 1_048_576;
-
-/// How many bytes a whole input may have.
-const INPUT_LIMIT: usize = 16_777_216;
 
 /// The keyset in a file, or where none is named, the one that the whole input is.
 pub(crate) fn take_keyset<S: Source, D: Store>(
@@ -52,11 +49,26 @@ pub(crate) fn load_keyset<D: Store>(
         (record w { store = D.state store.old }) result (record w { store = D.state store.new }) }
     ensures short { IfOk result (λ keyset. AllByRecursion IsShort keyset.records) }
 {
-    match store.load(alloc, name, KEYSET_LIMIT) {
+    let bytes = load_bytes(alloc, name, KEYSET_LIMIT, store)?;
+    keyset_of(alloc, form, bytes.as_slice())
+}
+
+/// The bytes of the file of this name, of which there are at most `limit`.
+pub(crate) fn load_bytes<D: Store>(
+    alloc: Global,
+    name: &str,
+    limit: usize,
+    store: &mut D,
+) -> Result<Bytes, Status>
+    ensures passes { (w : World) → Passes (loads_bytes limit name.now)
+        (record w { store = D.state store.old }) result (record w { store = D.state store.new }) }
+    ensures within { IfOk result (λ bytes. length bytes ≤ limit) }
+{
+    match store.load(alloc, name, limit) {
         Ok(found) => match found {
             Loaded::Absent => Err(Status::InMissing),
             Loaded::TooLong => Err(Status::KeysetTooLong),
-            Loaded::Bytes(bytes) => keyset_of(alloc, form, bytes.as_slice()),
+            Loaded::Bytes(bytes) => Ok(bytes),
         },
         Err(e) => match e {
             StoreError::Failed => Err(Status::StoreFault),
@@ -72,8 +84,24 @@ fn read_keyset<S: Source>(alloc: Global, form: Format, source: &mut S) -> Result
         (record w { source = S.state source.new }) }
     ensures short { IfOk result (λ keyset. AllByRecursion IsShort keyset.records) }
 {
-    match read_all(alloc, source, KEYSET_LIMIT) {
-        Ok(bytes) => keyset_of(alloc, form, &bytes),
+    let bytes = read_bytes(alloc, KEYSET_LIMIT, source)?;
+    keyset_of(alloc, form, bytes.as_slice())
+}
+
+/// The bytes of the whole input, of which there are at most `limit`, that of a keyset.
+pub(crate) fn read_bytes<S: Source>(
+    alloc: Global,
+    limit: usize,
+    source: &mut S,
+) -> Result<Bytes, Status>
+    requires limit_bound { limit ≤ 2 ^ 30 }
+    ensures passes { (w : World) → Passes (reads_bytes limit)
+        (record w { source = S.state source.old }) result
+        (record w { source = S.state source.new }) }
+    ensures within { IfOk result (λ bytes. length bytes ≤ limit) }
+{
+    match read_all(alloc, source, limit) {
+        Ok(bytes) => Ok(Bytes::own(bytes)),
         Err(fault) => match fault {
             ReadAllFault::TooLong => Err(Status::KeysetTooLong),
             ReadAllFault::Failed => Err(Status::ReadFault),
@@ -123,14 +151,19 @@ fn refusal(e: ReadError) -> Status
     }
 }
 
-/// The whole input, of at most 2^24 bytes.
-pub(crate) fn read_input<S: Source>(alloc: Global, source: &mut S) -> Result<Bytes, Status>
-    ensures passes { (w : World) → Passes reads_input
+/// The whole input, of at most `limit` bytes.
+pub(crate) fn read_input<S: Source>(
+    alloc: Global,
+    limit: usize,
+    source: &mut S,
+) -> Result<Bytes, Status>
+    requires limit_bound { limit ≤ 2 ^ 30 }
+    ensures passes { (w : World) → Passes (reads_input limit)
         (record w { source = S.state source.old }) result
         (record w { source = S.state source.new }) }
-    ensures within { IfOk result (λ input. length input ≤ 2 ^ 24) }
+    ensures within { IfOk result (λ input. length input ≤ limit) }
 {
-    match read_all(alloc, source, INPUT_LIMIT) {
+    match read_all(alloc, source, limit) {
         Ok(data) => Ok(Bytes::own(data)),
         Err(e) => match e {
             ReadAllFault::TooLong => Err(Status::InputTooLong),

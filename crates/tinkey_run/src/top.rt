@@ -10,13 +10,14 @@ ghost use Rattle.tinkey_words.specs.Words.{seen_command};
 
 use crate::edits::{create_keyset, edit_keyset};
 use crate::list::list_keyset;
-use crate::output::{finish, finish_keyset};
+use crate::output::{finish, finish_keyset, finish_text};
 use crate::self_testing::tell_self_test;
 use crate::session::answer_lines;
 use crate::steps::{load_keyset, take_keyset};
 use crate::streaming::{load_stream_keys, open_stream, seal_stream};
 use crate::templates::list_templates;
 use crate::using::use_keyset;
+use crate::wrapping::{unwrap_keyset, wrap_keyset};
 use managers::{KeyTable, Managers};
 use std::alloc::Global;
 use tink_base::{Entropy, Sink, Source, Store};
@@ -143,6 +144,34 @@ fn dispatch<S: Source, K: Sink, E: Entropy, D: Store>(
             answer_lines(
                 alloc, managers, keyset, output, source, sink, entropy, store,
             )
+        }
+        Request::WrapKeyset {
+            master,
+            form,
+            input,
+            output,
+        } => {
+            let wrapped = wrap_keyset(
+                alloc,
+                managers,
+                master,
+                form,
+                input,
+                output.form,
+                source,
+                entropy,
+                store,
+            );
+            finish_text(alloc, output.file, sink, store, wrapped)
+        }
+        Request::UnwrapKeyset {
+            master,
+            form,
+            input,
+            output,
+        } => {
+            let unwrapped = unwrap_keyset(alloc, managers, master, form, input, source, store);
+            finish_keyset(alloc, output, sink, store, unwrapped)
         }
     }
 }

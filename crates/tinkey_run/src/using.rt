@@ -5,7 +5,7 @@ ghost use Rattle.key_msgs.specs.declared.primitive.Primitive.TheVariants.{Aead, 
 ghost use Rattle.wrapped_prims.specs.Making.{IsOver};
 ghost use Rattle.tinkey_plans.specs.Ends.{World};
 ghost use Rattle.tinkey_plans.specs.Steps.{Passes, PassesAs};
-ghost use Rattle.tinkey_plans.specs.Using.{handles, handle_refusal, use_output, with_opened, IsServing, Works};
+ghost use Rattle.tinkey_plans.specs.Using.{handles, handle_refusal, limit_for, use_output, with_opened, IsServing, Works};
 ghost use Rattle.tinkey_words.specs.Words.{primitive_for, datum_as, datum_of_hex, seen_datum, seen_work, to_seal, to_open, to_dseal, to_dopen, to_tag, to_verify, to_derive};
 
 use crate::steps::{load_keyset, read_input};
@@ -18,6 +18,13 @@ use tink_base::{Bytes, Entropy, NoMemory, Source, Store, Trials};
 use tinkey_plans::Status;
 use tinkey_words::{DATUM_LIMIT, Datum, Format, Work};
 use wrapped_prims::{DeriveFault, Handle, HandleFault, SealFault};
+
+/// How many bytes a whole input may have.
+const INPUT_LIMIT: usize = 16_777_216;
+
+/// How many bytes it may have where it is to be opened: 1,024 more, as no sealing is longer than its
+/// plaintext by more.
+const SEALED_LIMIT: usize = INPUT_LIMIT + 1024;
 
 /// Work on the whole input, by the keys of the keyset in the file of this name: what is put out.
 pub(crate) fn use_keyset<S: Source, E: Entropy, D: Store>(
@@ -46,7 +53,7 @@ pub(crate) fn use_keyset<S: Source, E: Entropy, D: Store>(
 {
     let keyset = load_keyset(alloc, name, form, store)?;
     let handle = handle_of(alloc, &keyset, managers, primitive_for(work))?;
-    let input = read_input(alloc, source)?;
+    let input = read_input(alloc, limit_for(work), source)?;
     do_work(alloc, &handle, work, input.as_slice(), entropy)
 }
 
@@ -62,8 +69,19 @@ fn primitive_for(work: Work<'_>) -> Primitive
     }
 }
 
+/// How many bytes the input of the work may have.
+fn limit_for(work: Work<'_>) -> usize
+    ensures limit { result ≡ limit_for (seen_work work.entry) }
+    ensures bound { result ≤ 2 ^ 25 }
+{
+    match work {
+        Work::Open(_) | Work::Dopen(_) => SEALED_LIMIT,
+        _ => INPUT_LIMIT,
+    }
+}
+
 /// The handle of the keyset's keys for a primitive, or the first record that can't serve.
-fn handle_of<'m>(
+pub(crate) fn handle_of<'m>(
     alloc: Global,
     keyset: &Keyset,
     managers: &'m Managers,
@@ -105,7 +123,7 @@ fn do_work<E: Entropy>(
 ) -> Result<Bytes, Status>
     requires serving { IsServing (⟦<Managers as KeyTable>⟧.table handle.now.managers.now)
         (primitive_for (seen_work work)) handle.now.held }
-    requires bound { length input.now ≤ 2 ^ 24 }
+    requires bound { length input.now ≤ 2 ^ 25 }
     ensures { (w : World) → Works (⟦<Managers as KeyTable>⟧.table handle.now.managers.now)
         handle.now.held (seen_work work.entry) input.now
         (record w { entropy = E.state entropy.old }) result (record w { entropy = E.state entropy.new }) }
@@ -131,7 +149,7 @@ fn seal<E: Entropy>(
 ) -> Result<Bytes, Status>
     requires serving { IsServing (⟦<Managers as KeyTable>⟧.table handle.now.managers.now) Aead
         handle.now.held }
-    requires bound { length plain.now ≤ 2 ^ 24 }
+    requires bound { length plain.now ≤ 2 ^ 25 }
     ensures { (w : World) → Works (⟦<Managers as KeyTable>⟧.table handle.now.managers.now)
         handle.now.held (to_seal (seen_datum ad.entry)) plain.now
         (record w { entropy = E.state entropy.old }) result (record w { entropy = E.state entropy.new }) }
@@ -148,7 +166,7 @@ fn seal<E: Entropy>(
 fn open(alloc: Global, handle: &Handle<'_>, ad: Datum<'_>, sealed: &[u8]) -> Result<Bytes, Status>
     requires serving { IsServing (⟦<Managers as KeyTable>⟧.table handle.now.managers.now) Aead
         handle.now.held }
-    requires bound { length sealed.now ≤ 2 ^ 24 }
+    requires bound { length sealed.now ≤ 2 ^ 25 }
     ensures { (w : World) → Works (⟦<Managers as KeyTable>⟧.table handle.now.managers.now)
         handle.now.held (to_open (seen_datum ad.entry)) sealed.now
         w result w }
@@ -164,7 +182,7 @@ fn open(alloc: Global, handle: &Handle<'_>, ad: Datum<'_>, sealed: &[u8]) -> Res
 fn dseal(alloc: Global, handle: &Handle<'_>, ad: Datum<'_>, plain: &[u8]) -> Result<Bytes, Status>
     requires serving { IsServing (⟦<Managers as KeyTable>⟧.table handle.now.managers.now) Daead
         handle.now.held }
-    requires bound { length plain.now ≤ 2 ^ 24 }
+    requires bound { length plain.now ≤ 2 ^ 25 }
     ensures { (w : World) → Works (⟦<Managers as KeyTable>⟧.table handle.now.managers.now)
         handle.now.held (to_dseal (seen_datum ad.entry)) plain.now
         w result w }
@@ -180,7 +198,7 @@ fn dseal(alloc: Global, handle: &Handle<'_>, ad: Datum<'_>, plain: &[u8]) -> Res
 fn dopen(alloc: Global, handle: &Handle<'_>, ad: Datum<'_>, sealed: &[u8]) -> Result<Bytes, Status>
     requires serving { IsServing (⟦<Managers as KeyTable>⟧.table handle.now.managers.now) Daead
         handle.now.held }
-    requires bound { length sealed.now ≤ 2 ^ 24 }
+    requires bound { length sealed.now ≤ 2 ^ 25 }
     ensures { (w : World) → Works (⟦<Managers as KeyTable>⟧.table handle.now.managers.now)
         handle.now.held (to_dopen (seen_datum ad.entry)) sealed.now
         w result w }
@@ -196,7 +214,7 @@ fn dopen(alloc: Global, handle: &Handle<'_>, ad: Datum<'_>, sealed: &[u8]) -> Re
 fn tag(alloc: Global, handle: &Handle<'_>, body: &[u8]) -> Result<Bytes, Status>
     requires serving { IsServing (⟦<Managers as KeyTable>⟧.table handle.now.managers.now) Mac
         handle.now.held }
-    requires bound { length body.now ≤ 2 ^ 24 }
+    requires bound { length body.now ≤ 2 ^ 25 }
     ensures { (w : World) → Works (⟦<Managers as KeyTable>⟧.table handle.now.managers.now)
         handle.now.held to_tag body.now
         w result w }
@@ -211,7 +229,7 @@ fn tag(alloc: Global, handle: &Handle<'_>, body: &[u8]) -> Result<Bytes, Status>
 fn verify(alloc: Global, handle: &Handle<'_>, tag: Datum<'_>, body: &[u8]) -> Result<Bytes, Status>
     requires serving { IsServing (⟦<Managers as KeyTable>⟧.table handle.now.managers.now) Mac
         handle.now.held }
-    requires bound { length body.now ≤ 2 ^ 24 }
+    requires bound { length body.now ≤ 2 ^ 25 }
     ensures { (w : World) → Works (⟦<Managers as KeyTable>⟧.table handle.now.managers.now)
         handle.now.held (to_verify (seen_datum tag.entry)) body.now
         w result w }
@@ -228,7 +246,7 @@ fn verify(alloc: Global, handle: &Handle<'_>, tag: Datum<'_>, body: &[u8]) -> Re
 fn derive(alloc: Global, handle: &Handle<'_>, size: u32, input: &[u8]) -> Result<Bytes, Status>
     requires serving { IsServing (⟦<Managers as KeyTable>⟧.table handle.now.managers.now) Prf
         handle.now.held }
-    requires bound { length input.now ≤ 2 ^ 24 }
+    requires bound { length input.now ≤ 2 ^ 25 }
     ensures { (w : World) → Works (⟦<Managers as KeyTable>⟧.table handle.now.managers.now)
         handle.now.held (to_derive size) input.now
         w result w }

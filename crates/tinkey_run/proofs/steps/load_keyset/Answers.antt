@@ -1,10 +1,15 @@
-use Rattle.tinkey_plans.proofs.StepLemmas.{loaded_passes}
+-- The bytes, and then their keyset.
+use Rattle.tinkey_plans.proofs.StepLemmas.{ends_there, passes_then}
+use Rattle.tinkey_plans.specs.Steps.{keyset_in, keyset_limit, loads_bytes}
 use Rattle.tinkey_run.proofs.steps.load_keyset.Goals as goal
 
-pub returns-in-Bytes-clause-passes : goal.returns-in-Bytes-clause-passes
-returns-in-Bytes-clause-passes g c = λ w.
-    let e = c.in-Ok.ensures in
-    let found = rw c.in-Bytes.is at e.loads in
-    let store = g.D.Store.state c.load.new.self in
-    loaded_passes c.args.name.now c.args.form (record w { store = g.D.Store.state c.args.store.now }) c.in-Bytes.bytes store _ e.kept (e.no_fault (λ h. cc)) found.0 found.1
-    (rw c.as_slice.ensures at (c.keyset_of.ensures.passes (record w { store = store })))
+pub returns-in_err-bytes-clause-passes : goal.returns-in_err-bytes-clause-passes
+returns-in_err-bytes-clause-passes g c = λ w.
+    ends_there (loads_bytes keyset_limit c.args.name.now) (keyset_in c.args.form) _ _ _ _ c.from_residual.ensures.1 (c.in_err-bytes.ensures.passes w)
+
+pub returns-clause-passes : goal.returns-clause-passes
+returns-clause-passes g c = λ w.
+    let old = record w { store = g.D.Store.state c.args.store.now } in
+    let new = record w { store = g.D.Store.state c.load_bytes.new.store } in
+    passes_then (loads_bytes keyset_limit c.args.name.now) (keyset_in c.args.form) old new new c.in_ok-bytes.bytes _ (c.in_ok-bytes.ensures.passes w)
+    (rw c.as_slice.ensures at (c.keyset_of.ensures.passes new))

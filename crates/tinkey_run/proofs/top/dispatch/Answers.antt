@@ -4,6 +4,7 @@ use Rattle.tinkey_plans.specs.SelfTesting.{self_test_output}
 use Rattle.tinkey_plans.specs.Steps.{loads_keyset, takes_keyset}
 use Rattle.tinkey_plans.specs.Streaming.{loads_stream_keys}
 use Rattle.tinkey_plans.specs.Using.{use_output}
+use Rattle.tinkey_plans.specs.Wrapping.{unwrap_output, wrap_output}
 use Rattle.tinkey_words.specs.Words.{seen_edit, seen_place, seen_work}
 use Rattle.tinkey_run.proofs.top.dispatch.Goals as goal
 
@@ -57,3 +58,17 @@ pub returns-in-SelfTest : goal.returns-in-SelfTest
 returns-in-SelfTest g c =
     let w = world (g.S.Source.state c.args.source.now) (g.K.Sink.state c.args.sink.now) (g.D.Store.state c.args.store.now) (g.E.Entropy.state c.args.entropy.now) in
     rw c.in-SelfTest.is (c.finish-in-SelfTest.ensures (self_test_output _ c.in-SelfTest.seed c.in-SelfTest.lines) w w (c.tell_self_test.ensures w))
+
+pub returns-in-WrapKeyset : goal.returns-in-WrapKeyset
+returns-in-WrapKeyset g c =
+    let w = world (g.S.Source.state c.args.source.now) (g.K.Sink.state c.args.sink.now) (g.D.Store.state c.args.store.now) (g.E.Entropy.state c.args.entropy.now) in
+    let x = c.in-WrapKeyset in
+    let new = record w { source = g.S.Source.state c.wrap_keyset-wrapped.new.source; entropy = g.E.Entropy.state c.wrap_keyset-wrapped.new.entropy; store = g.D.Store.state c.wrap_keyset-wrapped.new.store } in
+    rw x.is (c.finish_text.ensures (wrap_output _ x.master.now x.form (seen_place x.input) x.output.form) w new (c.wrap_keyset-wrapped.ensures w))
+
+pub returns-in-UnwrapKeyset : goal.returns-in-UnwrapKeyset
+returns-in-UnwrapKeyset g c =
+    let w = world (g.S.Source.state c.args.source.now) (g.K.Sink.state c.args.sink.now) (g.D.Store.state c.args.store.now) (g.E.Entropy.state c.args.entropy.now) in
+    let x = c.in-UnwrapKeyset in
+    let new = record w { source = g.S.Source.state c.unwrap_keyset-unwrapped.new.source; store = g.D.Store.state c.unwrap_keyset-unwrapped.new.store } in
+    rw x.is (c.finish_keyset-in-UnwrapKeyset.ensures (unwrap_output _ x.master.now x.form (seen_place x.input)) w new (c.unwrap_keyset-unwrapped.ensures.passes w))
