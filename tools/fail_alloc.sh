@@ -213,6 +213,14 @@ refuse delete delete-key --key-id 9 --in both --out n "${binary[@]}"
 ends size 665 none
 refuse templates list-key-templates
 
+"$tinkey" wrap-keyset --master "$files/gcm" --master-format binary --in-format binary < "$files/hmac" > "$work/wrapped"
+takes < "$files/hmac"
+ends size "$(wc -c < "$work/wrapped")" none
+refuse wrap wrap-keyset --master gcm --master-format binary --in-format binary
+takes < "$work/wrapped"
+ends same '' "same $(digits "$files/hmac")"
+refuse unwrap unwrap-keyset --master gcm --master-format binary --out n --out-format binary
+
 zeros 16 | takes
 ends size 49 none
 refuse seal seal --keyset gcm --keyset-format binary

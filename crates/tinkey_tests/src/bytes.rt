@@ -56,6 +56,15 @@ key_info {
 const HMAC_KEYSET: &[u8; 98] =
     b"\x08\x84\x86\x88\x08\x12\x5b\x0a\x50\x0a\x2etype.googleapis.com/google.crypto.tink.HmacKey\x12\x1c\x12\x04\x08\x03\x10\x10\x1a\x14\x0b\x0b\x0b\x0b\x0b\x0b\x0b\x0b\x0b\x0b\x0b\x0b\x0b\x0b\x0b\x0b\x0b\x0b\x0b\x0b\x18\x01\x10\x01\x18\x84\x86\x88\x08\x20\x03";
 
+/// It as it is wrapped under the keyset of 90 bytes with an IV of zeros, in 200 bytes: sealed by AESGCM of
+/// Python's cryptography, and with its info as protoc encodes tink.proto's EncryptedKeyset.
+const WRAPPED: &[u8; 200] =
+    b"\x12\x83\x01\x01\x01\x02\x03\x04\0\0\0\0\0\0\0\0\0\0\0\0\x0b\x0c\x5c\x46\x68\xa4\xf8\x98\xa3\x22\xec\xcd\x08\xc2\x9b\x56\x90\xfa\xc5\xcc\x25\x2e\x38\x53\x9e\x8e\xa7\x9c\xfb\xe6\xee\x87\x4f\x6d\x76\x4d\x2b\x5d\xf7\xa8\x59\xf9\xc2\xc3\xfe\xe7\xc2\x8e\xa2\x63\xea\x74\x70\xed\x62\x18\x02\x6c\xa0\xae\xcd\xcb\x8b\xe2\x9a\xc4\x69\x8e\xa3\xe5\x3e\x6a\x64\x7a\x2f\xa2\xde\x2c\x09\x9a\x9e\xb3\x46\x10\x9d\xcd\x9b\xe7\x2e\x3d\xe2\x13\x76\x6a\x01\xe8\x22\x50\xa7\x5f\x74\x77\x2b\xc0\x0c\x70\xf5\x99\xf2\x8d\xfe\xe2\x22\x22\x1a\x40\x08\x84\x86\x88\x08\x12\x39\x0a\x2etype.googleapis.com/google.crypto.tink.HmacKey\x10\x01\x18\x84\x86\x88\x08\x20\x03";
+
+/// The same in JSON, as Python's json prints protobuf's mapping.
+const WRAPPED_JSON: &str =
+    "{\"encryptedKeyset\":\"AQECAwQAAAAAAAAAAAAAAAALDFxGaKT4mKMi7M0IwptWkPrFzCUuOFOejqec++buh09tdk0rXfeoWfnCw/7nwo6iY+p0cO1iGAJsoK7Ny4vimsRpjqPlPmpkei+i3iwJmp6zRhCdzZvnLj3iE3ZqAegiUKdfdHcrwAxw9Znyjf7iIiI=\",\"keysetInfo\":{\"keyInfo\":[{\"keyId\":16909060,\"outputPrefixType\":\"RAW\",\"status\":\"ENABLED\",\"typeUrl\":\"type.googleapis.com/google.crypto.tink.HmacKey\"}],\"primaryKeyId\":16909060}}\n";
+
 /// The names of the templates, in the order of docs/SPECIFICATION.md.
 const TEMPLATE_NAMES: &str = "AES128_GCM
 AES128_GCM_RAW
@@ -151,7 +160,7 @@ no bad line
 ";
 
 /// The texts that have names in cells.
-const TEXTS: [(&str, &str); 11] = [
+const TEXTS: [(&str, &str); 12] = [
     ("LISTING", GCM_LISTING),
     ("TWO_LISTING", TWO_LISTING),
     ("BARE_LISTING", BARE_LISTING),
@@ -163,10 +172,15 @@ const TEXTS: [(&str, &str); 11] = [
     ("CAMEL_JSON", CAMEL_JSON),
     ("STORY", STORY),
     ("REPLIES", REPLIES),
+    ("WRAPPED_JSON", WRAPPED_JSON),
 ];
 
 /// The keysets in binary form that have names in cells.
-const KEYSETS: [(&str, &[u8]); 2] = [("GCM", GCM_KEYSET), ("HMAC", HMAC_KEYSET)];
+const KEYSETS: [(&str, &[u8]); 3] = [
+    ("GCM", GCM_KEYSET),
+    ("HMAC", HMAC_KEYSET),
+    ("WRAPPED", WRAPPED),
+];
 
 /// The bytes that a cell spells, one item after another, with spaces between them.
 ///

@@ -60,3 +60,5 @@ mod tink;
 mod verify;
 #[cfg(test)]
 mod words;
+#[cfg(test)]
+mod wrapped;

@@ -158,3 +158,30 @@ an input of one byte more | HMAC | 16777217x00 | read 4098 | 6 InputTooLong | ti
 fn takes_a_file_and_an_input_up_to_their_limits(rt: HostRuntime) -> Result<(), Fail> {
     run_table(rt.alloc(), LIMITS, 4)
 }
+
+// What is to be opened has 1,024 bytes more. The last read that gives some has 1,024 bytes.
+const OPEN_LIMITS: &str = "words: open --keyset k --keyset-format binary
+file: GCM
+
+shows | input | fails | status | line
+16,778,240 bytes to open | 16778240x00 | read 4098 | 5 ReadFault | tinkey: read fault
+one byte more | 16778241x00 | read 4099 | 6 InputTooLong | tinkey: input too long
+";
+
+#[test]
+fn opens_what_it_seals_at_its_limit(rt: HostRuntime) -> Result<(), Fail> {
+    run_table(rt.alloc(), OPEN_LIMITS, 2)
+}
+
+const DOPEN_LIMITS: &str = "words: dopen --keyset k --keyset-format binary
+file: 0807 12( 0a( 0a( `type.googleapis.com/google.crypto.tink.AesSivKey` ) 12( 1240 64x00 ) 1801 ) 1001 1807 2003 )
+
+shows | input | fails | status | line
+16,778,240 bytes to open | 16778240x00 | read 4098 | 5 ReadFault | tinkey: read fault
+one byte more | 16778241x00 | read 4099 | 6 InputTooLong | tinkey: input too long
+";
+
+#[test]
+fn dopens_what_it_seals_at_its_limit(rt: HostRuntime) -> Result<(), Fail> {
+    run_table(rt.alloc(), DOPEN_LIMITS, 2)
+}
