@@ -3,13 +3,13 @@ _tinkey() {
     local word=${COMP_WORDS[COMP_CWORD]} before=${COMP_WORDS[COMP_CWORD-1]} words=
     COMPREPLY=()
     if [ "$COMP_CWORD" -eq 1 ]; then
-        words='create-keyset add-key rotate-keyset promote-key enable-key disable-key destroy-key delete-key list-keyset convert-keyset list-key-templates seal open dseal dopen sseal sopen tag verify derive session selftest'
+        words='create-keyset add-key rotate-keyset promote-key enable-key disable-key destroy-key delete-key list-keyset convert-keyset list-key-templates seal open dseal dopen sseal sopen tag verify derive session selftest wrap-keyset unwrap-keyset'
     else
         case "$before" in
-        --in|--out|--keyset)
+        --in|--out|--keyset|--master)
             mapfile -t COMPREPLY < <(compgen -f -- "$word")
             return ;;
-        --in-format|--out-format|--keyset-format) words='json binary' ;;
+        --in-format|--out-format|--keyset-format|--master-format) words='json binary' ;;
         --key-template) words=$(tinkey list-key-templates 2>/dev/null) ;;
         --key-id|--ad|--ad-hex|--tag-hex|--length|--seed|--lines) return ;;
         *)
@@ -36,6 +36,8 @@ _tinkey() {
             derive) words='--keyset --length --keyset-format' ;;
             session) words='--keyset --keyset-format --out --out-format' ;;
             selftest) words='--seed --lines' ;;
+            wrap-keyset) words='--master --master-format --in --in-format --out --out-format' ;;
+            unwrap-keyset) words='--master --master-format --in --in-format --out --out-format' ;;
             esac ;;
         esac
     fi
