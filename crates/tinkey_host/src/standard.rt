@@ -24,9 +24,7 @@ use tinkey_run::{Status, run, starve};
 /// that isn't for streams, under the type URL of that kind.
 ///
 /// The promises are those of `run` over the table of these managers, but that `NoMemory` may come
-/// before any other step too. `readable`: what a session sealed or tagged it opens or verifies in a
-/// later line, while the keyset has the key, ENABLED, and what it wrote are the replies that say so,
-/// whatever the status; at a write fault they are the first bytes of these.
+/// before any other step too; `line` and `readable` are those of `run`.
 pub fn start<S: Source, K: Sink, G: Sink, E: Entropy, D: Store>(
     alloc: Global,
     words: &[String],

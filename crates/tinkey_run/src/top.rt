@@ -32,10 +32,12 @@ use tinkey_words::{Request, parse};
 /// objects that tell; `cause`, `shown` and `leaves` say when a fault comes, that none is hidden, and
 /// what was taken and written; `stands` says what the sink holds after any status; `complete` says
 /// that the status is a stated one where nothing fails and memory suffices; `ends`, from which they
-/// follow, has each way in which a run may end. `line` is the diagnostic line. `readable` is over the
-/// table of the program: what a session sealed or tagged it opens or verifies in a later line, while
-/// the keyset has the key, ENABLED, and what it wrote are the replies that say so, whatever the
-/// status; at a write fault they are the first bytes of these.
+/// follow, has each way in which a run may end. `line` is the diagnostic line. `readable` is of sessions
+/// over objects that tell: what was written are the replies to the first lines of the input, to all of
+/// them at `Done`, and at a write fault the first bytes of these. Over the table of the program, what a
+/// line sealed under a key with an output prefix, a later one opens to its plaintext, with its associated
+/// data, while that key is ENABLED and alone under its prefix; while it is there, ENABLED, to some
+/// plaintext, whatever its prefix type, and a tag verifies.
 pub fn run<S: Source, K: Sink, G: Sink, E: Entropy, D: Store>(
     alloc: Global,
     words: &[String],
