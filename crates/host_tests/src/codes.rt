@@ -1,6 +1,6 @@
 //! The exit codes, and what goes to the output and to the diagnostic line beside it.
 
-ghost use Rattle.std.specs.Prelude.{None};
+ghost use Rattle.std.specs.Prelude.{◌-◌, ◌^◌, None};
 
 use crate::listed::{Listed, in_digits, in_text};
 use real_objects::{DirStore, FileEntropy, RandomDevice};
@@ -8,7 +8,9 @@ use std::alloc::Global;
 use std::process::ExitCode;
 use std::test::Fail;
 use test_words::{bytes_of, cell, counting, unlike};
-use tink_base::{Created, Loaded, MemEntropy, MemSink, MemSource, MemStore, Store, StoreError};
+use tink_base::{
+    Created, Failed, Loaded, MemEntropy, MemSink, MemSource, MemStore, Store, StoreError,
+};
 use tinkey_host::{obey, obey_listed, program};
 
 /// A store whose calls find no memory.
@@ -18,7 +20,8 @@ struct NoRoom {
 }
 
 impl Store for NoRoom {
-    ghost state = { λ _. record { files = None; faults = 0 } };
+    // its count of bytes given stands at its end
+    ghost state = { λ _. record { files = None; faults = 0; given = 2 ^ 64 - 1 } };
 
     fn load(&mut self, _alloc: Global, _name: &str, _limit: usize) -> Result<Loaded, StoreError> {
         self.calls = self.calls.wrapping_add(1);
@@ -28,6 +31,18 @@ impl Store for NoRoom {
     fn create(&mut self, _alloc: Global, _name: &str, _: &[u8]) -> Result<Created, StoreError> {
         self.calls = self.calls.wrapping_add(1);
         Err(StoreError::NoMemory)
+    }
+
+    fn is_taken(&mut self, _name: &str) -> Result<bool, Failed> {
+        Ok(false)
+    }
+
+    fn size(&mut self, _name: &str) -> Result<Option<u64>, Failed> {
+        Ok(None)
+    }
+
+    fn read_at(&mut self, _name: &str, _at: u64, _out: &mut [u8]) -> Result<usize, Failed> {
+        Ok(1)
     }
 }
 

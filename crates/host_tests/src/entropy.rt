@@ -3,12 +3,13 @@
 ghost use Rattle.std.specs.Prelude.{Some};
 
 use real_objects::{FileEntropy, Opens, RandomDevice};
+use std::alloc::Global;
 use std::cell::Cell;
 use std::fs;
 use std::io::{self, ErrorKind};
 use std::test::Fail;
-use test_words::counting;
-use tink_base::{Entropy, Failed};
+use test_words::{counting, same_bytes};
+use tink_base::Entropy;
 
 /// A device in memory, which counts how often it was opened. The first opens are refused, as many as
 /// that.
@@ -34,7 +35,59 @@ impl<'a> Opens for Deck<'a> {
     }
 }
 
+/// Draws so many bytes.
+fn drawn<O: Opens>(
+    alloc: Global,
+    entropy: &mut FileEntropy<O>,
+    size: usize,
+) -> Result<Vec<u8>, Fail> {
+    let mut out = vec![in alloc; 0u8; size]?;
+    if entropy.fill(&mut out).is_err() {
+        return Err(Fail::new(format_args!("a draw of {size} bytes fails")));
+    }
+    Ok(out)
+}
+
+/// Holds a draw into these bytes to a fault.
+fn fails<O: Opens>(entropy: &mut FileEntropy<O>, shows: &str, out: &mut [u8]) -> Result<(), Fail> {
+    if entropy.fill(out).is_ok() {
+        return Err(Fail::new(format_args!("{shows}: bytes were drawn")));
+    }
+    Ok(())
+}
+
+/// Holds a draw to these bytes.
+fn draws<O: Opens>(
+    alloc: Global,
+    entropy: &mut FileEntropy<O>,
+    shows: &str,
+    want: &[u8],
+) -> Result<(), Fail> {
+    let found = drawn(alloc, entropy, want.len())?;
+    same_bytes(alloc, shows, "the draw", want, &found)
+}
+
+/// Holds the number of opens.
+fn counts(opens: &Cell<u32>, want: u32) -> Result<(), Fail> {
+    let found = opens.get();
+    if found != want {
+        return Err(Fail::new(format_args!("{found} opens, and not {want}")));
+    }
+    Ok(())
+}
+
 // The sizes make up the 600 bytes of the device.
+const SIZES: [usize; 8] = [0, 1, 2, 3, 255, 256, 64, 19];
+
+/// Draws of all those sizes, one behind the other.
+fn all_drawn<O: Opens>(alloc: Global, entropy: &mut FileEntropy<O>) -> Result<Vec<u8>, Fail> {
+    let mut all = Vec::new(alloc);
+    for size in &SIZES {
+        all.extend_from_slice(&drawn(alloc, entropy, *size)?)?;
+    }
+    Ok(all)
+}
+
 #[test]
 fn fills_go_on_where_the_one_before_ended(rt: HostRuntime) -> Result<(), Fail> {
     let bytes = counting(rt.alloc(), 600)?;
@@ -44,38 +97,25 @@ fn fills_go_on_where_the_one_before_ended(rt: HostRuntime) -> Result<(), Fail> {
         refused: 0,
         opens: &opens,
     });
-    let mut drawn = Vec::new(rt.alloc());
-    for size in [0, 1, 2, 3, 255, 256, 64, 19] {
-        let mut out = vec![in rt.alloc(); 0u8; size]?;
-        assert_eq!(rt; entropy.fill(&mut out), Ok(()), "{size} bytes");
-        drawn.extend_from_slice(&out)?;
-    }
-    assert!(rt; drawn.as_slice() == bytes.as_slice());
-    assert_eq!(rt; opens.get(), 1, "opened once");
-    let mut more = [0u8; 1];
-    assert_eq!(rt;
-        entropy.fill(&mut more),
-        Err(Failed),
-        "a byte behind the end"
-    );
-    Ok(())
+    let all = all_drawn(rt.alloc(), &mut entropy)?;
+    same_bytes(rt.alloc(), "all draws", "what they make up", &bytes, &all)?;
+    counts(&opens, 1)?;
+    fails(&mut entropy, "a byte behind the end", &mut [0u8; 1])
 }
 
 #[test]
-fn fails_at_an_end_in_mid_fill_and_at_a_refused_open(rt: HostRuntime) {
+fn fails_at_an_end_in_mid_fill_and_at_a_refused_open(rt: HostRuntime) -> Result<(), Fail> {
     let opens = Cell::new(0);
     let mut entropy = FileEntropy::new(Deck {
         bytes: b"bytes",
         refused: 1,
         opens: &opens,
     });
-    let mut out = [0u8; 3];
-    assert_eq!(rt; entropy.fill(&mut out), Err(Failed), "the open is refused");
-    assert_eq!(rt; entropy.fill(&mut out), Ok(()));
-    assert_eq!(rt; &out, b"byt");
-    assert_eq!(rt; entropy.fill(&mut out), Err(Failed), "two bytes are left");
-    assert_eq!(rt; entropy.fill(&mut out[..0]), Ok(()), "no byte");
-    assert_eq!(rt; opens.get(), 2);
+    fails(&mut entropy, "the open is refused", &mut [0u8; 3])?;
+    draws(rt.alloc(), &mut entropy, "three bytes", b"byt")?;
+    fails(&mut entropy, "two bytes are left", &mut [0u8; 3])?;
+    draws(rt.alloc(), &mut entropy, "no byte", b"")?;
+    counts(&opens, 2)
 }
 
 // Of 64 draws each bit of each byte is 0 in one and 1 in another, but for one time in 2^53.
@@ -101,26 +141,31 @@ fn each_bit_of_a_draw_changes(rt: HostRuntime) {
 
 // Two draws of 32 bytes are alike once in 2^256.
 #[test]
-fn draws_other_bytes_each_time(rt: HostRuntime) {
+fn draws_other_bytes_each_time(rt: HostRuntime) -> Result<(), Fail> {
     let mut entropy = FileEntropy::new(RandomDevice::new(&rt));
-    let mut first = [0u8; 32];
-    let mut second = [0u8; 32];
-    assert_eq!(rt; entropy.fill(&mut first), Ok(()));
-    assert_eq!(rt; entropy.fill(&mut second), Ok(()));
-    assert!(rt; first != second);
+    let first = drawn(rt.alloc(), &mut entropy, 32)?;
+    let second = drawn(rt.alloc(), &mut entropy, 32)?;
+    assert!(rt; first.as_slice() != second.as_slice());
+    Ok(())
+}
+
+/// Draws twice from a path of another file.
+fn assert_no_device(rt: &HostRuntime, path: &str) -> Result<(), Fail> {
+    let mut entropy = FileEntropy::new(RandomDevice::at(rt, path));
+    let mut out = [0u8; 4];
+    fails(&mut entropy, path, &mut out)?;
+    fails(&mut entropy, path, &mut out)?;
+    same_bytes(rt.alloc(), path, "what was filled", &[0u8; 4], &out)
 }
 
 // Linux' /dev/zero is 1:5 and /dev/null 1:3.
 #[test]
 fn refuses_what_is_no_device_of_random_bytes(rt: HostRuntime) -> Result<(), Fail> {
     fs::write(&rt, "plain-file", "0123456789abcdef")?;
-    for path in ["/dev/zero", "/dev/null", "plain-file", ".", "no-device"] {
-        let mut entropy = FileEntropy::new(RandomDevice::at(&rt, path));
-        let mut out = [0u8; 4];
-        assert_eq!(rt; entropy.fill(&mut out), Err(Failed), "{path}");
-        assert_eq!(rt; entropy.fill(&mut out), Err(Failed), "{path} once more");
-        assert_eq!(rt; &out, &[0u8; 4], "{path}");
-    }
-    fs::remove_file(&rt, "plain-file")?;
-    Ok(())
+    assert_no_device(&rt, "/dev/zero")?;
+    assert_no_device(&rt, "/dev/null")?;
+    assert_no_device(&rt, "plain-file")?;
+    assert_no_device(&rt, ".")?;
+    assert_no_device(&rt, "no-device")?;
+    Ok(fs::remove_file(&rt, "plain-file")?)
 }

@@ -2,117 +2,150 @@
 
 use real_objects::{DirName, DirStore, NewName};
 use std::alloc::Global;
-use std::fs;
+use std::fs::{self, DirEntry, File};
 use std::io::{self, ErrorKind, Write};
 use std::os::unix::fs::{MetadataExt, symlink};
 use std::test::Fail;
-use test_words::{cell, counting, unlike};
-use tink_base::{Created, Loaded, Store, StoreError};
+use test_words::{cell, counting, create_word, load_word, number_in, same_bytes, same_text};
+use tink_base::Store;
+
+/// Loads a file under this limit, which is to have these bytes.
+fn loads(
+    store: &mut DirStore<'_>,
+    alloc: Global,
+    name: &str,
+    limit: usize,
+    bytes: &[u8],
+    want: &str,
+) -> Result<(), Fail> {
+    let answer = store.load(alloc, name, limit);
+    let found = load_word(&answer, bytes);
+    if found != want {
+        let size = bytes.len();
+        return Err(Fail::new(format_args!(
+            "{name} up to {limit}, of {size} bytes: {found}, and not {want}"
+        )));
+    }
+    Ok(())
+}
+
+/// Creates a file with these bytes.
+fn creates(
+    store: &mut DirStore<'_>,
+    alloc: Global,
+    name: &str,
+    bytes: &[u8],
+    want: &str,
+) -> Result<(), Fail> {
+    let answer = store.create(alloc, name, bytes);
+    same_text(name, "the create", want, create_word(&answer))
+}
+
+/// Makes an empty folder.
+fn make_empty(rt: &HostRuntime, folder: &str) -> Result<(), Fail> {
+    let _ = fs::remove_dir_all(rt, folder);
+    Ok(fs::create_dir(rt, folder)?)
+}
+
+/// Holds a file to this text, as std reads it.
+fn holds(rt: &HostRuntime, name: &str, text: &str) -> Result<(), Fail> {
+    let found = fs::read(rt, name)?;
+    same_bytes(rt.alloc(), name, "the file", text.as_bytes(), &found)
+}
+
+/// Holds a file to being its owner's alone.
+fn is_private(rt: &HostRuntime, name: &str) -> Result<(), Fail> {
+    let mode = fs::metadata(rt, name)?.mode() & 0o777;
+    if mode != 0o600 {
+        return Err(Fail::new(format_args!("{name}: the mode is {mode}")));
+    }
+    Ok(())
+}
+
+/// Nothing may have this name.
+fn is_absent(rt: &HostRuntime, name: &str) -> Result<(), Fail> {
+    if fs::exists(rt, name)? {
+        return Err(Fail::new(format_args!("{name} is there")));
+    }
+    Ok(())
+}
+
+/// Whether an entry of a folder has a name aside.
+fn is_aside(entry: io::Result<DirEntry>) -> Result<bool, Fail> {
+    Ok(entry?.file_name().starts_with(".tinkey-new-"))
+}
+
+/// Holds a folder to so many names aside.
+fn has_aside(rt: &HostRuntime, folder: &str, want: usize) -> Result<(), Fail> {
+    let mut count = 0usize;
+    for entry in fs::read_dir(rt, folder)? {
+        if is_aside(entry)? {
+            count = count.wrapping_add(1);
+        }
+    }
+    if count != want {
+        return Err(Fail::new(format_args!("{folder}: {count} names aside, and not {want}")));
+    }
+    Ok(())
+}
+
+// A file of the bytes `bytes`, by its name and by others.
+const LOADS: [(&str, usize, &str); 6] = [
+    ("a-new-file", 5, "bytes"),
+    ("a-new-file", 4, "too long"),
+    ("no-file", 5, "absent"),
+    ("no-folder/file", 5, "absent"),
+    ("a-new-file/file", 5, "absent"),
+    (".", 5, "failed"),
+];
 
 #[test]
 fn keeps_and_reads_real_files(rt: HostRuntime) -> Result<(), Fail> {
     let _ = fs::remove_file(&rt, "a-new-file");
     let mut store = DirStore::new(&rt);
-    assert_eq!(rt;
-        store.create(rt.alloc(), "a-new-file", b"bytes"),
-        Ok(Created::Made)
-    );
-    assert_eq!(rt; fs::metadata(&rt, "a-new-file")?.mode() & 0o777, 0o600);
-    assert_eq!(rt;
-        store.create(rt.alloc(), "a-new-file", b"other"),
-        Ok(Created::Exists)
-    );
-    for (name, limit, want) in [
-        ("a-new-file", 5, "bytes"),
-        ("a-new-file", 4, "too long"),
-        ("no-file", 5, "absent"),
-        ("no-folder/file", 5, "absent"),
-        ("a-new-file/file", 5, "absent"),
-        (".", 5, "failed"),
-    ] {
-        let found = match store.load(rt.alloc(), name, limit) {
-            Ok(Loaded::Absent) => "absent",
-            Ok(Loaded::TooLong) => "too long",
-            Ok(Loaded::Bytes(bytes)) => {
-                assert_eq!(rt; bytes.as_slice(), b"bytes".as_slice());
-                "bytes"
-            }
-            Err(StoreError::Failed) => "failed",
-            Err(StoreError::NoMemory) => "no memory",
-        };
-        assert_eq!(rt; found, want, "{name} up to {limit}");
+    creates(&mut store, rt.alloc(), "a-new-file", b"bytes", "made")?;
+    is_private(&rt, "a-new-file")?;
+    creates(&mut store, rt.alloc(), "a-new-file", b"other", "exists")?;
+    for (name, limit, want) in &LOADS {
+        loads(&mut store, rt.alloc(), name, *limit, b"bytes", want)?;
     }
-    for name in ["no-folder/file", "a-new-file/file"] {
-        assert_eq!(rt;
-            store.create(rt.alloc(), name, b""),
-            Err(StoreError::Failed),
-            "{name}"
-        );
+    creates(&mut store, rt.alloc(), "no-folder/file", b"", "failed")?;
+    creates(&mut store, rt.alloc(), "a-new-file/file", b"", "failed")?;
+    Ok(fs::remove_file(&rt, "a-new-file")?)
+}
+
+/// Writes a file of these bytes, which std reads too.
+fn assert_written(rt: &HostRuntime, store: &mut DirStore<'_>, bytes: &[u8]) -> Result<(), Fail> {
+    let _ = fs::remove_file(rt, "sized-file");
+    creates(store, rt.alloc(), "sized-file", bytes, "made")?;
+    let kept = fs::read(rt, "sized-file")?;
+    same_bytes(rt.alloc(), "sized-file", "what std reads", bytes, &kept)
+}
+
+/// Loads it under limits on both sides of its size.
+fn assert_loaded(store: &mut DirStore<'_>, alloc: Global, bytes: &[u8]) -> Result<(), Fail> {
+    let size = bytes.len();
+    loads(store, alloc, "sized-file", size, bytes, "bytes")?;
+    loads(store, alloc, "sized-file", size + 1, bytes, "bytes")?;
+    loads(store, alloc, "sized-file", usize::MAX, bytes, "bytes")?;
+    if size > 0 {
+        loads(store, alloc, "sized-file", size - 1, bytes, "too long")?;
     }
-    fs::remove_file(&rt, "a-new-file")?;
     Ok(())
 }
 
-/// What a load answers, where the file is to have these bytes.
-fn told(answer: Result<Loaded, StoreError>, bytes: &[u8]) -> &'static str {
-    match answer {
-        Ok(Loaded::Absent) => "absent",
-        Ok(Loaded::TooLong) => "too long",
-        Ok(Loaded::Bytes(found)) if found.as_slice() == bytes => "bytes",
-        Ok(Loaded::Bytes(_)) => "other bytes",
-        Err(StoreError::Failed) => "failed",
-        Err(StoreError::NoMemory) => "no memory",
-    }
-}
+// Around the size of a page, and far above it.
+const SIZES: [usize; 6] = [0, 1, 4_095, 4_096, 4_097, 100_000];
 
-/// Loads a file under this limit.
-fn load(store: &mut DirStore<'_>, alloc: Global, bytes: &[u8], limit: usize) -> &'static str {
-    told(store.load(alloc, "sized-file", limit), bytes)
-}
-
-// Around the size of a page, and far above it. What a create left is read by std too.
 #[test]
 fn writes_and_loads_files_of_any_size(rt: HostRuntime) -> Result<(), Fail> {
     let mut store = DirStore::new(&rt);
-    for size in [0, 1, 4_095, 4_096, 4_097, 100_000] {
-        let bytes = counting(rt.alloc(), size)?;
-        let _ = fs::remove_file(&rt, "sized-file");
-        let made = store.create(rt.alloc(), "sized-file", &bytes);
-        assert_eq!(rt; made, Ok(Created::Made), "{size} bytes");
-        let kept = fs::read(&rt, "sized-file")?;
-        assert!(rt; kept.as_slice() == bytes.as_slice(), "{size} bytes");
-        for limit in [size, size + 1, usize::MAX] {
-            let found = load(&mut store, rt.alloc(), &bytes, limit);
-            assert_eq!(rt; found, "bytes", "{size} bytes up to {limit}");
-        }
-        if size > 0 {
-            let found = load(&mut store, rt.alloc(), &bytes, size - 1);
-            assert_eq!(rt; found, "too long", "{size} bytes");
-        }
+    for size in &SIZES {
+        let bytes = counting(rt.alloc(), *size)?;
+        assert_written(&rt, &mut store, &bytes)?;
+        assert_loaded(&mut store, rt.alloc(), &bytes)?;
     }
-    fs::remove_file(&rt, "sized-file")?;
-    Ok(())
-}
-
-/// How many names aside there are in a folder.
-fn names_aside(rt: &HostRuntime, folder: &str) -> Result<usize, Fail> {
-    let mut count = 0usize;
-    for entry in fs::read_dir(rt, folder)? {
-        if entry?.file_name().starts_with(".tinkey-new-") {
-            count = count.wrapping_add(1);
-        }
-    }
-    Ok(count)
-}
-
-/// What a create of a file with the bytes `new` is told.
-fn create(store: &mut DirStore<'_>, alloc: Global, name: &str) -> &'static str {
-    match store.create(alloc, name, b"new") {
-        Ok(Created::Made) => "made",
-        Ok(Created::Exists) => "exists",
-        Err(StoreError::Failed) => "failed",
-        Err(StoreError::NoMemory) => "no memory",
-    }
+    Ok(fs::remove_file(&rt, "sized-file")?)
 }
 
 // In a folder with a file, a folder, and a symbolic link that leads nowhere. Nothing can be made in
@@ -135,141 +168,111 @@ const PLACES: [&str; 15] = [
     "no name | | failed",
 ];
 
+/// Makes that folder.
+fn make_places(rt: &HostRuntime) -> Result<(), Fail> {
+    make_empty(rt, "places")?;
+    fs::create_dir(rt, "places/sub")?;
+    fs::write(rt, "places/file", "old")?;
+    Ok(symlink(rt, "nowhere", "places/link")?)
+}
+
+/// Creates the file of a row.
+fn assert_place(store: &mut DirStore<'_>, alloc: Global, row: &str) -> Result<(), Fail> {
+    let answer = store.create(alloc, cell(row, 1)?, b"new");
+    same_text(row, "the answer", cell(row, 2)?, create_word(&answer))
+}
+
+/// Holds a file to three bytes, to being its owner's alone, and to one name.
+fn is_new(rt: &HostRuntime, name: &str) -> Result<(), Fail> {
+    let made = fs::metadata(rt, name)?;
+    let (size, links) = (made.len(), made.nlink());
+    if size != 3 || links != 1 {
+        return Err(Fail::new(format_args!("{name}: {size} bytes and {links} names")));
+    }
+    is_private(rt, name)
+}
+
 #[test]
 fn makes_a_file_where_the_path_is_free(rt: HostRuntime) -> Result<(), Fail> {
-    let _ = fs::remove_dir_all(&rt, "places");
-    fs::create_dir(&rt, "places")?;
-    fs::create_dir(&rt, "places/sub")?;
-    fs::write(&rt, "places/file", "old")?;
-    symlink(&rt, "nowhere", "places/link")?;
+    make_places(&rt)?;
     let mut store = DirStore::new(&rt);
-    for row in PLACES {
-        let told = create(&mut store, rt.alloc(), cell(row, 1)?);
-        if told != cell(row, 2)? {
-            return Err(unlike(row, "the answer", cell(row, 2)?, told));
-        }
+    for row in &PLACES {
+        assert_place(&mut store, rt.alloc(), row)?;
     }
-    for (name, size) in [("places/k", 3), ("places/two", 3), ("places/dot", 3)] {
-        let made = fs::metadata(&rt, name)?;
-        assert_eq!(rt;
-            (made.len(), made.mode() & 0o777, made.nlink()),
-            (size, 0o600, 1),
-            "{name}"
-        );
-    }
-    assert_eq!(rt; fs::read(&rt, "places/file")?.as_slice(), b"old".as_slice());
-    assert!(rt; !fs::exists(&rt, "places/nowhere")?);
-    assert_eq!(rt; names_aside(&rt, "places")?, 0);
-    assert_eq!(rt; names_aside(&rt, "places/sub")?, 0);
-    assert_eq!(rt; names_aside(&rt, ".")?, 0);
-    fs::remove_dir_all(&rt, "places")?;
-    Ok(())
+    is_new(&rt, "places/k")?;
+    is_new(&rt, "places/two")?;
+    is_new(&rt, "places/dot")?;
+    holds(&rt, "places/file", "old")?;
+    is_absent(&rt, "places/nowhere")?;
+    has_aside(&rt, "places", 0)?;
+    has_aside(&rt, "places/sub", 0)?;
+    has_aside(&rt, ".", 0)?;
+    Ok(fs::remove_dir_all(&rt, "places")?)
 }
 
 // A name may have 255 bytes, and no name aside is longer for it.
+const LONG: [&str; 4] = [
+    "a byte less | 254 | made",
+    "the most | 255 | made",
+    "the same again | 255 | exists",
+    "a byte more | 256 | failed",
+];
+
+/// Creates the file of a row, whose name has so many bytes.
+fn assert_long(store: &mut DirStore<'_>, alloc: Global, row: &str) -> Result<(), Fail> {
+    let letters = "n".repeat(alloc, number_in(row, 1)?)?;
+    let name = format!(in alloc; "long/{letters}")?;
+    let answer = store.create(alloc, name.as_str(), b"new");
+    same_text(row, "the answer", cell(row, 2)?, create_word(&answer))
+}
+
 #[test]
 fn makes_files_of_the_longest_names(rt: HostRuntime) -> Result<(), Fail> {
-    let _ = fs::remove_dir_all(&rt, "long");
-    fs::create_dir(&rt, "long")?;
+    make_empty(&rt, "long")?;
     let mut store = DirStore::new(&rt);
-    for (size, want) in [
-        (254, "made"),
-        (255, "made"),
-        (255, "exists"),
-        (256, "failed"),
-    ] {
-        let mut name = String::from_str(rt.alloc(), "long/")?;
-        for _ in 0..size {
-            name.push_str("n")?;
-        }
-        assert_eq!(rt; create(&mut store, rt.alloc(), &name), want, "{size} bytes");
+    for row in &LONG {
+        assert_long(&mut store, rt.alloc(), row)?;
     }
-    assert_eq!(rt; names_aside(&rt, "long")?, 0);
-    fs::remove_dir_all(&rt, "long")?;
-    Ok(())
+    has_aside(&rt, "long", 0)?;
+    Ok(fs::remove_dir_all(&rt, "long")?)
+}
+
+// New files, and what killed runs left beside each.
+const LEFT: [(&str, &str); 3] = [
+    ("left/a", "left/.tinkey-new-0"),
+    ("left/b", "left/.tinkey-new-1"),
+    ("left/c", "left/.tinkey-new-3"),
+];
+
+/// Creates a file beside what was left.
+fn assert_beside(
+    rt: &HostRuntime,
+    store: &mut DirStore<'_>,
+    name: &str,
+    left: &str,
+) -> Result<(), Fail> {
+    fs::write(rt, left, "part")?;
+    creates(store, rt.alloc(), name, b"new", "made")?;
+    creates(store, rt.alloc(), name, b"new", "exists")?;
+    holds(rt, name, "new")
 }
 
 // What killed runs left, and a link under the next name aside, are neither followed nor removed.
 #[test]
 fn goes_on_beside_what_killed_runs_left(rt: HostRuntime) -> Result<(), Fail> {
-    let _ = fs::remove_dir_all(&rt, "left");
-    fs::create_dir(&rt, "left")?;
+    make_empty(&rt, "left")?;
     let mut store = DirStore::new(&rt);
-    let lefts = [
-        "left/.tinkey-new-0",
-        "left/.tinkey-new-1",
-        "left/.tinkey-new-3",
-    ];
-    for (name, left) in [
-        ("left/a", lefts[0]),
-        ("left/b", lefts[1]),
-        ("left/c", lefts[2]),
-    ] {
-        fs::write(&rt, left, "part")?;
-        assert_eq!(rt; create(&mut store, rt.alloc(), name), "made", "{name}");
-        assert_eq!(rt; create(&mut store, rt.alloc(), name), "exists", "{name}");
-        assert_eq!(rt;
-            fs::read(&rt, name)?.as_slice(),
-            b"new".as_slice(),
-            "{name}"
-        );
+    for (name, left) in &LEFT {
+        assert_beside(&rt, &mut store, name, left)?;
     }
     symlink(&rt, "nowhere", "left/.tinkey-new-2")?;
-    assert_eq!(rt; create(&mut store, rt.alloc(), "left/d"), "made");
-    for left in lefts {
-        assert_eq!(rt;
-            fs::read(&rt, left)?.as_slice(),
-            b"part".as_slice(),
-            "{left}"
-        );
+    creates(&mut store, rt.alloc(), "left/d", b"new", "made")?;
+    for (_, left) in &LEFT {
+        holds(&rt, left, "part")?;
     }
-    assert!(rt; !fs::exists(&rt, "left/nowhere")?);
-    assert_eq!(rt; names_aside(&rt, "left")?, 4);
-    fs::remove_dir_all(&rt, "left")?;
-    Ok(())
-}
-
-// By an absolute path, of which each call is made alone: the name is taken once it was looked up.
-#[test]
-fn never_replaces_a_file_that_came_since(rt: HostRuntime) -> Result<(), Fail> {
-    let _ = fs::remove_dir_all(&rt, "since");
-    fs::create_dir(&rt, "since")?;
-    let here = fs::canonicalize(&rt, "since")?;
-    let path = format!(in rt.alloc(); "{}/k", here.display())?;
-    let mut name = DirName::new(rt.alloc(), &rt, &path);
-    name.look_up()?;
-    let mut file = name.open_aside(7)?;
-    file.write_all(b"ours")?;
-    assert_eq!(rt;
-        fs::metadata(&rt, "since/.tinkey-new-7")?.mode() & 0o777,
-        0o600
-    );
-    assert_eq!(rt; kind_of(name.look_up()), None);
-    fs::write(&rt, "since/k", "theirs")?;
-    assert_eq!(rt; kind_of(name.look_up()), Some(ErrorKind::AlreadyExists));
-    assert_eq!(rt; kind_of(name.link(&file)), Some(ErrorKind::AlreadyExists));
-    assert_eq!(rt; kind_of(name.open()), Some(ErrorKind::AlreadyExists));
-    assert_eq!(rt; fs::read(&rt, "since/k")?.as_slice(), b"theirs".as_slice());
-    fs::remove_file(&rt, "since/k")?;
-    name.link(&file)?;
-    name.clear();
-    name.put_away(&file)?;
-    assert_eq!(rt; fs::read(&rt, "since/k")?.as_slice(), b"ours".as_slice());
-    assert_eq!(rt; names_aside(&rt, "since")?, 0);
-    assert_eq!(rt;
-        kind_of(name.link(&file)),
-        Some(ErrorKind::NotFound),
-        "nothing stands aside"
-    );
-    fs::write(&rt, "since/.tinkey-new-7", "left")?;
-    assert_eq!(rt; kind_of(name.open_aside(7)), Some(ErrorKind::AlreadyExists));
-    name.clear();
-    assert_eq!(rt;
-        fs::read(&rt, "since/.tinkey-new-7")?.as_slice(),
-        b"left".as_slice()
-    );
-    fs::remove_dir_all(&rt, "since")?;
-    Ok(())
+    is_absent(&rt, "left/nowhere")?;
+    has_aside(&rt, "left", 4)?;
+    Ok(fs::remove_dir_all(&rt, "left")?)
 }
 
 /// The kind of the error, where there is one.
@@ -278,4 +281,79 @@ fn kind_of<T: Drop>(answer: io::Result<T>) -> Option<ErrorKind> {
         Ok(_) => None,
         Err(error) => Some(error.kind()),
     }
+}
+
+/// Holds what a call answers to the error of this kind.
+fn refuses<T: Drop>(call: &str, kind: ErrorKind, answer: io::Result<T>) -> Result<(), Fail> {
+    let found = kind_of(answer);
+    if found != Some(kind) {
+        return Err(Fail::new(format_args!("{call}: {found:?}, and not {kind:?}")));
+    }
+    Ok(())
+}
+
+/// The path of `k` in a folder, from the top.
+fn path_of_k(rt: &HostRuntime, folder: &str) -> Result<String, Fail> {
+    let here = fs::canonicalize(rt, folder)?;
+    let here = here.to_str().ok_or("a path of UTF-8")?;
+    Ok(format!(in rt.alloc(); "{here}/k")?)
+}
+
+/// A file with four bytes under a name aside.
+fn ours_aside(rt: &HostRuntime, name: &mut DirName<'_>) -> Result<File, Fail> {
+    name.look_up()?;
+    let mut file = name.open_aside(7)?;
+    file.write_all(b"ours")?;
+    is_private(rt, "since/.tinkey-new-7")?;
+    name.look_up()?;
+    Ok(file)
+}
+
+/// Lets another file have the name, and takes it away again.
+fn assert_theirs(rt: &HostRuntime, name: &mut DirName<'_>, file: &File) -> Result<(), Fail> {
+    fs::write(rt, "since/k", "theirs")?;
+    refuses("a look", ErrorKind::AlreadyExists, name.look_up())?;
+    refuses("a link", ErrorKind::AlreadyExists, name.link(file))?;
+    refuses("an open", ErrorKind::AlreadyExists, name.open())?;
+    holds(rt, "since/k", "theirs")?;
+    Ok(fs::remove_file(rt, "since/k")?)
+}
+
+/// Gives the name to our file.
+fn assert_ours(rt: &HostRuntime, name: &mut DirName<'_>, file: &File) -> Result<(), Fail> {
+    name.link(file)?;
+    name.clear();
+    name.put_away(file)?;
+    holds(rt, "since/k", "ours")?;
+    has_aside(rt, "since", 0)?;
+    refuses(
+        "a link of nothing aside",
+        ErrorKind::NotFound,
+        name.link(file),
+    )
+}
+
+/// Lets another file have the name aside.
+fn assert_aside_taken(rt: &HostRuntime, name: &mut DirName<'_>) -> Result<(), Fail> {
+    fs::write(rt, "since/.tinkey-new-7", "left")?;
+    refuses(
+        "an open aside",
+        ErrorKind::AlreadyExists,
+        name.open_aside(7),
+    )?;
+    name.clear();
+    holds(rt, "since/.tinkey-new-7", "left")
+}
+
+// By an absolute path, of which each call is made alone: the name is taken once it was looked up.
+#[test]
+fn never_replaces_a_file_that_came_since(rt: HostRuntime) -> Result<(), Fail> {
+    make_empty(&rt, "since")?;
+    let path = path_of_k(&rt, "since")?;
+    let mut name = DirName::new(rt.alloc(), &rt, &path);
+    let file = ours_aside(&rt, &mut name)?;
+    assert_theirs(&rt, &mut name, &file)?;
+    assert_ours(&rt, &mut name, &file)?;
+    assert_aside_taken(&rt, &mut name)?;
+    Ok(fs::remove_dir_all(&rt, "since")?)
 }

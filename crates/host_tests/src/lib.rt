@@ -16,6 +16,8 @@ mod naming;
 #[cfg(test)]
 mod opened;
 #[cfg(test)]
+mod placed;
+#[cfg(test)]
 mod streams;
 #[cfg(test)]
 mod words;

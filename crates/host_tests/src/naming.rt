@@ -10,8 +10,7 @@ use real_objects::{NewName, make_file};
 use std::alloc::Global;
 use std::io::{self, ErrorKind};
 use std::test::Fail;
-use test_words::{cell, unlike};
-use tink_base::{Created, StoreError};
+use test_words::{cell, create_word, same_text};
 
 /// A name that tells its calls, and refuses those that a text names, each with its error.
 #[derive(Drop)]
@@ -22,18 +21,20 @@ struct Traced<'a> {
     came: Came,
 }
 
+const KINDS: [(&str, ErrorKind); 6] = [
+    ("exists", ErrorKind::AlreadyExists),
+    ("denied", ErrorKind::PermissionDenied),
+    ("unsupported", ErrorKind::Unsupported),
+    ("links", ErrorKind::TooManyLinks),
+    ("missing", ErrorKind::NotFound),
+    ("memory", ErrorKind::OutOfMemory),
+];
+
 /// The kind of the error of this name.
 fn kind_named(name: &str) -> ErrorKind {
-    for (known, kind) in [
-        ("exists", ErrorKind::AlreadyExists),
-        ("denied", ErrorKind::PermissionDenied),
-        ("unsupported", ErrorKind::Unsupported),
-        ("links", ErrorKind::TooManyLinks),
-        ("missing", ErrorKind::NotFound),
-        ("memory", ErrorKind::OutOfMemory),
-    ] {
-        if known == name {
-            return kind;
+    for (known, kind) in &KINDS {
+        if *known == name {
+            return *kind;
         }
     }
     ErrorKind::StorageFull
@@ -196,45 +197,38 @@ const WAYS: [&str; 16] = [
     "the name isn't put away | put full | failed | look aside link clear put",
 ];
 
-/// What is told of a new file of ten bytes.
-fn told(made: Result<Created, StoreError>) -> &'static str {
-    match made {
-        Ok(Created::Made) => "made",
-        Ok(Created::Exists) => "exists",
-        Err(StoreError::Failed) => "failed",
-        Err(StoreError::NoMemory) => "no memory",
-    }
+/// Makes a new file of ten bytes under the name of a row.
+fn assert_way(alloc: Global, row: &str) -> Result<(), Fail> {
+    let mut name = Traced {
+        alloc,
+        refused: cell(row, 1)?,
+        calls: String::new(alloc),
+        came: Came::Free,
+    };
+    let answer = make_file(&mut name, b"ten bytes.");
+    same_text(row, "the answer", cell(row, 2)?, create_word(&answer))?;
+    same_text(row, "the calls", cell(row, 3)?, &name.calls)
 }
 
 #[test]
 fn links_a_file_once_it_is_whole_and_lasts(rt: HostRuntime) -> Result<(), Fail> {
-    for row in WAYS {
-        let mut name = Traced {
-            alloc: rt.alloc(),
-            refused: cell(row, 1)?,
-            calls: String::new(rt.alloc()),
-            came: Came::Free,
-        };
-        let made = told(make_file(&mut name, b"ten bytes."));
-        if made != cell(row, 2)? {
-            return Err(unlike(row, "the answer", cell(row, 2)?, made));
-        }
-        if name.calls.as_str() != cell(row, 3)? {
-            return Err(unlike(row, "the calls", cell(row, 3)?, &name.calls));
-        }
+    for row in &WAYS {
+        assert_way(rt.alloc(), row)?;
     }
     Ok(())
 }
 
 // All 1,000 names aside are taken, of which only the first is told as `aside`.
 #[test]
-fn gives_up_where_each_name_aside_is_taken(rt: HostRuntime) {
+fn gives_up_where_each_name_aside_is_taken(rt: HostRuntime) -> Result<(), Fail> {
     let mut name = Traced {
         alloc: rt.alloc(),
         refused: "aside exists, again exists",
         calls: String::new(rt.alloc()),
         came: Came::Free,
     };
-    assert_eq!(rt; told(make_file(&mut name, b"x")), "failed");
+    let answer = make_file(&mut name, b"x");
+    same_text("all taken", "the answer", "failed", create_word(&answer))?;
     assert_eq!(rt; name.calls.len(), "look aside".len() + 999 * " again".len());
+    Ok(())
 }

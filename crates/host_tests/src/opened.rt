@@ -3,9 +3,10 @@
 ghost use Rattle.std.specs.Prelude.{◌≡◌, true};
 
 use real_objects::{NewFile, fill_opened, load_opened};
+use std::alloc::Global;
 use std::io::{self, ErrorKind, Read, Write};
 use std::test::Fail;
-use tink_base::{Created, Loaded, StoreError};
+use test_words::{create_word, load_word, same_bytes, same_text};
 
 /// A file in memory, of which one call moves some bytes at the most. The call of this number fails,
 /// from 1.
@@ -88,47 +89,69 @@ impl NewFile for Page {
     }
 }
 
+/// Fills a page of which this call fails, or that takes no byte.
+fn assert_unmade(alloc: Global, piece: usize, fails: u32, bytes: &[u8]) -> Result<(), Fail> {
+    let mut opened = Ok(Page::new(Vec::new(alloc), piece, fails));
+    let answer = fill_opened(&mut opened, bytes);
+    let found = create_word(&answer);
+    if found != "failed" {
+        return Err(Fail::new(format_args!(
+            "pieces of {piece}, and call {fails} fails: {found}, and not failed"
+        )));
+    }
+    Ok(())
+}
+
+/// Fills a page of which the first five calls don't fail.
+fn assert_made(alloc: Global) -> Result<(), Fail> {
+    let mut opened = Ok(Page::new(Vec::new(alloc), 4, 6));
+    let answer = fill_opened(&mut opened, b"ten bytes.");
+    same_text("no call fails", "the answer", "made", create_word(&answer))?;
+    let page = opened?;
+    if !page.put_away {
+        return Err("the file isn't put away".into());
+    }
+    same_bytes(
+        alloc,
+        "no call fails",
+        "the file",
+        b"ten bytes.",
+        &page.bytes,
+    )
+}
+
 // Ten bytes in pieces of four are three writes; a flush and a wait follow.
 #[test]
 fn tells_a_file_as_made_once_all_of_it_lasts(rt: HostRuntime) -> Result<(), Fail> {
-    for fails in 1..=6 {
-        let mut opened = Ok(Page::new(Vec::new(rt.alloc()), 4, fails));
-        let made = fill_opened(&mut opened, b"ten bytes.");
-        let page = opened?;
-        if fails < 6 {
-            assert_eq!(rt; made, Err(StoreError::Failed), "call {fails} fails");
-        } else {
-            assert_eq!(rt; made, Ok(Created::Made));
-            assert_eq!(rt; page.bytes.as_slice(), b"ten bytes.".as_slice());
-            assert!(rt; page.put_away);
-        }
+    for fails in 1..6 {
+        assert_unmade(rt.alloc(), 4, fails, b"ten bytes.")?;
     }
-    let mut full = Ok(Page::new(Vec::new(rt.alloc()), 0, 0));
-    assert_eq!(rt;
-        fill_opened(&mut full, b"x"),
-        Err(StoreError::Failed),
-        "no byte is taken"
-    );
+    assert_made(rt.alloc())?;
+    assert_unmade(rt.alloc(), 0, 0, b"x")
+}
+
+/// Loads a page of ten bytes of which this call fails.
+fn assert_loaded(alloc: Global, fails: u32, want: &str) -> Result<(), Fail> {
+    let page = Page::new(b"ten bytes.".to_vec(alloc)?, 4, fails);
+    let answer = load_opened(alloc, Ok(page), 10);
+    let found = load_word(&answer, b"ten bytes.");
+    if found != want {
+        return Err(Fail::new(format_args!("call {fails} fails: {found}, and not {want}")));
+    }
     Ok(())
 }
 
 // Ten bytes in pieces of four are four reads, the last of which finds the end.
 #[test]
 fn a_failed_read_is_no_end(rt: HostRuntime) -> Result<(), Fail> {
-    for fails in 1..=5 {
-        let page = Page::new(b"ten bytes.".to_vec(rt.alloc())?, 4, fails);
-        match load_opened(rt.alloc(), Ok(page), 10) {
-            Err(StoreError::Failed) if fails < 5 => {}
-            Ok(Loaded::Bytes(bytes)) if fails == 5 => {
-                assert_eq!(rt; bytes.as_slice(), b"ten bytes.".as_slice());
-            }
-            _ => return Err(Fail::new(format_args!("call {fails} fails"))),
-        }
+    for fails in 1..5 {
+        assert_loaded(rt.alloc(), fails, "failed")?;
     }
-    Ok(())
+    assert_loaded(rt.alloc(), 5, "bytes")
 }
 
-// A file that may not be read or made is a fault, and not a missing one.
+// A file that may not be read or made is a fault, and not a missing one. A row has the kind of the
+// error, and what a load and a create answer.
 const OPENS: [(ErrorKind, &str, &str); 6] = [
     (ErrorKind::NotFound, "absent", "failed"),
     (ErrorKind::NotADirectory, "absent", "failed"),
@@ -138,24 +161,36 @@ const OPENS: [(ErrorKind, &str, &str); 6] = [
     (ErrorKind::OutOfMemory, "no memory", "no memory"),
 ];
 
-#[test]
-fn tells_why_a_file_was_not_opened(rt: HostRuntime) {
-    for (kind, of_load, of_create) in OPENS {
-        let opened: io::Result<Page> = Err(io::Error::from(kind));
-        let loaded = match load_opened(rt.alloc(), opened, 10) {
-            Ok(Loaded::Absent) => "absent",
-            Ok(_) => "found",
-            Err(StoreError::Failed) => "failed",
-            Err(StoreError::NoMemory) => "no memory",
-        };
-        assert_eq!(rt; loaded, of_load, "{kind:?}");
-        let mut opened: io::Result<Page> = Err(io::Error::from(kind));
-        let created = match fill_opened(&mut opened, b"x") {
-            Ok(Created::Made) => "made",
-            Ok(Created::Exists) => "exists",
-            Err(StoreError::Failed) => "failed",
-            Err(StoreError::NoMemory) => "no memory",
-        };
-        assert_eq!(rt; created, of_create, "{kind:?}");
+/// The failure of a row.
+fn unlike_kind(kind: ErrorKind, call: &str, want: &str, found: &str) -> Fail {
+    Fail::new(format_args!("{kind:?}: {call} is {found}, and not {want}"))
+}
+
+fn assert_not_loaded(alloc: Global, kind: ErrorKind, want: &str) -> Result<(), Fail> {
+    let opened: io::Result<Page> = Err(io::Error::from(kind));
+    let answer = load_opened(alloc, opened, 10);
+    let found = load_word(&answer, b"");
+    if found != want {
+        return Err(unlike_kind(kind, "a load", want, found));
     }
+    Ok(())
+}
+
+fn assert_not_made(kind: ErrorKind, want: &str) -> Result<(), Fail> {
+    let mut opened: io::Result<Page> = Err(io::Error::from(kind));
+    let answer = fill_opened(&mut opened, b"x");
+    let found = create_word(&answer);
+    if found != want {
+        return Err(unlike_kind(kind, "a create", want, found));
+    }
+    Ok(())
+}
+
+#[test]
+fn tells_why_a_file_was_not_opened(rt: HostRuntime) -> Result<(), Fail> {
+    for (kind, of_load, of_create) in &OPENS {
+        assert_not_loaded(rt.alloc(), *kind, of_load)?;
+        assert_not_made(*kind, of_create)?;
+    }
+    Ok(())
 }

@@ -3,6 +3,7 @@
 use real_objects::{StdSink, StdSource};
 use std::io::{self, ErrorKind, Read, Write};
 use std::test::Fail;
+use test_words::same_bytes;
 use tink_base::{read_all, write_all};
 
 /// A stream each of whose calls is interrupted once, before it is done.
@@ -46,17 +47,27 @@ impl<W: Write> Write for Interrupted<W> {
 }
 
 #[test]
-fn goes_on_after_a_signal(rt: HostRuntime) -> Result<(), Fail> {
+fn reads_on_after_a_signal(rt: HostRuntime) -> Result<(), Fail> {
     let mut source = StdSource::new(Interrupted::new(b"bytes".as_slice()));
-    match read_all(rt.alloc(), &mut source, 5) {
-        Ok(bytes) => assert_eq!(rt; bytes.as_slice(), b"bytes".as_slice()),
-        Err(_) => Err("the read is a fault")?,
-    }
+    let bytes = read_all(rt.alloc(), &mut source, 5)?;
+    same_bytes(rt.alloc(), "a read", "what was read", b"bytes", &bytes)
+}
+
+/// Writes through interruptions.
+fn write_on(written: &mut Vec<u8>) -> Result<(), Fail> {
+    let mut sink = StdSink::new(Interrupted::new(written));
+    Ok(write_all(&mut sink, b"bytes")?)
+}
+
+#[test]
+fn writes_on_after_a_signal(rt: HostRuntime) -> Result<(), Fail> {
     let mut written = Vec::new(rt.alloc());
-    {
-        let mut sink = StdSink::new(Interrupted::new(&mut written));
-        assert_eq!(rt; write_all(&mut sink, b"bytes"), Ok(()));
-    }
-    assert_eq!(rt; written.as_slice(), b"bytes".as_slice());
-    Ok(())
+    write_on(&mut written)?;
+    same_bytes(
+        rt.alloc(),
+        "a write",
+        "what was written",
+        b"bytes",
+        &written,
+    )
 }

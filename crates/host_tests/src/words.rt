@@ -2,9 +2,10 @@
 
 use crate::listed::in_digits;
 use real_objects::{NoWords, words};
+use std::alloc::Global;
 use std::env;
 use std::test::Fail;
-use test_words::{bytes_of, cell};
+use test_words::{bytes_of, cell, same_bytes, same_text};
 
 // The room for a word is 256 bytes at first.
 const TOLD: [&str; 8] = [
@@ -18,18 +19,30 @@ const TOLD: [&str; 8] = [
     "a name that isn't UTF-8 | ff, 61",
 ];
 
+/// Holds words to the bytes of a line, behind the name.
+fn assert_words(alloc: Global, row: &str, line: &str, told: &[String]) -> Result<(), Fail> {
+    for (word, digits) in told.iter().zip(line.split(',').skip(1)) {
+        let bytes = bytes_of(alloc, digits.trim())?;
+        same_bytes(alloc, row, "a word", &bytes, word.as_bytes())?;
+    }
+    Ok(())
+}
+
+fn assert_told(alloc: Global, row: &str) -> Result<(), Fail> {
+    let line = cell(row, 1)?;
+    let Ok(told) = words(&in_digits(alloc, line)?, alloc) else {
+        return Err(Fail::new(format_args!("{row}: no words")));
+    };
+    if told.len() + 1 != line.split(',').count() {
+        return Err(Fail::new(format_args!("{row}: {} words", told.len())));
+    }
+    assert_words(alloc, row, line, &told)
+}
+
 #[test]
 fn tells_each_word_whole_and_in_order(rt: HostRuntime) -> Result<(), Fail> {
-    for row in TOLD {
-        let line = cell(row, 1)?;
-        let Ok(told) = words(&in_digits(rt.alloc(), line)?, rt.alloc()) else {
-            return Err(Fail::new(format_args!("{row}: no words")));
-        };
-        assert_eq!(rt; told.len() + 1, line.split(',').count(), "{row}");
-        for (word, digits) in told.iter().zip(line.split(',').skip(1)) {
-            let bytes = bytes_of(rt.alloc(), digits.trim())?;
-            assert!(rt; word.as_bytes() == bytes.as_slice(), "{row}");
-        }
+    for row in &TOLD {
+        assert_told(rt.alloc(), row)?;
     }
     Ok(())
 }
@@ -41,16 +54,30 @@ const NOT_TEXT: [&str; 4] = [
     "a long one | 74, ff*300",
 ];
 
+fn assert_not_text(alloc: Global, row: &str) -> Result<(), Fail> {
+    let line = in_digits(alloc, cell(row, 1)?)?;
+    match words(&line, alloc) {
+        Err(NoWords::NotText) => Ok(()),
+        _ => Err(Fail::new(row)),
+    }
+}
+
 #[test]
 fn tells_no_words_where_one_is_not_text(rt: HostRuntime) -> Result<(), Fail> {
-    for row in NOT_TEXT {
-        let line = in_digits(rt.alloc(), cell(row, 1)?)?;
-        match words(&line, rt.alloc()) {
-            Err(NoWords::NotText) => {}
-            _ => return Err(Fail::new(row)),
-        }
+    for row in &NOT_TEXT {
+        assert_not_text(rt.alloc(), row)?;
     }
     Ok(())
+}
+
+/// Holds words to those that std tells behind the name, and counts them.
+fn count_alike(rt: &HostRuntime, told: &[String]) -> Result<usize, Fail> {
+    let mut count = 0usize;
+    for (word, other) in told.iter().zip(env::args(rt)?.skip(1)) {
+        same_text("the process", "a word", other.as_str(), word.as_str())?;
+        count = count.wrapping_add(1);
+    }
+    Ok(count)
 }
 
 // The words of the test's own process, which std tells too.
@@ -59,13 +86,10 @@ fn tells_the_words_of_the_process(rt: HostRuntime) -> Result<(), Fail> {
     let Ok(told) = words(&rt, rt.alloc()) else {
         return Err("no words")?;
     };
-    let mut count = 0usize;
-    for (word, other) in told.iter().zip(env::args(&rt)?.skip(1)) {
-        assert_eq!(rt; word.as_str(), other.as_str());
-        count = count.wrapping_add(1);
-    }
+    let count = count_alike(&rt, &told)?;
+    let all = env::args(&rt)?.count();
     assert_eq!(rt; count, told.len());
-    assert_eq!(rt; count.wrapping_add(1), env::args(&rt)?.count());
+    assert_eq!(rt; count.wrapping_add(1), all);
     assert!(rt; count > 0, "the test's name is a word");
     Ok(())
 }

@@ -21,3 +21,5 @@ mod rows;
 mod schemes;
 #[cfg(test)]
 mod siv;
+#[cfg(test)]
+mod stores;

@@ -22,9 +22,9 @@ told_sink sink = record { written = None; faults = sink.faults }
 abbrev pub stream_written : {W : Type 0} → StdSink W → W
 stream_written sink = sink.output
 
--- the files, with so many faults
-abbrev pub untold_store : ℕ → StoreState
-untold_store faults = record { files = None; faults = faults }
+-- the files, with so many faults and bytes given
+abbrev pub untold_store : (faults given : ℕ) → StoreState
+untold_store faults given = record { files = None; faults = faults; given = given }
 
 -- the random bytes of the system, with so many faults, which may fail whatever is asked
 abbrev pub untold_entropy : ℕ → EntropyState

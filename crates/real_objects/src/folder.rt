@@ -1,20 +1,21 @@
 //! The files of the file system as a store, which tells no bytes of its own; the clauses of what reads
 //! and fills one file speak of the bytes of the file, where it knows them. How a new one gets its name is
-//! in `naming`.
+//! in `naming`, and what is read of a file at a place in `placed`.
 
 ghost use Rattle.std.specs.Prelude.{◌≡◌, ◌+◌, ◌^◌, ◌<◌, ◌≤◌, ◌⊎◌, ℕ, Bool, IsTrue, true, false, None, [], min, IfOk, IfErr, IsOk, IsOkAnd, IfSome, OnOk};
 ghost use Rattle.std.specs.Io.KnownBytes.{Appends, Keeps};
 ghost use Rattle.std.specs.IoError.{error_kind};
-ghost use Rattle.tink_base.specs.Store.{Loads};
+ghost use Rattle.tink_base.specs.Store.{Loads, given_by_load, given_by_read};
 ghost use Rattle.real_objects.specs.Folder.{IsLoaded};
 ghost use Rattle.real_objects.specs.Streams.{untold_store};
 
 use crate::naming::{NewName, make_file};
+use crate::placed::{read_opened, size_of};
 use std::alloc::Global;
 use std::fs::{self, File, OpenFile, OpenOptions};
 use std::io::{self, ErrorKind, Read, Write};
 use std::os::unix::fs::OpenOptionsExt;
-use tink_base::{Bytes, Created, Loaded, Store, StoreError};
+use tink_base::{Bytes, Created, Failed, Loaded, Store, StoreError};
 
 /// How many bytes a load reads at the most; files of more count as too long under any limit.
 const MOST: usize = 1 << 30;
@@ -27,26 +28,72 @@ const OWNER_ALONE: u32 = 0o600;
 pub struct DirStore<'a> {
     rt: &'a HostRuntime,
     faults: u64,
+    given: u64,
 }
 
 impl<'a> DirStore<'a> {
     /// The files, before the first call.
     pub fn new(rt: &'a HostRuntime) -> DirStore<'a> {
-        DirStore { rt, faults: 0 }
+        DirStore {
+            rt,
+            faults: 0,
+            given: 0,
+        }
     }
 }
 
 impl Store for DirStore<'_> {
-    ghost state = { λ s. untold_store s.faults };
+    ghost state = { λ s. untold_store s.faults s.given };
 
     fn load(&mut self, alloc: Global, name: &str, limit: usize) -> Result<Loaded, StoreError> {
         match load_opened(alloc, fs::open(self.rt, name), limit) {
-            Ok(found) => Ok(found),
+            Ok(found) => {
+                if let Loaded::Bytes(bytes) = &found {
+                    self.given = self.given.saturating_add(bytes.as_slice().len() as u64);
+                }
+                Ok(found)
+            }
             Err(error) => {
                 if error == StoreError::Failed {
                     self.faults = self.faults.saturating_add(1);
                 }
                 Err(error)
+            }
+        }
+    }
+
+    /// A link that leads nowhere has the name, and so has a folder. `Failed` comes too where the folder of
+    /// the name isn't there.
+    fn is_taken(&mut self, name: &str) -> Result<bool, Failed> {
+        match taken_of(free_place(self.rt, name)) {
+            Ok(taken) => Ok(taken),
+            Err(_) => {
+                self.faults = self.faults.saturating_add(1);
+                Err(Failed)
+            }
+        }
+    }
+
+    /// A folder, a pipe and a device have no length.
+    fn size(&mut self, name: &str) -> Result<Option<u64>, Failed> {
+        match size_of(fs::metadata(self.rt, name)) {
+            Ok(size) => Ok(size),
+            Err(_) => {
+                self.faults = self.faults.saturating_add(1);
+                Err(Failed)
+            }
+        }
+    }
+
+    fn read_at(&mut self, name: &str, at: u64, out: &mut [u8]) -> Result<usize, Failed> {
+        match read_opened(fs::open(self.rt, name), at, out) {
+            Ok(n) => {
+                self.given = self.given.saturating_add(n as u64);
+                Ok(n)
+            }
+            Err(_) => {
+                self.faults = self.faults.saturating_add(1);
+                Err(Failed)
             }
         }
     }
@@ -103,17 +150,8 @@ impl NewName for DirName<'_> {
     /// Looks whether anything has the path, a link that leads nowhere too, and opens the folder. A path
     /// without a last part is refused.
     fn look_up(&mut self) -> io::Result<()> {
-        if self.name.is_empty() || self.name.ends_with('/') {
-            return Err(io::Error::from(ErrorKind::IsADirectory));
-        }
-        match fs::symlink_metadata(self.rt, self.name) {
-            Ok(_) => Err(io::Error::from(ErrorKind::AlreadyExists)),
-            Err(error) if error.kind() == ErrorKind::NotFound => {
-                self.folder = Some(fs::open(self.rt, folder_of(self.name))?);
-                Ok(())
-            }
-            Err(error) => Err(error),
-        }
+        self.folder = Some(free_place(self.rt, self.name)?);
+        Ok(())
     }
 
     fn open_aside(&mut self, number: u32) -> io::Result<File> {
@@ -149,6 +187,34 @@ impl NewName for DirName<'_> {
     }
 }
 
+/// The folder of a path that nothing has, opened. The error is `AlreadyExists` where something has the
+/// path, a link that leads nowhere too. A path without a last part is refused.
+fn free_place(rt: &HostRuntime, name: &str) -> io::Result<File> {
+    if name.is_empty() || name.ends_with('/') {
+        return Err(io::Error::from(ErrorKind::IsADirectory));
+    }
+    match fs::symlink_metadata(rt, name) {
+        Ok(_) => Err(io::Error::from(ErrorKind::AlreadyExists)),
+        Err(error) if error.kind() == ErrorKind::NotFound => fs::open(rt, folder_of(name)),
+        Err(error) => Err(error),
+    }
+}
+
+/// Whether a name is taken whose place was to be found.
+fn taken_of(place: io::Result<File>) -> Result<bool, Failed>
+    ensures free { IfOk result (λ taken. taken ≡ false → IsOk place) }
+    ensures taken { IfErr place (λ error. error_kind error ≡ ErrorKind.AlreadyExists →
+        result ≡ Ok true) }
+    ensures there { IfOk result (λ taken. taken ≡ true →
+        IfErr place (λ error. error_kind error ≡ ErrorKind.AlreadyExists)) }
+{
+    match place {
+        Ok(_) => Ok(false),
+        Err(error) if error.kind() == ErrorKind::AlreadyExists => Ok(true),
+        Err(_) => Err(Failed),
+    }
+}
+
 /// The path of the folder that a path leads into: what stands before its last slash.
 fn folder_of(name: &str) -> &str {
     match name.rsplit_once('/') {
@@ -177,7 +243,7 @@ pub fn load_opened<R: Read + Drop>(
     ensures absent { IfErr opened (λ error. IfOk result
         (λ found. (found ≡ Loaded.Absent) × ((error_kind error ≡ ErrorKind.NotFound) ⊎
         (error_kind error ≡ ErrorKind.NotADirectory)))) }
-    ensures loads { IfOk result (λ found. Loads (untold_store 0) [] limit found) }
+    ensures loads { IfOk result (λ found. Loads (untold_store 0 0) [] limit found) }
 {
     match opened {
         Ok(file) => read_file(alloc, file, limit.min(MOST)),
@@ -194,7 +260,7 @@ fn read_file<R: Read + Drop>(alloc: Global, file: R, limit: usize) -> Result<Loa
     requires limit_bound { limit ≤ 2 ^ 30 }
     ensures whole { IfSome (R.remaining file)
         (λ bytes. IfOk result (λ found. IsLoaded bytes limit found)) }
-    ensures loads { IfOk result (λ found. Loads (untold_store 0) [] limit found) }
+    ensures loads { IfOk result (λ found. Loads (untold_store 0 0) [] limit found) }
 {
     let mut bytes = Vec::new(alloc);
     let mut front = file.take(limit as u64 + 1);

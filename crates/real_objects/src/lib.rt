@@ -9,10 +9,12 @@ mod args;
 mod entropy;
 mod folder;
 mod naming;
+mod placed;
 mod streams;
 
 pub use args::{Arguments, NoWords, words};
 pub use entropy::{FileEntropy, Opens, RandomDevice};
 pub use folder::{DirName, DirStore, NewFile, fill_opened, load_opened};
 pub use naming::{NewName, make_file};
+pub use placed::{PlacedFile, read_opened, size_of};
 pub use streams::{StdSink, StdSource};

@@ -5,7 +5,7 @@
 use std::alloc::Global;
 use std::str::from_utf8;
 use std::test::Fail;
-use tink_base::Hash;
+use tink_base::{Created, Hash, Loaded, StoreError};
 
 /// The names of the hash functions in FIPS 180-4.
 const HASHES: [(&str, Hash); 5] = [
@@ -41,9 +41,9 @@ pub fn number_in(row: &str, place: usize) -> Result<usize, Fail> {
 
 /// The hash function of this name.
 pub fn hash_named(name: &str) -> Result<Hash, Fail> {
-    for (known, hash) in HASHES {
-        if known == name {
-            return Ok(hash);
+    for (known, hash) in &HASHES {
+        if *known == name {
+            return Ok(*hash);
         }
     }
     Err(Fail::new(format_args!("the hash function {name}")))
@@ -75,6 +75,14 @@ pub fn counting(alloc: Global, size: usize) -> Result<Vec<u8>, Fail> {
 /// The failure of a row, where this part of it isn't as expected.
 pub fn unlike(row: &str, part: &str, expected: &str, found: &str) -> Fail {
     Fail::new(format_args!("{row}: {part} is {found}, and not {expected}"))
+}
+
+/// Nothing where this text is as expected, and else the failure of the row.
+pub fn same_text(row: &str, part: &str, expected: &str, found: &str) -> Result<(), Fail> {
+    if found == expected {
+        return Ok(());
+    }
+    Err(unlike(row, part, expected, found))
 }
 
 /// Nothing where these bytes are as expected, and else the failure of the row: it tells how many
@@ -113,5 +121,27 @@ fn from_there(alloc: Global, bytes: &[u8], at: usize) -> Result<String, Fail> {
     match from_utf8(rest) {
         Ok(text) => Ok(format!(in alloc; "{size} bytes, from {at} on {text:?}")?),
         Err(_) => Ok(format!(in alloc; "{size} bytes, from {at} on {}", digits_of(alloc, rest)?)?),
+    }
+}
+
+/// What a create of a store answers, as a word.
+pub fn create_word(answer: &Result<Created, StoreError>) -> &'static str {
+    match answer {
+        Ok(Created::Made) => "made",
+        Ok(Created::Exists) => "exists",
+        Err(StoreError::Failed) => "failed",
+        Err(StoreError::NoMemory) => "no memory",
+    }
+}
+
+/// What a load of a store answers, as a word, where the file is to have these bytes.
+pub fn load_word(answer: &Result<Loaded, StoreError>, bytes: &[u8]) -> &'static str {
+    match answer {
+        Ok(Loaded::Absent) => "absent",
+        Ok(Loaded::TooLong) => "too long",
+        Ok(Loaded::Bytes(found)) if found.as_slice() == bytes => "bytes",
+        Ok(Loaded::Bytes(_)) => "other bytes",
+        Err(StoreError::Failed) => "failed",
+        Err(StoreError::NoMemory) => "no memory",
     }
 }

@@ -27,18 +27,22 @@ pub record SinkInMemory : Type 0 where
   pub calls : ℕ
   pub faults : ℕ
 
--- the files, the numbers of the calls that fail, from 1, and how many calls and faults there were
+-- the files, the numbers of the calls that fail, from 1, how many calls and faults there were, and how
+-- many bytes were given
 pub record StoreInMemory : Type 0 where
   pub files : Files
   pub fails : List ℕ
   pub calls : ℕ
   pub faults : ℕ
+  pub given : ℕ
 
--- the files, how many bytes of a new one are kept, and how many faults there were
+-- the files, how many bytes of a new one are kept, how many faults there were, and how many bytes were
+-- given
 pub record TornInMemory : Type 0 where
   pub files : Files
   pub keep : ℕ
   pub faults : ℕ
+  pub given : ℕ
 
 -- the bytes that are left, the numbers of the calls that fail, from 1, and how many calls and faults
 -- there were
@@ -51,19 +55,19 @@ pub record EntropyInMemory : Type 0 where
 -- a store in memory is kept in contracts as the tuple of its parts
 abbrev pub store_code : Coded StoreInMemory
 store_code =
-    code_by (Files × (List ℕ × (ℕ × ℕ)))
-    (coded× (map.code (coded_list coded_ℕ) (coded_list coded_ℕ)) (coded× (coded_list coded_ℕ) (coded× coded_ℕ coded_ℕ)))
-    (λ s. (s.files, (s.fails, (s.calls, s.faults))))
-    (λ p. record { files = p.0; fails = p.1.0; calls = p.1.1.0; faults = p.1.1.1 })
+    code_by (Files × (List ℕ × (ℕ × (ℕ × ℕ))))
+    (coded× (map.code (coded_list coded_ℕ) (coded_list coded_ℕ)) (coded× (coded_list coded_ℕ) (coded× coded_ℕ (coded× coded_ℕ coded_ℕ))))
+    (λ s. (s.files, (s.fails, (s.calls, (s.faults, s.given)))))
+    (λ p. record { files = p.0; fails = p.1.0; calls = p.1.1.0; faults = p.1.1.1.0; given = p.1.1.1.1 })
     (λ _. refl)
 
 -- a torn store is kept in contracts as the tuple of its parts
 abbrev pub torn_code : Coded TornInMemory
 torn_code =
-    code_by (Files × (ℕ × ℕ))
-    (coded× (map.code (coded_list coded_ℕ) (coded_list coded_ℕ)) (coded× coded_ℕ coded_ℕ))
-    (λ s. (s.files, (s.keep, s.faults)))
-    (λ p. record { files = p.0; keep = p.1.0; faults = p.1.1 })
+    code_by (Files × (ℕ × (ℕ × ℕ)))
+    (coded× (map.code (coded_list coded_ℕ) (coded_list coded_ℕ)) (coded× coded_ℕ (coded× coded_ℕ coded_ℕ)))
+    (λ s. (s.files, (s.keep, (s.faults, s.given))))
+    (λ p. record { files = p.0; keep = p.1.0; faults = p.1.1.0; given = p.1.1.1 })
     (λ _. refl)
 
 -- what a source in memory tells
@@ -80,11 +84,11 @@ IsFull s = s.room ≤ length s.written
 
 -- what a store in memory tells
 abbrev pub told_store : StoreInMemory → StoreState
-told_store s = record { files = Some s.files; faults = s.faults }
+told_store s = record { files = Some s.files; faults = s.faults; given = s.given }
 
 -- what a torn store tells
 abbrev pub told_torn : TornInMemory → StoreState
-told_torn s = record { files = Some s.files; faults = s.faults }
+told_torn s = record { files = Some s.files; faults = s.faults; given = s.given }
 
 -- it is steady exactly where no call is listed
 abbrev pub told_entropy : EntropyInMemory → EntropyState

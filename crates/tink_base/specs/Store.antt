@@ -1,16 +1,44 @@
--- What a load and a create say of the files.
-use Rattle.std.specs.Prelude.{◌≤◌, ℕ, List, length, Some, None}
-use Rattle.tink_spec.specs.Files.{StoreState, Holds, HoldsLonger, HoldsSome, KeptFiles, Added}
+-- What the calls of a store say of the files, and how many bytes they give.
+use Rattle.std.specs.Prelude.{◌≤◌, ℕ, Bool, true, false, List, length, take, Option, Some, None, Result, Ok, Err}
+use Rattle.tink_spec.specs.Files.{StoreState, Holds, HoldsLonger, HoldsSome, HoldsSize, HoldsAt, KeptFiles, Added, more_given}
+use Rattle.tink_base.specs.declared.faults.Failed.{Failed}
 use Rattle.tink_base.specs.declared.store.Created.{Created}
 use Rattle.tink_base.specs.declared.store.Created.TheVariants as created
 use Rattle.tink_base.specs.declared.store.Loaded.{Loaded}
 use Rattle.tink_base.specs.declared.store.Loaded.TheVariants as loaded
+use Rattle.tink_base.specs.declared.store.StoreError.{StoreError}
 
 -- what was found of the file of that name
 abbrev pub Loads : StoreState → List ℕ → ℕ → Loaded → Type 0
 Loads store name limit loaded.Absent = Holds store name None
 Loads store name limit loaded.TooLong = HoldsLonger store name limit
 Loads store name limit (loaded.Bytes bytes) = (length bytes ≤ limit) × Holds store name (Some bytes)
+
+-- how many bytes have been given after a load: those of the file, where it was loaded
+abbrev pub given_by_load : ℕ → Result Loaded StoreError → ℕ
+given_by_load given (Ok (loaded.Bytes bytes)) = more_given given (length bytes)
+given_by_load given (Ok loaded.Absent) = given
+given_by_load given (Ok loaded.TooLong) = given
+given_by_load given (Err error) = given
+
+-- whether there is a file of that name
+abbrev pub IsTaken : StoreState → List ℕ → Bool → Type 0
+IsTaken store name true = HoldsSome store name
+IsTaken store name false = Holds store name None
+
+-- how many bytes the file of that name has, where there is one
+abbrev pub HasSize : StoreState → List ℕ → Option ℕ → Type 0
+HasSize store name None = Holds store name None
+HasSize store name (Some size) = HoldsSize store name size
+
+-- so many bytes were read, which are the file's from that place on
+abbrev pub ReadsAt : StoreState → (name : List ℕ) → (at : ℕ) → (out : List ℕ) → ℕ → Type 0
+ReadsAt store name at out n = (1 ≤ n) × (n ≤ length out) × HoldsAt store name at (take n out)
+
+-- how many bytes have been given after a read
+abbrev pub given_by_read : ℕ → Result ℕ Failed → ℕ
+given_by_read given (Ok n) = more_given given n
+given_by_read given (Err failed) = given
 
 -- what a create did: a new file with the bytes, or nothing, as the name was there
 abbrev pub Creates : StoreState → StoreState → List ℕ → List ℕ → Created → Type 0

@@ -1,13 +1,13 @@
 //! A store in memory, which fails exactly at the calls that it is told.
 
-ghost use Rattle.std.specs.Prelude.{◌≡◌, ◌↔◌, IfOk, OnOk, OnErr, IsErrOf, Contains, option_map};
+ghost use Rattle.std.specs.Prelude.{◌≡◌, ◌↔◌, ◌<◌, ◌^◌, length, IfOk, IfSome, OnOk, OnErr, IsErr, IsErrOf, IsTrue, true, false, Contains, option_map};
 ghost use Rattle.std.specs.FinMap as map;
 ghost use Rattle.tink_spec.specs.Outside.{Rose, RoseOnce, Stood, next};
-ghost use Rattle.tink_spec.specs.Files.{KeptFiles, MayAdd};
+ghost use Rattle.tink_spec.specs.Files.{HoldsLonger, KeptFiles, MayAdd};
 ghost use Rattle.tink_base.specs.Memory.{told_store};
-ghost use Rattle.tink_base.specs.Store.{Loads, Creates};
+ghost use Rattle.tink_base.specs.Store.{Loads, Creates, HasSize, IsTaken, ReadsAt, given_by_load, given_by_read};
 
-use crate::{Bytes, Created, Loaded, NoMemory, Store, StoreError, Text};
+use crate::{Bytes, Created, Failed, Loaded, NoMemory, Store, StoreError, Text};
 use std::alloc::Global;
 use std::marker::Model;
 
@@ -20,6 +20,7 @@ pub struct MemStore {
     fails: Vec<u64>,
     calls: u64,
     faults: u64,
+    given: u64,
 }
 
 impl Model for MemStore {
@@ -30,15 +31,15 @@ impl Model for MemStore {
 
     ghost coded = { store_code };
 
-    ghost view = { λ s. record { files = map.from_entries s.files.items; fails = s.fails.items; calls = s.calls; faults = s.faults } };
+    ghost view = { λ s. record { files = map.from_entries s.files.items; fails = s.fails.items; calls = s.calls; faults = s.faults; given = s.given } };
 }
 
 impl MemStore {
-    /// An empty store. Its `load` and `create` fail exactly at the calls whose numbers, from 1,
-    /// stand in `fails`, and change nothing then.
+    /// An empty store. Its calls as a `Store` fail exactly where their numbers, from 1, stand in `fails`,
+    /// and change nothing then.
     pub fn new(alloc: Global, fails: Vec<u64>) -> MemStore
         ensures { result ≡
-            record { files = map.empty; fails = fails.items; calls = 0; faults = 0 } }
+            record { files = map.empty; fails = fails.items; calls = 0; faults = 0; given = 0 } }
     {
         MemStore {
             alloc,
@@ -46,6 +47,7 @@ impl MemStore {
             fails,
             calls: 0,
             faults: 0,
+            given: 0,
         }
     }
 
@@ -81,6 +83,30 @@ impl MemStore {
     {
         self.faults
     }
+
+    /// How many bytes of files it has given.
+    pub fn given(&self) -> u64
+        ensures { result ≡ self.now.given }
+    {
+        self.given
+    }
+
+    /// Counts a call, and tells whether it is to fail.
+    fn fails_now(&mut self) -> bool
+        ensures kept { KeptFiles (told_store self.old) (told_store self.new) }
+        ensures listed { IsTrue result ↔ Contains self.old.fails (next self.old.calls) }
+        ensures faultless { result ≡ false → self.new ≡
+            record self.old { calls = next self.old.calls } }
+        ensures faulty { result ≡ true → self.new ≡
+            record self.old { calls = next self.old.calls; faults = next self.old.faults } }
+    {
+        self.calls = self.calls.saturating_add(1);
+        if self.fails.contains(&self.calls) {
+            self.faults = self.faults.saturating_add(1);
+            return true;
+        }
+        false
+    }
 }
 
 impl Store for MemStore {
@@ -94,18 +120,17 @@ impl Store for MemStore {
         ensures failed { IsErrOf result StoreError.Failed → Rose self.old.faults self.new.faults }
         ensures once { IsErrOf result StoreError.Failed →
             RoseOnce self.old.faults self.new.faults }
+        ensures given { self.new.given ≡ given_by_load self.old.given result }
 
         // Exactly when it fails.
         ensures listed { IsErrOf result StoreError.Failed ↔
             Contains self.old.fails (next self.old.calls) }
         ensures faultless { (IsErrOf result StoreError.Failed → ⊥) → self.new ≡
-            record self.old { calls = next self.old.calls } }
+            record self.old { calls = next self.old.calls; given = self.new.given } }
         ensures faulty { IsErrOf result StoreError.Failed → self.new ≡
             record self.old { calls = next self.old.calls; faults = next self.old.faults } }
     {
-        self.calls = self.calls.saturating_add(1);
-        if self.fails.contains(&self.calls) {
-            self.faults = self.faults.saturating_add(1);
+        if self.fails_now() {
             return Err(StoreError::Failed);
         }
         match self.get(name) {
@@ -115,9 +140,94 @@ impl Store for MemStore {
                     return Ok(Loaded::TooLong);
                 }
                 match Bytes::copy(alloc, bytes) {
-                    Ok(bytes) => Ok(Loaded::Bytes(bytes)),
+                    Ok(bytes) => {
+                        self.given = self.given.saturating_add(bytes.as_slice().len() as u64);
+                        Ok(Loaded::Bytes(bytes))
+                    }
                     Err(_) => Err(StoreError::NoMemory),
                 }
+            }
+        }
+    }
+
+    fn is_taken(&mut self, name: &str) -> Result<bool, Failed>
+        ensures tells { IfOk result (λ taken. IsTaken (told_store self.old) name.now taken) }
+        ensures kept { KeptFiles (told_store self.old) (told_store self.new) }
+        ensures no_fault { OnOk result (Stood self.old.faults self.new.faults) }
+        ensures failed { OnErr result (Rose self.old.faults self.new.faults) }
+        ensures once { OnErr result (RoseOnce self.old.faults self.new.faults) }
+        ensures given { self.new.given ≡ self.old.given }
+
+        // Exactly when it fails.
+        ensures listed { IsErr result ↔ Contains self.old.fails (next self.old.calls) }
+        ensures faultless { OnOk result (self.new ≡
+            record self.old { calls = next self.old.calls }) }
+        ensures faulty { OnErr result (self.new ≡
+            record self.old { calls = next self.old.calls; faults = next self.old.faults }) }
+    {
+        if self.fails_now() {
+            return Err(Failed);
+        }
+        match self.get(name) {
+            Some(_) => Ok(true),
+            None => Ok(false),
+        }
+    }
+
+    fn size(&mut self, name: &str) -> Result<Option<u64>, Failed>
+        ensures tells { IfOk result (λ size. HasSize (told_store self.old) name.now size) }
+        ensures bound { IfOk result (λ size. IfSome size (λ n. n < 2 ^ 63)) }
+        ensures kept { KeptFiles (told_store self.old) (told_store self.new) }
+        ensures no_fault { OnOk result (Stood self.old.faults self.new.faults) }
+        ensures failed { OnErr result (Rose self.old.faults self.new.faults) }
+        ensures once { OnErr result (RoseOnce self.old.faults self.new.faults) }
+        ensures given { self.new.given ≡ self.old.given }
+
+        // Exactly when it fails.
+        ensures listed { IsErr result ↔ Contains self.old.fails (next self.old.calls) }
+        ensures faultless { OnOk result (self.new ≡
+            record self.old { calls = next self.old.calls }) }
+        ensures faulty { OnErr result (self.new ≡
+            record self.old { calls = next self.old.calls; faults = next self.old.faults }) }
+    {
+        if self.fails_now() {
+            return Err(Failed);
+        }
+        match self.get(name) {
+            None => Ok(None),
+            Some(bytes) => Ok(Some(bytes.len() as u64)),
+        }
+    }
+
+    fn read_at(&mut self, name: &str, at: u64, out: &mut [u8]) -> Result<usize, Failed>
+        requires some { 0 < length out.old }
+        requires within { HoldsLonger (told_store self.old) name.now at }
+        ensures reads { IfOk result (λ n. ReadsAt (told_store self.old) name.now at out.new n) }
+        ensures kept { KeptFiles (told_store self.old) (told_store self.new) }
+        ensures no_fault { OnOk result (Stood self.old.faults self.new.faults) }
+        ensures failed { OnErr result (Rose self.old.faults self.new.faults) }
+        ensures once { OnErr result (RoseOnce self.old.faults self.new.faults) }
+        ensures given { self.new.given ≡ given_by_read self.old.given result }
+
+        // Exactly when it fails.
+        ensures listed { IsErr result ↔ Contains self.old.fails (next self.old.calls) }
+        ensures faultless { OnOk result (self.new ≡
+            record self.old { calls = next self.old.calls; given = self.new.given }) }
+        ensures faulty { OnErr result (self.new ≡
+            record self.old { calls = next self.old.calls; faults = next self.old.faults }) }
+    {
+        if self.fails_now() {
+            return Err(Failed);
+        }
+        match self.get(name) {
+            // the place is within the file
+            None => Err(Failed),
+            Some(bytes) => {
+                let rest = &bytes[at as usize..];
+                let n = rest.len().min(out.len());
+                out[..n].copy_from_slice(&rest[..n]);
+                self.given = self.given.saturating_add(n as u64);
+                Ok(n)
             }
         }
     }
@@ -135,6 +245,8 @@ impl Store for MemStore {
         ensures no_memory { IsErrOf result StoreError.NoMemory →
             KeptFiles (told_store self.old) (told_store self.new) }
 
+        ensures given { self.new.given ≡ self.old.given }
+
         // Exactly when it fails, and that it changes nothing then.
         ensures listed { IsErrOf result StoreError.Failed ↔
             Contains self.old.fails (next self.old.calls) }
@@ -143,9 +255,7 @@ impl Store for MemStore {
         ensures faulty { IsErrOf result StoreError.Failed → self.new ≡
             record self.old { calls = next self.old.calls; faults = next self.old.faults } }
     {
-        self.calls = self.calls.saturating_add(1);
-        if self.fails.contains(&self.calls) {
-            self.faults = self.faults.saturating_add(1);
+        if self.fails_now() {
             return Err(StoreError::Failed);
         }
         match self.get(name) {

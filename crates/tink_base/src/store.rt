@@ -1,11 +1,11 @@
 //! Named files.
 
-ghost use Rattle.std.specs.Prelude.{◌≡◌, IfOk, IsErrOf};
+ghost use Rattle.std.specs.Prelude.{◌≡◌, ◌<◌, ◌^◌, length, IfOk, IfSome, OnOk, OnErr, IsErrOf};
 ghost use Rattle.tink_spec.specs.Outside.{Rose, RoseOnce, Stood};
-ghost use Rattle.tink_spec.specs.Files.{StoreState, KeptFiles, MayAdd};
-ghost use Rattle.tink_base.specs.Store.{Loads, Creates};
+ghost use Rattle.tink_spec.specs.Files.{StoreState, HoldsLonger, KeptFiles, MayAdd};
+ghost use Rattle.tink_base.specs.Store.{Loads, Creates, HasSize, IsTaken, ReadsAt, given_by_load, given_by_read};
 
-use crate::Bytes;
+use crate::{Bytes, Failed};
 use std::alloc::Global;
 
 /// What a load found.
@@ -39,11 +39,12 @@ pub enum StoreError {
 
 /// A store of files by their names.
 pub trait Store {
-    /// The files, where the store tells, and how often it has failed.
+    /// The files, where the store tells, how often it has failed, and how many bytes it has given.
     ghost state: { Self → StoreState };
 
     /// Loads the file of this name where it has at most `limit` bytes. No file changes. The count of
-    /// faults has risen after `Failed`, and is as it was with any other answer.
+    /// faults has risen after `Failed`, and is as it was with any other answer. The count of bytes given
+    /// rises by the file's length after `Bytes`, and by nothing else.
     fn load(&mut self, alloc: Global, name: &str, limit: usize) -> Result<Loaded, StoreError>
         ensures loads { IfOk result (λ found. Loads (state self.old) name.now limit found) }
         ensures kept { KeptFiles (state self.old) (state self.new) }
@@ -52,7 +53,45 @@ pub trait Store {
         ensures failed { IsErrOf result StoreError.Failed →
             Rose (state self.old).faults (state self.new).faults }
         ensures once { IsErrOf result StoreError.Failed →
-            RoseOnce (state self.old).faults (state self.new).faults };
+            RoseOnce (state self.old).faults (state self.new).faults }
+        ensures given { (state self.new).given ≡ given_by_load (state self.old).given result };
+
+    /// Whether a new file of this name would find the name taken. No file changes. `Failed` comes also
+    /// where no new file could have the name. The count of faults has risen after `Failed`, and is as it
+    /// was with any other answer.
+    fn is_taken(&mut self, name: &str) -> Result<bool, Failed>
+        ensures tells { IfOk result (λ taken. IsTaken (state self.old) name.now taken) }
+        ensures kept { KeptFiles (state self.old) (state self.new) }
+        ensures no_fault { OnOk result (Stood (state self.old).faults (state self.new).faults) }
+        ensures failed { OnErr result (Rose (state self.old).faults (state self.new).faults) }
+        ensures once { OnErr result (RoseOnce (state self.old).faults (state self.new).faults) }
+        ensures given { (state self.new).given ≡ (state self.old).given };
+
+    /// How many bytes the file of this name has, where there is one: fewer than 2^63. `Failed` comes also
+    /// where something without a length has the name. No file changes. The count of faults has risen
+    /// after `Failed`, and is as it was with any other answer.
+    fn size(&mut self, name: &str) -> Result<Option<u64>, Failed>
+        ensures tells { IfOk result (λ size. HasSize (state self.old) name.now size) }
+        ensures bound { IfOk result (λ size. IfSome size (λ n. n < 2 ^ 63)) }
+        ensures kept { KeptFiles (state self.old) (state self.new) }
+        ensures no_fault { OnOk result (Stood (state self.old).faults (state self.new).faults) }
+        ensures failed { OnErr result (Rose (state self.old).faults (state self.new).faults) }
+        ensures once { OnErr result (RoseOnce (state self.old).faults (state self.new).faults) }
+        ensures given { (state self.new).given ≡ (state self.old).given };
+
+    /// Reads some bytes of the file of this name, from the byte at `at` on, counted from 0: at least one,
+    /// and at most as many as `out` has. `Failed` comes also where there is no byte at that place any
+    /// more. No file changes. The count of faults has risen after `Failed`, and is as it was with any
+    /// other answer. The count of bytes given rises by those that were read.
+    fn read_at(&mut self, name: &str, at: u64, out: &mut [u8]) -> Result<usize, Failed>
+        requires some { 0 < length out.old }
+        requires within { HoldsLonger (state self.old) name.now at }
+        ensures reads { IfOk result (λ n. ReadsAt (state self.old) name.now at out.new n) }
+        ensures kept { KeptFiles (state self.old) (state self.new) }
+        ensures no_fault { OnOk result (Stood (state self.old).faults (state self.new).faults) }
+        ensures failed { OnErr result (Rose (state self.old).faults (state self.new).faults) }
+        ensures once { OnErr result (RoseOnce (state self.old).faults (state self.new).faults) }
+        ensures given { (state self.new).given ≡ given_by_read (state self.old).given result };
 
     /// Makes a new file of this name with these bytes; a file that is there is never replaced.
     /// After `Failed` the file may be there with the first of the bytes, if the name was free. After
@@ -70,5 +109,6 @@ pub trait Store {
         ensures may_add { IsErrOf result StoreError.Failed →
             MayAdd (state self.old) (state self.new) name.now bytes.now }
         ensures no_memory { IsErrOf result StoreError.NoMemory →
-            KeptFiles (state self.old) (state self.new) };
+            KeptFiles (state self.old) (state self.new) }
+        ensures given { (state self.new).given ≡ (state self.old).given };
 }

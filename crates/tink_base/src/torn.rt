@@ -1,14 +1,14 @@
 //! A store in memory that breaks off whatever it writes, as a disk does that is full.
 
-ghost use Rattle.std.specs.Prelude.{◌≡◌, IfOk, OnOk, OnErr, IsErr, IsErrOf, Some, None, option_map, take};
+ghost use Rattle.std.specs.Prelude.{◌≡◌, ◌<◌, ◌^◌, length, IfOk, IfSome, OnOk, OnErr, IsErr, IsErrOf, Some, None, option_map, take};
 ghost use Rattle.std.specs.FinMap as map;
 ghost use Rattle.tink_spec.specs.Outside.{Rose, RoseOnce, Stood, next};
-ghost use Rattle.tink_spec.specs.Files.{KeptFiles, MayAdd};
+ghost use Rattle.tink_spec.specs.Files.{HoldsLonger, KeptFiles, MayAdd};
 ghost use Rattle.tink_base.specs.Memory.{told_torn};
-ghost use Rattle.tink_base.specs.Store.{Loads, Creates};
+ghost use Rattle.tink_base.specs.Store.{Loads, Creates, HasSize, IsTaken, ReadsAt, given_by_load, given_by_read};
 ghost use Rattle.tink_base.specs.declared.store.Created.TheVariants as created;
 
-use crate::{Created, Loaded, MemStore, NoMemory, Store, StoreError};
+use crate::{Created, Failed, Loaded, MemStore, NoMemory, Store, StoreError};
 use std::alloc::Global;
 use std::marker::Model;
 
@@ -30,7 +30,7 @@ impl Model for TornStore {
 
     ghost coded = { torn_code };
 
-    ghost view = { λ s. record { files = s.store.files; keep = s.keep; faults = s.faults } };
+    ghost view = { λ s. record { files = s.store.files; keep = s.keep; faults = s.faults; given = s.store.given } };
 
     ghost invariant = { λ s. s.store.fails ≡ [] };
 }
@@ -39,7 +39,7 @@ impl TornStore {
     /// An empty store. Its `create` of a new file fails, and keeps the first bytes of it, at most
     /// `keep` of them.
     pub fn new(alloc: Global, keep: usize) -> TornStore
-        ensures { result ≡ record { files = map.empty; keep = keep; faults = 0 } }
+        ensures { result ≡ record { files = map.empty; keep = keep; faults = 0; given = 0 } }
     {
         TornStore {
             store: MemStore::new(alloc, Vec::new(alloc)),
@@ -83,12 +83,61 @@ impl Store for TornStore {
         ensures failed { IsErrOf result StoreError.Failed → Rose self.old.faults self.new.faults }
         ensures once { IsErrOf result StoreError.Failed →
             RoseOnce self.old.faults self.new.faults }
+        ensures given { self.new.given ≡ given_by_load self.old.given result }
 
         // It never fails.
         ensures never { IsErrOf result StoreError.Failed → ⊥ }
-        ensures same { self.new ≡ self.old }
+        ensures same { self.new ≡ record self.old { given = self.new.given } }
     {
         self.store.load(alloc, name, limit)
+    }
+
+    fn is_taken(&mut self, name: &str) -> Result<bool, Failed>
+        ensures tells { IfOk result (λ taken. IsTaken (told_torn self.old) name.now taken) }
+        ensures kept { KeptFiles (told_torn self.old) (told_torn self.new) }
+        ensures no_fault { OnOk result (Stood self.old.faults self.new.faults) }
+        ensures failed { OnErr result (Rose self.old.faults self.new.faults) }
+        ensures once { OnErr result (RoseOnce self.old.faults self.new.faults) }
+        ensures given { self.new.given ≡ self.old.given }
+
+        // It never fails.
+        ensures never { IsErr result → ⊥ }
+        ensures same { self.new ≡ self.old }
+    {
+        self.store.is_taken(name)
+    }
+
+    fn size(&mut self, name: &str) -> Result<Option<u64>, Failed>
+        ensures tells { IfOk result (λ size. HasSize (told_torn self.old) name.now size) }
+        ensures bound { IfOk result (λ size. IfSome size (λ n. n < 2 ^ 63)) }
+        ensures kept { KeptFiles (told_torn self.old) (told_torn self.new) }
+        ensures no_fault { OnOk result (Stood self.old.faults self.new.faults) }
+        ensures failed { OnErr result (Rose self.old.faults self.new.faults) }
+        ensures once { OnErr result (RoseOnce self.old.faults self.new.faults) }
+        ensures given { self.new.given ≡ self.old.given }
+
+        // It never fails.
+        ensures never { IsErr result → ⊥ }
+        ensures same { self.new ≡ self.old }
+    {
+        self.store.size(name)
+    }
+
+    fn read_at(&mut self, name: &str, at: u64, out: &mut [u8]) -> Result<usize, Failed>
+        requires some { 0 < length out.old }
+        requires within { HoldsLonger (told_torn self.old) name.now at }
+        ensures reads { IfOk result (λ n. ReadsAt (told_torn self.old) name.now at out.new n) }
+        ensures kept { KeptFiles (told_torn self.old) (told_torn self.new) }
+        ensures no_fault { OnOk result (Stood self.old.faults self.new.faults) }
+        ensures failed { OnErr result (Rose self.old.faults self.new.faults) }
+        ensures once { OnErr result (RoseOnce self.old.faults self.new.faults) }
+        ensures given { self.new.given ≡ given_by_read self.old.given result }
+
+        // It never fails.
+        ensures never { IsErr result → ⊥ }
+        ensures same { self.new ≡ record self.old { given = self.new.given } }
+    {
+        self.store.read_at(name, at, out)
     }
 
     fn create(&mut self, _alloc: Global, name: &str, bytes: &[u8]) -> Result<Created, StoreError>
@@ -103,6 +152,8 @@ impl Store for TornStore {
             MayAdd (told_torn self.old) (told_torn self.new) name.now bytes.now }
         ensures no_memory { IsErrOf result StoreError.NoMemory →
             KeptFiles (told_torn self.old) (told_torn self.new) }
+
+        ensures given { self.new.given ≡ self.old.given }
 
         // No file is made whole: a name that is there is told so, and any other fails, with the
         // first bytes left, unless memory is refused.

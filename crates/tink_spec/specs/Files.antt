@@ -1,9 +1,11 @@
 -- Named files, as a store holds them: a finite map from names to bytes.
 --
---   Holds, HoldsSome, HoldsLonger   what stands under a name, where the store tells
+--   given       how many bytes of files were given out. The count never falls, and stands still at
+--               2 ^ 64 - 1.
+--   Holds, HoldsSome, HoldsLonger, HoldsSize, HoldsAt   what stands under a name, where the store tells
 --   KeptFiles   no file changed
 --   Added, AddedFront   one file is new, with these bytes or the first of them; all others stay
-use Rattle.std.specs.Prelude.{◌≡◌, ◌⊎◌, ℕ, ◌<◌, ◌≤◌, List, ◌++◌, length, Option, Some, None, IfSome, option_map}
+use Rattle.std.specs.Prelude.{◌≡◌, ◌⊎◌, ℕ, ◌+◌, ◌-◌, ◌^◌, ◌<◌, ◌≤◌, min, List, ◌++◌, length, take, drop, Option, Some, None, IfSome, option_map}
 use Rattle.std.specs.Ordering.{nat_cmp}
 use Rattle.std.specs.Cmp.Lexicographic.{slice_cmp}
 use Rattle.std.specs.FinMap as map
@@ -12,10 +14,15 @@ use Rattle.std.specs.FinMap as map
 abbrev pub Files : Type 0
 Files = map.FinMap (slice_cmp nat_cmp) (List ℕ)
 
--- a store: its files, where it tells, and its faults
+-- a store: its files, where it tells, its faults, and how many bytes it has given
 pub record StoreState : Type 0 where
   pub files : Option Files
   pub faults : ℕ
+  pub given : ℕ
+
+-- a count of bytes given, so many later; it stands still at its end
+abbrev pub more_given : ℕ → ℕ → ℕ
+more_given given count = min (given + count) (2 ^ 64 - 1)
 
 -- the files are as before
 pub record KeptFiles (old new : StoreState) : Type 0 where
@@ -33,6 +40,14 @@ HoldsLonger store name limit = IfSome store.files (λ files. (bytes : List ℕ) 
 -- there is a file of that name
 abbrev pub HoldsSome : StoreState → List ℕ → Type 0
 HoldsSome store name = IfSome store.files (λ files. (bytes : List ℕ) × (map.get files name ≡ Some bytes))
+
+-- the file of that name has so many bytes
+abbrev pub HoldsSize : StoreState → List ℕ → ℕ → Type 0
+HoldsSize store name size = IfSome store.files (λ files. (bytes : List ℕ) × (map.get files name ≡ Some bytes) × (length bytes ≡ size))
+
+-- the file of that name has these bytes from that place on
+abbrev pub HoldsAt : StoreState → List ℕ → ℕ → List ℕ → Type 0
+HoldsAt store name at piece = IfSome store.files (λ files. (bytes : List ℕ) × (map.get files name ≡ Some bytes) × (take (length piece) (drop at bytes) ≡ piece))
 
 -- one file is new, with these bytes, and all others are as before
 pub record Added (old new : StoreState) (name bytes : List ℕ) : Type 0 where

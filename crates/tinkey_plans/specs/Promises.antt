@@ -55,7 +55,7 @@ pub record IsFront (front whole : List ℕ) : Type 0 where
 
 -- a store that holds these files, if they are told
 abbrev pub over_files : Option Files → StoreState
-over_files files = record { files = files; faults = 0 }
+over_files files = record { files = files; faults = 0; given = 0 }
 
 -- what was taken of the source, drawn of the entropy, and written to the sink
 pub record Moved : Type 0 where

@@ -1,0 +1,90 @@
+//! The length of a file, and what is read of it at a place.
+
+ghost use Rattle.std.specs.Prelude.{◌≡◌, ◌≢◌, ◌<◌, ◌≤◌, ◌^◌, ℕ, List, Option, None, length, take, drop, IfOk, IfErr, IfSome, IsErr};
+ghost use Rattle.std.specs.IoError.{error_kind};
+ghost use Rattle.real_objects.specs.Folder.{IsMissing, IsPieceAt, IsSize};
+
+use std::fs::{File, Metadata};
+use std::io::{self, ErrorKind};
+use std::os::unix::fs::FileExt;
+use tink_base::Failed;
+
+/// The greatest length of a file, in bytes: offsets have 63 bits.
+const GREATEST: u64 = (1 << 63) - 1;
+
+/// A file that is read at places.
+pub trait PlacedFile {
+    /// Its bytes, where it tells them.
+    ghost bytes: { Self → Option (List ℕ) };
+
+    /// Reads some bytes from the byte at `at` on, counted from 0, at most as many as `out` has.
+    fn read_placed(&self, at: u64, out: &mut [u8]) -> io::Result<usize>
+        ensures bound { IfOk result (λ n. n ≤ length out.new) }
+        ensures reads { IfOk result (λ n. IfSome (bytes self.now) (λ all.
+            take n out.new ≡ take n (drop at all))) };
+}
+
+impl PlacedFile for File {
+    ghost bytes = { λ _. None };
+
+    fn read_placed(&self, at: u64, out: &mut [u8]) -> io::Result<usize> {
+        self.read_at(out, at)
+    }
+}
+
+/// The length of a file that was looked for. A path that leads through a file, or through a folder that
+/// isn't there, has no file. What isn't a file has no length.
+pub fn size_of(found: io::Result<Metadata>) -> Result<Option<u64>, Failed>
+    ensures size { IfOk found (λ file. IfOk result (λ size. IsSize file size)) }
+    ensures absent { IfErr found (λ error. IfOk result
+        (λ size. (size ≡ None) × IsMissing (error_kind error))) }
+    ensures missing { IfErr found (λ error. IsMissing (error_kind error) → result ≡ Ok None) }
+    ensures bound { IfOk result (λ size. IfSome size (λ n. n < 2 ^ 63)) }
+{
+    match found {
+        Ok(file) if file.is_file() && file.len() <= GREATEST => Ok(Some(file.len())),
+        Ok(_) => Err(Failed),
+        Err(error) => match error.kind() {
+            ErrorKind::NotFound | ErrorKind::NotADirectory => Ok(None),
+            _ => Err(Failed),
+        },
+    }
+}
+
+/// Reads some bytes of a file that was to be opened, from the byte at `at` on, counted from 0: at least
+/// one. A read that a signal interrupted is tried again. A file that has no byte there any more counts as
+/// failed.
+pub fn read_opened<F: PlacedFile + Drop>(
+    opened: io::Result<F>,
+    at: u64,
+    out: &mut [u8],
+) -> Result<usize, Failed>
+    ensures read { IfOk opened (λ file. IfOk result (IsPieceAt (F.bytes file) at out.new)) }
+    ensures bound { IfOk result (λ n. (1 ≤ n) × (n ≤ length out.new)) }
+    ensures unopened { IsErr opened → IsErr result }
+{
+    match opened {
+        Ok(file) => match placed_through_signals(&file, at, out) {
+            Ok(n) if n > 0 => Ok(n),
+            _ => Err(Failed),
+        },
+        Err(_) => Err(Failed),
+    }
+}
+
+/// One read at a place, tried again where a signal interrupted it.
+fn placed_through_signals<F: PlacedFile>(file: &F, at: u64, out: &mut [u8]) -> io::Result<usize>
+    ensures bound { IfOk result (λ n. n ≤ length out.new) }
+    ensures reads { IfOk result (λ n. IfSome (F.bytes file.now) (λ all.
+        take n out.new ≡ take n (drop at all))) }
+    ensures uninterrupted { IfErr result (λ error. error_kind error ≢ ErrorKind.Interrupted) }
+{
+    for _ in 0..u64::MAX {
+        match file.read_placed(at, out) {
+            Ok(n) => return Ok(n),
+            Err(error) if error.kind() == ErrorKind::Interrupted => {}
+            Err(error) => return Err(error),
+        }
+    }
+    Err(io::Error::from(ErrorKind::TimedOut))
+}
