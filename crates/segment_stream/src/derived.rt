@@ -16,8 +16,10 @@ use tink_base::Hash;
 const MAC_KEY: usize = 32;
 
 impl Stream {
-    /// The stream with this header, under a key and associated data.
-    pub(crate) fn new(key: &StreamKey, ad: &[u8], header: &[u8]) -> Stream
+    /// The stream with this header, under a key and associated data: the keys of its segments are derived
+    /// from the header's salt. `header` has as many bytes as the key's `header_size` says. No memory is
+    /// taken.
+    pub fn new(key: &StreamKey, ad: &[u8], header: &[u8]) -> Stream
         requires sound { IsSound key.now }
         requires whole { length header.now ≡ header_size key.now }
         ensures { IsUnder result (cipher_of ad.now key.now) header.now }

@@ -13,7 +13,7 @@ const BESIDE_SALT: usize = 8;
 
 /// A key of one of Tink's two kinds of streams. Sizes are in bytes.
 #[derive(Drop)]
-pub(crate) struct StreamKey {
+pub struct StreamKey {
     /// The key value, from which the keys of each stream are derived.
     pub(crate) value: Bytes,
     /// The size of a full segment.
@@ -39,10 +39,18 @@ pub(crate) enum SegmentScheme {
 }
 
 impl StreamKey {
-    /// The bytes of a header.
-    pub(crate) fn header_size(&self) -> usize
+    /// The bytes of a header, at most 40: the length byte, the salt and the nonce prefix of 7 bytes. No
+    /// memory is taken.
+    pub fn header_size(&self) -> usize
         ensures { result ≡ header_size self.now }
     {
         self.derived as usize + BESIDE_SALT
+    }
+
+    /// The size of a full segment, in bytes. The header counts into the first one. No memory is taken.
+    pub fn segment_size(&self) -> usize
+        ensures { result ≡ self.now.segment }
+    {
+        self.segment as usize
     }
 }

@@ -95,8 +95,8 @@ impl StreamKeys {
         &self.primary
     }
 
-    // The keys that open.
-    pub(crate) fn keys(&self) -> &[StreamKey]
+    /// The keys that open, in the order in which they are tried. No memory is taken.
+    pub fn keys(&self) -> &[StreamKey]
         ensures keys { result.now ≡ self.now.keys }
         ensures sound { AllByRecursion IsSound result.now }
         ensures within { AllByRecursion (λ key. key.segment ≤ largest_of self.now.keys) result.now }

@@ -15,6 +15,8 @@ mod segments;
 mod trying;
 
 pub use fault::{OpenPumpFault, SealPumpFault};
+pub use key::StreamKey;
 pub use keys::{StreamKeys, StreamKeysFault};
 pub use opener::Opener;
 pub use sealer::{Sealer, SealerFault};
+pub use segments::Stream;

@@ -34,7 +34,7 @@ pub(crate) enum SegmentKeys {
 
 /// What seals and opens the segments of one stream.
 #[derive(Drop)]
-pub(crate) struct Stream {
+pub struct Stream {
     pub(crate) keys: SegmentKeys,
     /// The front of each nonce.
     pub(crate) prefix: [u8; 7],
@@ -56,7 +56,7 @@ impl Model for Stream {
 
 impl Stream {
     /// The size of a full segment, in bytes.
-    pub(crate) fn size(&self) -> usize
+    pub fn size(&self) -> usize
         ensures size { result ≡ self.now.size }
         ensures bound { result < 2 ^ 31 }
     {
@@ -64,7 +64,7 @@ impl Stream {
     }
 
     /// The bytes of a tag, at most 64.
-    pub(crate) fn tag_size(&self) -> usize
+    pub fn tag_size(&self) -> usize
         ensures size { result ≡ tag_size_under self.now.keys }
         ensures bound { result ≤ 64 }
     {
@@ -94,8 +94,10 @@ impl Stream {
     }
 
     /// Opens a segment in its place, and answers how many bytes its plaintext has, which stand in
-    /// front then. Where the segment doesn't open it stays as it was.
-    pub(crate) fn open(&self, number: u64, last: bool, segment: &mut [u8]) -> Option<usize>
+    /// front then. `number` counts from 0, is below 2^32, and `last` is whether the stream ends with this
+    /// segment; the first segment is passed without the header. `None` comes exactly where the segment
+    /// doesn't authenticate in that place: it stays as it was then. No memory is taken.
+    pub fn open(&self, number: u64, last: bool, segment: &mut [u8]) -> Option<usize>
         requires number { number < 2 ^ 32 }
         requires bound { length segment.old ≤ 2 ^ 31 }
         ensures { MatchOption result
