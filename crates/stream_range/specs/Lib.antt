@@ -1,3 +1,5 @@
 pub mod Device
 pub mod Memory
 pub mod Stored
+pub mod Skipped
+pub mod Reading

@@ -1,8 +1,10 @@
-//! Devices for ranges of a stream's plaintext: what is read at any place.
+//! Pieces of a stream that is read at any place, and the devices that are read so.
 #![tactic(auto)]
 
 mod device;
 mod memory;
+mod piece;
+mod sizes;
 mod stored;
 
 pub use device::Device;
