@@ -1,1 +1,4 @@
 pub mod PieceLemmas
+pub mod TryLemmas
+pub mod RunLemmas
+pub mod RangeLemmas

@@ -3,3 +3,4 @@ pub mod Memory
 pub mod Stored
 pub mod Skipped
 pub mod Reading
+pub mod Answers
