@@ -8,6 +8,8 @@ mod lines;
 #[cfg(test)]
 mod passes;
 #[cfg(test)]
+mod range;
+#[cfg(test)]
 mod segments;
 #[cfg(test)]
 mod selftests;

@@ -72,8 +72,8 @@ pub(crate) fn keys_named(alloc: Global, name: &str) -> Result<StreamKeys, Fail> 
     Err(Fail::new(format_args!("the keyset {name}")))
 }
 
-// The case of so many bytes of plaintext under the keyset of that name.
-fn made(alloc: Global, name: &str, size: usize) -> Result<Case, Fail> {
+/// The case of so many bytes of plaintext under the keyset of that name.
+pub(crate) fn made(alloc: Global, name: &str, size: usize) -> Result<Case, Fail> {
     let mut case = Case {
         keys: keys_named(alloc, name)?,
         ad: b"ad".to_vec(alloc)?,
