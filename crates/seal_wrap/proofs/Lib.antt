@@ -1,4 +1,6 @@
 pub mod BackLemmas
+pub mod DataKeyLemmas
+pub mod EnvelopeLemmas
 pub mod FieldLemmas
 pub mod JsonLemmas
 pub mod OpenedSizes

@@ -5,6 +5,7 @@ use Rattle.std.proofs.lemmas.List.{length-append, length-drop}
 use Rattle.std.proofs.lemmas.Option.{same_Some}
 use Rattle.base64.specs.GeneralPurpose.{IsBytes}
 use Rattle.key_msgs.specs.declared.primitive.Primitive.TheVariants.{Aead}
+use Rattle.key_msgs.specs.declared.key.KeyKind.{KeyKind}
 use Rattle.keyset_model.specs.Keyset.{Keys, primary_of}
 use Rattle.keyset_model.specs.Writing.{binary_of}
 use Rattle.keyset_model.specs.declared.record.Record.{Record}
@@ -45,10 +46,14 @@ wanting_before table master held state over =
       entropy = (refl, inl (nothing_drawn state));
     }
 
--- memory was wanting behind it
-pub wanting_behind : (table : Table) (master : Keys) (plain ad : List ℕ) (old new : EntropyState) (sealed : List ℕ) → IsSealing master table plain ad old new sealed → Stood old.faults new.faults
-    → IsWrapFault master table old new wraps.NoMemory
-wanting_behind table master plain ad old new sealed is stood =
+-- the primary key under which something was sealed, whose IV was drawn
+pub record HasSealed (table : Table) (master : Keys) (drawn : List ℕ) : Type 0 where
+  pub key : KeyKind
+  pub primary : primary_key master table Aead ≡ Some key
+  pub whole : length drawn ≡ iv_size key
+
+pub has_sealed : (table : Table) (master : Keys) (plain ad : List ℕ) (old new : EntropyState) (sealed : List ℕ) → (is : IsSealing master table plain ad old new sealed) → HasSealed table master is.drawn
+has_sealed table master plain ad old new sealed is =
     let random : List ℕ = is.drawn ++ [] in
     let s : Sealed = record { bytes = sealed; left = [] } in
     let first = then_some (seal_under table plain ad random) (primary_of master) s (is.answer []) in
@@ -56,13 +61,21 @@ wanting_behind table master plain ad old new sealed is stood =
     let second = then_some (seal_behind (prefix_bytes (prefix_of r)) plain ad random) (key_of_record table Aead r) s first.2 in
     let key = second.0 in
     let sealing = sealed_behind (prefix_bytes (prefix_of r)) plain ad random key s second.2 in
-    let primary : primary_key master table Aead ≡ Some key = ap (option_and_then (key_of_record table Aead)) first.1 ∙ second.1 in
-    let whole : length is.drawn ≡ iv_size key =
-    omega (arith, sealing.enough, ap length sealing.left, length-drop (iv_size key) random, length-append is.drawn []) in
     record {
       key = key;
-      primary = primary;
-      entropy = (stood, inr (record { drawn = is.drawn; drew = is.drew; whole = whole }));
+      primary = ap (option_and_then (key_of_record table Aead)) first.1 ∙ second.1;
+      whole = omega (arith, sealing.enough, ap length sealing.left, length-drop (iv_size key) random, length-append is.drawn []);
+    }
+
+-- memory was wanting behind it
+pub wanting_behind : (table : Table) (master : Keys) (plain ad : List ℕ) (old new : EntropyState) (sealed : List ℕ) → IsSealing master table plain ad old new sealed → Stood old.faults new.faults
+    → IsWrapFault master table old new wraps.NoMemory
+wanting_behind table master plain ad old new sealed is stood =
+    let has = has_sealed table master plain ad old new sealed is in
+    record {
+      key = has.key;
+      primary = has.primary;
+      entropy = (stood, inr (record { drawn = is.drawn; drew = is.drew; whole = has.whole }));
     }
 
 -- the sealing is short

@@ -5,10 +5,12 @@
 #![tactic(auto)]
 
 mod binary_form;
+mod envelope;
 mod json_form;
 pub mod laws;
 mod unwrapping;
 mod wrapping;
 
+pub use envelope::{DataKeyFault, EnvelopeFault, data_key, envelope_open, envelope_seal};
 pub use unwrapping::{UnwrapFault, unwrap_keyset};
 pub use wrapping::{WrapFault, wrap};

@@ -1,0 +1,63 @@
+-- The laws of envelope sealing, over the definitions alone.
+--
+--   EnvelopeBack     what was sealed opens
+--   EnvelopesFit     how long it is
+--   DataKeysAreServed, DataKeysAreValid   under the standard table a data key is always made
+use Rattle.std.specs.Prelude.{◌≡◌, ℕ, ◌+◌, ◌≤◌, List, length, Contains, Some, Ok}
+use Rattle.key_msgs.specs.KeyTypes.{primitive_of_type}
+use Rattle.key_msgs.specs.Templates.{Row, made, random_of, templates, type_made}
+use Rattle.key_msgs.specs.declared.primitive.Primitive.TheVariants.{Aead}
+use Rattle.keyset_model.specs.Keyset.{Keys, primary_of}
+use Rattle.keyset_model.specs.declared.record.Record.{Record}
+use Rattle.managers.specs.Schemes.{Scheme, key_under, type_under}
+use Rattle.managers.specs.Standard.{standard_table}
+use Rattle.managers.specs.Table.{Table, scheme_at}
+use Rattle.wrapped_prims.specs.Candidates.{prefix_of}
+use Rattle.wrapped_prims.specs.Laws.{GivesKeyFor, HasSameKey}
+use Rattle.seal_wrap.specs.Enveloped.{data_key_of, envelope_of, open_envelope_of}
+use Rattle.seal_wrap.specs.Enveloping.{IsAead, url_made}
+
+-- a row of the table of templates that makes keys of AEADs
+pub record IsDataKeyRow (row : Row) : Type 0 where
+  pub known : Contains templates row
+  pub aead : IsAead row
+
+-- the scheme's keys are those of an AEAD
+abbrev pub IsAeadScheme : Scheme → Type 0
+IsAeadScheme scheme = primitive_of_type (type_under scheme) ≡ Aead
+
+-- What was sealed in an envelope under an old keyset opens, with the same scheme of an AEAD and the same
+-- associated data, under a new keyset in which the same key is ENABLED and alone under its prefix. The
+-- primary record of the old keyset has a prefix; of RAW records another one may open the data key by
+-- chance.
+abbrev pub EnvelopeBack : Type 0
+EnvelopeBack = (table : Table) (scheme : Scheme) (row : Row) (old new : Keys) (r : Record)
+    (prefix plain ad random bytes left : List ℕ) → IsDataKeyRow row → IsAeadScheme scheme
+    → primary_of old ≡ Some r → prefix_of r ≡ Some prefix
+    → GivesKeyFor table Aead r → HasSameKey r new
+    → envelope_of old table scheme row plain ad random
+    ≡ Some (record { answer = Ok bytes; left = left })
+    → open_envelope_of new table scheme bytes ad ≡ Some plain
+
+-- An envelope has at most 251 bytes more than the plaintext: 4 of the length, at most 82 of the data
+-- key's message, 85 that its sealing adds, and 80 of IV and tag of the payload.
+abbrev pub EnvelopesFit : Type 0
+EnvelopesFit = (table : Table) (scheme : Scheme) (row : Row) (keys : Keys)
+    (plain ad random bytes left : List ℕ) → IsDataKeyRow row
+    → envelope_of keys table scheme row plain ad random
+    ≡ Some (record { answer = Ok bytes; left = left })
+    → length bytes ≤ length plain + 251
+
+-- The standard table has an AEAD manager for the keys of each template that makes keys of AEADs, and
+-- its scheme is that of their type.
+abbrev pub DataKeysAreServed : Type 0
+DataKeysAreServed = (row : Row) → IsAead row → (scheme : Scheme)
+    × (scheme_at standard_table Aead (url_made row) ≡ Some scheme)
+    × (type_under scheme ≡ type_made row)
+
+-- Whatever its random bytes are, a data key of such a template reads under that scheme as the key that
+-- was made.
+abbrev pub DataKeysAreValid : Type 0
+DataKeysAreValid = (row : Row) (scheme : Scheme) (random : List ℕ) → IsDataKeyRow row
+    → scheme_at standard_table Aead (url_made row) ≡ Some scheme → length random ≡ random_of row
+    → key_under scheme (data_key_of row random) ≡ Ok (made row random)

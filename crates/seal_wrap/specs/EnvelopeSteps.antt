@@ -1,0 +1,66 @@
+-- What the steps of envelope sealing answer.
+--
+--   DrewWhole, IsDrawFault   so many random bytes, in one fill
+--   Makes, IsMakingFault     a data key
+--   IsPayloadFault           a payload
+use Rattle.std.specs.Prelude.{◌≡◌, ◌⊎◌, ℕ, ◌<◌, List, [], length, Err}
+use Rattle.key_msgs.specs.Templates.{Row, random_of}
+use Rattle.key_msgs.specs.declared.key.KeyKind.{KeyKind}
+use Rattle.key_msgs.specs.declared.rule.Rule.{Rule}
+use Rattle.managers.specs.Schemes.{Scheme, key_under}
+use Rattle.managers.specs.Uses.{iv_size}
+use Rattle.tink_spec.specs.Outside.{Drew, EntropyState, RanShort, Stood}
+use Rattle.seal_wrap.specs.Enveloped.{data_key_of}
+use Rattle.seal_wrap.specs.Enveloping.{MakesDataKey}
+use Rattle.seal_wrap.specs.declared.envelope.EnvelopeFault.{EnvelopeFault}
+use Rattle.seal_wrap.specs.declared.envelope.EnvelopeFault.TheVariants as faults
+
+-- the entropy gave these bytes, as many as were asked for
+pub record DrewWhole (size : ℕ) (old new : EntropyState) (bytes : List ℕ) : Type 0 where
+  pub drew : Drew old new bytes
+  pub whole : length bytes ≡ size
+  pub stood : Stood old.faults new.faults
+
+-- the entropy failed where some bytes were asked for, so many
+pub record FailedAt (size : ℕ) (old new : EntropyState) : Type 0 where
+  pub some : 0 < size
+  pub short : RanShort old new size
+  pub drew : Drew old new []
+
+-- it didn't fail, and gave so many bytes or none
+pub record StoodAt (size : ℕ) (old new : EntropyState) : Type 0 where
+  pub fill : List ℕ
+  pub part : (fill ≡ []) ⊎ (length fill ≡ size)
+  pub drew : Drew old new fill
+  pub stood : Stood old.faults new.faults
+
+-- why so many weren't drawn
+abbrev pub IsDrawFault : ℕ → EntropyState → EntropyState → EnvelopeFault → Type 0
+IsDrawFault size old new faults.EntropyFault = FailedAt size old new
+IsDrawFault size old new (faults.Refused rule) = ⊥
+IsDrawFault size old new faults.NoMemory = StoodAt size old new
+
+-- the bytes of a data key were drawn, and this is its message
+pub record Makes (scheme : Scheme) (row : Row) (old new : EntropyState) (value : List ℕ) (key : KeyKind)
+    : Type 0 where
+  pub drawn : List ℕ
+  pub drew : Drew old new drawn
+  pub stood : Stood old.faults new.faults
+  pub makes : MakesDataKey scheme row drawn key
+  pub message : value ≡ data_key_of row drawn
+
+-- they were drawn, and the message breaks this rule first
+pub record Breaks (scheme : Scheme) (row : Row) (old new : EntropyState) (rule : Rule) : Type 0 where
+  pub drawn : List ℕ
+  pub drawing : DrewWhole (random_of row) old new drawn
+  pub broken : key_under scheme (data_key_of row drawn) ≡ Err rule
+
+-- why there is no data key
+abbrev pub IsMakingFault : Scheme → Row → EntropyState → EntropyState → EnvelopeFault → Type 0
+IsMakingFault scheme row old new faults.EntropyFault = FailedAt (random_of row) old new
+IsMakingFault scheme row old new (faults.Refused rule) = Breaks scheme row old new rule
+IsMakingFault scheme row old new faults.NoMemory = StoodAt (random_of row) old new
+
+-- why there is no payload
+abbrev pub IsPayloadFault : KeyKind → EntropyState → EntropyState → EnvelopeFault → Type 0
+IsPayloadFault key old new fault = IsDrawFault (iv_size key) old new fault

@@ -1,0 +1,354 @@
+//! Envelope sealing (Google's Tink: KmsEnvelopeAead): a plaintext is sealed under a data key that was
+//! made for it alone, and the data key under a keyset.
+//!
+//! An envelope is the length of the sealed data key as four bytes, the highest first, the sealed data
+//! key, and the payload: IV, ciphertext and tag under the data key, without a prefix. The data key's
+//! message is sealed with empty associated data.
+
+ghost use Rattle.std.specs.Prelude.{◌≡◌, ◌^◌, ◌<◌, ◌≤◌, ◌+◌, ℕ, [], length, Some, None, Ok, IfOk, IfErr, OnOk, Contains, option_map};
+ghost use Rattle.key_msgs.specs.Templates.{Row, random_of, seen, templates};
+ghost use Rattle.key_msgs.specs.declared.primitive.Primitive.TheVariants.{Aead};
+ghost use Rattle.keyset_model.specs.Keyset.{Keys};
+ghost use Rattle.managers.specs.Schemes.{IsAdmitted, key_under};
+ghost use Rattle.managers.specs.Table.{scheme_at};
+ghost use Rattle.tink_spec.specs.Outside.{EntropyState, Stood};
+ghost use Rattle.wrapped_prims.specs.Making.{IsOver};
+ghost use Rattle.wrapped_prims.specs.Sealing.{IsKeySealing};
+ghost use Rattle.seal_wrap.specs.Enveloped.{data_key_of, envelope, open_behind, open_envelope_of, open_payload};
+ghost use Rattle.seal_wrap.specs.EnvelopeSteps.{DrewWhole, IsDrawFault, IsMakingFault, IsPayloadFault, Makes};
+ghost use Rattle.seal_wrap.specs.Enveloping.{IsAead, IsDataKeyFault, IsEnvelopeFault, IsEnveloping, url_made};
+
+use key_msgs::{KeyKind, Primitive, Rule, Template, make_key, write_key};
+use managers::{AeadManager, CheckFault, KeyManager, KeyTable, Managers};
+use std::alloc::Global;
+use tink_base::{Entropy, NoMemory, Trials};
+use wrapped_prims::{Handle, SealFault};
+
+/// Why a template has no manager for its keys, in the order in which causes are looked for.
+#[derive(Clone, Copy, Debug, PartialEq, Eq)]
+pub enum DataKeyFault {
+    /// The template's keys aren't those of an AEAD.
+    NotAead,
+    /// No AEAD manager has the type URL of the template's keys.
+    NoManager,
+}
+
+/// Why nothing was sealed.
+#[derive(Clone, Copy, Debug, PartialEq, Eq)]
+pub enum EnvelopeFault {
+    /// The entropy failed.
+    EntropyFault,
+    /// The data key that was made breaks this rule of its manager's scheme, the first one.
+    Refused(Rule),
+    /// Memory was refused.
+    NoMemory,
+}
+
+/// A data key: its message, and the key that its manager reads in it.
+#[derive(Drop)]
+struct DataKey {
+    value: Vec<u8>,
+    key: KeyKind,
+}
+
+/// The manager of the keys that a template makes.
+///
+/// `NotAead` comes exactly where the template's primitive isn't Aead. `NoManager` comes exactly where it
+/// is, and the managers have no AEAD manager with the type URL of the template's keys. No memory is
+/// taken.
+pub fn data_key<'m>(
+    managers: &'m Managers,
+    template: &Template,
+) -> Result<&'m dyn AeadManager, DataKeyFault>
+    ensures aead { OnOk result (IsAead (seen template.now)) }
+    ensures scheme { IfOk result (λ m. scheme_at (⟦<Managers as KeyTable>⟧.table managers.now) Aead
+        (url_made (seen template.now))
+        ≡ Some ((⟦<dyn AeadManager as KeyManager>⟧ m.now.0).scheme m.now.1)) }
+    ensures url { IfOk result (λ m.
+        (⟦<dyn AeadManager as KeyManager>⟧ m.now.0).url m.now.1 ≡ url_made (seen template.now)) }
+    ensures fault { IfErr result
+        (IsDataKeyFault (⟦<Managers as KeyTable>⟧.table managers.now) (seen template.now)) }
+{
+    match template.primitive() {
+        Primitive::Aead => match managers.find(Primitive::Aead, template.url()) {
+            Some(place) => Ok(managers.aead_at(place)),
+            None => Err(DataKeyFault::NoManager),
+        },
+        _ => Err(DataKeyFault::NotAead),
+    }
+}
+
+/// Draws so many random bytes, in one fill; of no bytes nothing is asked for.
+fn draw<E: Entropy>(alloc: Global, size: usize, entropy: &mut E) -> Result<Vec<u8>, EnvelopeFault>
+    ensures drawn { IfOk result (λ bytes.
+        DrewWhole size (E.state entropy.old) (E.state entropy.new) bytes.items) }
+    ensures fault { IfErr result
+        (IsDrawFault size (E.state entropy.old) (E.state entropy.new)) }
+{
+    let Ok(mut bytes) = vec![in alloc; 0; size] else {
+        return Err(EnvelopeFault::NoMemory);
+    };
+    if size == 0 {
+        return Ok(bytes);
+    }
+    match entropy.fill(&mut bytes) {
+        Ok(()) => Ok(bytes),
+        Err(_) => Err(EnvelopeFault::EntropyFault),
+    }
+}
+
+/// The message of the data key that a template makes of random bytes.
+fn value_made(alloc: Global, template: &Template, random: &[u8]) -> Result<Vec<u8>, NoMemory>
+    requires template { Contains templates (seen template.now) }
+    requires size { length random.now ≡ random_of (seen template.now) }
+    ensures { IfOk result (λ value. value.items ≡ data_key_of (seen template.now) random.now) }
+{
+    let key = make_key(alloc, template, random)?;
+    write_key(alloc, &key)
+}
+
+/// Makes a data key of random bytes that are drawn in one fill, and has its manager check it.
+fn make<E: Entropy>(
+    alloc: Global,
+    manager: &dyn AeadManager,
+    template: &Template,
+    entropy: &mut E,
+) -> Result<DataKey, EnvelopeFault>
+    ensures made { IfOk result (λ made.
+        Makes ((⟦<dyn AeadManager as KeyManager>⟧ manager.now.0).scheme manager.now.1)
+        (seen template.now) (E.state entropy.old) (E.state entropy.new) made.value.items made.key) }
+    ensures admitted { IfOk result (λ made.
+        IsAdmitted ((⟦<dyn AeadManager as KeyManager>⟧ manager.now.0).scheme manager.now.1) made.key) }
+    ensures known { Contains templates (seen template.now) }
+    ensures fault { IfErr result
+        (IsMakingFault ((⟦<dyn AeadManager as KeyManager>⟧ manager.now.0).scheme manager.now.1)
+        (seen template.now) (E.state entropy.old) (E.state entropy.new)) }
+{
+    let random = draw(alloc, template.random_len(), entropy)?;
+    let Ok(value) = value_made(alloc, template, &random) else {
+        return Err(EnvelopeFault::NoMemory);
+    };
+    match manager.check(alloc, &value) {
+        Ok(key) => Ok(DataKey { value, key }),
+        Err(CheckFault::Bad(rule)) => Err(EnvelopeFault::Refused(rule)),
+        Err(CheckFault::NoMemory) => Err(EnvelopeFault::NoMemory),
+    }
+}
+
+/// The payload: the plaintext under the data key, with an IV that is drawn in one fill, unless it has no
+/// bytes.
+fn seal_payload<E: Entropy>(
+    alloc: Global,
+    manager: &dyn AeadManager,
+    key: &KeyKind,
+    plain: &[u8],
+    ad: &[u8],
+    entropy: &mut E,
+) -> Result<Vec<u8>, EnvelopeFault>
+    requires admitted { IsAdmitted
+        ((⟦<dyn AeadManager as KeyManager>⟧ manager.now.0).scheme manager.now.1) key.now }
+    requires plain_bound { length plain.now ≤ 16777216 }
+    requires ad_bound { length ad.now ≤ 16777216 }
+    ensures sealed { IfOk result (λ payload. IsKeySealing key.now [] plain.now ad.now
+        (E.state entropy.old) (E.state entropy.new) payload.items) }
+    ensures no_fault { OnOk result (Stood (E.state entropy.old).faults (E.state entropy.new).faults) }
+    ensures fault { IfErr result
+        (IsPayloadFault key.now (E.state entropy.old) (E.state entropy.new)) }
+{
+    let iv = draw(alloc, manager.iv_size(key), entropy)?;
+    match manager.seal(alloc, key, &iv, plain, ad) {
+        Ok(payload) => Ok(payload),
+        Err(_) => Err(EnvelopeFault::NoMemory),
+    }
+}
+
+/// The parts of an envelope, joined.
+fn joined(alloc: Global, sealed: &[u8], payload: &[u8]) -> Result<Vec<u8>, NoMemory>
+    requires sealed_bound { length sealed.now < 2 ^ 32 }
+    ensures { IfOk result (λ bytes. bytes.items ≡ envelope sealed.now payload.now) }
+{
+    let mut bytes = Vec::new(alloc);
+    bytes.extend_from_slice(&(sealed.len() as u32).to_be_bytes())?;
+    bytes.extend_from_slice(sealed)?;
+    bytes.extend_from_slice(payload)?;
+    Ok(bytes)
+}
+
+/// Seals under a data key that was made, whose message is short. What was drawn before is told by the
+/// caller.
+fn seal_made<E: Entropy>(
+    alloc: Global,
+    handle: &Handle<'_>,
+    manager: &dyn AeadManager,
+    made: &DataKey,
+    plain: &[u8],
+    ad: &[u8],
+    entropy: &mut E,
+) -> Result<Vec<u8>, EnvelopeFault>
+    requires over { (keys : Keys) × IsOver (⟦<Managers as KeyTable>⟧.table
+        handle.now.managers.now) Aead keys handle.now.held }
+    requires admitted { IsAdmitted
+        ((⟦<dyn AeadManager as KeyManager>⟧ manager.now.0).scheme manager.now.1) made.now.key }
+    requires value_bound { length made.now.value.items ≤ 1000 }
+    requires plain_bound { length plain.now ≤ 16777216 }
+    requires ad_bound { length ad.now ≤ 16777216 }
+    ensures sealed { (keys : Keys)
+        → IsOver (⟦<Managers as KeyTable>⟧.table handle.now.managers.now) Aead keys handle.now.held
+        → (row : Row) (before : EntropyState)
+        → Makes ((⟦<dyn AeadManager as KeyManager>⟧ manager.now.0).scheme manager.now.1) row before
+        (E.state entropy.old) made.now.value.items made.now.key
+        → IfOk result (λ bytes. IsEnveloping keys
+        (⟦<Managers as KeyTable>⟧.table handle.now.managers.now)
+        ((⟦<dyn AeadManager as KeyManager>⟧ manager.now.0).scheme manager.now.1) row plain.now ad.now
+        before (E.state entropy.new) bytes.items) }
+    ensures no_fault { OnOk result (Stood (E.state entropy.old).faults (E.state entropy.new).faults) }
+    ensures fault { (keys : Keys)
+        → IsOver (⟦<Managers as KeyTable>⟧.table handle.now.managers.now) Aead keys handle.now.held
+        → (row : Row) (before : EntropyState)
+        → Makes ((⟦<dyn AeadManager as KeyManager>⟧ manager.now.0).scheme manager.now.1) row before
+        (E.state entropy.old) made.now.value.items made.now.key
+        → IfErr result (IsEnvelopeFault keys
+        (⟦<Managers as KeyTable>⟧.table handle.now.managers.now)
+        ((⟦<dyn AeadManager as KeyManager>⟧ manager.now.0).scheme manager.now.1) row plain.now ad.now
+        before (E.state entropy.new)) }
+{
+    let sealed = match handle.seal(alloc, &made.value, b"", entropy) {
+        Ok(sealed) => sealed,
+        Err(SealFault::EntropyFault) => return Err(EnvelopeFault::EntropyFault),
+        Err(SealFault::NoMemory) => return Err(EnvelopeFault::NoMemory),
+    };
+    let payload = seal_payload(alloc, manager, &made.key, plain, ad, entropy)?;
+    match joined(alloc, &sealed, &payload) {
+        Ok(bytes) => Ok(bytes),
+        Err(_) => Err(EnvelopeFault::NoMemory),
+    }
+}
+
+/// Seals a plaintext in an envelope: under a fresh data key of the template, and that key under the
+/// primary key of the handle's keyset. Plaintext and associated data have at most 16,777,216 bytes each.
+/// The manager is that of the template's keys, as `data_key` gives it.
+///
+/// The data key is drawn in one fill, then an IV of the primary key, then one of the data key, each in one
+/// fill unless it has no bytes. `EntropyFault` comes only where the entropy failed at one of these, and
+/// what was drawn are the fills before it. `Refused` comes exactly where the data key that was made breaks
+/// a rule of the manager's scheme, and names the first one; the fill of the data key alone was drawn then.
+/// After `NoMemory` none, one, two or all of the fills were drawn. No output prefix stands in front of the
+/// payload. No running time is promised.
+pub fn envelope_seal<E: Entropy>(
+    alloc: Global,
+    handle: &Handle<'_>,
+    manager: &dyn AeadManager,
+    template: &Template,
+    plain: &[u8],
+    ad: &[u8],
+    entropy: &mut E,
+) -> Result<Vec<u8>, EnvelopeFault>
+    requires over { (keys : Keys) × IsOver (⟦<Managers as KeyTable>⟧.table
+        handle.now.managers.now) Aead keys handle.now.held }
+    requires aead { IsAead (seen template.now) }
+    requires url { (⟦<dyn AeadManager as KeyManager>⟧ manager.now.0).url manager.now.1
+        ≡ url_made (seen template.now) }
+    requires plain_bound { length plain.now ≤ 16777216 }
+    requires ad_bound { length ad.now ≤ 16777216 }
+    ensures sealed { (keys : Keys)
+        → IsOver (⟦<Managers as KeyTable>⟧.table handle.now.managers.now) Aead keys handle.now.held
+        → IfOk result (λ bytes. IsEnveloping keys
+        (⟦<Managers as KeyTable>⟧.table handle.now.managers.now)
+        ((⟦<dyn AeadManager as KeyManager>⟧ manager.now.0).scheme manager.now.1)
+        (seen template.now) plain.now ad.now (E.state entropy.old) (E.state entropy.new)
+        bytes.items) }
+    ensures no_fault { OnOk result (Stood (E.state entropy.old).faults (E.state entropy.new).faults) }
+    ensures fault { (keys : Keys)
+        → IsOver (⟦<Managers as KeyTable>⟧.table handle.now.managers.now) Aead keys handle.now.held
+        → IfErr result (IsEnvelopeFault keys
+        (⟦<Managers as KeyTable>⟧.table handle.now.managers.now)
+        ((⟦<dyn AeadManager as KeyManager>⟧ manager.now.0).scheme manager.now.1)
+        (seen template.now) plain.now ad.now (E.state entropy.old) (E.state entropy.new)) }
+{
+    let made = make(alloc, manager, template, entropy)?;
+    seal_made(alloc, handle, manager, &made, plain, ad, entropy)
+}
+
+/// What a payload opens to under the data key with this message.
+fn open_with(
+    alloc: Global,
+    manager: &dyn AeadManager,
+    value: &[u8],
+    payload: &[u8],
+    ad: &[u8],
+) -> Result<Option<Vec<u8>>, NoMemory>
+    requires payload_bound { length payload.now ≤ 16778240 }
+    requires ad_bound { length ad.now ≤ 16777216 }
+    ensures { IfOk result (λ plain. option_map (λ text. text.items) plain
+        ≡ open_payload payload.now ad.now (key_under
+        ((⟦<dyn AeadManager as KeyManager>⟧ manager.now.0).scheme manager.now.1) value.now)) }
+{
+    match manager.check(alloc, value) {
+        Ok(key) => manager.open(alloc, &key, payload, ad, &mut Trials::new()),
+        Err(CheckFault::Bad(_)) => Ok(None),
+        Err(CheckFault::NoMemory) => Err(NoMemory),
+    }
+}
+
+/// Opens what stands behind the length of the sealed data key.
+fn open_behind(
+    alloc: Global,
+    handle: &Handle<'_>,
+    manager: &dyn AeadManager,
+    size: usize,
+    rest: &[u8],
+    ad: &[u8],
+) -> Result<Option<Vec<u8>>, NoMemory>
+    requires over { (keys : Keys) × IsOver (⟦<Managers as KeyTable>⟧.table
+        handle.now.managers.now) Aead keys handle.now.held }
+    requires rest_bound { length rest.now ≤ 16778240 }
+    requires ad_bound { length ad.now ≤ 16777216 }
+    ensures { (keys : Keys)
+        → IsOver (⟦<Managers as KeyTable>⟧.table handle.now.managers.now) Aead keys handle.now.held
+        → IfOk result (λ plain. option_map (λ text. text.items) plain ≡ open_behind keys
+        (⟦<Managers as KeyTable>⟧.table handle.now.managers.now)
+        ((⟦<dyn AeadManager as KeyManager>⟧ manager.now.0).scheme manager.now.1)
+        size rest.now ad.now) }
+{
+    if size == 0 || rest.len() < size {
+        return Ok(None);
+    }
+    let (sealed, payload) = rest.split_at(size);
+    match handle.open(alloc, sealed, b"", &mut Trials::new())? {
+        Some(value) => open_with(alloc, manager, &value, payload, ad),
+        None => Ok(None),
+    }
+}
+
+/// Opens an envelope, of at most 16,778,240 bytes, with associated data of at most 16,777,216.
+///
+/// `None` comes exactly where there are fewer than four bytes; the length in the first four is 0 or above
+/// the number of bytes that follow; no key of the handle's keyset opens the sealed data key with empty
+/// associated data; what it opens to isn't a valid key of the manager's scheme; or the payload doesn't
+/// open under that key. An error says that memory was refused.
+pub fn envelope_open(
+    alloc: Global,
+    handle: &Handle<'_>,
+    manager: &dyn AeadManager,
+    bytes: &[u8],
+    ad: &[u8],
+) -> Result<Option<Vec<u8>>, NoMemory>
+    requires over { (keys : Keys) × IsOver (⟦<Managers as KeyTable>⟧.table
+        handle.now.managers.now) Aead keys handle.now.held }
+    requires bytes_bound { length bytes.now ≤ 16778240 }
+    requires ad_bound { length ad.now ≤ 16777216 }
+    ensures { (keys : Keys)
+        → IsOver (⟦<Managers as KeyTable>⟧.table handle.now.managers.now) Aead keys handle.now.held
+        → IfOk result (λ plain. option_map (λ text. text.items) plain ≡ open_envelope_of keys
+        (⟦<Managers as KeyTable>⟧.table handle.now.managers.now)
+        ((⟦<dyn AeadManager as KeyManager>⟧ manager.now.0).scheme manager.now.1)
+        bytes.now ad.now) }
+{
+    match bytes.split_first_chunk::<4>() {
+        Some((size, rest)) => {
+            let size = u32::from_be_bytes(*size) as usize;
+            open_behind(alloc, handle, manager, size, rest, ad)
+        }
+        None => Ok(None),
+    }
+}
