@@ -84,10 +84,9 @@ fn shown(alloc: Global, keyset: &Keyset) -> Result<String, Fail> {
     Ok(text)
 }
 
+/// An edit of the key with an id.
 #[derive(Clone, Copy)]
-enum Word {
-    Add,
-    Rotate,
+enum ById {
     Promote,
     Enable,
     Disable,
@@ -95,21 +94,28 @@ enum Word {
     Delete,
 }
 
+#[derive(Clone, Copy)]
+enum Word {
+    Add,
+    Rotate,
+    ById(ById),
+}
+
 const WORDS: [(&str, Word); 7] = [
     ("add", Word::Add),
     ("rotate", Word::Rotate),
-    ("promote", Word::Promote),
-    ("enable", Word::Enable),
-    ("disable", Word::Disable),
-    ("destroy", Word::Destroy),
-    ("delete", Word::Delete),
+    ("promote", Word::ById(ById::Promote)),
+    ("enable", Word::ById(ById::Enable)),
+    ("disable", Word::ById(ById::Disable)),
+    ("destroy", Word::ById(ById::Destroy)),
+    ("delete", Word::ById(ById::Delete)),
 ];
 
 fn word_in(row: &str) -> Result<Word, Fail> {
     let word = cell(row, 0)?;
-    for (known, edit) in WORDS {
-        if known == word {
-            return Ok(edit);
+    for (known, edit) in &WORDS {
+        if *known == word {
+            return Ok(*edit);
         }
     }
     Err("the word of an edit".into())
@@ -123,16 +129,22 @@ fn id_in(row: &str) -> Result<u32, Fail> {
     Ok(cell(row, 1)?.parse::<u32>()?)
 }
 
+fn command_by_id(edit: ById, id: u32) -> Command<Template> {
+    match edit {
+        ById::Promote => Command::Promote(id),
+        ById::Enable => Command::Enable(id),
+        ById::Disable => Command::Disable(id),
+        ById::Destroy => Command::Destroy(id),
+        ById::Delete => Command::Delete(id),
+    }
+}
+
 /// The edit of a row: its word, and a template or an id.
 fn command_in(row: &str) -> Result<Command<Template>, Fail> {
     Ok(match word_in(row)? {
         Word::Add => Command::Add(template_in(row)?),
         Word::Rotate => Command::Rotate(template_in(row)?),
-        Word::Promote => Command::Promote(id_in(row)?),
-        Word::Enable => Command::Enable(id_in(row)?),
-        Word::Disable => Command::Disable(id_in(row)?),
-        Word::Destroy => Command::Destroy(id_in(row)?),
-        Word::Delete => Command::Delete(id_in(row)?),
+        Word::ById(edit) => command_by_id(edit, id_in(row)?),
     })
 }
 
@@ -203,20 +215,25 @@ rotate|AES128_GCM|168496141: 16909060/1 168496141/1, 0 left";
 
 const ROTATION: &[u8] = b"\x0a\x0b\x0c\x0d\0\0\0\0\0\0\0\0\0\0\0\0\0\0\0\0";
 
-#[test]
-fn creates_a_keyset_of_one_key(rt: HostRuntime) -> Result<(), Fail> {
-    let mut entropy = MemEntropy::new(RANDOM.to_vec(rt.alloc())?, Vec::new(rt.alloc()));
-    let keyset = create(rt.alloc(), &template_named("AES128_GCM")?, &mut entropy)?;
-    assert_eq!(rt; entropy.left(), 4);
-    let text = shown(rt.alloc(), &keyset)?;
+/// Holds a keyset of one key to its id and its record.
+fn assert_made(alloc: Global, keyset: &Keyset) -> Result<(), Fail> {
+    let text = shown(alloc, keyset)?;
     holds_text(
         "one key",
         "the keyset",
         "16909060: 16909060/1",
         text.as_str(),
     )?;
-    let text = record_text(rt.alloc(), keyset.primary_record())?;
-    holds_text("one key", "the record", MADE, text.as_str())?;
+    let text = record_text(alloc, keyset.primary_record())?;
+    holds_text("one key", "the record", MADE, text.as_str())
+}
+
+#[test]
+fn creates_a_keyset_of_one_key(rt: HostRuntime) -> Result<(), Fail> {
+    let mut entropy = MemEntropy::new(RANDOM.to_vec(rt.alloc())?, Vec::new(rt.alloc()));
+    let keyset = create(rt.alloc(), &template_named("AES128_GCM")?, &mut entropy)?;
+    assert_eq!(rt; entropy.left(), 4);
+    assert_made(rt.alloc(), &keyset)?;
     assert_edits(rt.alloc(), &keyset, ROTATION, ROTATED, 1)
 }
 
@@ -290,15 +307,20 @@ fn shown_by_place(alloc: Global, keyset: &Keyset) -> Result<String, Fail> {
     Ok(text)
 }
 
+/// The bytes of parts, one behind the other.
+fn joined(alloc: Global, parts: &[&[u8]]) -> Result<Vec<u8>, Fail> {
+    let mut bytes = Vec::new(alloc);
+    for part in parts {
+        bytes.extend_from_slice(part)?;
+    }
+    Ok(bytes)
+}
+
 /// The keyset of this name, or none where no keyset has it.
 fn shared_in(alloc: Global, name: &str) -> Result<Option<Keyset>, Fail> {
-    for (known, parts) in SHARED {
-        if known == name {
-            let mut bytes = Vec::new(alloc);
-            for part in parts {
-                bytes.extend_from_slice(part)?;
-            }
-            return Ok(Some(keyset_of(alloc, &bytes)?));
+    for (known, parts) in &SHARED {
+        if *known == name {
+            return Ok(Some(keyset_of(alloc, &joined(alloc, parts)?)?));
         }
     }
     Ok(None)

@@ -90,9 +90,9 @@ const WORDS: [(&str, Asked); 5] = [
 fn asked_in(row: &str) -> Result<(Asked, u32), Fail> {
     let (word, number) = cell(row, 2)?.split_once(' ').ok_or("a word and a number")?;
     let number = number.parse::<u32>()?;
-    for (known, asked) in WORDS {
-        if known == word {
-            return Ok((asked, number));
+    for (known, asked) in &WORDS {
+        if *known == word {
+            return Ok((*asked, number));
         }
     }
     Err("what is asked".into())
@@ -129,12 +129,16 @@ fn answer(alloc: Global, row: &str, part: &[u8]) -> Result<String, Fail> {
     Ok(text?)
 }
 
+fn assert_row(alloc: Global, row: &str) -> Result<(), Fail> {
+    let part = bytes_in(alloc, row, 1)?;
+    let found = answer(alloc, row, &part)?;
+    holds(row, 3, "the answer", found.as_str())
+}
+
 fn assert_table(alloc: Global, table: &str, rows: usize) -> Result<(), Fail> {
     count(table, rows)?;
     for row in table.lines() {
-        let part = bytes_in(alloc, row, 1)?;
-        let found = answer(alloc, row, &part)?;
-        holds(row, 3, "the answer", found.as_str())?;
+        assert_row(alloc, row)?;
     }
     Ok(())
 }

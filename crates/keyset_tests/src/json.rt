@@ -65,7 +65,7 @@ fn assert_read(alloc: Global, shows: &str, bytes: &[u8], text: &str) -> Result<(
 
 #[test]
 fn takes_keysets_from_one_form_to_the_other_and_back(rt: HostRuntime) -> Result<(), Fail> {
-    for (shows, bytes, text) in FORMS {
+    for (shows, bytes, text) in &FORMS {
         assert_written(rt.alloc(), shows, bytes, text)?;
         assert_read(rt.alloc(), shows, bytes, text)?;
     }
@@ -113,7 +113,7 @@ fn assert_spelled(alloc: Global, shows: &str, text: &str) -> Result<(), Fail> {
 
 #[test]
 fn reads_other_spellings_of_one_keyset(rt: HostRuntime) -> Result<(), Fail> {
-    for (shows, text) in SPELLINGS {
+    for (shows, text) in &SPELLINGS {
         assert_spelled(rt.alloc(), shows, text)?;
     }
     Ok(())
@@ -137,11 +137,15 @@ const NOT_JSON: [(&str, &[u8]); 6] = [
     ("a number too large for a float", b"{\"keyId\":1e999}"),
 ];
 
+fn assert_not_json(alloc: Global, shows: &str, text: &[u8]) -> Result<(), Fail> {
+    let found = refusal(alloc, text)?;
+    holds_text(shows, "the refusal", "NotJson", found.as_str())
+}
+
 #[test]
 fn refuses_what_is_no_json(rt: HostRuntime) -> Result<(), Fail> {
-    for (shows, text) in NOT_JSON {
-        let found = refusal(rt.alloc(), text)?;
-        holds_text(shows, "the refusal", "NotJson", found.as_str())?;
+    for (shows, text) in &NOT_JSON {
+        assert_not_json(rt.alloc(), shows, text)?;
     }
     Ok(())
 }
@@ -152,23 +156,32 @@ const LEVELS: [(usize, &str); 3] = [
     (200, "NotJson"),
 ];
 
+fn assert_levels(alloc: Global, levels: usize, want: &str) -> Result<(), Fail> {
+    let mut text = b"[".repeat(alloc, levels)?;
+    text.extend_from_slice(&b"]".repeat(alloc, levels)?)?;
+    let found = refusal(alloc, &text)?;
+    let shows = format!(in alloc; "{levels} levels")?;
+    holds_text(shows.as_str(), "the refusal", want, found.as_str())
+}
+
 #[test]
 fn takes_127_levels_of_lists(rt: HostRuntime) -> Result<(), Fail> {
-    for (levels, want) in LEVELS {
-        let mut text = b"[".repeat(rt.alloc(), levels)?;
-        text.extend_from_slice(&b"]".repeat(rt.alloc(), levels)?)?;
-        let found = refusal(rt.alloc(), &text)?;
-        assert_eq!(rt; found.as_str(), want, "{levels} levels");
+    for (levels, want) in &LEVELS {
+        assert_levels(rt.alloc(), *levels, want)?;
     }
     Ok(())
 }
 
 // A row has what it shows, a text, and its refusal.
+fn assert_row(alloc: Global, row: &str) -> Result<(), Fail> {
+    let found = refusal(alloc, cell(row, 1)?.as_bytes())?;
+    holds(row, 2, "the refusal", found.as_str())
+}
+
 fn assert_refused(alloc: Global, table: &str, rows: usize) -> Result<(), Fail> {
     count(table, rows)?;
     for row in table.lines() {
-        let found = refusal(alloc, cell(row, 1)?.as_bytes())?;
-        holds(row, 2, "the refusal", found.as_str())?;
+        assert_row(alloc, row)?;
     }
     Ok(())
 }
@@ -245,11 +258,15 @@ fn digits_read(alloc: Global, text: &str) -> Result<String, Fail> {
     }
 }
 
+fn assert_digits(alloc: Global, shows: &str, text: &str, want: &str) -> Result<(), Fail> {
+    let found = digits_read(alloc, text)?;
+    holds_text(shows, "the bytes", want, found.as_str())
+}
+
 #[test]
 fn reads_bytes_in_both_alphabets(rt: HostRuntime) -> Result<(), Fail> {
-    for (shows, text, want) in ALPHABETS {
-        let found = digits_read(rt.alloc(), text)?;
-        holds_text(shows, "the bytes", want, found.as_str())?;
+    for (shows, text, want) in &ALPHABETS {
+        assert_digits(rt.alloc(), shows, text, want)?;
     }
     Ok(())
 }
@@ -262,8 +279,9 @@ const MEMBERS: [(Member, &str); 4] = [
 ];
 
 #[test]
-fn names_members_as_json_does(rt: HostRuntime) {
-    for (member, name) in MEMBERS {
-        assert_eq!(rt; member.name(), name);
+fn names_members_as_json_does() -> Result<(), Fail> {
+    for (member, name) in &MEMBERS {
+        holds_text(name, "the name", name, member.name())?;
     }
+    Ok(())
 }

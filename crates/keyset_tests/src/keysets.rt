@@ -73,11 +73,15 @@ const LISTINGS: [(&str, &[u8], &str); 3] = [
     ("escapes in the URL", ODD_URL, ODD_LISTING),
 ];
 
+fn assert_listed(alloc: Global, shows: &str, bytes: &[u8], want: &str) -> Result<(), Fail> {
+    let text = info_text(alloc, &keyset_of(alloc, bytes)?)?;
+    holds_text(shows, "the listing", want, str::from_utf8(&text)?)
+}
+
 #[test]
 fn lists_keysets_as_protobuf_prints_them(rt: HostRuntime) -> Result<(), Fail> {
-    for (shows, bytes, want) in LISTINGS {
-        let text = info_text(rt.alloc(), &keyset_of(rt.alloc(), bytes)?)?;
-        holds_text(shows, "the listing", want, str::from_utf8(&text)?)?;
+    for (shows, bytes, want) in &LISTINGS {
+        assert_listed(rt.alloc(), shows, bytes, want)?;
     }
     Ok(())
 }

@@ -7,6 +7,8 @@ mod boxes;
 #[cfg(test)]
 mod edits;
 #[cfg(test)]
+mod envelope;
+#[cfg(test)]
 mod fields;
 #[cfg(test)]
 mod handles;

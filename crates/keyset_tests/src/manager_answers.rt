@@ -302,6 +302,21 @@ fn assert_prf(alloc: Global, manager: &dyn PrfManager, row: &str) -> Result<(), 
     holds_bytes(alloc, row, 4, "the bytes", &derived)
 }
 
+// Each row under the manager that its URL names.
+
+fn assert_aead_in(alloc: Global, all: &Managers, row: &str) -> Result<(), Fail> {
+    let place = all.find(Primitive::Aead, cell(row, 1)?).ok_or("a manager")?;
+    assert_aead(alloc, all.aead_at(place), row)
+}
+
+fn assert_aeads(alloc: Global, aead: Vec<Box<dyn AeadManager>>) -> Result<(), Fail> {
+    let all = Managers::new(aead, Vec::new(alloc), Vec::new(alloc), Vec::new(alloc))?;
+    for row in AEAD.lines() {
+        assert_aead_in(alloc, &all, row)?;
+    }
+    Ok(())
+}
+
 #[test]
 fn managers_of_aeads_answer_their_standards(rt: HostRuntime) -> Result<(), Fail> {
     let alloc = rt.alloc();
@@ -310,10 +325,20 @@ fn managers_of_aeads_answer_their_standards(rt: HostRuntime) -> Result<(), Fail>
     aead.push(aead_under(alloc, "AesEaxKey", AeadScheme::Eax)?)?;
     aead.push(aead_under(alloc, "AesCtrHmacAeadKey", AeadScheme::CtrHmac)?)?;
     aead.push(aead_under(alloc, "AesGcmSivKey", AeadScheme::GcmSiv)?)?;
-    let all = Managers::new(aead, Vec::new(alloc), Vec::new(alloc), Vec::new(alloc))?;
-    for row in AEAD.lines() {
-        let place = all.find(Primitive::Aead, cell(row, 1)?).ok_or("a manager")?;
-        assert_aead(alloc, all.aead_at(place), row)?;
+    assert_aeads(alloc, aead)
+}
+
+fn assert_daead_in(alloc: Global, all: &Managers, row: &str) -> Result<(), Fail> {
+    let place = all
+        .find(Primitive::Daead, cell(row, 1)?)
+        .ok_or("a manager")?;
+    assert_daead(alloc, all.daead_at(place), row)
+}
+
+fn assert_daeads(alloc: Global, daead: Vec<Box<dyn DaeadManager>>) -> Result<(), Fail> {
+    let all = Managers::new(Vec::new(alloc), daead, Vec::new(alloc), Vec::new(alloc))?;
+    for row in DAEAD.lines() {
+        assert_daead_in(alloc, &all, row)?;
     }
     Ok(())
 }
@@ -323,12 +348,18 @@ fn the_manager_of_siv_answers_its_standard(rt: HostRuntime) -> Result<(), Fail> 
     let alloc = rt.alloc();
     let mut daead: Vec<Box<dyn DaeadManager>> = Vec::new(alloc);
     daead.push(daead_under(alloc, "AesSivKey")?)?;
-    let all = Managers::new(Vec::new(alloc), daead, Vec::new(alloc), Vec::new(alloc))?;
-    for row in DAEAD.lines() {
-        let place = all
-            .find(Primitive::Daead, cell(row, 1)?)
-            .ok_or("a manager")?;
-        assert_daead(alloc, all.daead_at(place), row)?;
+    assert_daeads(alloc, daead)
+}
+
+fn assert_mac_in(alloc: Global, all: &Managers, row: &str) -> Result<(), Fail> {
+    let place = all.find(Primitive::Mac, cell(row, 1)?).ok_or("a manager")?;
+    assert_mac(alloc, all.mac_at(place), row)
+}
+
+fn assert_macs(alloc: Global, mac: Vec<Box<dyn MacManager>>) -> Result<(), Fail> {
+    let all = Managers::new(Vec::new(alloc), Vec::new(alloc), mac, Vec::new(alloc))?;
+    for row in MAC.lines() {
+        assert_mac_in(alloc, &all, row)?;
     }
     Ok(())
 }
@@ -339,10 +370,18 @@ fn managers_of_macs_answer_their_standards(rt: HostRuntime) -> Result<(), Fail> 
     let mut mac: Vec<Box<dyn MacManager>> = Vec::new(alloc);
     mac.push(mac_under(alloc, "HmacKey", MacScheme::Hmac)?)?;
     mac.push(mac_under(alloc, "AesCmacKey", MacScheme::Cmac)?)?;
-    let all = Managers::new(Vec::new(alloc), Vec::new(alloc), mac, Vec::new(alloc))?;
-    for row in MAC.lines() {
-        let place = all.find(Primitive::Mac, cell(row, 1)?).ok_or("a manager")?;
-        assert_mac(alloc, all.mac_at(place), row)?;
+    assert_macs(alloc, mac)
+}
+
+fn assert_prf_in(alloc: Global, all: &Managers, row: &str) -> Result<(), Fail> {
+    let place = all.find(Primitive::Prf, cell(row, 1)?).ok_or("a manager")?;
+    assert_prf(alloc, all.prf_at(place), row)
+}
+
+fn assert_prfs(alloc: Global, prf: Vec<Box<dyn PrfManager>>) -> Result<(), Fail> {
+    let all = Managers::new(Vec::new(alloc), Vec::new(alloc), Vec::new(alloc), prf)?;
+    for row in PRF.lines() {
+        assert_prf_in(alloc, &all, row)?;
     }
     Ok(())
 }
@@ -354,12 +393,7 @@ fn managers_of_prfs_answer_their_standards(rt: HostRuntime) -> Result<(), Fail> 
     prf.push(prf_under(alloc, "HkdfPrfKey", PrfScheme::Hkdf)?)?;
     prf.push(prf_under(alloc, "HmacPrfKey", PrfScheme::Hmac)?)?;
     prf.push(prf_under(alloc, "AesCmacPrfKey", PrfScheme::Cmac)?)?;
-    let all = Managers::new(Vec::new(alloc), Vec::new(alloc), Vec::new(alloc), prf)?;
-    for row in PRF.lines() {
-        let place = all.find(Primitive::Prf, cell(row, 1)?).ok_or("a manager")?;
-        assert_prf(alloc, all.prf_at(place), row)?;
-    }
-    Ok(())
+    assert_prfs(alloc, prf)
 }
 
 // Where a URL is found among AES-GCM, EAX and HMAC under these URLs, or none where it is refused.

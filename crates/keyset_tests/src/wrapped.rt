@@ -170,8 +170,8 @@ const TURNED: [(usize, usize, &str); 7] = [
 
 // The digits of a name, or the word itself.
 fn digits_named(word: &str) -> &str {
-    for (name, digits) in NAMED {
-        if name == word {
+    for (name, digits) in &NAMED {
+        if *name == word {
             return digits;
         }
     }
@@ -275,20 +275,37 @@ fn assert_unwrapped(alloc: Global, all: &Managers, row: &str) -> Result<(), Fail
     holds_text(cell(row, 0)?, "what is unwrapped", expected, found.as_str())
 }
 
+/// Holds what a keyset is wrapped as to this text, in one form.
+fn assert_wrapped(
+    alloc: Global,
+    all: &Managers,
+    shows: &str,
+    keyset: &str,
+    json: bool,
+    text: &[u8],
+) -> Result<(), Fail> {
+    let part = if json { "the JSON" } else { "the binary form" };
+    let expected = digits_of(alloc, text)?;
+    let found = wrapped_text(alloc, all, keyset, 12, json)?;
+    holds_text(shows, part, expected.as_str(), found.as_str())
+}
+
+fn assert_all_wrapped(alloc: Global, all: &Managers) -> Result<(), Fail> {
+    for (shows, keyset, binary, json) in &WRAPPED {
+        let binary = bytes_named(alloc, binary)?;
+        assert_wrapped(alloc, all, shows, keyset, false, &binary)?;
+        assert_wrapped(alloc, all, shows, keyset, true, json.as_bytes())?;
+    }
+    Ok(())
+}
+
 #[test]
 fn wraps_keysets_as_protobuf_writes_them(rt: HostRuntime) -> Result<(), Fail> {
     let alloc = rt.alloc();
     let mut aead: Vec<Box<dyn AeadManager>> = Vec::new(alloc);
     aead.push(aead_under(alloc, AES_GCM, AeadScheme::Gcm)?)?;
     let all = Managers::new(aead, Vec::new(alloc), Vec::new(alloc), Vec::new(alloc))?;
-    for (shows, keyset, binary, json) in WRAPPED {
-        let binary = digits_of(alloc, &bytes_named(alloc, binary)?)?;
-        let found = wrapped_text(alloc, &all, keyset, 12, false)?;
-        holds_text(shows, "the binary form", binary.as_str(), found.as_str())?;
-        let json = digits_of(alloc, json.as_bytes())?;
-        let found = wrapped_text(alloc, &all, keyset, 12, true)?;
-        holds_text(shows, "the JSON", json.as_str(), found.as_str())?;
-    }
+    assert_all_wrapped(alloc, &all)?;
     let short = wrapped_text(alloc, &all, "K2", 11, true)?;
     holds_text(
         "too few random bytes",
@@ -298,19 +315,46 @@ fn wraps_keysets_as_protobuf_writes_them(rt: HostRuntime) -> Result<(), Fail> {
     )
 }
 
+fn assert_rows(alloc: Global, all: &Managers, table: &str, rows: usize) -> Result<(), Fail> {
+    count(table, rows)?;
+    for row in table.lines() {
+        assert_unwrapped(alloc, all, row)?;
+    }
+    Ok(())
+}
+
 #[test]
 fn unwraps_what_the_master_opens(rt: HostRuntime) -> Result<(), Fail> {
     let alloc = rt.alloc();
     let mut aead: Vec<Box<dyn AeadManager>> = Vec::new(alloc);
     aead.push(aead_under(alloc, AES_GCM, AeadScheme::Gcm)?)?;
     let all = Managers::new(aead, Vec::new(alloc), Vec::new(alloc), Vec::new(alloc))?;
-    count(TEXTS, 37)?;
-    for row in TEXTS.lines() {
-        assert_unwrapped(alloc, &all, row)?;
-    }
-    count(OF_TINK_GO, 7)?;
-    for row in OF_TINK_GO.lines() {
-        assert_unwrapped(alloc, &all, row)?;
+    assert_rows(alloc, &all, TEXTS, 37)?;
+    assert_rows(alloc, &all, OF_TINK_GO, 7)
+}
+
+/// Unwraps a text with the lowest bit of this byte turned.
+fn assert_turned(
+    alloc: Global,
+    all: &Managers,
+    master: &Keyset,
+    text: &[u8],
+    at: usize,
+    expected: &str,
+) -> Result<(), Fail> {
+    let other = few(turned(alloc, text, at)?)?;
+    let found = unwrapped_text(alloc, all, master, &other, false)?;
+    let place = format!(in alloc; "byte {at}")?;
+    holds_text(place.as_str(), "it", digits_named(expected), found.as_str())
+}
+
+fn assert_each_turned(alloc: Global, all: &Managers) -> Result<(), Fail> {
+    let master = keyset_named(alloc, "K1")?;
+    let text = bytes_named(alloc, "128301 SEALED 1a40 INFO")?;
+    for (first, behind, expected) in &TURNED {
+        for at in *first..*behind {
+            assert_turned(alloc, all, &master, &text, at, expected)?;
+        }
     }
     Ok(())
 }
@@ -321,15 +365,5 @@ fn each_byte_of_a_wrapped_text_counts_but_those_of_the_info(rt: HostRuntime) -> 
     let mut aead: Vec<Box<dyn AeadManager>> = Vec::new(alloc);
     aead.push(aead_under(alloc, AES_GCM, AeadScheme::Gcm)?)?;
     let all = Managers::new(aead, Vec::new(alloc), Vec::new(alloc), Vec::new(alloc))?;
-    let master = keyset_named(alloc, "K1")?;
-    let text = bytes_named(alloc, "128301 SEALED 1a40 INFO")?;
-    for (first, behind, expected) in TURNED {
-        for at in first..behind {
-            let other = few(turned(alloc, &text, at)?)?;
-            let found = unwrapped_text(alloc, &all, &master, &other, false)?;
-            let place = format!(in alloc; "byte {at}")?;
-            holds_text(place.as_str(), "it", digits_named(expected), found.as_str())?;
-        }
-    }
-    Ok(())
+    assert_each_turned(alloc, &all)
 }

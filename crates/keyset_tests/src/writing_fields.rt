@@ -2,28 +2,29 @@
 //! bytes of `protoc --encode` for numbers at the edges of their varints.
 
 use proto_wire::Writer;
+use std::alloc::Global;
 use std::test::Fail;
+use test_words::same_bytes;
+
+/// Holds what was written to these bytes.
+fn holds_written(alloc: Global, shows: &str, writer: Writer, want: &[u8]) -> Result<(), Fail> {
+    same_bytes(alloc, shows, "what was written", want, &writer.finish())
+}
 
 // The guide's examples ("A Simple Message", "Length-Delimited Records", "Submessages").
 #[test]
 fn writes_the_examples_of_the_encoding_guide(rt: HostRuntime) -> Result<(), Fail> {
     let mut number = Writer::new(rt.alloc());
     number.uint32(1, 150)?;
-    let number = number.finish();
-    assert_eq!(rt; number.as_slice(), [0x08, 0x96, 0x01].as_slice());
-
+    let simple = [0x08, 0x96, 0x01];
+    holds_written(rt.alloc(), "A Simple Message", number, &simple)?;
     let mut testing = Writer::new(rt.alloc());
     testing.bytes(2, b"testing")?;
-    assert_eq!(rt; testing.finish().as_slice(), b"\x12\x07testing".as_slice());
-
+    holds_written(rt.alloc(), "a text", testing, b"\x12\x07testing")?;
     let mut outer = Writer::new(rt.alloc());
-    assert_eq!(rt; number.len(), 3);
-    outer.message(3, &number)?;
-    assert_eq!(rt;
-        outer.finish().as_slice(),
-        [0x1a, 0x03, 0x08, 0x96, 0x01].as_slice()
-    );
-    Ok(())
+    outer.message(3, &simple)?;
+    let want = [0x1a, 0x03, 0x08, 0x96, 0x01];
+    holds_written(rt.alloc(), "Submessages", outer, &want)
 }
 
 // protoc writes `g: 16384 h: 16383` of fields 15 and 16 so, and fields at their defaults not at all.
@@ -34,12 +35,8 @@ fn defaults_are_left_out_and_varints_are_short(rt: HostRuntime) -> Result<(), Fa
     writer.bytes(2, b"")?;
     writer.uint32(15, 16384)?;
     writer.uint32(16, 16383)?;
-    let bytes = writer.finish();
-    assert_eq!(rt;
-        bytes.as_slice(),
-        [0x78, 0x80, 0x80, 0x01, 0x80, 0x01, 0xff, 0x7f].as_slice()
-    );
-    Ok(())
+    let want = [0x78, 0x80, 0x80, 0x01, 0x80, 0x01, 0xff, 0x7f];
+    holds_written(rt.alloc(), "defaults and varints", writer, &want)
 }
 
 // protoc's bytes of 2^32 - 1 in field 1, of an empty message in field 3 and of `x` in the last field.
@@ -52,6 +49,5 @@ fn the_greatest_numbers_and_empty_messages(rt: HostRuntime) -> Result<(), Fail> 
     let want = [
         0x08, 0xff, 0xff, 0xff, 0xff, 0x0f, 0x1a, 0x00, 0xfa, 0xff, 0xff, 0xff, 0x0f, 0x01, 0x78,
     ];
-    assert_eq!(rt; writer.finish().as_slice(), want.as_slice());
-    Ok(())
+    holds_written(rt.alloc(), "the greatest numbers", writer, &want)
 }

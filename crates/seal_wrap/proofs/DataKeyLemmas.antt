@@ -1,5 +1,5 @@
 -- The data keys that templates make: how long their messages are, and what they read as.
-use Rattle.std.proofs.Common.{◌≡◌, ◌∙◌, refl, sym, ap, subst, zero, suc, ℕ, ◌+◌, ◌<◌, ◌≤◌, ◌==◌, ◌*◌, ◌^◌, inl, inr, ◌++◌, nat_le, Bool, true, false, ◌&&◌, List, [], ◌∷◌, length, take, drop, Contains, Some, None, Ok, lit<, lit≤, arith}
+use Rattle.std.proofs.Common.{◌≡◌, ◌∙◌, refl, sym, ap, subst, zero, suc, ℕ, ◌+◌, ◌<◌, ◌≤◌, ◌*◌, ◌^◌, inl, inr, ◌++◌, nat_le, Bool, true, ◌&&◌, List, [], ◌∷◌, length, take, drop, Contains, Some, lit<, arith}
 use Rattle.std.specs.List.{AllByRecursion, list_all}
 use Rattle.std.proofs.lemmas.Bool.{and_parts}
 use Rattle.std.proofs.lemmas.Bool.Decides.{eqb_tells}
@@ -30,7 +30,6 @@ use Rattle.seal_wrap.specs.Enveloped.{data_key_of}
 use Rattle.tink_spec.specs.Outside.{EntropyState}
 use Rattle.seal_wrap.specs.EnvelopeSteps.{Makes}
 use Rattle.seal_wrap.specs.EnvelopeLaws.{DataKeysAreServed, DataKeysAreValid, IsDataKeyRow}
-use Rattle.seal_wrap.specs.Enveloping.{IsAead}
 
 -- ---- the rows of the table
 

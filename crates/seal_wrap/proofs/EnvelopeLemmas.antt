@@ -1,35 +1,34 @@
 -- What sealing in an envelope says of the entropy, and what an envelope is made of.
-use Rattle.std.proofs.Common.{◌≡◌, ◌∙◌, inl, inr, refl, sym, ap, subst, ℕ, ◌+◌, ◌≤◌, cond, le-ltb, Bool, false, List, [], ◌∷◌, ◌++◌, length, take, drop, Option, Some, None, Ok, Err, Result, arith}
+use Rattle.std.proofs.Common.{◌≡◌, ◌∙◌, inl, inr, refl, sym, ap, subst, ℕ, cond, le-ltb, Bool, false, List, [], ◌++◌, length, take, drop, Option, Some, None, Ok, arith}
 use Rattle.std.specs.Prelude.{nat_lt, slice_get}
 use Rattle.std.specs.Option.{option_and_then, option_map}
 use Rattle.std.specs.Str.{bytes_eq}
-use Rattle.std.proofs.lemmas.List.{append_assoc, append-nil, drop_at, length-append, length-drop, take_at}
+use Rattle.std.proofs.lemmas.List.{append_assoc, append-nil, drop_at, length-append, take_at}
 use Rattle.std.proofs.lemmas.List.Quantifiers.{position-Some}
 use Rattle.std.proofs.lemmas.Option.{get_or_from_slice_get}
 use Rattle.std.proofs.lemmas.Slice.Eq.{bytes_eq-Decides}
 use Rattle.key_msgs.specs.Templates.{Row, random_of}
 use Rattle.key_msgs.specs.declared.key.KeyKind.{KeyKind}
-use Rattle.key_msgs.specs.declared.rule.Rule.{Rule}
 use Rattle.keyset_model.specs.Keyset.{Keys}
 use Rattle.managers.specs.Schemes.{Scheme, key_under}
 use Rattle.managers.specs.Table.{Entry, Table, place_in}
 use Rattle.managers.specs.Uses.{iv_size, seal_of}
 use Rattle.tink_spec.proofs.Moves.{drew_more, drew_nothing, ran_short_later}
-use Rattle.tink_spec.specs.Outside.{Drew, EntropyState, RanShort, Stood}
+use Rattle.tink_spec.specs.Outside.{Drew, EntropyState, Stood}
 use Rattle.wrapped_prims.specs.Answers.{Sealed, seal_answer, seal_behind}
 use Rattle.wrapped_prims.specs.Sealing.{IsKeySealing, IsSealFault, IsSealing}
 use Rattle.wrapped_prims.specs.declared.sealing.SealFault.{SealFault}
 use Rattle.wrapped_prims.specs.declared.sealing.SealFault.TheVariants as seals
 use Rattle.seal_wrap.specs.Enveloped.{Enveloped, behind_data_key, data_key_of, envelope, envelope_of, under_data_key}
-use Rattle.seal_wrap.specs.EnvelopeSteps.{Breaks, FailedAt, IsDrawFault, IsMakingFault, IsPayloadFault, Makes, StoodAt}
-use Rattle.seal_wrap.specs.Enveloping.{Asks, AsksIv, AsksPayloadIv, FailedAtFill, IsEnvelopeFault, IsEnveloping, MakesDataKey, RefusedKey, StoodAtFill}
+use Rattle.seal_wrap.specs.EnvelopeSteps.{IsMakingFault, IsPayloadFault, Makes}
+use Rattle.seal_wrap.specs.Enveloping.{Asks, FailedAtFill, IsEnvelopeFault, IsEnveloping, StoodAtFill}
 use Rattle.seal_wrap.specs.declared.envelope.EnvelopeFault.{EnvelopeFault}
 use Rattle.seal_wrap.specs.declared.envelope.EnvelopeFault.TheVariants as faults
-use Rattle.seal_wrap.proofs.WrapLemmas.{HasSealed, has_sealed}
+use Rattle.seal_wrap.proofs.WrapLemmas.{has_sealed}
 
 -- ---- what is taken of the random bytes
 
-enough : (n : ℕ) (xs ys : List ℕ) → length xs ≡ n → nat_lt (length (xs ++ ys)) n ≡ false
+pub enough : (n : ℕ) (xs ys : List ℕ) → length xs ≡ n → nat_lt (length (xs ++ ys)) n ≡ false
 enough n xs ys whole = le-ltb (length (xs ++ ys)) n (omega (arith, length-append xs ys, whole))
 
 -- the first ones are those of the data key

@@ -1,5 +1,6 @@
 pub mod BackLemmas
 pub mod DataKeyLemmas
+pub mod EnvelopeBackLemmas
 pub mod EnvelopeLemmas
 pub mod FieldLemmas
 pub mod JsonLemmas

@@ -117,7 +117,7 @@ pub length-eax : (key iv plain ad : List ℕ) → length (eax_seal key iv plain 
 unfolding eax_seal
 length-eax key iv plain ad = length-sealed_by (eax_text key) (eax_tag key) 16 iv plain ad (eax-is_scheme key)
 
-length-seal_of : (key : KeyKind) (iv plain ad : List ℕ) → length (seal_of key iv plain ad) ≤ length iv + length plain + 64
+pub length-seal_of : (key : KeyKind) (iv plain ad : List ℕ) → length (seal_of key iv plain ad) ≤ length iv + length plain + 64
 length-seal_of (kinds.AesGcm key) iv plain ad = let is = length-gcm_seal key iv plain ad in omega (arith, is)
 length-seal_of (kinds.AesEax key size) iv plain ad = let is = length-eax key iv plain ad in omega (arith, is)
 length-seal_of (kinds.AesCtrHmac aes size hash mac tag_size) iv plain ad = length-ctr_hmac aes hash mac tag_size iv plain ad

@@ -1,11 +1,14 @@
 //! Laws of the definitions. Each is the contract of a function that does nothing else.
 
+ghost use Rattle.seal_wrap.specs.EnvelopeLaws.{DataKeysAreServed, DataKeysAreValid, EnvelopeBack, EnvelopesFit};
 ghost use Rattle.seal_wrap.specs.Laws.{TextHidesKeys, WrapBack, WrapBackBytes};
 ghost use Rattle.seal_wrap.specs.Sealings.{DsealingsFit, SealingsAreBytes, SealingsFit};
 
 use aead_kinds::laws::{ctr_hmac_seals_bytes, eax_seals_bytes, gcm_seals_bytes};
 use gcm_siv::laws::gcm_siv_seals_bytes;
+use key_msgs::laws::{key_back, made_is_valid};
 use keyset_model::laws::binary_back;
+use managers::laws::{reading_is_admitted, sealings_open};
 use wrapped_prims::laws::same_key_opens;
 
 /// What was wrapped under a master whose primary key isn't RAW unwraps under every master in which that key
@@ -47,3 +50,33 @@ pub fn sealings_are_bytes()
 pub fn text_hides_keys()
     ensures { TextHidesKeys }
 {}
+
+/// What was sealed in an envelope under a keyset whose primary key isn't RAW opens to the plaintext, with
+/// the scheme of an AEAD and the associated data with which it was sealed, under every keyset in which
+/// that key is ENABLED and alone under its output prefix. The data key is that of a template of the table
+/// for keys of AEADs.
+pub fn envelope_back()
+    ensures { EnvelopeBack }
+{
+    same_key_opens();
+    sealings_open();
+    reading_is_admitted();
+}
+
+/// An envelope has at most 251 bytes more than the plaintext, whatever its keys and the random bytes, where
+/// the data key is that of a template of the table for keys of AEADs.
+pub fn envelopes_fit()
+    ensures { EnvelopesFit }
+{
+    reading_is_admitted();
+}
+
+/// Under the standard table each template of the table for keys of AEADs has a manager, and each key that
+/// it makes is a valid one of that manager's scheme: no data key is refused.
+pub fn standard_data_keys()
+    ensures served { DataKeysAreServed }
+    ensures valid { DataKeysAreValid }
+{
+    made_is_valid();
+    key_back();
+}

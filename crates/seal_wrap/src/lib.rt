@@ -2,15 +2,19 @@
 //! binary form or as JSON (tink.proto's `EncryptedKeyset`); and it is read and opened again.
 //!
 //! What the info of a text says isn't believed, and isn't read.
+//!
+//! Envelopes: a plaintext is sealed under a data key of its own, and the data key under a keyset.
 #![tactic(auto)]
 
 mod binary_form;
+mod data_keys;
 mod envelope;
 mod json_form;
 pub mod laws;
 mod unwrapping;
 mod wrapping;
 
-pub use envelope::{DataKeyFault, EnvelopeFault, data_key, envelope_open, envelope_seal};
+pub use data_keys::{DataKeyFault, data_key};
+pub use envelope::{EnvelopeFault, envelope_open, envelope_seal};
 pub use unwrapping::{UnwrapFault, unwrap_keyset};
 pub use wrapping::{WrapFault, wrap};
