@@ -33,11 +33,11 @@ primary_fits p n table primitive (x ∷ rs) r fit found =
     found_fits (p x) p table primitive x r rs refl parts.0 found (λ later. primary_fits p (n + 1) table primitive rs r parts.1 later)
 
 -- the primary record with its key
-record HasKey (table : Table) (primitive : Primitive) (keys : Keys) : Type 0 where
-  under : Record
-  key : KeyKind
-  primary : primary_of keys ≡ Some under
-  there : key_of_record table primitive under ≡ Some key
+pub record HasKey (table : Table) (primitive : Primitive) (keys : Keys) : Type 0 where
+  pub under : Record
+  pub key : KeyKind
+  pub primary : primary_of keys ≡ Some under
+  pub there : key_of_record table primitive under ≡ Some key
 
 enabled_clash : (r : Record) → r.status ≡ 1 → is_enabled r ≡ false → ⊥
 enabled_clash r status other = grind (arith, nat_tests)
@@ -46,7 +46,7 @@ with_kept : (table : Table) (primitive : Primitive) (keys : Keys) (r : Record) �
 with_kept table primitive keys r primary enabled (off other none) = absurd (enabled_clash r enabled other)
 with_kept table primitive keys r primary enabled (on at key is there some) = record { under = r; key = key; primary = primary; there = there }
 
-has_key : (table : Table) (primitive : Primitive) (keys : Keys) → IsFit table primitive keys → HasKey table primitive keys
+pub has_key : (table : Table) (primitive : Primitive) (keys : Keys) → IsFit table primitive keys → HasKey table primitive keys
 has_key table primitive keys fit =
     let primary = primary_there keys fit.faultless in
     with_kept table primitive keys primary.0 primary.1 (primary_enabled keys primary.0 primary.1)

@@ -1,7 +1,7 @@
 -- What holds of a plan where it holds of its ends: the parts of which the commands' plans are made.
 use Rattle.std.proofs.Common.{ℕ, Bool, true, false, List, [], Option, Some, None, Result, Ok, Err}
 use Rattle.std.specs.Prelude.{if◌then◌else◌, length, nat_le}
-use Rattle.key_msgs.specs.Templates.{Row, row_named, is_asymmetric}
+use Rattle.key_msgs.specs.Templates.{Row, row_named, is_asymmetric, type_made}
 use Rattle.keyset_json.specs.Reading as Json
 use Rattle.keyset_json.specs.Reading.{reads_json}
 use Rattle.keyset_model.specs.Keyset.{Keys}
@@ -20,9 +20,16 @@ use Rattle.tinkey_plans.specs.Steps.{with_keyset, with_json, keyset_in, with_row
 use Rattle.tinkey_plans.specs.Using.{unless_unfit, with_opened, with_verified, with_derived, works}
 use Rattle.tinkey_plans.specs.Wrapping.{makes_wrapped, with_unwrapped, wrapped_limit}
 use Rattle.seal_wrap.specs.Unwrapped as unwrapped
-use Rattle.tinkey_words.specs.Words.{AskedEdit, AskedWork, to_seal, to_open, to_dseal, to_dopen, to_tag, to_verify, to_derive}
+use Rattle.tinkey_words.specs.Words.{AskedEdit, AskedEnvelope, AskedWork, to_eseal, to_eopen, to_seal, to_open, to_dseal, to_dopen, to_tag, to_verify, to_derive}
 use Rattle.tinkey_plans.specs.Plan.{IsStated, Made, Of, allocates, draws}
 use Rattle.tinkey_plans.specs.declared.status.Status.{Status}
+use Rattle.key_msgs.specs.KeyTypes.{primitive_of_type}
+use Rattle.key_msgs.specs.declared.primitive.Primitive.{Primitive}
+use Rattle.key_msgs.specs.declared.primitive.Primitive.TheVariants.{Aead, Daead, Mac, Prf, Stream}
+use Rattle.key_msgs.specs.declared.rule.Rule.{Rule}
+use Rattle.managers.specs.Schemes.{Scheme}
+use Rattle.seal_wrap.specs.Enveloped.{open_envelope_of}
+use Rattle.tinkey_plans.specs.Envelopes.{envelopes, finds_dek, with_aead, with_enveloped, with_scheme}
 
 -- the rest of a plan is so, whatever it takes
 abbrev pub AreAll : {A : Type 0} → (Plan → Type 0) → (A → Plan) → Type 0
@@ -117,3 +124,25 @@ work_each P c table keys (to_dopen ad) input next all = c.allocated _ (opened_ea
 work_each P c table keys to_tag input next all = c.allocated _ (all _)
 work_each P c table keys (to_verify tag) input next all = c.allocated _ (verified_each P c (verify_answer keys table tag input) next all)
 work_each P c table keys (to_derive size) input next all = c.allocated _ (derived_each P c size (derive_answer keys table input size) next all)
+
+pub aead_each : (P : Plan → Type 0) → IsClosed P → (primitive : Primitive) (next : Plan) → P next → P (with_aead primitive next)
+aead_each P c Aead next all = all
+aead_each P c Daead next all = c.ended _ _
+aead_each P c Mac next all = c.ended _ _
+aead_each P c Prf next all = c.ended _ _
+aead_each P c Stream next all = c.ended _ _
+
+pub dek_each : (P : Plan → Type 0) → IsClosed P → (template : List ℕ) (next : Row → Plan) → AreAll P next → P (finds_dek template next)
+dek_each P c template next all = row_each P c (row_named template) template _ (λ row. aead_each P c (primitive_of_type (type_made row)) (next row) (all row))
+
+pub scheme_each : (P : Plan → Type 0) → IsClosed P → (found : Option Scheme) (next : Scheme → Plan) → AreAll P next → P (with_scheme found next)
+scheme_each P c None next all = c.ended _ _
+scheme_each P c (Some scheme) next all = all scheme
+
+pub enveloped_each : (P : Plan → Type 0) → IsClosed P → (r : Result (List ℕ) Rule) (next : List ℕ → Plan) → AreAll P next → P (with_enveloped r next)
+enveloped_each P c (Ok bytes) next all = all bytes
+enveloped_each P c (Err rule) next all = c.ended _ _
+
+pub envelope_each : (P : Plan → Type 0) → IsClosed P → (table : Table) (keys : Keys) (scheme : Scheme) (row : Row) (work : AskedEnvelope) (input : List ℕ) (next : List ℕ → Plan) → AreAll P next → P (envelopes table keys scheme row work input next)
+envelope_each P c table keys scheme row (to_eseal ad) input next all = c.allocated _ (c.drawn _ _ _ (λ made. c.allocated _ (made_each P c made _ (λ enveloped. enveloped_each P c enveloped next all))))
+envelope_each P c table keys scheme row (to_eopen ad) input next all = c.allocated _ (opened_each P c (open_envelope_of keys table scheme input ad) next all)

@@ -16,8 +16,8 @@ use Rattle.tinkey_session.specs.declared.talk.TalkFault.{TalkFault}
 use Rattle.tinkey_session.specs.declared.talk.TalkFault.TheVariants as talk_faults
 use Rattle.tinkey_plans.specs.declared.status.Status.{Status}
 use Rattle.tinkey_plans.specs.declared.status.Status.TheVariants as status
-use Rattle.tinkey_plans.specs.Plan.{Plan, ends, writes, creates, allocates, loads, reads_all, draws, pumps, exchanges, stream_status, limit_status, IsStated}
-use Rattle.tinkey_plans.specs.Ends.{World, Ends, OnlyStreams, pump_status, OnlySource, OnlySink, OnlyStore, OnlyEntropy, loaded, load_absent, load_long, load_failed, load_starved, wrote, write_failed, made, name_taken, create_failed, create_starved, read, too_long, read_failed, read_starved, settled, draw_failed, talk_status, sides_of, exchanged, exchange_ended}
+use Rattle.tinkey_plans.specs.Plan.{Plan, ends, writes, creates, looks, allocates, loads, reads_all, draws, pumps, exchanges, stream_status, limit_status, IsStated}
+use Rattle.tinkey_plans.specs.Ends.{World, Ends, OnlyStreams, pump_status, OnlySource, OnlySink, OnlyStore, OnlyEntropy, loaded, load_absent, load_long, load_failed, load_starved, wrote, write_failed, made, name_taken, create_failed, create_starved, look_free, look_taken, look_failed, read, too_long, read_failed, read_starved, settled, draw_failed, draw_starved, talk_status, sides_of, exchanged, exchange_ended}
 use Rattle.tinkey_plans.specs.Promises.{HasCause, ShowsFaults, NoneFailed, Completes}
 
 -- a stated status is no fault, and no want of memory
@@ -130,6 +130,11 @@ has_cause (creates name output taken stated) old s new (made is only stood added
 has_cause (creates name output taken stated) old s new (name_taken is only kept stood there) = no_fault old new s (rw is stated)
 has_cause (creates name output taken stated) old s new (create_failed is only rose may) = store_cause old new s is rose
 has_cause (creates name output taken stated) old s new (create_starved is only kept stood) = starved_cause old new s is
+has_cause (looks name taken stated next) old s new (look_free store kept stood holds run) =
+    let later = has_cause next (record old { store = store }) s new run in
+    record { read = later.read; write = later.write; store = λ h. rose_after _ _ _ kept.faults (later.store h); entropy = later.entropy }
+has_cause (looks name taken stated next) old s new (look_taken is only kept stood there) = no_fault old new s (rw is stated)
+has_cause (looks name taken stated next) old s new (look_failed is only kept rose) = store_cause old new s is rose
 has_cause (allocates next) old s new (inl run) = has_cause next old s new run
 has_cause (allocates next) old s new (inr (is, same)) = starved_cause old new s is
 has_cause (loads name limit absent long a l next) old s new (loaded bytes store kept stood within holds run) =
@@ -149,6 +154,7 @@ has_cause (draws kind give next) old s new (settled drawn entropy given drew sto
     let later = has_cause (next given) (record old { entropy = entropy }) s new run in
     record { read = later.read; write = later.write; store = later.store; entropy = λ h. rose_after _ _ _ drew.faults (later.entropy h) }
 has_cause (draws kind give next) old s new (draw_failed is only out) = record { read = λ h. absurd (cc); write = λ h. absurd (cc); store = λ h. absurd (cc); entropy = λ h. out.rose }
+has_cause (draws kind give next) old s new (draw_starved parts is only drawn drew stood none) = starved_cause old new s is
 has_cause (pumps part) old s new e = pump_cause part e.result old s new e.status e.pass
 has_cause (exchanges exchange next) old s new (exchanged keys mid talk store steady run) =
     let later = has_cause (next keys) mid s new run in
@@ -220,6 +226,11 @@ shows_faults (creates name output taken stated) old s new (made is only stood ad
 shows_faults (creates name output taken stated) old s new (name_taken is only kept stood there) = store_shown old new s only (λ other. stood)
 shows_faults (creates name output taken stated) old s new (create_failed is only rose may) = store_shown old new s only (λ other. absurd (other is))
 shows_faults (creates name output taken stated) old s new (create_starved is only kept stood) = store_shown old new s only (λ other. stood)
+shows_faults (looks name taken stated next) old s new (look_free store kept stood holds run) =
+    let later = shows_faults next (record old { store = store }) s new run in
+    record { read = later.read; write = later.write; store = λ other. later.store other ∙ stood; entropy = later.entropy }
+shows_faults (looks name taken stated next) old s new (look_taken is only kept stood there) = store_shown old new s only (λ other. stood)
+shows_faults (looks name taken stated next) old s new (look_failed is only kept rose) = store_shown old new s only (λ other. absurd (other is))
 shows_faults (allocates next) old s new (inl run) = shows_faults next old s new run
 shows_faults (allocates next) old s new (inr (is, same)) = all_stood old new s same
 shows_faults (loads name limit absent long a l next) old s new (loaded bytes store kept stood within holds run) =
@@ -239,6 +250,7 @@ shows_faults (draws kind give next) old s new (settled drawn entropy given drew 
     let later = shows_faults (next given) (record old { entropy = entropy }) s new run in
     record { read = later.read; write = later.write; store = later.store; entropy = λ other. later.entropy other ∙ stood }
 shows_faults (draws kind give next) old s new (draw_failed is only out) = entropy_shown old new s only (λ other. absurd (other is))
+shows_faults (draws kind give next) old s new (draw_starved parts is only drawn drew stood none) = entropy_shown old new s only (λ other. stood)
 shows_faults (pumps part) old s new e = pump_shown e.result old s new e.status e.only e.shown
 shows_faults (exchanges exchange next) old s new (exchanged keys mid talk store steady run) =
     let later = shows_faults (next keys) mid s new run in
@@ -270,6 +282,10 @@ completes_from (creates name output taken stated) old s new (made is only stood 
 completes_from (creates name output taken stated) old s new (name_taken is only kept stood there) none memory = rw is stated
 completes_from (creates name output taken stated) old s new (create_failed is only rose may) none memory = absurd (none.store rose)
 completes_from (creates name output taken stated) old s new (create_starved is only kept stood) none memory = absurd (memory is)
+completes_from (looks name taken stated next) old s new (look_free store kept stood holds run) none memory =
+    completes_from next (record old { store = store }) s new run (record { read = none.read; write = none.write; store = λ rose. none.store (rose_after _ _ _ kept.faults rose); entropy = none.entropy }) memory
+completes_from (looks name taken stated next) old s new (look_taken is only kept stood there) none memory = rw is stated
+completes_from (looks name taken stated next) old s new (look_failed is only kept rose) none memory = absurd (none.store rose)
 completes_from (allocates next) old s new (inl run) none memory = completes_from next old s new run none memory
 completes_from (allocates next) old s new (inr (is, same)) none memory = absurd (memory is)
 completes_from (loads name limit absent long a l next) old s new (loaded bytes store kept stood within holds run) none memory =
@@ -286,6 +302,7 @@ completes_from (reads_all limit long stated next) old s new (read_starved is onl
 completes_from (draws kind give next) old s new (settled drawn entropy given drew stood settles run) none memory =
     completes_from (next given) (record old { entropy = entropy }) s new run (record { read = none.read; write = none.write; store = none.store; entropy = λ rose. none.entropy (rose_after _ _ _ drew.faults rose) }) memory
 completes_from (draws kind give next) old s new (draw_failed is only out) none memory = absurd (none.entropy out.rose)
+completes_from (draws kind give next) old s new (draw_starved parts is only drawn drew stood few) none memory = absurd (memory is)
 completes_from (pumps part) old s new e none memory = pump_stated part e.result old s new e.status e.pass none
 completes_from (exchanges exchange next) old s new (exchanged keys mid talk store steady run) none memory =
     let has = (went exchange keys (sides_of old) (sides_of mid) talk).has in

@@ -6,7 +6,8 @@ use Rattle.std.proofs.lemmas.Bool.Decides.{nat_tests}
 use Rattle.key_msgs.specs.Templates.{row_named}
 use Rattle.key_msgs.specs.declared.primitive.Primitive.TheVariants.{Aead}
 use Rattle.keyset_model.specs.Keyset.{Keys}
-use Rattle.managers.specs.Table.{Table}
+use Rattle.managers.specs.Table.{Table, scheme_at}
+use Rattle.seal_wrap.specs.Enveloping.{url_made}
 use Rattle.segment_stream.specs.Opening.{StreamRefusal, too_many, failed}
 use Rattle.segment_stream.specs.Pumping.{Part}
 use Rattle.segment_stream.specs.KeysModel.{KeysForStreams}
@@ -20,27 +21,28 @@ use Rattle.tinkey_plans.specs.declared.status.Status.TheVariants as status
 use Rattle.tinkey_words.specs.declared.words.rows.Format.{Format}
 use Rattle.tinkey_words.specs.declared.words.rows.Format.TheVariants as formats
 use Rattle.tinkey_plans.specs.Going.{DoneExactly, NoneRefuses}
-use Rattle.tinkey_plans.specs.Plan.{Answer, Of, Plan, Told, answer, create_answer, draw_answer, load_answer, pump_answer, refused, stream_status, talk_answer, limit_status, ends, writes, creates, allocates, loads, reads_all, draws, pumps, exchanges}
+use Rattle.tinkey_plans.specs.Plan.{Answer, Of, Plan, Told, answer, create_answer, draw_answer, load_answer, look_answer, pump_answer, refused, stream_status, talk_answer, limit_status, ends, writes, creates, looks, allocates, loads, reads_all, draws, pumps, exchanges}
 use Rattle.tinkey_plans.specs.Steps.{takes_keyset, makes_keyset, puts, puts_keyset}
 use Rattle.seal_wrap.specs.Unwrapped.{unwrap_of}
 use Rattle.tinkey_plans.specs.Wrapping.{is_json, makes_wrapped, takes_wrapped}
 use Rattle.tinkey_selftest.specs.Trial as trial
 use Rattle.tinkey_selftest.specs.declared.counts.Counts.{Counts}
 use Rattle.tinkey_plans.specs.SelfTesting.{tells_counts}
-use Rattle.tinkey_plans.specs.Session.{saves_as}
+use Rattle.tinkey_plans.specs.Session.{finds_free, saves_as}
 use Rattle.tinkey_plans.specs.Streaming.{keys_for, opens_stream, seals_stream, with_keys}
 use Rattle.tinkey_plans.specs.Streaming as streaming
 use Rattle.tinkey_session.proofs.Options.{clash}
 use Rattle.tinkey_session.specs.Talking.{Stop, goes, wants, passes, long_line, many_lines, Talk, Limit}
 use Rattle.tinkey_plans.specs.Commands.{command_plan}
-use Rattle.tinkey_words.specs.Words.{Asked, self_test, Place, primitive_for, create_keyset, edit_keyset, list_keyset, convert_keyset, list_key_templates, use_keyset, seal_stream, open_stream, session, wrap_keyset, unwrap_keyset}
-use Rattle.tinkey_plans.proofs.EachLemmas.{AreAll, IsClosed, edit_each, fit_each, keyset_each, made_each, row_each, work_each, written_each, wrapped_each, unwrapped_each}
+use Rattle.tinkey_words.specs.Words.{Asked, self_test, Place, primitive_for, create_keyset, edit_keyset, list_keyset, convert_keyset, list_key_templates, use_keyset, use_envelope, seal_stream, open_stream, session, wrap_keyset, unwrap_keyset}
+use Rattle.tinkey_plans.proofs.EachLemmas.{AreAll, IsClosed, dek_each, envelope_each, scheme_each, edit_each, fit_each, keyset_each, made_each, row_each, work_each, written_each, wrapped_each, unwrapped_each}
 
 -- the refusals of its steps aren't Done
 abbrev IsProper : Plan → Type 0
 IsProper (ends s stated) = Unit {0}
 IsProper (writes output) = Unit {0}
 IsProper (creates name output taken stated) = taken ≢ status.Done
+IsProper (looks name taken stated next) = (taken ≢ status.Done) × IsProper next
 IsProper (allocates next) = IsProper next
 IsProper (loads name limit absent long a l next) = (absent ≢ status.Done) × (long ≢ status.Done) × ((bytes : List ℕ) → IsProper (next bytes))
 IsProper (reads_all limit long stated next) = (long ≢ status.Done) × ((all : List ℕ) → IsProper (next all))
@@ -67,6 +69,10 @@ IsDone a = a.status ≡ status.Done
 created : (found : Option (List ℕ)) (told : Told) (name output : List ℕ) (taken : Status) → taken ≢ status.Done → IsDone (create_answer found told name output (refused told taken)) ↔ (found ≡ None)
 created None told name output taken other = (λ d. refl, λ e. refl)
 created (Some bytes) told name output taken other = (λ d. absurd (other d), λ e. absurd (cc))
+
+looked : (found : Option (List ℕ)) (told : Told) (taken : Status) (next : Answer) (Then : Type 0) → taken ≢ status.Done → (IsDone next ↔ Then) → IsDone (look_answer found (refused told taken) next) ↔ ((found ≡ None) × Then)
+looked None told taken next Then other each = (λ d. (refl, each.0 d), λ x. each.1 x.1)
+looked (Some bytes) told taken next Then other each = (λ d. absurd (other d), λ x. let e : Some bytes ≡ None = x.0 in absurd (cc))
 
 loaded : (found : Option (List ℕ)) (limit : ℕ) (told : Told) (absent long : Status) (next : List ℕ → Answer) (Then : List ℕ → Type 0) → absent ≢ status.Done → long ≢ status.Done → ((bytes : List ℕ) → IsDone (next bytes) ↔ Then bytes)
     → IsDone (load_answer found limit (refused told absent) (refused told long) next) ↔ ((bytes : List ℕ) × (found ≡ Some bytes) × (length bytes ≤ limit) × Then bytes)
@@ -116,6 +122,7 @@ done_exactly : (p : Plan) (told : Told) → IsProper p → IsDone (answer p told
 done_exactly (ends s stated) told proper = (λ d. d, λ d. d)
 done_exactly (writes output) told proper = (λ d. tt, λ x. refl)
 done_exactly (creates name output taken stated) told proper = created (map.get told.files name) told name output taken proper
+done_exactly (looks name taken stated next) told proper = looked (map.get told.files name) told taken _ _ proper.0 (done_exactly next told proper.1)
 done_exactly (allocates next) told proper = done_exactly next told proper
 done_exactly (loads name limit absent long a l next) told proper = loaded (map.get told.files name) limit told absent long _ _ proper.0 proper.1 (λ bytes. done_exactly (next bytes) told (proper.2 bytes))
 done_exactly (reads_all limit long stated next) told proper = read_in told.input limit _ _ _ proper.0 (done_exactly (next told.input) (record told { input = [] }) (proper.1 told.input))
@@ -169,6 +176,10 @@ saves_proper : (file : Option (List ℕ)) (form : Format) (keys : Keys) → IsPr
 saves_proper None form keys = tt
 saves_proper (Some name) form keys = written_each IsProper closed form keys (λ output. creates name output status.OutExists tt) (λ output e. cc)
 
+free_proper : (file : Option (List ℕ)) (next : Unit {0} → Plan) → IsProper (next tt) → IsProper (finds_free file next)
+free_proper None next proper = proper
+free_proper (Some name) next proper = (λ e. cc, proper)
+
 commands_are_proper : (table : Table) (asked : Asked) → IsProper (command_plan table asked)
 commands_are_proper table (create_keyset name out) = row_each IsProper closed (row_named name) name _ (λ row. draw_proper (first row) _ (out_proper out))
 commands_are_proper table (edit_keyset edit in' out) = edit_each IsProper closed edit _ (λ edit. taken_proper in'.file in'.form _ (λ keys. draw_proper (step keys edit) _ (out_proper out)))
@@ -176,12 +187,13 @@ commands_are_proper table (list_keyset in') = taken_proper in'.file in'.form _ (
 commands_are_proper table (convert_keyset in' out) = taken_proper in'.file in'.form _ (out_proper out)
 commands_are_proper table list_key_templates = tt
 commands_are_proper table (use_keyset name form work) = (λ e. cc, λ e. cc, λ bytes. keyset_each IsProper closed form bytes _ (λ keys. fit_each IsProper closed (unfit keys (primitive_for work) table) _ (λ e. cc, λ input. work_each IsProper closed table keys work input _ (λ output. tt))))
+commands_are_proper table (use_envelope name form template work) = dek_each IsProper closed template _ (λ row. (λ e. cc, λ e. cc, λ bytes. keyset_each IsProper closed form bytes _ (λ keys. fit_each IsProper closed (unfit keys Aead table) _ (scheme_each IsProper closed (scheme_at table Aead (url_made row)) _ (λ scheme. (λ e. cc, λ input. envelope_each IsProper closed table keys scheme row work input _ (λ output. tt)))))))
 commands_are_proper table (seal_stream name form ad) = (λ e. cc, λ e. cc, λ bytes. keyset_each IsProper closed form bytes _ (λ keys. stream_fit_proper (streams.stream_unfit keys) _ (stream_keys_proper (keys_for keys) _ (seals_proper ad))))
 commands_are_proper table (open_stream name form ad) = (λ e. cc, λ e. cc, λ bytes. keyset_each IsProper closed form bytes _ (λ keys. stream_fit_proper (streams.stream_unfit keys) _ (stream_keys_proper (keys_for keys) _ (λ k. tt))))
 commands_are_proper table (self_test seed lines) = counts_proper (trial.self_test table seed lines) lines
 commands_are_proper table (wrap_keyset name form in' out) = (λ e. cc, λ e. cc, λ bytes. keyset_each IsProper closed form bytes _ (λ master. fit_each IsProper closed (unfit master Aead table) _ (taken_proper in'.file in'.form _ (λ keys. written_each IsProper closed formats.Binary keys (λ plain. makes_wrapped keys master table out.form (puts out.file)) (λ plain. wrapped_each IsProper closed keys master table out.form (puts out.file) (put_proper out.file))))))
 commands_are_proper table (unwrap_keyset name form in' out) = (λ e. cc, λ e. cc, λ bytes. keyset_each IsProper closed form bytes _ (λ master. fit_each IsProper closed (unfit master Aead table) _ (text_proper in'.file _ (λ text. unwrapped_each IsProper closed (unwrap_of master table text (is_json in'.form)) _ (out_proper out)))))
-commands_are_proper table (session name form out) = (λ e. cc, λ e. cc, λ bytes. keyset_each IsProper closed form bytes _ (λ keys. λ last. saves_proper out.file out.form last))
+commands_are_proper table (session name form out) = (λ e. cc, λ e. cc, λ bytes. keyset_each IsProper closed form bytes _ (λ keys. free_proper out.file _ (λ last. saves_proper out.file out.form last)))
 
 pub commands_done_exactly : DoneExactly
 commands_done_exactly table asked told = done_exactly (command_plan table asked) told (commands_are_proper table asked)

@@ -7,3 +7,4 @@ pub mod StepLemmas
 pub mod WholeLemmas
 pub mod GoingLemmas
 pub mod EachLemmas
+pub mod EnvelopeLemmas

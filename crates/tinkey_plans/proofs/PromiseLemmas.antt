@@ -22,8 +22,8 @@ use Rattle.tinkey_session.specs.declared.talk.TalkFault.{TalkFault}
 use Rattle.tinkey_session.specs.declared.talk.TalkFault.TheVariants as talk_faults
 use Rattle.tinkey_plans.specs.declared.status.Status.{Status}
 use Rattle.tinkey_plans.specs.declared.status.Status.TheVariants as status
-use Rattle.tinkey_plans.specs.Plan.{Plan, ends, writes, creates, allocates, loads, reads_all, draws, pumps, exchanges, Told, Answer, answer, refused, stream_status, limit_status, talk_answer, load_answer, create_answer, draw_answer, IsStated}
-use Rattle.tinkey_plans.specs.Ends.{World, Ends, Settles, IsLasting, OnlyStreams, pump_status, OnlySource, OnlySink, OnlyStore, loaded, load_absent, load_long, load_failed, load_starved, wrote, write_failed, made, name_taken, create_failed, create_starved, read, too_long, read_failed, read_starved, settled, draw_failed, talk_status, sides_of, exchanged, exchange_ended}
+use Rattle.tinkey_plans.specs.Plan.{Plan, ends, writes, creates, looks, allocates, loads, reads_all, draws, pumps, exchanges, Told, Answer, answer, refused, stream_status, limit_status, talk_answer, load_answer, create_answer, look_answer, draw_answer, IsStated}
+use Rattle.tinkey_plans.specs.Ends.{World, Ends, Settles, IsLasting, OnlyStreams, pump_status, OnlySource, OnlySink, OnlyStore, loaded, load_absent, load_long, load_failed, load_starved, wrote, write_failed, made, name_taken, create_failed, create_starved, look_free, look_taken, look_failed, read, too_long, read_failed, read_starved, settled, draw_failed, draw_starved, talk_status, sides_of, exchanged, exchange_ended}
 use Rattle.tinkey_plans.specs.Promises.{Tells, IsAnswer, Answers, IsFront, Moved, nothing, IsPassLeft, pass_done, pass_refused, pass_unread, pass_unwritten, HasReplied, IsTalkLeft, talk_passed, talk_unread, talk_undrawn, talk_unwritten, talk_starved, then_moved, IsWhole, IsLeft, Leaves, IsTorn, Stands, Promised}
 use Rattle.tinkey_plans.proofs.FaultLemmas.{not_read_fault, not_write_fault, not_store_fault, not_entropy_fault, not_no_memory, of_result, of_refusal, of_fault, of_limit, went, Went, has_cause, shows_faults, completes}
 
@@ -101,6 +101,13 @@ made_answer found told name output taken is = rw is refl
 
 taken_answer : (found : Option (List ℕ)) (bytes : List ℕ) (told : Told) (name output : List ℕ) (taken : Answer) → found ≡ Some bytes → create_answer found told name output taken ≡ taken
 taken_answer found bytes told name output taken is = rw is refl
+
+-- the answer where a name has to be free
+free_answer : (found : Option (List ℕ)) (taken next : Answer) → found ≡ None → look_answer found taken next ≡ next
+free_answer found taken next is = rw is refl
+
+found_answer : (found : Option (List ℕ)) (bytes : List ℕ) (taken next : Answer) → found ≡ Some bytes → look_answer found taken next ≡ taken
+found_answer found bytes taken next is = rw is refl
 
 -- the answer goes on behind bytes that were drawn
 settled_answer : {A : Type 0} (give : Draw A) (drawn rest random : List ℕ) (given : Result A CmdFault) (short : Answer) (next : Drawn A → Answer) → Settles give drawn given → random ≡ drawn ++ rest → draw_answer (give random) short next ≡ next (record { answer = given; left = rest })
@@ -252,6 +259,14 @@ answers_over (creates name output taken stated) old s new (name_taken is only ke
     subst (λ (a : Answer). IsAnswer a old s new) (sym (taken_answer _ found.0 told name output _ found.1)) (refused_is told taken s old new is tells only kept)
 answers_over (creates name output taken stated) old s new (create_failed is only rose may) told tells ok = absurd (not_store_fault s ok is)
 answers_over (creates name output taken stated) old s new (create_starved is only kept stood) told tells ok = absurd (not_no_memory s ok is)
+answers_over (looks name taken stated next) old s new (look_free store kept stood holds run) told tells ok =
+    let later = answers_over next (record old { store = store }) s new run told (record { input = tells.input; files = sym kept.files ∙ tells.files; random = tells.random }) ok in
+    subst (λ (a : Answer). IsAnswer a old s new) (sym (free_answer _ _ _ (file_told old.store told.files name None tells.files holds)))
+    (record { status = later.status; input = later.input; output = later.output; files = later.files; random = later.random })
+answers_over (looks name taken stated next) old s new (look_taken is only kept stood there) told tells ok =
+    let found = some_told old.store told.files name tells.files there in
+    subst (λ (a : Answer). IsAnswer a old s new) (sym (found_answer _ found.0 _ _ found.1)) (refused_is told taken s old new is tells only kept)
+answers_over (looks name taken stated next) old s new (look_failed is only kept rose) told tells ok = absurd (not_store_fault s ok is)
 answers_over (allocates next) old s new (inl run) told tells ok = answers_over next old s new run told tells ok
 answers_over (allocates next) old s new (inr (is, same)) told tells ok = absurd (not_no_memory s ok is)
 answers_over (loads name limit absent long a l next) old s new (loaded bytes store kept stood within holds run) told tells ok =
@@ -287,6 +302,7 @@ answers_over (draws kind give next) old s new (settled drawn entropy given drew 
     subst (λ (a : Answer). IsAnswer a old s new) (sym (settled_answer give drawn split.0 told.random given _ (λ x. answer (next x.answer) (record told { random = x.left })) settles split.2))
     (record { status = later.status; input = later.input; output = later.output; files = later.files; random = later.random })
 answers_over (draws kind give next) old s new (draw_failed is only out) told tells ok = absurd (not_entropy_fault s ok is)
+answers_over (draws kind give next) old s new (draw_starved parts is only drawn drew stood none) told tells ok = absurd (not_no_memory s ok is)
 answers_over (pumps part) old s new e told tells ok = pump_answers part e.result old s new e.lasting e.status e.only e.pass told tells ok
 answers_over (exchanges exchange next) old s new (exchanged keys mid talk store steady run) told tells ok =
     let w = went exchange keys (sides_of old) (sides_of mid) talk in
@@ -377,6 +393,12 @@ stands (creates name output taken stated) old s new (create_failed is only rose 
   last = λ whole h. absurd (cc);
 }
 stands (creates name output taken stated) old s new (create_starved is only kept stood) = untouched (creates name output taken stated) old s new (λ h. absurd (cc)) only.sink kept
+stands (looks name taken stated next) old s new (look_free store kept stood holds run) =
+    goes_on (looks name taken stated next) next old (record old { store = store }) s new (λ whole. whole) kept refl
+    (λ told tells. (told, record { input = tells.input; files = sym kept.files ∙ tells.files; random = tells.random }, refl, free_answer _ _ _ (file_told old.store told.files name None tells.files holds)))
+    (stands next (record old { store = store }) s new run)
+stands (looks name taken stated next) old s new (look_taken is only kept stood there) = untouched (looks name taken stated next) old s new (λ h. not_write_fault taken stated (sym is ∙ h)) only.sink kept
+stands (looks name taken stated next) old s new (look_failed is only kept rose) = untouched (looks name taken stated next) old s new (λ h. absurd (cc)) only.sink kept
 stands (allocates next) old s new (inl run) = let later = stands next old s new run in record { files = later.files; torn = λ h. torn_later (later.torn h); kept = later.kept; front = later.front; last = later.last }
   where
     torn_later : KeptFiles old.store new.store ⊎ IsTorn next old new → KeptFiles old.store new.store ⊎ IsTorn (allocates next) old new
@@ -405,6 +427,7 @@ stands (draws kind give next) old s new (settled drawn entropy given drew stood 
     (record told { random = split.0 }, record { input = tells.input; files = tells.files; random = split.1 }, refl, settled_answer give drawn split.0 told.random given _ (λ x. answer (next x.answer) (record told { random = x.left })) settles split.2))
     (stands (next given) (record old { entropy = entropy }) s new run)
 stands (draws kind give next) old s new (draw_failed is only out) = untouched (draws kind give next) old s new (λ h. absurd (cc)) only.sink (same_files _ _ only.store)
+stands (draws kind give next) old s new (draw_starved parts is only drawn drew stood none) = untouched (draws kind give next) old s new (λ h. absurd (cc)) only.sink (same_files _ _ only.store)
 stands (exchanges exchange next) old s new (exchanged keys mid talk store steady run) =
     let w = went exchange keys (sides_of old) (sides_of mid) talk in
     let kept = same_files old.store mid.store store in
@@ -500,6 +523,11 @@ leaves (creates name output taken stated) old s new (made is only stood added) =
 leaves (creates name output taken stated) old s new (name_taken is only kept stood there) = store_used _ old s new only (refl, inr (inl (is, there)))
 leaves (creates name output taken stated) old s new (create_failed is only rose may) = store_used _ old s new only (refl, inr (inr (inl is)))
 leaves (creates name output taken stated) old s new (create_starved is only kept stood) = store_used _ old s new only (refl, inr (inr (inr is)))
+leaves (looks name taken stated next) old s new (look_free store kept stood holds run) =
+    let later = leaves next (record old { store = store }) s new run in
+    record { moved = later.moved; gave = later.gave; drew = later.drew; took = later.took; is = inr (holds, subst (λ (f : Option Files). IsLeft next f s later.moved) (sym kept.files) later.is) }
+leaves (looks name taken stated next) old s new (look_taken is only kept stood there) = store_used _ old s new only (inl (refl, inl (is, there)))
+leaves (looks name taken stated next) old s new (look_failed is only kept rose) = store_used _ old s new only (inl (refl, inr is))
 leaves (allocates next) old s new (inl run) = let later = leaves next old s new run in record { moved = later.moved; gave = later.gave; drew = later.drew; took = later.took; is = inr later.is }
 leaves (allocates next) old s new (inr (is, same)) = none_moved _ old s new same (inl (is, refl))
 leaves (loads name limit absent long a l next) old s new (loaded bytes store kept stood within holds run) =
@@ -518,7 +546,8 @@ leaves (reads_all limit long stated next) old s new (read_starved is only stood 
 leaves (draws kind give next) old s new (settled drawn entropy given drew stood settles run) =
     let later = leaves (next given) (record old { entropy = entropy }) s new run in
     record { moved = record later.moved { drawn = drawn ++ later.moved.drawn }; gave = later.gave; drew = drew_more _ _ _ _ _ drew later.drew; took = later.took; is = inr (drawn, later.moved.drawn, given, refl, settles, later.is) }
-leaves (draws kind give next) old s new (draw_failed is only out) = record { moved = record nothing { drawn = out.drawn }; gave = gave_same _ _ only.source; drew = out.drew; took = took_same _ _ only.sink; is = inl (is, out.undecided, refl) }
+leaves (draws kind give next) old s new (draw_failed is only out) = record { moved = record nothing { drawn = out.drawn }; gave = gave_same _ _ only.source; drew = out.drew; took = took_same _ _ only.sink; is = inl (inl is, out.undecided, refl) }
+leaves (draws kind give next) old s new (draw_starved parts is only drawn drew stood none) = record { moved = record nothing { drawn = drawn }; gave = gave_same _ _ only.source; drew = drew; took = took_same _ _ only.sink; is = inl (inr (is, parts), none, refl) }
 leaves (pumps part) old s new e = pump_leaves part e.result old s new e.status e.only e.pass
 leaves (exchanges exchange next) old s new (exchanged keys mid talk store steady run) =
     let w = went exchange keys (sides_of old) (sides_of mid) talk in

@@ -6,20 +6,22 @@ use Rattle.keyset_model.specs.Keyset.{Keys}
 use Rattle.tinkey_cmds.specs.Draws.{Draw}
 use Rattle.tinkey_cmds.specs.Edits.{first, step}
 use Rattle.tinkey_cmds.specs.declared.command.CmdFault.{CmdFault}
+use Rattle.managers.specs.Table.{scheme_at}
+use Rattle.seal_wrap.specs.Enveloping.{url_made}
 use Rattle.wrapped_prims.specs.Fitness.{unfit}
 use Rattle.tinkey_words.specs.declared.words.rows.Format.{Format}
 use Rattle.tinkey_words.specs.declared.words.rows.Format.TheVariants as formats
 use Rattle.tinkey_plans.specs.Laws.{CommandsAreWhole}
 use Rattle.tinkey_plans.specs.Plan.{writes, Plan}
 use Rattle.tinkey_plans.specs.Promises.{IsWhole}
-use Rattle.tinkey_plans.proofs.EachLemmas.{AreAll, IsClosed, edit_each, fit_each, keyset_each, made_each, row_each, work_each, written_each, wrapped_each, unwrapped_each}
+use Rattle.tinkey_plans.proofs.EachLemmas.{AreAll, IsClosed, dek_each, envelope_each, scheme_each, edit_each, fit_each, keyset_each, made_each, row_each, work_each, written_each, wrapped_each, unwrapped_each}
 use Rattle.tinkey_plans.specs.Steps.{takes_keyset, makes_keyset, puts, puts_keyset}
 use Rattle.seal_wrap.specs.Unwrapped.{unwrap_of}
 use Rattle.tinkey_plans.specs.Wrapping.{is_json, makes_wrapped, takes_wrapped}
 use Rattle.tinkey_selftest.specs.Trial as trial
 use Rattle.tinkey_selftest.specs.declared.counts.Counts.{Counts}
 use Rattle.tinkey_plans.specs.SelfTesting.{tells_counts}
-use Rattle.tinkey_words.specs.Words.{self_test, Place, primitive_for, create_keyset, edit_keyset, list_keyset, convert_keyset, list_key_templates, use_keyset, seal_stream, open_stream, session, wrap_keyset, unwrap_keyset}
+use Rattle.tinkey_words.specs.Words.{self_test, Place, primitive_for, create_keyset, edit_keyset, list_keyset, convert_keyset, list_key_templates, use_keyset, use_envelope, seal_stream, open_stream, session, wrap_keyset, unwrap_keyset}
 
 closed : IsClosed IsWhole
 closed = record { ended = λ s stated. tt; allocated = λ next all. all; drawn = λ kind give next all. all }
@@ -53,6 +55,7 @@ commands_are_whole table (list_keyset in') = inl (taken_whole in'.file in'.form 
 commands_are_whole table (convert_keyset in' out) = inl (taken_whole in'.file in'.form _ (out_whole out))
 commands_are_whole table list_key_templates = inl tt
 commands_are_whole table (use_keyset name form work) = inl (λ bytes. keyset_each IsWhole closed form bytes _ (λ keys. fit_each IsWhole closed (unfit keys (primitive_for work) table) _ (λ input. work_each IsWhole closed table keys work input _ (λ output. tt))))
+commands_are_whole table (use_envelope name form template work) = inl (dek_each IsWhole closed template _ (λ row bytes. keyset_each IsWhole closed form bytes _ (λ keys. fit_each IsWhole closed (unfit keys Aead table) _ (scheme_each IsWhole closed (scheme_at table Aead (url_made row)) _ (λ scheme input. envelope_each IsWhole closed table keys scheme row work input _ (λ output. tt))))))
 commands_are_whole table (seal_stream name form ad) = inr (inl tt)
 commands_are_whole table (open_stream name form ad) = inr (inl tt)
 commands_are_whole table (self_test seed lines) = inl (counts_whole (trial.self_test table seed lines) lines)

@@ -1,5 +1,6 @@
 -- The plan of each command: its steps, in the order of refusals. What a keyset answers is said apart
--- from plans, in keyset_model's Listing, in wrapped_prims' Answers and in seal_wrap's Wrapped and Unwrapped.
+-- from plans, in keyset_model's Listing, in wrapped_prims' Answers and in seal_wrap's Wrapped, Unwrapped and
+-- Enveloped.
 use Rattle.std.specs.Prelude.{ℕ, List, ◌++◌, Result, Ok, Err, codes}
 use Rattle.std.specs.List.{flat_map}
 use Rattle.key_msgs.specs.Templates.{templates}
@@ -10,12 +11,13 @@ use Rattle.tinkey_cmds.specs.Edits.{first, step}
 use Rattle.tinkey_plans.specs.declared.status.Status.TheVariants as status
 use Rattle.tinkey_plans.specs.Plan.{Plan, ends, writes}
 use Rattle.tinkey_plans.specs.Session.{holds_session}
+use Rattle.tinkey_plans.specs.Envelopes.{envelope_output}
 use Rattle.tinkey_plans.specs.SelfTesting.{self_test_output}
 use Rattle.tinkey_plans.specs.Steps.{takes_keyset, loads_keyset, works_out, finds_template, finds_edit, makes_keyset, puts, puts_keyset}
 use Rattle.tinkey_plans.specs.Streaming.{loads_stream_keys, seals_stream, opens_stream}
 use Rattle.tinkey_plans.specs.Using.{use_output}
 use Rattle.tinkey_plans.specs.Wrapping.{wrap_output, unwrap_output}
-use Rattle.tinkey_words.specs.Words.{Place, AskedEdit, Asked, create_keyset, edit_keyset, list_keyset, convert_keyset, list_key_templates, use_keyset, seal_stream, open_stream, self_test, session, wrap_keyset, unwrap_keyset, words_of}
+use Rattle.tinkey_words.specs.Words.{Place, AskedEdit, Asked, create_keyset, edit_keyset, list_keyset, convert_keyset, list_key_templates, use_keyset, use_envelope, seal_stream, open_stream, self_test, session, wrap_keyset, unwrap_keyset, words_of}
 
 -- create-keyset: a keyset of one new key
 abbrev pub create_output : List ℕ → (Keys → Plan) → Plan
@@ -44,6 +46,8 @@ command_plan table (list_keyset in') = list_keyset_output in' writes
 command_plan table (convert_keyset in' out) = takes_keyset in' (puts_keyset out)
 command_plan table list_key_templates = writes template_names
 command_plan table (use_keyset name form work) = use_output table name form work writes
+command_plan table (use_envelope name form template work) =
+    envelope_output table name form template work writes
 command_plan table (seal_stream name form ad) =
     loads_stream_keys name form (λ keys. seals_stream keys ad)
 command_plan table (open_stream name form ad) =

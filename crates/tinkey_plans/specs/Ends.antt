@@ -16,7 +16,7 @@ use Rattle.tinkey_session.specs.declared.talk.TalkFault.{TalkFault}
 use Rattle.tinkey_session.specs.declared.talk.TalkFault.TheVariants as talk_faults
 use Rattle.tinkey_plans.specs.declared.status.Status.{Status}
 use Rattle.tinkey_plans.specs.declared.status.Status.TheVariants as status
-use Rattle.tinkey_plans.specs.Plan.{Plan, ends, writes, creates, allocates, loads, reads_all, draws, pumps, exchanges}
+use Rattle.tinkey_plans.specs.Plan.{Plan, ends, writes, creates, looks, allocates, loads, reads_all, draws, pumps, exchanges, Made, Of, IsMadeInParts}
 
 -- the outside objects at one moment
 pub record World : Type 0 where
@@ -83,6 +83,18 @@ pub data EndsCreating (name output : List ℕ) (taken : Status)
   create_starved : s ≡ status.NoMemory → OnlyStore old new → KeptFiles old.store new.store →
       Stood old.store.faults new.store.faults → EndsCreating name output taken old s new
 
+-- the name was free, and then it went on; or it was taken; or the store failed
+pub data EndsLooking (name : List ℕ) (taken : Status) (Then : World → Status → World → Type 0)
+    (old : World) (s : Status) (new : World) : Type 0 where
+  look_free : (store : StoreState) → KeptFiles old.store store →
+      Stood old.store.faults store.faults → Holds old.store name None →
+      Then (record old { store = store }) s new → EndsLooking name taken Then old s new
+  look_taken : s ≡ taken → OnlyStore old new → KeptFiles old.store new.store →
+      Stood old.store.faults new.store.faults → HoldsSome old.store name →
+      EndsLooking name taken Then old s new
+  look_failed : s ≡ status.StoreFault → OnlyStore old new → KeptFiles old.store new.store →
+      Rose old.store.faults new.store.faults → EndsLooking name taken Then old s new
+
 -- the file was loaded, and then it went on; or it is missing, or longer than the limit; or the store
 -- failed, or memory was wanting
 pub data EndsLoading (name : List ℕ) (limit : ℕ) (absent long : Status)
@@ -124,16 +136,20 @@ abbrev pub Settles : {A : Type 0} → Draw A → (drawn : List ℕ) → Result A
 Settles give drawn given = (more : List ℕ) → give (drawn ++ more) ≡ answered given more
 
 -- the bytes were drawn that settle what is made or its refusal, and then it went on; or the entropy
--- failed before they were there
-pub data EndsDrawing {A : Type 0} (give : Draw A)
-    (Then : Result A CmdFault → World → Status → World → Type 0)
+-- failed before they were there; or of what is made in parts memory was wanting before that
+pub data EndsDrawing (kind : Made) (give : Draw (Of kind))
+    (Then : Result (Of kind) CmdFault → World → Status → World → Type 0)
     (old : World) (s : Status) (new : World) : Type 0 where
-  settled : (drawn : List ℕ) (entropy : EntropyState) (given : Result A CmdFault) →
+  settled : (drawn : List ℕ) (entropy : EntropyState) (given : Result (Of kind) CmdFault) →
       Drew old.entropy entropy drawn → Stood old.entropy.faults entropy.faults →
       Settles give drawn given → Then given (record old { entropy = entropy }) s new →
-      EndsDrawing give Then old s new
+      EndsDrawing kind give Then old s new
   draw_failed : s ≡ status.EntropyFault → OnlyEntropy old new →
-      RanOut give old.entropy new.entropy → EndsDrawing give Then old s new
+      RanOut give old.entropy new.entropy → EndsDrawing kind give Then old s new
+  draw_starved : IsMadeInParts kind → s ≡ status.NoMemory → OnlyEntropy old new →
+      (drawn : List ℕ) → Drew old.entropy new.entropy drawn →
+      Stood old.entropy.faults new.entropy.faults → give drawn ≡ None →
+      EndsDrawing kind give Then old s new
 
 -- what is decided before the end, the whole input decides too, with what was given out by then
 pub record IsLasting (part : Part) : Type 0 where
@@ -193,12 +209,14 @@ abbrev pub Ends : Plan → World → Status → World → Type 0
 Ends (ends stated_status stated) old s new = (s ≡ stated_status) × (old ≡ new)
 Ends (writes output) old s new = EndsWriting output old s new
 Ends (creates name output taken stated) old s new = EndsCreating name output taken old s new
+Ends (looks name taken stated next) old s new = EndsLooking name taken (Ends next) old s new
 Ends (allocates next) old s new = Ends next old s new ⊎ ((s ≡ status.NoMemory) × (old ≡ new))
 Ends (loads name limit absent long a l next) old s new =
     EndsLoading name limit absent long (λ bytes. Ends (next bytes)) old s new
 Ends (reads_all limit long stated next) old s new =
     EndsReading limit long (λ all. Ends (next all)) old s new
-Ends (draws kind give next) old s new = EndsDrawing give (λ given. Ends (next given)) old s new
+Ends (draws kind give next) old s new =
+    EndsDrawing kind give (λ given. Ends (next given)) old s new
 Ends (pumps part) old s new = EndsPumping part old s new
 Ends (exchanges exchange next) old s new =
     EndsExchanging exchange (λ keys. Ends (next keys)) old s new

@@ -15,7 +15,7 @@ use Rattle.wrapped_prims.specs.Answers.{Sealed, primary_key, seal_answer}
 use Rattle.tinkey_plans.specs.declared.status.Status.TheVariants as status
 use Rattle.tinkey_plans.specs.Commands.{command_plan}
 use Rattle.tinkey_plans.specs.Laws.{IsFit}
-use Rattle.tinkey_plans.specs.Plan.{Of, Plan, Told, answer, ends, writes, creates, allocates, loads, reads_all, draws, pumps, exchanges}
+use Rattle.tinkey_plans.specs.Plan.{Of, Plan, Told, answer, ends, writes, creates, looks, allocates, loads, reads_all, draws, pumps, exchanges}
 use Rattle.tinkey_words.specs.Words.{Asked}
 
 -- The end is Done; the name of a new file is free; a file to load is there, within its limit; the
@@ -25,6 +25,7 @@ abbrev pub NoneRefuses : Plan → Told → Type 0
 NoneRefuses (ends s stated) told = s ≡ status.Done
 NoneRefuses (writes output) told = Unit {0}
 NoneRefuses (creates name output taken stated) told = map.get told.files name ≡ None
+NoneRefuses (looks name taken stated next) told = (map.get told.files name ≡ None) × NoneRefuses next told
 NoneRefuses (allocates next) told = NoneRefuses next told
 NoneRefuses (loads name limit absent long a l next) told =
     (bytes : List ℕ) × (map.get told.files name ≡ Some bytes) × (length bytes ≤ limit)

@@ -18,7 +18,8 @@ use Rattle.tinkey_plans.specs.Commands.{command_plan, plan_of}
 use Rattle.tinkey_plans.specs.Ends.{World, Ends}
 use Rattle.tinkey_plans.specs.Plan.{Answer, Told, answer}
 use Rattle.tinkey_plans.specs.Promises.{IsWhole}
-use Rattle.tinkey_words.specs.Words.{Asked, seal_stream, open_stream, self_test, session, words_of}
+use Rattle.tinkey_words.specs.declared.words.rows.Format.{Format}
+use Rattle.tinkey_words.specs.Words.{Asked, AskedEnvelope, seal_stream, open_stream, self_test, session, use_envelope, words_of}
 
 -- a keyset without a fault, each record of which can serve for the primitive
 pub record IsFit (table : Table) (primitive : Primitive) (keys : Keys) : Type 0 where
@@ -51,6 +52,21 @@ IsSession _ = ⊥
 abbrev pub CommandsAreWhole : Type 0
 CommandsAreWhole = (table : Table) (asked : Asked) →
     IsWhole (command_plan table asked) ⊎ IsStream asked ⊎ IsSession asked
+
+-- ---- data keys
+
+-- a data key had no manager, or was refused
+abbrev pub IsDekStatus : Status → Type 0
+IsDekStatus status.NoDekManager = Unit {0}
+IsDekStatus (status.DekRefused rule) = Unit {0}
+IsDekStatus _ = ⊥
+
+-- Over the standard table no run of eseal or eopen ends so, whatever fails.
+abbrev pub DataKeysCome : Type 0
+DataKeysCome = (words : List (List ℕ)) (name : List ℕ) (form : Format) (template : List ℕ)
+    (work : AskedEnvelope) (old : World) (s : Status) (new : World)
+    → words_of words ≡ Ok (use_envelope name form template work)
+    → Ends (plan_of standard_table words) old s new → IsDekStatus s → ⊥
 
 -- ---- the self-test
 

@@ -1,5 +1,6 @@
 pub mod Commands
 pub mod Ends
+pub mod Envelopes
 pub mod Laws
 pub mod Plan
 pub mod Promises

@@ -3,6 +3,7 @@
 use Rattle.std.specs.Prelude.{ℕ, ◌+◌, List, [], ◌++◌, length, drop, true, Option, Some, None, Result, nat_le, if◌then◌else◌}
 use Rattle.std.specs.FinMap as map
 use Rattle.tink_spec.specs.Files.{Files}
+use Rattle.key_msgs.specs.declared.rule.Rule.{Rule}
 use Rattle.keyset_model.specs.Keyset.{Keys}
 use Rattle.segment_stream.specs.Opening.{StreamRefusal, too_many, failed}
 use Rattle.segment_stream.specs.Pumping.{Part}
@@ -25,11 +26,20 @@ IsStated _ = Unit {0}
 pub data Made : Type 0 where
   keysets : Made
   sealings : Made
+  -- an envelope, or the rule that its data key breaks
+  envelopings : Made
 
 -- its type, as it is seen
 abbrev pub Of : Made → Type 0
 Of keysets = Keys
 Of sealings = List ℕ
+Of envelopings = Result (List ℕ) Rule
+
+-- memory may be wanting between the fills of random bytes that it takes
+abbrev pub IsMadeInParts : Made → Type 0
+IsMadeInParts keysets = ⊥
+IsMadeInParts sealings = ⊥
+IsMadeInParts envelopings = Unit {0}
 
 -- the steps of a command, in the order of refusals
 pub data Plan : Type 0 where
@@ -39,6 +49,8 @@ pub data Plan : Type 0 where
   writes : (output : List ℕ) → Plan
   -- these bytes become a file of this name, and the answer is Done; one that is there is answered so
   creates : (name output : List ℕ) (taken : Status) → IsStated taken → Plan
+  -- the name of a new file is looked up; one that is taken is answered so
+  looks : (name : List ℕ) (taken : Status) → IsStated taken → (next : Plan) → Plan
   -- from here on memory may be wanting
   allocates : (next : Plan) → Plan
   -- a file is loaded; one that is missing, or of more bytes than the limit, is answered so
@@ -130,6 +142,11 @@ create_answer None told name output taken = record (refused told status.Done) {
   files = map.insert told.files name output;
 }
 
+-- the answer where this name has to be free
+abbrev pub look_answer : Option (List ℕ) → Answer → Answer → Answer
+look_answer None taken next = next
+look_answer (Some there) taken next = taken
+
 -- the answer after random bytes were drawn; where they don't suffice, the entropy can but fail
 abbrev pub draw_answer : {A : Type 0} → Option (Drawn A) → Answer → (Drawn A → Answer) → Answer
 draw_answer None short next = short
@@ -141,6 +158,8 @@ answer (ends s stated) told = refused told s
 answer (writes output) told = record (refused told status.Done) { output = output }
 answer (creates name output taken stated) told =
     create_answer (map.get told.files name) told name output (refused told taken)
+answer (looks name taken stated next) told =
+    look_answer (map.get told.files name) (refused told taken) (answer next told)
 answer (allocates next) told = answer next told
 answer (loads name limit absent long a l next) told =
     load_answer (map.get told.files name) limit (refused told absent) (refused told long)

@@ -9,7 +9,7 @@ use Rattle.tinkey_cmds.specs.declared.command.CmdFault.{CmdFault}
 use Rattle.tinkey_session.specs.Talking.{Exchange, Limit, Stop, goes, wants, passes}
 use Rattle.tinkey_plans.specs.declared.status.Status.{Status}
 use Rattle.tinkey_plans.specs.declared.status.Status.TheVariants as status
-use Rattle.tinkey_plans.specs.Plan.{Plan, ends, writes, creates, allocates, loads, reads_all, draws, pumps, exchanges, Of, Told, Answer, answer, stream_status, limit_status, IsStated}
+use Rattle.tinkey_plans.specs.Plan.{Plan, ends, writes, creates, looks, allocates, loads, reads_all, draws, pumps, exchanges, Of, IsMadeInParts, Told, Answer, answer, stream_status, limit_status, IsStated}
 use Rattle.tinkey_plans.specs.Ends.{World, Ends, Settles}
 
 -- the objects tell these bytes
@@ -129,6 +129,10 @@ IsLeft (creates name output taken stated) files s moved =
     (moved ≡ nothing) × (((s ≡ status.Done) × Holds (over_files files) name None)
     ⊎ ((s ≡ taken) × HoldsSome (over_files files) name)
     ⊎ (s ≡ status.StoreFault) ⊎ (s ≡ status.NoMemory))
+IsLeft (looks name taken stated next) files s moved =
+    ((moved ≡ nothing)
+    × (((s ≡ taken) × HoldsSome (over_files files) name) ⊎ (s ≡ status.StoreFault)))
+    ⊎ (Holds (over_files files) name None × IsLeft next files s moved)
 IsLeft (allocates next) files s moved =
     ((s ≡ status.NoMemory) × (moved ≡ nothing)) ⊎ IsLeft next files s moved
 IsLeft (loads name limit absent long a l next) files s moved =
@@ -144,8 +148,8 @@ IsLeft (reads_all limit long stated next) files s moved =
     ⊎ ((all : List ℕ) × (more : List ℕ) × (all ++ more ≡ moved.taken) × (length all ≤ limit)
     × IsLeft (next all) files s (record moved { taken = more }))
 IsLeft (draws kind give next) files s moved =
-    ((s ≡ status.EntropyFault) × (give moved.drawn ≡ None)
-    × (moved ≡ record nothing { drawn = moved.drawn }))
+    (((s ≡ status.EntropyFault) ⊎ ((s ≡ status.NoMemory) × IsMadeInParts kind))
+    × (give moved.drawn ≡ None) × (moved ≡ record nothing { drawn = moved.drawn }))
     ⊎ ((drawn : List ℕ) × (more : List ℕ) × (given : Result (Of kind) CmdFault)
     × (drawn ++ more ≡ moved.drawn) × Settles give drawn given
     × IsLeft (next given) files s (record moved { drawn = more }))
@@ -162,6 +166,7 @@ abbrev pub IsWhole : Plan → Type 0
 IsWhole (ends stated_status stated) = Unit {0}
 IsWhole (writes output) = Unit {0}
 IsWhole (creates name output taken stated) = Unit {0}
+IsWhole (looks name taken stated next) = IsWhole next
 IsWhole (allocates next) = IsWhole next
 IsWhole (loads name limit absent long a l next) = (bytes : List ℕ) → IsWhole (next bytes)
 IsWhole (reads_all limit long stated next) = (all : List ℕ) → IsWhole (next all)

@@ -6,7 +6,7 @@ use Rattle.managers.specs.Table.{Table}
 use Rattle.tinkey_session.specs.Talking.{talk}
 use Rattle.tinkey_plans.specs.declared.status.Status.TheVariants as status
 use Rattle.tinkey_words.specs.declared.words.rows.Format.{Format}
-use Rattle.tinkey_plans.specs.Plan.{Plan, ends, creates, exchanges}
+use Rattle.tinkey_plans.specs.Plan.{Plan, ends, creates, looks, exchanges}
 use Rattle.tinkey_plans.specs.Steps.{writes_keyset}
 use Rattle.tinkey_words.specs.Words.{Place}
 
@@ -20,6 +20,14 @@ saves_as (Some name) form keys =
 abbrev pub saves : Place → Keys → Plan
 saves place keys = saves_as place.file place.form keys
 
--- the lines of the input are answered over this keyset, and then the last one is saved
+-- the name of a new file is free, where one is named
+abbrev pub finds_free : (file : Option (List ℕ)) → (Unit {0} → Plan) → Plan
+finds_free None next = next tt
+finds_free (Some name) next = looks name status.OutExists tt (next tt)
+
+-- The lines of the input are answered over this keyset, and then the last one is saved. The name that it
+-- is to have is looked up before a byte of the input is taken, so that no reply is given for a keyset that
+-- has no place.
 abbrev pub holds_session : Table → (out : Place) → Keys → Plan
-holds_session table out keys = exchanges (talk table keys) (saves out)
+holds_session table out keys =
+    finds_free out.file (λ free. exchanges (talk table keys) (saves out))

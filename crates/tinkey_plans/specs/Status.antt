@@ -5,6 +5,7 @@ use Rattle.keyset_json.specs.Members.{name_of}
 use Rattle.keyset_model.specs.declared.keyset.KeysetFault.{KeysetFault}
 use Rattle.keyset_model.specs.declared.keyset.KeysetFault.TheVariants as faults
 use Rattle.tink_spec.specs.Outside.{SinkState, Rose, Took, TookPrefix}
+use Rattle.tinkey_cmds.specs.declared.command.CmdFault.TheVariants as edits
 use Rattle.tinkey_session.specs.declared.reply.Refusal.TheVariants as refused
 use Rattle.tinkey_session.specs.Texts.{refusal_text}
 use Rattle.tinkey_plans.specs.declared.status.Status.{Status}
@@ -19,6 +20,7 @@ code_of (status.StreamFailed number) = 1
 code_of (status.Usage word) = 2
 code_of status.UnknownTemplate = 2
 code_of status.AsymmetricTemplate = 2
+code_of status.DekTemplate = 2
 code_of (status.OutputTooLong asked greatest) = 2
 code_of (status.BadProto at) = 3
 code_of status.NotJson = 3
@@ -28,6 +30,8 @@ code_of (status.Keyset fault) = 3
 code_of (status.NoManager i) = 3
 code_of (status.BadKey i rule) = 3
 code_of (status.NotRaw i) = 3
+code_of status.NoDekManager = 3
+code_of (status.DekRefused rule) = 3
 code_of status.InMissing = 4
 code_of (status.Command fault) = 4
 code_of status.OutExists = 4
@@ -86,6 +90,10 @@ text_of status.LineTooLong = codes "line too long"
 text_of status.TooManyLines = codes "too many lines"
 text_of status.UnknownTemplate = refusal_text refused.UnknownTemplate
 text_of status.AsymmetricTemplate = refusal_text refused.AsymmetricTemplate
+text_of status.DekTemplate = codes "template is not an AEAD"
+text_of status.NoDekManager = codes "no manager for the data key"
+text_of (status.DekRefused rule) =
+    codes "data " ++ refusal_text (refused.EditRefused (edits.KeyRefused rule))
 text_of (status.OutputTooLong asked greatest) =
     refusal_text (refused.OutputTooLong asked greatest)
 text_of (status.Command fault) = refusal_text (refused.EditRefused fault)

@@ -4,11 +4,15 @@ ghost use Rattle.std.specs.Prelude.{◌≡◌, ◌+◌, ◌≤◌, ◌++◌, len
 ghost use Rattle.keyset_json.specs.Members.{name_of};
 ghost use Rattle.tinkey_session.specs.Texts.{refusal_text};
 ghost use Rattle.tinkey_plans.specs.Status.{key_text, line_of, text_of, fault_text, Reports};
+ghost use Rattle.tinkey_cmds.specs.declared.command.CmdFault.TheVariants as edits;
+ghost use Rattle.tinkey_session.specs.declared.reply.Refusal.TheVariants as refused;
 
 use crate::Status;
+use key_msgs::Rule;
 use keyset_json::{Member, Path};
 use keyset_model::KeysetFault;
 use tink_base::{Sink, write_all};
+use tinkey_cmds::CmdFault;
 use tinkey_session::{Refusal, ShortText, refusal_text};
 
 /// Writes the line of a status. A fault of `diag` changes no status.
@@ -47,7 +51,7 @@ fn line(status: Status) -> ShortText
 /// Adds the text of a status, for which there is room.
 #[tactic(auto, unfolding(crate::specs::Status::text_of))]
 fn push_text(line: &mut ShortText, status: Status)
-    requires room { length line.old ≤ 16 }
+    requires room { length line.old ≤ 8 }
     ensures text { line.new ≡ line.old ++ text_of status }
     ensures short { length line.new ≤ 127 }
 {
@@ -79,6 +83,9 @@ fn push_text(line: &mut ShortText, status: Status)
         Status::TooManyLines => line.push("too many lines"),
         Status::UnknownTemplate => push_refusal(line, Refusal::UnknownTemplate),
         Status::AsymmetricTemplate => push_refusal(line, Refusal::AsymmetricTemplate),
+        Status::DekTemplate => line.push("template is not an AEAD"),
+        Status::NoDekManager => line.push("no manager for the data key"),
+        Status::DekRefused(rule) => push_data_key(line, rule),
         Status::OutputTooLong(asked, greatest) => {
             push_refusal(line, Refusal::OutputTooLong(asked, greatest));
         }
@@ -152,6 +159,17 @@ fn push_refusal(line: &mut ShortText, refusal: Refusal)
     ensures short { length line.new ≤ 127 }
 {
     line.push_bytes(refusal_text(refusal).as_slice());
+}
+
+/// Adds that a data key breaks a rule, for which there is room.
+fn push_data_key(line: &mut ShortText, rule: Rule)
+    requires room { length line.old ≤ 8 }
+    ensures text { line.new ≡ line.old ++
+        (codes "data " ++ refusal_text (refused.EditRefused (edits.KeyRefused rule))) }
+    ensures short { length line.new ≤ 127 }
+{
+    line.push("data ");
+    line.push_bytes(refusal_text(Refusal::EditRefused(CmdFault::KeyRefused(rule))).as_slice());
 }
 
 /// Adds what is said of the key of this place.

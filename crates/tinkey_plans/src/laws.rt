@@ -1,8 +1,9 @@
 //! Laws of what the program answers. These functions do nothing: their contracts are the laws.
 
 ghost use Rattle.tinkey_plans.specs.Going.{DoneExactly, FitKeysetsSeal};
-ghost use Rattle.tinkey_plans.specs.Laws.{CommandsAreWhole, FitKeysetsAnswer, SelfTestRuns, SelfTestsTell};
+ghost use Rattle.tinkey_plans.specs.Laws.{CommandsAreWhole, DataKeysCome, FitKeysetsAnswer, SelfTestRuns, SelfTestsTell};
 
+use seal_wrap::laws::standard_data_keys;
 use tinkey_selftest::laws::{counts_add_up, nothing_is_lost};
 
 /// A keyset without a fault, each ENABLED record of which can serve, has a primary key under its
@@ -33,3 +34,11 @@ pub fn done_exactly()
     ensures commands { DoneExactly }
     ensures seals { FitKeysetsSeal }
 {}
+
+/// Over the standard table no run of `eseal` or `eopen` wants a manager for the data key, and no data key
+/// is refused, whatever fails.
+pub fn data_keys_come()
+    ensures { DataKeysCome }
+{
+    standard_data_keys();
+}

@@ -56,6 +56,12 @@ pub enum Status {
     UnknownTemplate,
     /// The template is one of Tink for asymmetric keys.
     AsymmetricTemplate,
+    /// The template of data keys is none of an AEAD.
+    DekTemplate,
+    /// No manager has the type URL of the data keys.
+    NoDekManager,
+    /// The data key that was made breaks this rule of its manager, the first one.
+    DekRefused(Rule),
     /// So many bytes were asked for, and the primary key gives at most so many.
     OutputTooLong(usize, usize),
     /// The edit is refused so.
@@ -87,6 +93,7 @@ impl Status {
             Status::Usage(_)
             | Status::UnknownTemplate
             | Status::AsymmetricTemplate
+            | Status::DekTemplate
             | Status::OutputTooLong(_, _) => 2,
             Status::BadProto(_)
             | Status::NotJson
@@ -95,7 +102,9 @@ impl Status {
             | Status::Keyset(_)
             | Status::NoManager(_)
             | Status::BadKey(_, _)
-            | Status::NotRaw(_) => 3,
+            | Status::NotRaw(_)
+            | Status::NoDekManager
+            | Status::DekRefused(_) => 3,
             Status::InMissing | Status::Command(_) | Status::OutExists => 4,
             Status::ReadFault | Status::WriteFault | Status::EntropyFault | Status::StoreFault => 5,
             Status::KeysetTooLong

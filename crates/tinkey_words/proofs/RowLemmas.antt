@@ -1,9 +1,9 @@
 -- The tables of the words: an entry is found by its word and by its place, and a value is of its form.
 -- A further command or option is a line of `command_found` or of `is_found`.
-use Rattle.std.proofs.Common.{◌≡◌, ◌≢◌, ◌⊎◌, inl, inr, ◌∙◌, sym, refl, ap, subst, ℕ, ◌+◌, ◌*◌, ◌%◌, ◌<◌, ◌≤◌, Bool, true, false, List, [], ◌∷◌, ◌++◌, length, get_or, cond, arith, rules, length-append, Option, Some, None, Ok, Err, Result}
+use Rattle.std.proofs.Common.{◌≡◌, ◌≢◌, ◌⊎◌, inl, inr, ◌∙◌, sym, refl, ap, subst, ℕ, ◌+◌, ◌*◌, ◌%◌, ◌≤◌, Bool, true, false, List, [], ◌∷◌, ◌++◌, length, get_or, cond, arith, length-append, Option, Some, None}
 use Rattle.std.specs.Prelude.{◌==◌, ◌&&◌, nat_lt, nat_le, is_some, option_map, if◌then◌else◌, codes}
 use Rattle.std.specs.List.{find, list_all, position_or_len, before_first, after_first}
-use Rattle.std.specs.Str.{bytes_eq, all_ascii_digits, str_eq_ignore_ascii_case, str_to_ascii_lowercase}
+use Rattle.std.specs.Str.{bytes_eq, str_eq_ignore_ascii_case, str_to_ascii_lowercase}
 use Rattle.std.specs.Str.Parse.{digits_value}
 use Rattle.tink_base.specs.Decimal.{number_in}
 use Rattle.tink_base.proofs.DecimalLemmas.{number_passes, number_taken}
@@ -68,6 +68,8 @@ command_found commands.Session = refl
 command_found commands.Selftest = refl
 command_found commands.WrapKeyset = refl
 command_found commands.UnwrapKeyset = refl
+command_found commands.Eseal = refl
+command_found commands.Eopen = refl
 
 pub command_named : (text : List ℕ) (command : CommandName) → command_of text ≡ Some command → text ≡ (row_of command).word
 unfolding command_of
@@ -97,6 +99,7 @@ is_found options.Seed = record { word = refl; plain = refl; place = refl }
 is_found options.Lines = record { word = refl; plain = refl; place = refl }
 is_found options.Master = record { word = refl; plain = refl; place = refl }
 is_found options.MasterFormat = record { word = refl; plain = refl; place = refl }
+is_found options.DekTemplate = record { word = refl; plain = refl; place = refl }
 
 pub option_found : (name : OptionName) → option_of (option_row name).word ≡ Some name
 option_found name = (is_found name).word
@@ -137,6 +140,7 @@ are_rivals options.Seed b is = absurd (cc)
 are_rivals options.Lines b is = absurd (cc)
 are_rivals options.Master b is = absurd (cc)
 are_rivals options.MasterFormat b is = absurd (cc)
+are_rivals options.DekTemplate b is = absurd (cc)
 
 -- Words that are cut at their equals sign.
 

@@ -1,8 +1,8 @@
 -- The tables of the command's words: the commands with the options that each requires and may have,
 -- and the options with the form of the value of each. A further command or option is a row.
-use Rattle.std.specs.Prelude.{ℕ, ◌+◌, ◌-◌, ◌*◌, ◌%◌, List, [], ◌∷◌, ◌++◌, length, Bool, true, false, Option, Some, None, is_some, ◌==◌, ◌&&◌, nat_lt, nat_le, if◌then◌else◌, codes}
+use Rattle.std.specs.Prelude.{ℕ, ◌*◌, ◌%◌, List, [], ◌∷◌, ◌++◌, length, Bool, true, false, Option, Some, None, is_some, ◌==◌, ◌&&◌, nat_lt, nat_le, if◌then◌else◌, codes}
 use Rattle.std.specs.List.{find, list_any, list_all}
-use Rattle.std.specs.Str.{bytes_eq, all_ascii_digits, str_eq_ignore_ascii_case}
+use Rattle.std.specs.Str.{bytes_eq, str_eq_ignore_ascii_case}
 use Rattle.hex.specs.Hex.{is_hex_digit}
 use Rattle.tink_base.specs.Decimal.{number_in}
 use Rattle.tinkey_words.specs.declared.words.rows.CommandRow.{CommandRow as CodeRow}
@@ -59,6 +59,10 @@ by_master = options.Master ∷ []
 abbrev pub under_master : List OptionName
 under_master = options.MasterFormat ∷ in_and_out
 
+-- what a command requires that seals or opens by data keys under the keys of a keyset
+abbrev pub by_keyset_and_dek : List OptionName
+by_keyset_and_dek = options.Keyset ∷ options.DekTemplate ∷ []
+
 -- what a command may have that uses a keyset and takes associated data
 abbrev pub with_ad : List OptionName
 with_ad = options.KeysetFormat ∷ options.Ad ∷ options.AdHex ∷ []
@@ -92,6 +96,8 @@ row_of commands.Selftest =
 row_of commands.Session = row (codes "session") by_keyset (options.KeysetFormat ∷ put_out)
 row_of commands.WrapKeyset = row (codes "wrap-keyset") by_master under_master
 row_of commands.UnwrapKeyset = row (codes "unwrap-keyset") by_master under_master
+row_of commands.Eseal = row (codes "eseal") by_keyset_and_dek with_ad
+row_of commands.Eopen = row (codes "eopen") by_keyset_and_dek with_ad
 
 -- all commands
 abbrev pub all_commands : List CommandName
@@ -101,7 +107,7 @@ all_commands =
     ∷ commands.ListKeyset ∷ commands.ConvertKeyset ∷ commands.ListKeyTemplates ∷ commands.Seal
     ∷ commands.Open ∷ commands.Dseal ∷ commands.Dopen ∷ commands.Sseal ∷ commands.Sopen
     ∷ commands.Tag ∷ commands.Verify ∷ commands.Derive ∷ commands.Session ∷ commands.Selftest
-    ∷ commands.WrapKeyset ∷ commands.UnwrapKeyset ∷ []
+    ∷ commands.WrapKeyset ∷ commands.UnwrapKeyset ∷ commands.Eseal ∷ commands.Eopen ∷ []
 
 -- the command of this name
 unfoldable pub command_of : List ℕ → Option CommandName
@@ -137,6 +143,7 @@ option_row options.Seed = option 12 (codes "--seed") forms.Number
 option_row options.Lines = option 13 (codes "--lines") forms.LineCount
 option_row options.Master = option 14 (codes "--master") forms.FileName
 option_row options.MasterFormat = option 15 (codes "--master-format") forms.Format
+option_row options.DekTemplate = option 16 (codes "--dek-template") forms.Text
 
 -- all options, in the order of their places
 abbrev pub all_options : List OptionName
@@ -144,7 +151,7 @@ all_options =
     options.KeyTemplate ∷ options.KeyId ∷ options.In ∷ options.InFormat ∷ options.Out
     ∷ options.OutFormat ∷ options.Keyset ∷ options.KeysetFormat ∷ options.Ad ∷ options.AdHex
     ∷ options.TagHex ∷ options.Length ∷ options.Seed ∷ options.Lines ∷ options.Master
-    ∷ options.MasterFormat ∷ []
+    ∷ options.MasterFormat ∷ options.DekTemplate ∷ []
 
 -- the option of this name
 unfoldable pub option_of : List ℕ → Option OptionName

@@ -26,6 +26,8 @@ use Rattle.tinkey_words.specs.declared.words.Datum.{Datum}
 use Rattle.tinkey_words.specs.declared.words.Datum.TheVariants as data'
 use Rattle.tinkey_words.specs.declared.words.Work.{Work}
 use Rattle.tinkey_words.specs.declared.words.Work.TheVariants as works
+use Rattle.tinkey_words.specs.declared.words.Envelope.{Envelope}
+use Rattle.tinkey_words.specs.declared.words.Envelope.TheVariants as envelopes
 use Rattle.tinkey_words.specs.declared.words.rows.Format.{Format}
 use Rattle.tinkey_words.specs.declared.words.rows.Format.TheVariants as formats
 use Rattle.tinkey_words.specs.declared.words.rows.CommandName.{CommandName}
@@ -71,6 +73,11 @@ pub record Place : Type 0 where
   pub file : Option (List ℕ)
   pub form : Format
 
+-- what is done with the whole input by data keys under the keys of a keyset, with this associated data
+pub data AskedEnvelope : Type 0 where
+  to_eseal : (ad : List ℕ) → AskedEnvelope
+  to_eopen : (ad : List ℕ) → AskedEnvelope
+
 -- what the words ask for, without where they lie in memory
 pub data Asked : Type 0 where
   -- a new keyset of one key, by the template of this name
@@ -85,6 +92,8 @@ pub data Asked : Type 0 where
   list_key_templates : Asked
   -- work on the input, by the keys of the keyset in the file of this name
   use_keyset : (keyset : List ℕ) (form : Format) (work : AskedWork) → Asked
+  -- the same by data keys, which are of the template of this name, under such keys
+  use_envelope : (keyset : List ℕ) (form : Format) (template : List ℕ) (work : AskedEnvelope) → Asked
   -- the input as a stream, sealed or opened by such a keyset, with this associated data
   seal_stream : (keyset : List ℕ) (form : Format) (ad : List ℕ) → Asked
   open_stream : (keyset : List ℕ) (form : Format) (ad : List ℕ) → Asked
@@ -179,6 +188,12 @@ abbrev pub worked : AskedWork → Values → Asked
 worked work values =
     use_keyset (text (values options.Keyset)) (form_in (values options.KeysetFormat)) work
 
+-- work by data keys
+abbrev pub enveloped : AskedEnvelope → Values → Asked
+enveloped work values =
+    use_envelope (text (values options.Keyset)) (form_in (values options.KeysetFormat))
+    (text (values options.DekTemplate)) work
+
 -- what each command asks with these values of its options
 abbrev pub asked_with : CommandName → Values → Asked
 asked_with commands.CreateKeyset values = create_keyset (template values) (put_to values)
@@ -214,6 +229,8 @@ asked_with commands.WrapKeyset values =
 asked_with commands.UnwrapKeyset values =
     unwrap_keyset (text (values options.Master)) (form_in (values options.MasterFormat))
     (taken_from values) (put_to values)
+asked_with commands.Eseal values = enveloped (to_eseal (ad values)) values
+asked_with commands.Eopen values = enveloped (to_eopen (ad values)) values
 
 -- The words, one after another.
 
@@ -348,6 +365,11 @@ seen_work works.Tag = to_tag
 seen_work (works.Verify tag) = to_verify (seen_datum tag)
 seen_work (works.Derive size) = to_derive size
 
+-- work by data keys, with its data as bytes
+abbrev pub seen_envelope : Envelope → AskedEnvelope
+seen_envelope (envelopes.Seal ad) = to_eseal (seen_datum ad)
+seen_envelope (envelopes.Open ad) = to_eopen (seen_datum ad)
+
 -- what a command asks, with its names and data as bytes
 abbrev pub seen_command : Request → Asked
 seen_command (asks.CreateKeyset template output) = create_keyset template.now (seen_place output)
@@ -366,6 +388,8 @@ seen_command (asks.WrapKeyset master form input output) =
     wrap_keyset master.now form (seen_place input) (seen_place output)
 seen_command (asks.UnwrapKeyset master form input output) =
     unwrap_keyset master.now form (seen_place input) (seen_place output)
+seen_command (asks.UseEnvelope keyset form template work) =
+    use_envelope keyset.now form template.now (seen_envelope work)
 
 -- the values, which the code keeps at the places of their options
 abbrev pub seen_values : List (Option (Bor (List ℕ))) → Values

@@ -3,7 +3,7 @@
 ghost use Rattle.std.specs.Prelude.{◌≡◌, ◌<◌, Some, length, map, option_map, slice_set, string_bytes};
 ghost use Rattle.tinkey_words.specs.Rows.{option_of};
 ghost use Rattle.tinkey_words.specs.declared.words.rows.OptionName.TheVariants.{Lines};
-ghost use Rattle.tinkey_words.specs.Words.{words_of, given_in, lines_in, next_word, option_word, own_value, is_barred, new_option, with_value, no_options, has_required, complete, asked_with, text, number, id, template, ad, edited, worked, seen_command, seen_datum, seen_edit, seen_name, seen_options, seen_work, Reads, form_in, taken_from, put_to, seen_place};
+ghost use Rattle.tinkey_words.specs.Words.{words_of, given_in, lines_in, next_word, option_word, own_value, is_barred, new_option, with_value, no_options, has_required, complete, asked_with, text, number, id, template, ad, edited, enveloped, worked, seen_command, seen_datum, seen_edit, seen_envelope, seen_name, seen_options, seen_work, Reads, form_in, taken_from, put_to, seen_place};
 
 mod rows;
 
@@ -116,6 +116,26 @@ pub enum Request<'a> {
         /// Where the keyset is put.
         output: Place<'a>,
     },
+    /// Work on the input, by data keys under the keys of a keyset.
+    UseEnvelope {
+        /// The file of the keyset.
+        keyset: &'a str,
+        /// The form of the keyset.
+        form: Format,
+        /// The name of the template of the data keys.
+        template: &'a str,
+        /// What is done.
+        work: Envelope<'a>,
+    },
+}
+
+/// What is done with the whole input by data keys under the keys of a keyset.
+#[derive(Clone, Copy)]
+pub enum Envelope<'a> {
+    /// Seal it, with this associated data.
+    Seal(Datum<'a>),
+    /// Open it, with this associated data.
+    Open(Datum<'a>),
 }
 
 /// What is done with the whole input by the keys of a keyset.
@@ -268,6 +288,8 @@ fn command_with<'a>(command: CommandName, given: &Options<'a>) -> Request<'a>
             input: given.taken_from(),
             output: given.put_to(),
         },
+        CommandName::Eseal => given.enveloped(Envelope::Seal(given.ad())),
+        CommandName::Eopen => given.enveloped(Envelope::Open(given.ad())),
     }
 }
 
@@ -374,6 +396,19 @@ impl<'a> Options<'a> {
         Request::UseKeyset {
             keyset: self.text(OptionName::Keyset),
             form: self.form(OptionName::KeysetFormat),
+            work,
+        }
+    }
+
+    /// Work by data keys under the keys of a keyset.
+    fn enveloped(&self, work: Envelope<'a>) -> Request<'a>
+        ensures { seen_command result
+            ≡ enveloped (seen_envelope work.entry) (seen_options self.now).values }
+    {
+        Request::UseEnvelope {
+            keyset: self.text(OptionName::Keyset),
+            form: self.form(OptionName::KeysetFormat),
+            template: self.text(OptionName::DekTemplate),
             work,
         }
     }

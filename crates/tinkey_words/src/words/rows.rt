@@ -59,6 +59,10 @@ pub enum CommandName {
     WrapKeyset,
     /// `unwrap-keyset`
     UnwrapKeyset,
+    /// `eseal`
+    Eseal,
+    /// `eopen`
+    Eopen,
 }
 
 /// An option by its name.
@@ -96,10 +100,12 @@ pub enum OptionName {
     Master,
     /// `--master-format`, the form of that keyset.
     MasterFormat,
+    /// `--dek-template`, the name of the template of data keys.
+    DekTemplate,
 }
 
 /// How many options there are.
-pub const OPTION_COUNT: usize = 16;
+pub const OPTION_COUNT: usize = 17;
 
 /// How many lines a self-test may have.
 const MOST_LINES: u32 = 100_000;
@@ -182,6 +188,8 @@ impl CommandName {
             CommandName::Selftest => row("selftest", &[OptionName::Seed], &[OptionName::Lines]),
             CommandName::WrapKeyset => row("wrap-keyset", &BY_MASTER, &UNDER_MASTER),
             CommandName::UnwrapKeyset => row("unwrap-keyset", &BY_MASTER, &UNDER_MASTER),
+            CommandName::Eseal => row("eseal", &BY_KEYSET_AND_DEK, &WITH_AD),
+            CommandName::Eopen => row("eopen", &BY_KEYSET_AND_DEK, &WITH_AD),
         }
     }
 }
@@ -201,6 +209,9 @@ const BY_MASTER: [OptionName; 1] = [OptionName::Master];
 const BY_KEYSET_AND_TAG: [OptionName; 2] = [OptionName::Keyset, OptionName::TagHex];
 
 const BY_KEYSET_AND_LENGTH: [OptionName; 2] = [OptionName::Keyset, OptionName::Length];
+
+/// What a command requires that seals or opens by data keys under the keys of a keyset.
+const BY_KEYSET_AND_DEK: [OptionName; 2] = [OptionName::Keyset, OptionName::DekTemplate];
 
 /// What such a command may have that takes associated data.
 const WITH_AD: [OptionName; 3] = [OptionName::KeysetFormat, OptionName::Ad, OptionName::AdHex];
@@ -272,6 +283,7 @@ impl OptionName {
             OptionName::Lines => option("--lines", Form::LineCount),
             OptionName::Master => option("--master", Form::FileName),
             OptionName::MasterFormat => option("--master-format", Form::Format),
+            OptionName::DekTemplate => option("--dek-template", Form::Text),
         }
     }
 
@@ -303,7 +315,7 @@ fn option(word: &'static str, form: Form) -> OptionRow
 }
 
 /// All commands.
-const COMMANDS: [CommandName; 24] = [
+const COMMANDS: [CommandName; 26] = [
     CommandName::CreateKeyset,
     CommandName::AddKey,
     CommandName::RotateKeyset,
@@ -328,6 +340,8 @@ const COMMANDS: [CommandName; 24] = [
     CommandName::Selftest,
     CommandName::WrapKeyset,
     CommandName::UnwrapKeyset,
+    CommandName::Eseal,
+    CommandName::Eopen,
 ];
 
 /// All options, in the order of their places.
@@ -348,6 +362,7 @@ const OPTIONS: [OptionName; OPTION_COUNT] = [
     OptionName::Lines,
     OptionName::Master,
     OptionName::MasterFormat,
+    OptionName::DekTemplate,
 ];
 
 /// The command of this name.

@@ -1,0 +1,189 @@
+-- That under the standard table no data key is refused, nor wants a manager.
+use Rattle.std.proofs.Common.{arith, ◌≡◌, ◌∙◌, refl, ap, subst, inl, inr, ℕ, Bool, true, false, List, [], ◌++◌, length, take, drop, replicate, length-append, Contains, zero, suc, ◌∷◌, Option, Some, None, Result, Ok, Err}
+use Rattle.std.specs.Prelude.{find, if◌then◌else◌, nat_lt, option_map}
+use Rattle.std.specs.Option.{option_and_then}
+use Rattle.std.proofs.lemmas.List.{length-replicate, length-take-le}
+use Rattle.std.proofs.lemmas.Option.{same_Some}
+use Rattle.std.specs.Str.{bytes_eq}
+use Rattle.key_msgs.specs.KeyTypes.{primitive_of_type}
+use Rattle.key_msgs.specs.Templates.{Row, is_asymmetric, random_of, row_named, templates, type_made}
+use Rattle.key_msgs.specs.declared.key.KeyKind.{KeyKind}
+use Rattle.key_msgs.specs.declared.primitive.Primitive.{Primitive}
+use Rattle.key_msgs.specs.declared.primitive.Primitive.TheVariants.{Aead, Daead, Mac, Prf, Stream}
+use Rattle.key_msgs.specs.declared.rule.Rule.{Rule}
+use Rattle.keyset_json.specs.Reading as Json
+use Rattle.keyset_json.specs.Reading.{reads_json}
+use Rattle.keyset_model.specs.Keyset.{Keys}
+use Rattle.keyset_model.specs.Reading.{Refusal, Wire, Fault, reads_binary}
+use Rattle.managers.specs.Schemes.{Scheme}
+use Rattle.managers.specs.Standard.{standard_table}
+use Rattle.managers.specs.Table.{scheme_at}
+use Rattle.seal_wrap.specs.EnvelopeLaws.{DataKeysAreServed, DataKeysAreValid, IsDataKeyRow}
+use Rattle.seal_wrap.specs.Enveloped.{Enveloped, behind_data_key, data_key_of, envelope, envelope_of, open_envelope_of, under_data_key}
+use Rattle.seal_wrap.specs.Enveloping.{url_made}
+use Rattle.tinkey_cmds.specs.Draws.{Drawn}
+use Rattle.tinkey_cmds.specs.declared.command.CmdFault.{CmdFault}
+use Rattle.wrapped_prims.specs.Answers.{Sealed, seal_answer, seal_behind}
+use Rattle.wrapped_prims.specs.Fitness.{Unfit, NoManager, BadKey, NotRaw, unfit}
+use Rattle.tinkey_plans.specs.declared.status.Status.{Status}
+use Rattle.tinkey_plans.specs.declared.status.Status.TheVariants as status
+use Rattle.tinkey_words.specs.declared.words.rows.Format.{Format}
+use Rattle.tinkey_words.specs.declared.words.rows.Format.TheVariants as formats
+use Rattle.tinkey_words.specs.Words.{AskedEnvelope, to_eseal, to_eopen}
+use Rattle.tinkey_plans.specs.Commands.{asked_plan}
+use Rattle.tinkey_plans.specs.Ends.{Ends, Settles, World, draw_failed, draw_starved, load_absent, load_failed, load_long, load_starved, loaded, read, read_failed, read_starved, settled, too_long, write_failed, wrote}
+use Rattle.tinkey_plans.specs.Envelopes.{as_enveloped, envelope_limit, envelope_output, envelopes, seals_envelope, with_aead, with_enveloped, with_scheme}
+use Rattle.tinkey_plans.specs.Laws.{DataKeysCome, IsDekStatus}
+use Rattle.tinkey_plans.specs.Plan.{IsStated, Plan, allocates, ends, writes}
+use Rattle.tinkey_plans.specs.Steps.{keyset_in, loads_keyset, reads_input, with_json, with_keyset, with_made, with_row}
+use Rattle.tinkey_plans.specs.Using.{unless_unfit, with_opened}
+
+-- a template that is found stands in the table
+found_contains : {A : Type 0} (p : A → Bool) (xs : List A) (x : A) → find p xs ≡ Some x → Contains xs x
+found_contains p [] x e = absurd (cc)
+found_contains {A = A} p (y ∷ ys) x e = by (p y) (found_contains p ys x) e
+  where
+    by : (b : Bool) → (find p ys ≡ Some x → Contains ys x) → (if b then Some y else find p ys) ≡ Some x → Contains (y ∷ ys) x
+    by true later e = (zero, omega arith, same_Some _ _ e)
+    by false later e = let c = later e in (suc c.0, omega (arith, c.1), c.2)
+
+pub row_known : (name : List ℕ) (row : Row) → row_named name ≡ Some row → Contains templates row
+unfolding row_named
+row_known name row is = found_contains (λ row. bytes_eq row.name name) templates row is
+
+-- no run of the plan ends so
+abbrev Clears : Plan → Type 0
+Clears p = (old : World) (s : Status) (new : World) → Ends p old s new → IsDekStatus s → ⊥
+
+clear_end : (t : Status) (stated : IsStated t) → (IsDekStatus t → ⊥) → Clears (ends t stated)
+clear_end t stated other old s new (is, same) d = other (subst IsDekStatus is d)
+
+clear_memory : (next : Plan) → Clears next → Clears (allocates next)
+clear_memory next clear old s new (inl run) d = clear old s new run d
+clear_memory next clear old s new (inr (is, same)) d = subst IsDekStatus is d
+
+clear_writes : (output : List ℕ) → Clears (writes output)
+clear_writes output old s new (wrote is only stood took) d = subst IsDekStatus is d
+clear_writes output old s new (write_failed is only rose front) d = subst IsDekStatus is d
+
+-- ---- the work
+
+clear_opened : (o : Option (List ℕ)) → Clears (with_opened o writes)
+clear_opened None = clear_end status.OpenFailed tt (λ d. d)
+clear_opened (Some plain) = clear_writes plain
+
+clear_enveloped : (r : Result (List ℕ) Rule) → ((rule : Rule) → r ≡ Err rule → ⊥) → Clears (with_enveloped r writes)
+clear_enveloped (Ok bytes) never = clear_writes bytes
+clear_enveloped (Err rule) never = absurd (never rule refl)
+
+clear_made : (given : Result (Result (List ℕ) Rule) CmdFault) → ((rule : Rule) → given ≡ Ok (Err rule) → ⊥) → Clears (with_made given (λ e. with_enveloped e writes))
+clear_made (Ok r) never = clear_enveloped r (λ rule e. never rule (ap Ok e))
+clear_made (Err fault) never = clear_end (status.Command fault) tt (λ d. d)
+
+-- what is sealed under a valid data key is no refusal
+payload_never : (sealed : List ℕ) (o : Option Sealed) (e : Enveloped) (rule : Rule) → option_map (λ (payload : Sealed). record { answer = Ok (envelope sealed payload.bytes); left = payload.left }) o ≡ Some e → e.answer ≡ Err rule → ⊥
+payload_never sealed None e rule is err = absurd (cc)
+payload_never sealed (Some payload) e rule is err = let clash : Ok (envelope sealed payload.bytes) ≡ Err rule = ap (λ (x : Enveloped). x.answer) (same_Some _ _ is) ∙ err in absurd (cc)
+
+behind_never : (plain ad : List ℕ) (key : KeyKind) (o : Option Sealed) (e : Enveloped) (rule : Rule) → option_and_then (behind_data_key plain ad key) o ≡ Some e → e.answer ≡ Err rule → ⊥
+behind_never plain ad key None e rule is err = absurd (cc)
+behind_never plain ad key (Some sealed) e rule is err = payload_never sealed.bytes (seal_behind [] plain ad sealed.left key) e rule is err
+
+under_never : (keys : Keys) (value plain ad rest : List ℕ) (r : Result KeyKind Rule) (key : KeyKind) (few : Bool) (e : Enveloped) (rule : Rule) → r ≡ Ok key → (if few then None else under_data_key keys standard_table value plain ad rest r) ≡ Some e → e.answer ≡ Err rule → ⊥
+under_never keys value plain ad rest r key true e rule valid is err = absurd (cc)
+under_never keys value plain ad rest (Ok k) key false e rule valid is err = behind_never plain ad k (seal_answer keys standard_table value [] rest) e rule is err
+under_never keys value plain ad rest (Err other) key false e rule valid is err = absurd (cc)
+
+same_answer : (a b : Result (List ℕ) Rule) → ◌≡◌ {A = Result (Result (List ℕ) Rule) CmdFault} (Ok a) (Ok b) → a ≡ b
+same_answer a b is = cc
+
+some_enveloped : (o : Option Enveloped) (rule : Rule) (left : List ℕ) → option_map as_enveloped o ≡ Some (record { answer = Ok (Err rule); left = left }) → (e : Enveloped) × (o ≡ Some e) × (e.answer ≡ Err rule)
+some_enveloped None rule left is = absurd (cc)
+some_enveloped (Some e) rule left is =
+    let same : Ok e.answer ≡ Ok (Err rule) = ap (λ (x : Drawn (Result (List ℕ) Rule)). x.answer) (same_Some _ _ is) in
+    (e, refl, same_answer e.answer (Err rule) same)
+
+no_refusal : DataKeysAreValid → (keys : Keys) (scheme : Scheme) (row : Row) (plain ad drawn : List ℕ) (rule : Rule) → IsDataKeyRow row → scheme_at standard_table Aead (url_made row) ≡ Some scheme → Settles (seals_envelope keys standard_table scheme row plain ad) drawn (Ok (Err rule)) → ⊥
+no_refusal valid keys scheme row plain ad drawn rule known served settles =
+    let more : List ℕ = replicate (random_of row) 0 in
+    let random : List ℕ = drawn ++ more in
+    let e = some_enveloped (envelope_of keys standard_table scheme row plain ad random) rule more (settles more) in
+    let whole : length (take (random_of row) random) ≡ random_of row = length-take-le (random_of row) random (omega (arith, length-append drawn more, length-replicate {A = ℕ} (random_of row) 0)) in
+    under_never keys (data_key_of row (take (random_of row) random)) plain ad (drop (random_of row) random) _ _ (nat_lt (length random) (random_of row)) e.0 rule (valid row scheme (take (random_of row) random) known served whole) e.1 e.2
+
+clear_work : DataKeysAreValid → (keys : Keys) (scheme : Scheme) (row : Row) (work : AskedEnvelope) (input : List ℕ) → IsDataKeyRow row → scheme_at standard_table Aead (url_made row) ≡ Some scheme → Clears (envelopes standard_table keys scheme row work input writes)
+clear_work valid keys scheme row (to_eopen ad) input known served old s new run d = clear_memory _ (clear_opened (open_envelope_of keys standard_table scheme input ad)) old s new run d
+clear_work valid keys scheme row (to_eseal ad) input known served old s new (inl (settled drawn entropy given drew stood settles run)) d =
+    clear_memory _ (clear_made given (λ rule e. no_refusal valid keys scheme row input ad drawn rule known served (subst (λ g. Settles (seals_envelope keys standard_table scheme row input ad) drawn g) e settles))) (record old { entropy = entropy }) s new run d
+clear_work valid keys scheme row (to_eseal ad) input known served old s new (inl (draw_failed is only out)) d = subst IsDekStatus is d
+clear_work valid keys scheme row (to_eseal ad) input known served old s new (inl (draw_starved parts is only drawn drew stood none)) d = subst IsDekStatus is d
+clear_work valid keys scheme row (to_eseal ad) input known served old s new (inr (is, same)) d = subst IsDekStatus is d
+
+-- ---- the steps before it
+
+clear_input : (limit : ℕ) (next : List ℕ → Plan) → ((input : List ℕ) → Clears (next input)) → Clears (reads_input limit next)
+clear_input limit next clear old s new (read all source gave stood within end run) d = clear all (record old { source = source }) s new run d
+clear_input limit next clear old s new (too_long is only stood count) d = subst IsDekStatus is d
+clear_input limit next clear old s new (read_failed is only rose upto) d = subst IsDekStatus is d
+clear_input limit next clear old s new (read_starved is only stood upto) d = subst IsDekStatus is d
+
+clear_scheme : (found : Option Scheme) (scheme : Scheme) (next : Scheme → Plan) → found ≡ Some scheme → Clears (next scheme) → Clears (with_scheme found next)
+clear_scheme found scheme next is clear old s new run d = clear old s new (subst (λ o. Ends (with_scheme o next) old s new) is run) d
+
+clear_unfit : (u : Option (ℕ × Unfit)) (next : Plan) → Clears next → Clears (unless_unfit u next)
+clear_unfit None next clear = clear
+clear_unfit (Some (i, NoManager)) next clear = clear_end (status.NoManager i) tt (λ d. d)
+clear_unfit (Some (i, BadKey rule)) next clear = clear_end (status.BadKey i rule) tt (λ d. d)
+clear_unfit (Some (i, NotRaw)) next clear = clear_end (status.NotRaw i) tt (λ d. d)
+
+clear_binary : (r : Result Keys Refusal) (next : Keys → Plan) → ((keys : Keys) → Clears (next keys)) → Clears (with_keyset r next)
+clear_binary (Err (Wire at)) next clear = clear_end (status.BadProto at) tt (λ d. d)
+clear_binary (Err (Fault fault)) next clear = clear_end (status.Keyset fault) tt (λ d. d)
+clear_binary (Ok keys) next clear = clear keys
+
+clear_json : (r : Result Keys Json.Refusal) (next : Keys → Plan) → ((keys : Keys) → Clears (next keys)) → Clears (with_json r next)
+clear_json (Err Json.NotJson) next clear = clear_end status.NotJson tt (λ d. d)
+clear_json (Err (Json.Shape path)) next clear = clear_end (status.Shape path) tt (λ d. d)
+clear_json (Err (Json.Fault fault)) next clear = clear_end (status.Keyset fault) tt (λ d. d)
+clear_json (Ok keys) next clear = clear keys
+
+clear_keyset : (form : Format) (bytes : List ℕ) (next : Keys → Plan) → ((keys : Keys) → Clears (next keys)) → Clears (keyset_in form bytes next)
+clear_keyset formats.Json bytes next clear = clear_memory _ (clear_json (reads_json bytes) next clear)
+clear_keyset formats.Binary bytes next clear = clear_memory _ (clear_binary (reads_binary bytes) next clear)
+
+clear_load : (name : List ℕ) (form : Format) (next : Keys → Plan) → ((keys : Keys) → Clears (next keys)) → Clears (loads_keyset name form next)
+clear_load name form next clear old s new (loaded bytes store kept stood within holds run) d = clear_keyset form bytes next clear (record old { store = store }) s new run d
+clear_load name form next clear old s new (load_absent is only kept stood holds) d = subst IsDekStatus is d
+clear_load name form next clear old s new (load_long is only kept stood holds) d = subst IsDekStatus is d
+clear_load name form next clear old s new (load_failed is only kept rose) d = subst IsDekStatus is d
+clear_load name form next clear old s new (load_starved is only kept stood) d = subst IsDekStatus is d
+
+clear_aead : (p : Primitive) (next : Plan) → (p ≡ Aead → Clears next) → Clears (with_aead p next)
+clear_aead Aead next clear = clear refl
+clear_aead Daead next clear = clear_end status.DekTemplate tt (λ d. d)
+clear_aead Mac next clear = clear_end status.DekTemplate tt (λ d. d)
+clear_aead Prf next clear = clear_end status.DekTemplate tt (λ d. d)
+clear_aead Stream next clear = clear_end status.DekTemplate tt (λ d. d)
+
+clear_asymmetric : (b : Bool) → Clears (if b then ends status.AsymmetricTemplate tt else ends status.UnknownTemplate tt)
+clear_asymmetric true = clear_end status.AsymmetricTemplate tt (λ d. d)
+clear_asymmetric false = clear_end status.UnknownTemplate tt (λ d. d)
+
+clear_row : (found : Option Row) (name : List ℕ) (next : Row → Plan) → ((row : Row) → found ≡ Some row → Clears (next row)) → Clears (with_row found name next)
+clear_row (Some row) name next clear = clear row refl
+clear_row None name next clear = clear_asymmetric (is_asymmetric name)
+
+clear_envelope : DataKeysAreServed → DataKeysAreValid → (name : List ℕ) (form : Format) (template : List ℕ) (work : AskedEnvelope) → Clears (envelope_output standard_table name form template work writes)
+clear_envelope served valid name form template work =
+    clear_row (row_named template) template _ (λ row named.
+    clear_aead (primitive_of_type (type_made row)) _ (λ aead.
+    let scheme = served row aead in
+    clear_load name form _ (λ keys.
+    clear_memory _ (clear_unfit (unfit keys Aead standard_table) _
+    (clear_scheme (scheme_at standard_table Aead (url_made row)) scheme.0 _ scheme.1
+    (clear_input (envelope_limit work) _ (λ input.
+    clear_work valid keys scheme.0 row work input (record { known = row_known template row named; aead = aead }) scheme.1)))))))
+
+pub data_keys_come : DataKeysAreServed → DataKeysAreValid → DataKeysCome
+data_keys_come served valid words name form template work old s new is run =
+    clear_envelope served valid name form template work old s new (subst (λ p. Ends p old s new) (ap (asked_plan standard_table) is) run)
