@@ -33,11 +33,11 @@ use Rattle.tinkey_plans.specs.declared.status.Status.TheVariants as status
 use Rattle.tinkey_words.specs.declared.words.rows.Format.{Format}
 use Rattle.tinkey_words.specs.declared.words.rows.Format.TheVariants as formats
 use Rattle.tinkey_plans.specs.Commands.{asked_plan}
-use Rattle.tinkey_plans.specs.Ends.{World, Ends, loaded, load_absent, load_long, load_failed, load_starved, made, name_taken, create_failed, create_starved, exchanged, exchange_ended, talk_status, sides_of}
+use Rattle.tinkey_plans.specs.Ends.{World, Ends, loaded, load_absent, load_long, load_failed, load_starved, made, name_taken, create_failed, create_starved, look_free, look_taken, look_failed, exchanged, exchange_ended, talk_status, sides_of}
 use Rattle.tinkey_plans.specs.Plan as plans
-use Rattle.tinkey_plans.specs.Plan.{Told, Plan, creates, limit_status}
+use Rattle.tinkey_plans.specs.Plan.{Told, Plan, creates, exchanges, limit_status}
 use Rattle.tinkey_plans.specs.Promises.{Tells}
-use Rattle.tinkey_plans.specs.Session.{holds_session, saves_as}
+use Rattle.tinkey_plans.specs.Session.{finds_free, holds_session, saves, saves_as}
 use Rattle.tinkey_plans.specs.Steps.{keyset_limit, keyset_in, loads_keyset, with_json, with_keyset, written_in}
 use Rattle.tinkey_plans.proofs.FaultLemmas.{went, Went, of_fault, of_limit}
 use Rattle.tinkey_words.specs.Words.{Place}
@@ -302,10 +302,22 @@ session_left readable law table keys told old s new fault is tells ended run = b
         let random = split new.entropy.left old.entropy.left told.random (drawn ++ part) tells.random drew.left in
         some_lines taken (more ++ input.0) drawn (part ++ random.0) (input.2 ∙ append_assoc taken more input.0) (random.2 ∙ append_assoc drawn part random.0) false (λ h. absurd (cc)) (λ h. took) (λ h. absurd (cc))
 
-session_ends : TurnsAreReadable → TalkIsTurns → (table : Table) (out : Place) (keys : Keys) (told : Told) (old : World) (s : Status) (new : World) → IsKeyset keys → Tells old told → Ends (holds_session table out keys) old s new → HasReplies table keys told old s new
-session_ends readable law table out keys told old s new is tells (exchanged last mid run kept steady later) =
+talk_ends : TurnsAreReadable → TalkIsTurns → (table : Table) (out : Place) (keys : Keys) (told : Told) (old : World) (s : Status) (new : World) → IsKeyset keys → Tells old told → Ends (exchanges (talk table keys) (saves out)) old s new → HasReplies table keys told old s new
+talk_ends readable law table out keys told old s new is tells (exchanged last mid run kept steady later) =
     session_done readable law table out keys last told old mid s new is tells (went (talk table keys) last (sides_of old) (sides_of mid) run) (saved out.file out.form last mid s new later)
-session_ends readable law table out keys told old s new is tells (exchange_ended fault ended run kept steady) = session_left readable law table keys told old s new fault is tells ended run
+talk_ends readable law table out keys told old s new is tells (exchange_ended fault ended run kept steady) = session_left readable law table keys told old s new fault is tells ended run
+
+-- behind a name that was looked up
+session_ends : TurnsAreReadable → TalkIsTurns → (table : Table) (out : Place) (keys : Keys) (told : Told) (old : World) (s : Status) (new : World) → IsKeyset keys → Tells old told → Ends (holds_session table out keys) old s new → HasReplies table keys told old s new
+session_ends readable law table out keys told old s new is tells run = by out.file run
+  where
+    by : (file : Option (List ℕ)) → Ends (finds_free file (λ free. exchanges (talk table keys) (saves out))) old s new → HasReplies table keys told old s new
+    by None run = talk_ends readable law table out keys told old s new is tells run
+    by (Some name) (look_free store kept stood holds run) =
+        let r = talk_ends readable law table out keys told (record old { store = store }) s new is (record { input = tells.input; files = sym kept.files ∙ tells.files; random = tells.random }) run in
+        record { answered = r.answered; later = r.later; cut = r.cut; all = r.all; whole = r.whole; took = r.took; front = r.front; readable = r.readable }
+    by (Some name) (look_taken e only kept stood there) = none_replied table keys told old s new (λ h. let clash : status.Done ≡ status.OutExists = sym h ∙ e in absurd (cc)) (λ h. let clash : status.WriteFault ≡ status.OutExists = sym h ∙ e in absurd (cc)) (took_same old.sink new.sink only.sink)
+    by (Some name) (look_failed e only kept rose) = none_replied table keys told old s new (λ h. absurd (cc)) (λ h. absurd (cc)) (took_same old.sink new.sink only.sink)
 
 -- ---- the keyset before it
 

@@ -1,4 +1,5 @@
 pub mod EndedLemmas
+pub mod EnvelopeRunLemmas
 pub mod LineRunLemmas
 pub mod ReachLemmas
 pub mod ReadableLemmas

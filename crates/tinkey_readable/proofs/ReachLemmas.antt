@@ -215,23 +215,22 @@ unfit_done (Some (i, NoManager)) next told done = absurd (cc)
 unfit_done (Some (i, BadKey rule)) next told done = absurd (cc)
 unfit_done (Some (i, NotRaw)) next told done = absurd (cc)
 
+-- the whole input, within a limit
+pub input_done : (limit : ℕ) (next : List ℕ → Plan) (told : Told) → IsDoneAnswer (answer (reads_input limit next) told) → answer (reads_input limit next) told ≡ answer (next told.input) (record told { input = [] })
+input_done limit next told done =
+    went_done (nat_le (length told.input) limit) (answer (next told.input) (record told { input = [] })) (record (refused told status.InputTooLong) { input = Some (drop (limit + 1) told.input) }) (λ h. absurd (cc)) done
+
+pub input_within : (limit : ℕ) (next : List ℕ → Plan) (told : Told) → IsDoneAnswer (answer (reads_input limit next) told) → length told.input ≤ limit
+input_within limit next told done =
+    leb-true (length told.input) limit (went_test (nat_le (length told.input) limit) (answer (next told.input) (record told { input = [] })) (record (refused told status.InputTooLong) { input = Some (drop (limit + 1) told.input) }) (λ h. absurd (cc)) done)
+
+pub input_reached : (limit : ℕ) (next : List ℕ → Plan) (told : Told) → length told.input ≤ limit → answer (reads_input limit next) told ≡ answer (next told.input) (record told { input = [] })
+input_reached limit next told within =
+    went_on (nat_le (length told.input) limit) (answer (next told.input) (record told { input = [] })) (record (refused told status.InputTooLong) { input = Some (drop (limit + 1) told.input) }) (grind (arith, nat_tests, within))
+
 -- work behind the keyset and its fitness
 abbrev work_behind : Table → Keys → AskedWork → Plan
 work_behind table keys work = reads_input (limit_for work) (λ input. works table keys work input writes)
-
-input_done : (table : Table) (keys : Keys) (work : AskedWork) (told : Told) → IsDoneAnswer (answer (work_behind table keys work) told)
-    → answer (work_behind table keys work) told ≡ answer (works table keys work told.input writes) (record told { input = [] })
-input_done table keys work told done =
-    went_done (nat_le (length told.input) (limit_for work)) (answer (works table keys work told.input writes) (record told { input = [] })) (record (refused told status.InputTooLong) { input = Some (drop (limit_for work + 1) told.input) }) (λ h. absurd (cc)) done
-
-input_within : (table : Table) (keys : Keys) (work : AskedWork) (told : Told) → IsDoneAnswer (answer (work_behind table keys work) told) → length told.input ≤ limit_for work
-input_within table keys work told done =
-    leb-true (length told.input) (limit_for work) (went_test (nat_le (length told.input) (limit_for work)) (answer (works table keys work told.input writes) (record told { input = [] })) (record (refused told status.InputTooLong) { input = Some (drop (limit_for work + 1) told.input) }) (λ h. absurd (cc)) done)
-
-input_reached : (table : Table) (keys : Keys) (work : AskedWork) (told : Told) → length told.input ≤ limit_for work
-    → answer (work_behind table keys work) told ≡ answer (works table keys work told.input writes) (record told { input = [] })
-input_reached table keys work told within =
-    went_on (nat_le (length told.input) (limit_for work)) (answer (works table keys work told.input writes) (record told { input = [] })) (record (refused told status.InputTooLong) { input = Some (drop (limit_for work + 1) told.input) }) (grind (arith, nat_tests, within))
 
 pub record UsedKeys (table : Table) (keys : Keys) (work : AskedWork) (told : Told) (a : Answer) : Type 0 where
   pub fit : unfit keys (primitive_for work) table ≡ None
@@ -247,8 +246,8 @@ used_done table name form work bytes keys told there e done =
     let f : answer (unless_unfit (unfit keys (primitive_for work) table) (work_behind table keys work)) told ≡ answer (work_behind table keys work) told = ap (λ u. answer (unless_unfit u (work_behind table keys work)) told) fit in
     record {
       fit = fit;
-      fits = input_within table keys work told (ap (λ (a : Answer). a.status) (sym f) ∙ d);
-      goes_on = l ∙ f ∙ input_done table keys work told (ap (λ (a : Answer). a.status) (sym f) ∙ d);
+      fits = input_within (limit_for work) (λ input. works table keys work input writes) told (ap (λ (a : Answer). a.status) (sym f) ∙ d);
+      goes_on = l ∙ f ∙ input_done (limit_for work) (λ input. works table keys work input writes) told (ap (λ (a : Answer). a.status) (sym f) ∙ d);
     }
 
 pub used_within : (table : Table) (name : List ℕ) (form : Format) (work : AskedWork) (bytes : List ℕ) (told : Told) → map.get told.files name ≡ Some bytes → IsDoneAnswer (answer (use_output table name form work writes) told) → length bytes ≤ keyset_limit
@@ -260,4 +259,4 @@ pub used_reached : (table : Table) (name : List ℕ) (form : Format) (work : Ask
 used_reached table name form work bytes keys told there e within fit fits =
     load_reached name form bytes keys (λ k. handles table (primitive_for work) k (λ x. work_behind table k work)) told there e within
     ∙ ap (λ u. answer (unless_unfit u (work_behind table keys work)) told) fit
-    ∙ input_reached table keys work told fits
+    ∙ input_reached (limit_for work) (λ input. works table keys work input writes) told fits

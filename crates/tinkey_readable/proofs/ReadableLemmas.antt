@@ -19,11 +19,11 @@ use Rattle.tinkey_plans.specs.declared.status.Status.TheVariants as status
 use Rattle.tinkey_words.specs.declared.words.rows.Format.{Format}
 use Rattle.tinkey_plans.specs.Commands.{asked_plan}
 use Rattle.tinkey_plans.specs.Ends.{World}
-use Rattle.tinkey_plans.specs.Plan.{Told, Answer, answer, create_answer, creates, ends, IsStated, refused, talk_answer}
+use Rattle.tinkey_plans.specs.Plan.{Told, Answer, answer, create_answer, creates, ends, exchanges, IsStated, look_answer, refused, talk_answer}
 use Rattle.tinkey_plans.specs.Promises.{IsAnswer}
 use Rattle.tinkey_readable.specs.Readable.{AnswersAreReadable, AreAmong, AreReadable, HasReplies, turns_of}
 use Rattle.tinkey_readable.specs.Runs.{read_in}
-use Rattle.tinkey_plans.specs.Session.{holds_session, saves, saves_as}
+use Rattle.tinkey_plans.specs.Session.{finds_free, holds_session, saves, saves_as}
 use Rattle.tinkey_plans.specs.Steps.{keyset_limit, keyset_in, loads_keyset, written_in}
 use Rattle.tinkey_words.specs.Words.{Place}
 use Rattle.tinkey_readable.proofs.ReachLemmas.{keyset_reached}
@@ -76,9 +76,9 @@ saves_nothing (Some name) form keys told = by (nat_le (length (written_in form k
     by false found is = refl
 
 -- what the answer of the session itself says of the run
-replied : SessionOpens → SessionDopens → SessionOpensPresent → SessionDopensPresent → SessionVerifies → TalkIsTurns → (table : Table) (out : Place) (keys : Keys) (told : Told) (old : World) (s : Status) (new : World)
-    → IsKeyset keys → IsStated s → IsAnswer (answer (holds_session table out keys) told) old s new → HasReplies table keys told old s new
-replied opens dopens opens_present dopens_present verifies law table out keys told old s new is stated a = by_stop x.stop refl a
+talk_replied : SessionOpens → SessionDopens → SessionOpensPresent → SessionDopensPresent → SessionVerifies → TalkIsTurns → (table : Table) (out : Place) (keys : Keys) (told : Told) (old : World) (s : Status) (new : World)
+    → IsKeyset keys → IsStated s → IsAnswer (answer (exchanges (talk table keys) (saves out)) told) old s new → HasReplies table keys told old s new
+talk_replied opens dopens opens_present dopens_present verifies law table out keys told old s new is stated a = by_stop x.stop refl a
   where
     x : Talk
     x = talk table keys told.input told.random true
@@ -119,6 +119,22 @@ none_replied table keys told old s new undone other took = record {
   front = λ h. absurd (other h);
   readable = λ standard. none_readable;
 }
+
+-- behind a name that was looked up
+replied : SessionOpens → SessionDopens → SessionOpensPresent → SessionDopensPresent → SessionVerifies → TalkIsTurns → (table : Table) (out : Place) (keys : Keys) (told : Told) (old : World) (s : Status) (new : World)
+    → IsKeyset keys → IsStated s → IsAnswer (answer (holds_session table out keys) told) old s new → HasReplies table keys told old s new
+replied opens dopens opens_present dopens_present verifies law table out keys told old s new is stated a = by_file out.file a
+  where
+    went : IsAnswer (answer (exchanges (talk table keys) (saves out)) told) old s new → HasReplies table keys told old s new
+    went a = talk_replied opens dopens opens_present dopens_present verifies law table out keys told old s new is stated a
+
+    by_found : (found : Option (List ℕ)) → IsAnswer (look_answer found (refused told status.OutExists) (answer (exchanges (talk table keys) (saves out)) told)) old s new → HasReplies table keys told old s new
+    by_found None a = went a
+    by_found (Some there) a = none_replied table keys told old s new (λ h. let clash : status.Done ≡ status.OutExists = sym h ∙ a.status in absurd (cc)) (not_unwritten s stated) a.output
+
+    by_file : (file : Option (List ℕ)) → IsAnswer (answer (finds_free file (λ free. exchanges (talk table keys) (saves out))) told) old s new → HasReplies table keys told old s new
+    by_file None a = went a
+    by_file (Some name) a = by_found (map.get told.files name) a
 
 pub readable_answer : SessionOpens → SessionDopens → SessionOpensPresent → SessionDopensPresent → SessionVerifies → TalkIsTurns → ReadKeysFit → AnswersAreReadable
 readable_answer opens dopens opens_present dopens_present verifies law fit table words old s new stated answers = record {

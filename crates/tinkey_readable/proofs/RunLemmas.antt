@@ -44,13 +44,13 @@ use Rattle.tinkey_plans.specs.declared.status.Status.TheVariants as status
 use Rattle.tinkey_words.specs.declared.words.rows.Format.{Format}
 use Rattle.tinkey_words.specs.declared.words.rows.Format.TheVariants as formats
 use Rattle.tinkey_plans.specs.Commands.{command_plan}
-use Rattle.tinkey_plans.specs.Plan.{Told, Answer, answer, writes, draw_answer, refused, talk_answer}
-use Rattle.tinkey_plans.specs.Session.{holds_session, saves, saves_as}
+use Rattle.tinkey_plans.specs.Plan.{Told, Answer, Plan, answer, exchanges, writes, draw_answer, look_answer, refused, talk_answer}
+use Rattle.tinkey_plans.specs.Session.{finds_free, holds_session, saves, saves_as}
 use Rattle.tinkey_readable.specs.Runs.{Handing, hands_on, session_handing, AreRuns, Does, Gives, HandsOn, HoldsBytes, IsDone, Keeps, LeadOn, ReadIsStored, Passage, PassesBytes, Run, RunStep, RunsDopen, RunsDopenPresent, RunsOpen, RunsOpenPresent, RunsVerify, WasDone, WrapStep, Written, by_run, by_wrap, bytes_at, edit_of, keyset_of, read_in}
 use Rattle.tinkey_plans.specs.Laws.{FitKeysetsAnswer}
 use Rattle.tinkey_plans.specs.Steps.{input_limit, sealed_limit, keyset_limit, takes_keyset, makes_keyset, puts_keyset, with_made, written_in}
 use Rattle.tinkey_plans.specs.Using.{as_drawn, limit_for, made_bytes, with_opened, with_verified, works}
-use Rattle.tinkey_words.specs.Words.{Asked, AskedEdit, AskedWork, Place, create_keyset, edit_keyset, list_keyset, convert_keyset, list_key_templates, use_keyset, seal_stream, open_stream, self_test, session, wrap_keyset, unwrap_keyset, to_seal, to_open, to_dseal, to_dopen, to_tag, to_verify, primitive_for}
+use Rattle.tinkey_words.specs.Words.{Asked, AskedEdit, AskedWork, Place, create_keyset, edit_keyset, list_keyset, convert_keyset, list_key_templates, use_keyset, use_envelope, seal_stream, open_stream, self_test, session, wrap_keyset, unwrap_keyset, to_seal, to_open, to_dseal, to_dopen, to_tag, to_verify, primitive_for}
 use Rattle.seal_wrap.specs.Sealings.{DsealingsFit, SealingsFit}
 use Rattle.tinkey_readable.proofs.ReachLemmas.{load_done, load_within, IsDoneAnswer, behind, found_edit, made_done, put_done, taken_done, taken_within, used_done, used_reached, used_within}
 use Rattle.tinkey_readable.proofs.WrittenBytesLemmas.{written_bytes}
@@ -215,11 +215,11 @@ record SessionDone (table : Table) (out : Place) (old : Keys) (told : Told) : Ty
   last : Remains
   is : remains table old (asked_in told.input) told.random ≡ Some last
   left : Told
-  goes_on : (answer (holds_session table out old) told).files ≡ (answer (saves out last.keys) left).files
+  goes_on : (answer (exchanges (talk table old) (saves out)) told).files ≡ (answer (saves out last.keys) left).files
   done : IsDoneAnswer (answer (saves out last.keys) left)
 
-session_done : TalkIsTurns → (table : Table) (out : Place) (old : Keys) (told : Told) → IsDoneAnswer (answer (holds_session table out old) told) → SessionDone table out old told
-session_done law table out old told done = by_stop x.stop refl done
+talk_done : TalkIsTurns → (table : Table) (out : Place) (old : Keys) (told : Told) → IsDoneAnswer (answer (exchanges (talk table old) (saves out)) told) → SessionDone table out old told
+talk_done law table out old told done = by_stop x.stop refl done
   where
     x : Talk
     x = talk table old told.input told.random true
@@ -244,6 +244,15 @@ session_done law table out old told done = by_stop x.stop refl done
     by_stop wants is done = absurd (cc)
     by_stop (passes long_line) is done = absurd (cc)
     by_stop (passes many_lines) is done = absurd (cc)
+
+-- where the whole is Done, the name was free
+free_done : (file : Option (List ℕ)) (next : Unit {0} → Plan) (told : Told) → IsDoneAnswer (answer (finds_free file next) told) → answer (finds_free file next) told ≡ answer (next tt) told
+free_done None next told done = refl
+free_done (Some name) next told done = by (map.get told.files name) done
+  where
+    by : (found : Option (List ℕ)) → IsDoneAnswer (look_answer found (refused told status.OutExists) (answer (next tt) told)) → look_answer found (refused told status.OutExists) (answer (next tt) told) ≡ answer (next tt) told
+    by None done = refl
+    by (Some there) done = absurd (cc)
 
 -- what a session saved is within the limit, and is there
 record SavedKeyset (out : Place) (keys : Keys) (told : Told) (file : List ℕ) : Type 0 where
@@ -271,11 +280,13 @@ session_step : FaultlessKeysets → BinaryBack → JsonBack → TalkIsTurns → 
     → Gives table (record { asked = session name form out; told = told }) old after
 session_step law binary json turns sessions edited keeps table name form out file told before after old named done form_is read put_form put random is stored =
     let l = load_done name form before.bytes old (holds_session table out) told read (ap (λ x. read_in x before.bytes) form_is ∙ is) done in
-    let d = session_done turns table out old told (ap (λ (a : Answer). a.status) (sym l) ∙ done) in
+    let whole : IsDoneAnswer (answer (holds_session table out old) told) = ap (λ (a : Answer). a.status) (sym l) ∙ done in
+    let free = free_done out.file (λ free. exchanges (talk table old) (saves out)) told whole in
+    let d = talk_done turns table out old told (ap (λ (a : Answer). a.status) (sym free) ∙ whole) in
     let p = saved out d.last.keys d.left file named d.done in
     let faultless = read_faultless before old is in
     let keyset : IsKeyset old = record { faultless = faultless; words = each_of old.records (λ r s. s.held.id) stored } in
-    let files = ap (λ (a : Answer). a.files) l ∙ d.goes_on in
+    let files = ap (λ (a : Answer). a.files) l ∙ ap (λ (a : Answer). a.files) free ∙ d.goes_on in
     given law binary json table (record { asked = session name form out; told = told }) old d.last.keys out after put_form put
     (ap (λ f. bytes_at f (answer (command_plan table (session name form out)) told).files (answer (command_plan table (session name form out)) told).output) named ∙ ap (λ f. map.get f file) files ∙ p.there)
     p.within
@@ -315,6 +326,7 @@ by_asked law binary json keeps keeps_stored turns sessions edited keep_sessions 
 by_asked law binary json keeps keeps_stored turns sessions edited keep_sessions table (list_keyset in') told before after old h e done form read put_form put random is stored = clash e
 by_asked law binary json keeps keeps_stored turns sessions edited keep_sessions table list_key_templates told before after old h e done form read put_form put random is stored = clash e
 by_asked law binary json keeps keeps_stored turns sessions edited keep_sessions table (use_keyset name form' work) told before after old h e done form read put_form put random is stored = clash e
+by_asked law binary json keeps keeps_stored turns sessions edited keep_sessions table (use_envelope name form' template work) told before after old h e done form read put_form put random is stored = clash e
 by_asked law binary json keeps keeps_stored turns sessions edited keep_sessions table (seal_stream name form' ad) told before after old h e done form read put_form put random is stored = clash e
 by_asked law binary json keeps keeps_stored turns sessions edited keep_sessions table (open_stream name form' ad) told before after old h e done form read put_form put random is stored = clash e
 by_asked law binary json keeps keeps_stored turns sessions edited keep_sessions table (self_test seed lines) told before after old h e done form read put_form put random is stored = clash e
@@ -337,6 +349,7 @@ asked_within table (create_keyset template out) told bytes h e done read = clash
 asked_within table (list_keyset in') told bytes h e done read = clash e
 asked_within table list_key_templates told bytes h e done read = clash e
 asked_within table (use_keyset name form work) told bytes h e done read = clash e
+asked_within table (use_envelope name form template work) told bytes h e done read = clash e
 asked_within table (seal_stream name form ad) told bytes h e done read = clash e
 asked_within table (open_stream name form ad) told bytes h e done read = clash e
 asked_within table (self_test seed lines) told bytes h e done read = clash e
@@ -368,6 +381,7 @@ done_edits sessions table told (create_keyset template out) old new does = absur
 done_edits sessions table told (list_keyset in') old new does = absurd does
 done_edits sessions table told list_key_templates old new does = absurd does
 done_edits sessions table told (use_keyset name form work) old new does = absurd does
+done_edits sessions table told (use_envelope name form template work) old new does = absurd does
 done_edits sessions table told (seal_stream name form ad) old new does = absurd does
 done_edits sessions table told (open_stream name form ad) old new does = absurd does
 done_edits sessions table told (self_test seed lines) old new does = absurd does

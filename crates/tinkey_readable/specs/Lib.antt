@@ -1,3 +1,4 @@
+pub mod EnvelopeRuns
 pub mod LineRuns
 pub mod Readable
 pub mod Runs

@@ -2,13 +2,16 @@
 
 ghost use Rattle.keyset_json.specs.Writing.{JsonBack};
 ghost use Rattle.keyset_model.specs.Writing.{BinaryBack};
+ghost use Rattle.tinkey_readable.specs.EnvelopeRuns.{RunsOpenEnvelope};
 ghost use Rattle.tinkey_readable.specs.LineRuns.{MadeDopens, MadeDopensPresent, MadeOpens, MadeOpensPresent, MadeVerifies};
 ghost use Rattle.tinkey_readable.specs.Readable.{AnswersAreReadable, SessionsAreReadable};
 ghost use Rattle.tinkey_readable.specs.Runs.{ReadIsStored, RunStep, RunsDopen, RunsDopenPresent, RunsOpen, RunsOpenPresent, RunsUnwrap, RunsVerify, WrapStep};
 
 use keyset_json::laws::{json_back, json_is_stored};
 use keyset_model::laws::{binary_back, faultless_keysets, read_keysets_fit};
-use seal_wrap::laws::{sealings_fit, wrap_back_bytes};
+use seal_wrap::laws::{
+    envelope_back, envelopes_fit, sealings_fit, standard_data_keys, wrap_back_bytes,
+};
 use tinkey_cmds::laws::edits_keep_keysets;
 use tinkey_plans::laws::fit_keysets_answer;
 use tinkey_session::laws::{
@@ -86,8 +89,8 @@ pub fn kept_wrapped()
 
 /// What was sealed over a keyset opens after any runs that hand the keyset on, as it is or wrapped in
 /// between, with its associated data, to its plaintext, while the key that sealed is ENABLED in the last
-/// keyset and alone under its prefix. While the key is there, ENABLED, it opens to some plaintext, whatever the prefix type, and a tag
-/// verifies.
+/// keyset and alone under its prefix. While the key is there, ENABLED, it opens to some plaintext, whatever
+/// the prefix type, and a tag verifies.
 pub fn kept_runs()
     ensures open { RunsOpen }
     ensures dopen { RunsDopen }
@@ -108,6 +111,23 @@ pub fn kept_runs()
     kept_open_present();
     kept_dopen_present();
     kept_tag();
+}
+
+/// What was sealed in an envelope over a keyset opens after any such runs, with its associated data and the
+/// template of its data key, to its plaintext, while the key that sealed is ENABLED in the last keyset and
+/// alone under its prefix.
+pub fn kept_envelopes()
+    ensures { RunsOpenEnvelope }
+{
+    run_step();
+    wrap_step();
+    envelope_back();
+    envelopes_fit();
+    standard_data_keys();
+    read_keysets_fit();
+    session_is_edits();
+    sound_usable();
+    edited_kept();
 }
 
 /// The same where what sealed or tagged, or what opens or verifies, may be a run of a command or a

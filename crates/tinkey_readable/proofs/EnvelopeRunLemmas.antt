@@ -1,0 +1,198 @@
+-- Envelopes that were sealed before runs, and opened after them.
+use Rattle.std.proofs.Common.{arith, ◌≡◌, ◌∙◌, sym, refl, ap, subst, ℕ, ◌+◌, ◌≤◌, Bool, true, false, List, [], length, Option, Some, None, Result, Ok, Err}
+use Rattle.std.specs.Prelude.{if◌then◌else◌, option_map}
+use Rattle.std.specs.FinMap as map
+use Rattle.std.proofs.lemmas.Option.{same_Some}
+use Rattle.key_msgs.specs.KeyTypes.{primitive_of_type}
+use Rattle.key_msgs.specs.Templates.{Row, is_asymmetric, row_named, type_made}
+use Rattle.key_msgs.specs.declared.primitive.Primitive.{Primitive}
+use Rattle.key_msgs.specs.declared.primitive.Primitive.TheVariants.{Aead, Daead, Mac, Prf, Stream}
+use Rattle.key_msgs.specs.declared.rule.Rule.{Rule}
+use Rattle.keyset_model.specs.Keyset.{Keys, primary_of}
+use Rattle.keyset_model.specs.Writing.{ReadKeysFit}
+use Rattle.keyset_model.specs.declared.record.Record.{Record}
+use Rattle.managers.specs.Schemes.{Scheme, type_under}
+use Rattle.managers.specs.Standard.{standard_table}
+use Rattle.managers.specs.Table.{Table, scheme_at}
+use Rattle.seal_wrap.specs.EnvelopeLaws.{DataKeysAreServed, EnvelopeBack, EnvelopesFit, IsAeadScheme, IsDataKeyRow}
+use Rattle.seal_wrap.specs.Enveloped.{Enveloped, envelope_of, open_envelope_of}
+use Rattle.seal_wrap.specs.Enveloping.{IsAead, url_made}
+use Rattle.tinkey_cmds.specs.Draws.{Drawn}
+use Rattle.tinkey_session.proofs.UsableLemmas.{valid_key}
+use Rattle.tinkey_session.specs.Laws.{EditedIsKeyset, EditedIsSound, SoundIsUsable}
+use Rattle.tinkey_session.specs.SessionLaws.{SessionIsEdits}
+use Rattle.wrapped_prims.specs.Candidates.{prefix_of}
+use Rattle.wrapped_prims.specs.Fitness.{key_of_record, unfit}
+use Rattle.tinkey_plans.proofs.AnswerLemmas.{has_key}
+use Rattle.tinkey_plans.proofs.EnvelopeLemmas.{row_known}
+use Rattle.wrapped_prims.specs.Laws.{GivesKeyFor, HasSameKey, IsKeyset}
+use Rattle.tinkey_plans.specs.declared.status.Status.TheVariants as status
+use Rattle.tinkey_words.specs.declared.words.rows.Format.{Format}
+use Rattle.tinkey_words.specs.Words.{AskedEnvelope, to_eseal, to_eopen}
+use Rattle.tinkey_plans.specs.Envelopes.{as_enveloped, envelope_limit, envelope_output, envelopes, finds_dek, finds_scheme, with_aead, with_enveloped, with_scheme}
+use Rattle.tinkey_plans.specs.Plan.{Answer, Plan, Told, answer, draw_answer, ends, refused, writes}
+use Rattle.tinkey_plans.specs.Steps.{input_limit, keyset_limit, loads_keyset, reads_input, sealed_limit, with_made, with_row}
+use Rattle.tinkey_plans.specs.Using.{handles, unless_unfit}
+use Rattle.tinkey_readable.specs.EnvelopeRuns.{IsEnveloped, RunsOpenEnvelope, WasEnveloped}
+use Rattle.tinkey_readable.specs.Runs.{LeadOn, Passage, RunStep, WrapStep, Written, keyset_of, read_in}
+use Rattle.tinkey_readable.proofs.ReachLemmas.{IsDoneAnswer, load_done, load_reached, load_within, input_done, input_reached, input_within, unfit_done}
+use Rattle.tinkey_readable.proofs.RunLemmas.{lead_ends, opens_so, still_fit}
+
+-- ---- the template of data keys
+
+-- a template that was found
+record FoundDek (name : List ℕ) (next : Row → Plan) (told : Told) : Type 0 where
+  row : Row
+  is : row_named name ≡ Some row
+  aead : IsAead row
+  goes_on : answer (finds_dek name next) told ≡ answer (next row) told
+
+dek_reached : (name : List ℕ) (row : Row) (next : Row → Plan) (told : Told) → row_named name ≡ Some row → IsAead row → answer (finds_dek name next) told ≡ answer (next row) told
+dek_reached name row next told is aead =
+    ap (λ o. answer (with_row o name (λ r. with_aead (primitive_of_type (type_made r)) (next r))) told) is
+    ∙ ap (λ p. answer (with_aead p (next row)) told) aead
+
+dek_done : (name : List ℕ) (next : Row → Plan) (told : Told) → IsDoneAnswer (answer (finds_dek name next) told) → FoundDek name next told
+dek_done name next told done = by (row_named name) refl done
+  where
+    by_aead : (row : Row) (p : Primitive) → row_named name ≡ Some row → primitive_of_type (type_made row) ≡ p → IsDoneAnswer (answer (with_aead p (next row)) told) → FoundDek name next told
+    by_aead row Aead is aead done = record { row = row; is = is; aead = aead; goes_on = dek_reached name row next told is aead }
+    by_aead row Daead is aead done = absurd (cc)
+    by_aead row Mac is aead done = absurd (cc)
+    by_aead row Prf is aead done = absurd (cc)
+    by_aead row Stream is aead done = absurd (cc)
+
+    by_asymmetric : (b : Bool) → IsDoneAnswer (answer (if b then ends status.AsymmetricTemplate tt else ends status.UnknownTemplate tt) told) → FoundDek name next told
+    by_asymmetric true done = absurd (cc)
+    by_asymmetric false done = absurd (cc)
+
+    by : (found : Option Row) → row_named name ≡ found → IsDoneAnswer (answer (with_row found name (λ r. with_aead (primitive_of_type (type_made r)) (next r))) told) → FoundDek name next told
+    by (Some row) is done = by_aead row (primitive_of_type (type_made row)) is refl done
+    by None is done = by_asymmetric (is_asymmetric name) done
+
+-- ---- its scheme
+
+scheme_done : (found : Option Scheme) (next : Scheme → Plan) (told : Told) → IsDoneAnswer (answer (with_scheme found next) told) → (scheme : Scheme) × (found ≡ Some scheme)
+scheme_done (Some scheme) next told done = (scheme, refl)
+scheme_done None next told done = absurd (cc)
+
+-- under the standard table its keys are those of an AEAD
+aead_scheme : DataKeysAreServed → (row : Row) (scheme : Scheme) → IsAead row → scheme_at standard_table Aead (url_made row) ≡ Some scheme → IsAeadScheme scheme
+aead_scheme served row scheme aead is =
+    let s = served row aead in
+    let same : s.0 ≡ scheme = same_Some _ _ (sym s.1 ∙ is) in
+    subst IsAeadScheme same (ap primitive_of_type s.2 ∙ aead)
+
+-- ---- the whole
+
+-- the plan from the template on, and from the keyset on
+abbrev behind_keys : Table → Row → AskedEnvelope → Keys → Plan
+behind_keys table row work keys =
+    handles table Aead keys (λ fit.
+    finds_scheme table row (λ scheme.
+    reads_input (envelope_limit work) (λ input.
+    envelopes table keys scheme row work input writes)))
+
+abbrev behind_dek : Table → (name : List ℕ) → Format → AskedEnvelope → Row → Plan
+behind_dek table name form work row = loads_keyset name form (behind_keys table row work)
+
+abbrev behind_fit : Table → Row → AskedEnvelope → Keys → Plan
+behind_fit table row work keys =
+    finds_scheme table row (λ scheme.
+    reads_input (envelope_limit work) (λ input.
+    envelopes table keys scheme row work input writes))
+
+abbrev behind_scheme : Table → Row → AskedEnvelope → Keys → Scheme → Plan
+behind_scheme table row work keys scheme =
+    reads_input (envelope_limit work) (λ input. envelopes table keys scheme row work input writes)
+
+record UsedEnvelope (table : Table) (keys : Keys) (template : List ℕ) (work : AskedEnvelope) (told : Told) (a : Answer) : Type 0 where
+  row : Row
+  named : row_named template ≡ Some row
+  aead : IsAead row
+  fit : unfit keys Aead table ≡ None
+  scheme : Scheme
+  served : scheme_at table Aead (url_made row) ≡ Some scheme
+  fits : length told.input ≤ envelope_limit work
+  goes_on : a ≡ answer (envelopes table keys scheme row work told.input writes) (record told { input = [] })
+
+used_done : (table : Table) (name : List ℕ) (form : Format) (template : List ℕ) (work : AskedEnvelope) (bytes : List ℕ) (keys : Keys) (told : Told) → map.get told.files name ≡ Some bytes → read_in form bytes ≡ Some keys → IsDoneAnswer (answer (envelope_output table name form template work writes) told)
+    → UsedEnvelope table keys template work told (answer (envelope_output table name form template work writes) told)
+used_done table name form template work bytes keys told there e done =
+    let d = dek_done template (behind_dek table name form work) told done in
+    let done1 : IsDoneAnswer (answer (behind_dek table name form work d.row) told) = ap (λ (a : Answer). a.status) (sym d.goes_on) ∙ done in
+    let l = load_done name form bytes keys (behind_keys table d.row work) told there e done1 in
+    let done2 : IsDoneAnswer (answer (unless_unfit (unfit keys Aead table) (behind_fit table d.row work keys)) told) = ap (λ (a : Answer). a.status) (sym l) ∙ done1 in
+    let fit = unfit_done (unfit keys Aead table) (behind_fit table d.row work keys) told done2 in
+    let f : answer (unless_unfit (unfit keys Aead table) (behind_fit table d.row work keys)) told ≡ answer (behind_fit table d.row work keys) told = ap (λ u. answer (unless_unfit u (behind_fit table d.row work keys)) told) fit in
+    let done3 : IsDoneAnswer (answer (behind_fit table d.row work keys) told) = ap (λ (a : Answer). a.status) (sym f) ∙ done2 in
+    let s = scheme_done (scheme_at table Aead (url_made d.row)) (behind_scheme table d.row work keys) told done3 in
+    let g : answer (behind_fit table d.row work keys) told ≡ answer (behind_scheme table d.row work keys s.0) told = ap (λ o. answer (with_scheme o (behind_scheme table d.row work keys)) told) s.1 in
+    let done4 : IsDoneAnswer (answer (behind_scheme table d.row work keys s.0) told) = ap (λ (a : Answer). a.status) (sym g) ∙ done3 in
+    record {
+      row = d.row;
+      named = d.is;
+      aead = d.aead;
+      fit = fit;
+      scheme = s.0;
+      served = s.1;
+      fits = input_within (envelope_limit work) (λ input. envelopes table keys s.0 d.row work input writes) told done4;
+      goes_on = d.goes_on ∙ l ∙ f ∙ g ∙ input_done (envelope_limit work) (λ input. envelopes table keys s.0 d.row work input writes) told done4;
+    }
+
+used_within : (table : Table) (name : List ℕ) (form : Format) (template : List ℕ) (work : AskedEnvelope) (bytes : List ℕ) (told : Told) → map.get told.files name ≡ Some bytes → IsDoneAnswer (answer (envelope_output table name form template work writes) told) → length bytes ≤ keyset_limit
+used_within table name form template work bytes told there done =
+    let d = dek_done template (behind_dek table name form work) told done in
+    load_within name form bytes (behind_keys table d.row work) told there (ap (λ (a : Answer). a.status) (sym d.goes_on) ∙ done)
+
+used_reached : (table : Table) (name : List ℕ) (form : Format) (template : List ℕ) (row : Row) (scheme : Scheme) (work : AskedEnvelope) (bytes : List ℕ) (keys : Keys) (told : Told) → row_named template ≡ Some row → IsAead row → scheme_at table Aead (url_made row) ≡ Some scheme
+    → map.get told.files name ≡ Some bytes → read_in form bytes ≡ Some keys → length bytes ≤ keyset_limit → unfit keys Aead table ≡ None → length told.input ≤ envelope_limit work
+    → answer (envelope_output table name form template work writes) told ≡ answer (envelopes table keys scheme row work told.input writes) (record told { input = [] })
+used_reached table name form template row scheme work bytes keys told named aead served there e within fit fits =
+    dek_reached template row (behind_dek table name form work) told named aead
+    ∙ load_reached name form bytes keys (behind_keys table row work) told there e within
+    ∙ ap (λ u. answer (unless_unfit u (behind_fit table row work keys)) told) fit
+    ∙ ap (λ o. answer (with_scheme o (behind_scheme table row work keys)) told) served
+    ∙ input_reached (envelope_limit work) (λ input. envelopes table keys scheme row work input writes) told fits
+
+-- ---- an envelope before and after
+
+-- the primary record of a keyset that can serve gives a key
+gives_key_for : (old : Keys) (r : Record) → unfit old Aead standard_table ≡ None → IsKeyset old → primary_of old ≡ Some r → GivesKeyFor standard_table Aead r
+gives_key_for old r fit keyset primary =
+    let h = has_key standard_table Aead old (record { faultless = keyset.faultless; fit = fit }) in
+    let there = subst (λ x. key_of_record standard_table Aead x ≡ Some h.key) (same_Some _ _ (sym h.primary ∙ primary)) h.there in
+    (h.key, there, valid_key Aead r h.key there)
+
+-- what was sealed, by the answer of its work
+sealed_by : (old : Keys) (scheme : Scheme) (row : Row) (ad : List ℕ) (told : Told) (output : List ℕ) → IsDoneAnswer (answer (envelopes standard_table old scheme row (to_eseal ad) told.input writes) (record told { input = [] }))
+    → (answer (envelopes standard_table old scheme row (to_eseal ad) told.input writes) (record told { input = [] })).output ≡ output
+    → (left : List ℕ) × (envelope_of old standard_table scheme row told.input ad told.random ≡ Some (record { answer = Ok output; left = left }))
+sealed_by old scheme row ad told output done gave = by (envelope_of old standard_table scheme row told.input ad told.random) refl done gave
+  where
+    a : Option Enveloped → Answer
+    a o = draw_answer (option_map as_enveloped o) (refused (record told { input = [] }) status.EntropyFault) (λ (d : Drawn (Result (List ℕ) Rule)). answer (with_made d.answer (λ e. with_enveloped e writes)) (record { input = []; files = told.files; random = d.left }))
+
+    by_answer : (r : Result (List ℕ) Rule) (left : List ℕ) → envelope_of old standard_table scheme row told.input ad told.random ≡ Some (record { answer = r; left = left }) → IsDoneAnswer (a (Some (record { answer = r; left = left }))) → (a (Some (record { answer = r; left = left }))).output ≡ output
+        → (left : List ℕ) × (envelope_of old standard_table scheme row told.input ad told.random ≡ Some (record { answer = Ok output; left = left }))
+    by_answer (Ok bytes) left is done gave = (left, is ∙ ap (λ (b : List ℕ). Some (record { answer = Ok b; left = left })) gave)
+    by_answer (Err rule) left is done gave = absurd (cc)
+
+    by : (o : Option Enveloped) → envelope_of old standard_table scheme row told.input ad told.random ≡ o → IsDoneAnswer (a o) → (a o).output ≡ output
+        → (left : List ℕ) × (envelope_of old standard_table scheme row told.input ad told.random ≡ Some (record { answer = Ok output; left = left }))
+    by None is done gave = absurd (cc)
+    by (Some e) is done gave = by_answer e.answer e.left is done gave
+
+pub runs_open_envelope : EnvelopeBack → EnvelopesFit → DataKeysAreServed → ReadKeysFit → RunStep → WrapStep → SessionIsEdits → SoundIsUsable Aead → EditedIsSound → EditedIsKeyset → RunsOpenEnvelope
+runs_open_envelope back sizes served read_fit law wrap sessions usable sound keyset runs before after r prefix template ad sealed told x same is was =
+    let within = used_within standard_table was.name before.form template (to_eseal ad) before.bytes told was.lies was.done in
+    let e = lead_ends read_fit law wrap sessions runs before after r within x in
+    let u = used_done standard_table was.name before.form template (to_eseal ad) before.bytes x.old told was.lies e.read was.done in
+    let s = sealed_by x.old u.scheme u.row ad told sealed (ap (λ (a : Answer). a.status) (sym u.goes_on) ∙ was.done) (ap (λ (a : Answer). a.output) (sym u.goes_on) ∙ was.gave) in
+    let row : IsDataKeyRow u.row = record { known = row_known template u.row u.named; aead = u.aead } in
+    let opened = back standard_table u.scheme u.row x.old x.new r prefix told.input ad told.random sealed s.0 row (aead_scheme served u.row u.scheme u.aead u.served) e.primary is (gives_key_for x.old r u.fit e.keyset e.primary) same s.1 in
+    let short : length sealed ≤ sealed_limit = omega (arith, sizes standard_table u.scheme u.row x.old told.input ad told.random sealed s.0 row s.1, u.fits) in
+    λ t name lies input.
+    let r' = used_reached standard_table name after.form template u.row u.scheme (to_eopen ad) after.bytes x.new t u.named u.aead u.served lies e.read_again e.within (still_fit Aead usable sound keyset x.old x.new e.keyset e.edited u.fit) (subst (λ i. length i ≤ sealed_limit) (sym input) short) in
+    let g = opens_so (open_envelope_of x.new standard_table u.scheme t.input ad) told.input (record t { input = [] }) (ap (λ i. open_envelope_of x.new standard_table u.scheme i ad) input ∙ opened) in
+    (ap (λ (a : Answer). a.status) r' ∙ g.0, ap (λ (a : Answer). a.output) r' ∙ g.1)
