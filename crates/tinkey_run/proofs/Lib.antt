@@ -1,3 +1,4 @@
+pub mod EnvelopeLemmas
 pub mod SelfTestLemmas
 pub mod StreamLemmas
 pub mod TemplateLemmas

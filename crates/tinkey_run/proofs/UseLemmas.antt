@@ -50,19 +50,19 @@ sealed_passes table keys plain ad sealed old entropy is stood = λ next s last r
     inl (settled is.drawn entropy (Ok sealed) is.drew stood (λ more. ap (option_map as_drawn) (is.answer more)) (inl run))
 
 -- what a sealing is under the primary key
-sealed_with : (r : Record) (key : KeyKind) (table : Table) (keys : Keys) (plain ad random : List ℕ) → primary_of keys ≡ Some r → key_of_record table Aead r ≡ Some key → seal_answer keys table plain ad random ≡ seal_behind (prefix_bytes (prefix_of r)) plain ad random key
+pub sealed_with : (r : Record) (key : KeyKind) (table : Table) (keys : Keys) (plain ad random : List ℕ) → primary_of keys ≡ Some r → key_of_record table Aead r ≡ Some key → seal_answer keys table plain ad random ≡ seal_behind (prefix_bytes (prefix_of r)) plain ad random key
 sealed_with r key table keys plain ad random primary there = ap (option_and_then (seal_under table plain ad random)) primary ∙ ap (option_and_then (seal_behind (prefix_bytes (prefix_of r)) plain ad random)) there
 
-primary_is : (table : Table) (found : Option Record) (key : KeyKind) → option_and_then (key_of_record table Aead) found ≡ Some key → (r : Record) × (found ≡ Some r) × (key_of_record table Aead r ≡ Some key)
+pub primary_is : (table : Table) (found : Option Record) (key : KeyKind) → option_and_then (key_of_record table Aead) found ≡ Some key → (r : Record) × (found ≡ Some r) × (key_of_record table Aead r ≡ Some key)
 primary_is table None key is = absurd (cc)
 primary_is table (Some r) key is = (r, refl, is)
 
 -- too few random bytes seal nothing
-too_few : (b : Bool) (sealed : Sealed) → b ≡ true → (if b then None else Some sealed) ≡ None
+pub too_few : (b : Bool) (sealed : Sealed) → b ≡ true → (if b then None else Some sealed) ≡ None
 too_few true sealed is = refl
 too_few false sealed is = absurd (cc)
 
-short_random : (key : KeyKind) (table : Table) (keys : Keys) (plain ad random : List ℕ) → primary_key keys table Aead ≡ Some key → length random < iv_size key → seal_answer keys table plain ad random ≡ None
+pub short_random : (key : KeyKind) (table : Table) (keys : Keys) (plain ad random : List ℕ) → primary_key keys table Aead ≡ Some key → length random < iv_size key → seal_answer keys table plain ad random ≡ None
 short_random key table keys plain ad random primary short =
     let under = primary_is table (primary_of keys) key primary in
     sealed_with under.0 key table keys plain ad random under.1 under.2 ∙ too_few (nat_lt (length random) (iv_size key)) _ (grind (arith, nat_tests))
@@ -97,7 +97,7 @@ iv_test : (b : Bool) (sealed : Sealed) → b ≡ false → (if b then None else 
 iv_test false sealed is = refl
 iv_test true sealed is = absurd (cc)
 
-whole_iv : (key : KeyKind) (prefix plain ad drawn more : List ℕ) → length drawn ≡ iv_size key → seal_behind prefix plain ad (drawn ++ more) key ≡ Some (record { bytes = prefix ++ seal_of key drawn plain ad; left = more })
+pub whole_iv : (key : KeyKind) (prefix plain ad drawn more : List ℕ) → length drawn ≡ iv_size key → seal_behind prefix plain ad (drawn ++ more) key ≡ Some (record { bytes = prefix ++ seal_of key drawn plain ad; left = more })
 whole_iv key prefix plain ad drawn more whole =
     let front : take (iv_size key) (drawn ++ more) ≡ drawn = take_at drawn more (iv_size key) whole in
     let rest : drop (iv_size key) (drawn ++ more) ≡ more = drop_at drawn more (iv_size key) whole in
@@ -110,7 +110,7 @@ nothing_drawn None before is = is
 nothing_drawn (Some rest) before is = is
 
 -- an entropy that gave nothing and didn't fail is as it was
-same_entropy : (old new : EntropyState) → Drew old new [] → Stood old.faults new.faults → old ≡ new
+pub same_entropy : (old new : EntropyState) → Drew old new [] → Stood old.faults new.faults → old ≡ new
 same_entropy old new drew stood =
     let left = nothing_drawn new.left old.left drew.left in
     let faults = sym stood in

@@ -6,6 +6,7 @@
 #![tactic(auto)]
 
 mod edits;
+mod enveloping;
 pub mod laws;
 mod list;
 mod output;

@@ -4,10 +4,11 @@ ghost use Rattle.std.specs.Prelude.{◌≡◌, Some, IfOk};
 ghost use Rattle.std.specs.List.{AllByRecursion};
 ghost use Rattle.keyset_model.specs.Keyset.{Keys, IsShort};
 ghost use Rattle.tinkey_plans.specs.Ends.{Ends, World, talk_status, world};
-ghost use Rattle.tinkey_plans.specs.Plan.{Plan};
-ghost use Rattle.tinkey_plans.specs.Session.{holds_session, saves, saves_as};
+ghost use Rattle.tinkey_plans.specs.Plan.{Plan, exchanges};
+ghost use Rattle.tinkey_session.specs.Talking.{talk as talking};
+ghost use Rattle.tinkey_plans.specs.Session.{finds_free, holds_session, saves, saves_as};
 ghost use Rattle.tinkey_plans.specs.Steps.{Passes};
-ghost use Rattle.tinkey_words.specs.Words.{seen_place};
+ghost use Rattle.tinkey_words.specs.Words.{seen_name, seen_place};
 
 use crate::output::{create_file, written};
 use keyset_model::Keyset;
@@ -46,7 +47,8 @@ pub(crate) fn answer_lines<S: Source, K: Sink, E: Entropy, D: Store>(
     }
 }
 
-/// Answers the lines of the input over this keyset, and saves the last one.
+/// Answers the lines of the input over this keyset, and saves the last one, unless the name that it is to
+/// have is taken.
 fn answer_over<S: Source, K: Sink, E: Entropy, D: Store>(
     alloc: Global,
     managers: &Managers,
@@ -61,6 +63,47 @@ fn answer_over<S: Source, K: Sink, E: Entropy, D: Store>(
     ensures { Ends
         (holds_session
         (⟦<Managers as KeyTable>⟧.table managers.now) (seen_place output.entry) keyset)
+        (world (S.state source.old) (K.state sink.old) (D.state store.old) (E.state entropy.old))
+        result
+        (world (S.state source.new) (K.state sink.new) (D.state store.new) (E.state entropy.new)) }
+{
+    match find_free(output.file, store) {
+        Ok(()) => answer_all(
+            alloc, managers, keyset, output, source, sink, entropy, store,
+        ),
+        Err(status) => status,
+    }
+}
+
+/// Looks up the name of a new file, where one is named: it has to be free.
+fn find_free<D: Store>(file: Option<&str>, store: &mut D) -> Result<(), Status>
+    ensures { (w : World) → Passes (finds_free (seen_name file.entry))
+        (record w { store = D.state store.old }) result (record w { store = D.state store.new }) }
+{
+    match file {
+        Some(name) => match store.is_taken(name) {
+            Ok(true) => Err(Status::OutExists),
+            Ok(false) => Ok(()),
+            Err(_) => Err(Status::StoreFault),
+        },
+        None => Ok(()),
+    }
+}
+
+/// Answers all lines of the input over this keyset, and saves the last one.
+fn answer_all<S: Source, K: Sink, E: Entropy, D: Store>(
+    alloc: Global,
+    managers: &Managers,
+    keyset: Keyset,
+    output: Place<'_>,
+    source: &mut S,
+    sink: &mut K,
+    entropy: &mut E,
+    store: &mut D,
+) -> Status
+    requires short { AllByRecursion IsShort keyset.records }
+    ensures { Ends (exchanges
+        (talking (⟦<Managers as KeyTable>⟧.table managers.now) keyset) (saves (seen_place output.entry)))
         (world (S.state source.old) (K.state sink.old) (D.state store.old) (E.state entropy.old))
         result
         (world (S.state source.new) (K.state sink.new) (D.state store.new) (E.state entropy.new)) }

@@ -9,6 +9,7 @@ ghost use Rattle.tinkey_plans.specs.Status.{Reports};
 ghost use Rattle.tinkey_words.specs.Words.{seen_command};
 
 use crate::edits::{create_keyset, edit_keyset};
+use crate::enveloping::use_envelope;
 use crate::list::list_keyset;
 use crate::output::{finish, finish_keyset, finish_text};
 use crate::self_testing::tell_self_test;
@@ -125,6 +126,17 @@ fn dispatch<S: Source, K: Sink, E: Entropy, D: Store>(
         Request::UseKeyset { keyset, form, work } => finish(
             sink,
             use_keyset(alloc, managers, keyset, form, work, source, entropy, store),
+        ),
+        Request::UseEnvelope {
+            keyset,
+            form,
+            template,
+            work,
+        } => finish(
+            sink,
+            use_envelope(
+                alloc, managers, keyset, form, template, work, source, entropy, store,
+            ),
         ),
         Request::SealStream { keyset, form, ad } => {
             let keys = load_stream_keys(alloc, keyset, form, store);

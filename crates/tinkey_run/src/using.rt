@@ -20,11 +20,11 @@ use tinkey_words::{DATUM_LIMIT, Datum, Format, Work};
 use wrapped_prims::{DeriveFault, Handle, HandleFault, SealFault};
 
 /// How many bytes a whole input may have.
-const INPUT_LIMIT: usize = 16_777_216;
+pub(crate) const INPUT_LIMIT: usize = 16_777_216;
 
 /// How many bytes it may have where it is to be opened: 1,024 more, as no sealing is longer than its
 /// plaintext by more.
-const SEALED_LIMIT: usize = INPUT_LIMIT + 1024;
+pub(crate) const SEALED_LIMIT: usize = INPUT_LIMIT + 1024;
 
 /// Work on the whole input, by the keys of the keyset in the file of this name: what is put out.
 pub(crate) fn use_keyset<S: Source, E: Entropy, D: Store>(
@@ -261,7 +261,7 @@ fn derive(alloc: Global, handle: &Handle<'_>, size: u32, input: &[u8]) -> Result
 }
 
 /// The plaintext, or the status where nothing opened.
-fn or_failed(opened: Option<Vec<u8>>) -> Result<Bytes, Status>
+pub(crate) fn or_failed(opened: Option<Vec<u8>>) -> Result<Bytes, Status>
     ensures { (w : World) → Passes (with_opened (option_map (λ plain. plain.items) opened)) w result w }
 {
     match opened {

@@ -81,10 +81,13 @@ a stream of no plaintext | sseal --keyset k --keyset-format binary | 64 | 07; EN
 a stream of one segment | sseal --keyset k --keyset-format binary | 64 | 07; ENABLED RAW 07 @AesGcmHkdfStreamingKey 12( 088020 1010 1803 ) 1a( 000102030405060708090a0b0c0d0e0f ) | 4056x00 | 404142434445464748494a4b4c4d4e4f50515253545556 | 0 Done | | 18404142434445464748494a4b4c4d4e4f50515253545556 ~4096 6159a7ee4cf579bd3d3417ac1ee6cdd9 | none | 23 | 65 66 0 1 1
 a stream of a byte more | sseal --keyset k --keyset-format binary | 64 | 07; ENABLED RAW 07 @AesGcmHkdfStreamingKey 12( 088020 1010 1803 ) 1a( 000102030405060708090a0b0c0d0e0f ) | 4057x00 | 404142434445464748494a4b4c4d4e4f50515253545556 | 0 Done | | 18404142434445464748494a4b4c4d4e4f50515253545556 ~4113 e202dae0337d1b7895b8f5c5b2c2496b17 | none | 23 | 65 68 0 1 1
 an empty stream opened | sopen --keyset k --keyset-format binary | 64 | 07; ENABLED RAW 07 @AesGcmHkdfStreamingKey 12( 088020 1010 1803 ) 1a( 000102030405060708090a0b0c0d0e0f ) | | | 1 StreamFailed(0) | tinkey: stream failed at segment 0 | | none | 0 | 1 0 1 1 0
-a session | session --keyset k --keyset-format binary --out n --out-format binary | 64 | GCM | STORY | 12x00 0a0b0c0d 16x00 12x00 | 0 Done | | REPLIES | 088d98ac50 GCM[5..83] 188d98ac50 2001 | 44 | 11 15 0 2 4
+a session | session --keyset k --keyset-format binary --out n --out-format binary | 64 | GCM | STORY | 12x00 0a0b0c0d 16x00 12x00 | 0 Done | | REPLIES | 088d98ac50 GCM[5..83] 188d98ac50 2001 | 44 | 11 15 0 3 4
+a session whose new file is there | session --keyset k --keyset-format binary --out k --out-format binary | 64 | GCM | STORY | 12x00 0a0b0c0d 16x00 12x00 | 4 OutExists | tinkey: output file exists | | none | 0 | 0 0 1 2 0
 a session without a new file | session --keyset k --keyset-format binary | 64 | GCM | STORY | 12x00 0a0b0c0d 16x00 12x00 | 0 Done | | REPLIES | none | 44 | 11 15 0 1 4
 a keyset wrapped | wrap-keyset --master k --master-format binary --in-format binary --out-format binary | 64 | GCM | HMAC | 12x00 | 0 Done | | WRAPPED | none | 12 | 3 4 0 1 1
 a keyset unwrapped in a file | unwrap-keyset --master k --master-format binary --in-format binary --out-format binary --out n | 64 | GCM | WRAPPED | | 0 Done | | | HMAC | 0 | 5 0 0 2 0
+an envelope sealed | eseal --dek-template AES128_GCM_RAW --keyset k --keyset-format binary | 64 | GCM | 16x00 | 40x00 | 0 Done | | 00000033 0101020304 12x00 1998dace60b6a392f328c2b971b2fe78f7956d5be285ef332e80174f60c6e290b102 12x00 0388dace60b6a392f328c2b971b2fe78 ab6e47d42cec13bdf53a67b21257bddf | none | 40 | 2 2 0 1 3
+an envelope opened | eopen --dek-template AES128_GCM_RAW --keyset k --keyset-format binary | 64 | GCM | 00000033 0101020304 12x00 1998dace60b6a392f328c2b971b2fe78f7956d5be285ef332e80174f60c6e290b102 12x00 0388dace60b6a392f328c2b971b2fe78 ab6e47d42cec13bdf53a67b21257bddf | | 0 Done | | 16x00 | none | 0 | 3 1 0 1 0
 a self-test | selftest --seed 0 --lines 4 | 64 | none | | | 0 Done | | `lines^4^seals^3^opened^0^refused^0^edits^1^declined^0^lost^0` 0a | none | 0 | 0 1 0 0 0
 a line in pieces | list-keyset --in-format binary | 7 | none | 08 | | 3 BadProto(0) | tinkey: bad protobuf at byte 0 | | none | 0 | 2 0 5 0 0
 a missing file | tag --keyset k --keyset-format binary | 7 | none | | | 4 InMissing | tinkey: input file missing | | none | 0 | 0 0 4 1 0
@@ -93,7 +96,7 @@ words at fault | verify | 7 | none | | | 2 Usage(1) | tinkey: usage: word 1 | | 
 
 #[test]
 fn ends_by_the_call_that_failed(rt: HostRuntime) -> Result<(), Fail> {
-    run_failing(rt.alloc(), COMMANDS, 39)
+    run_failing(rt.alloc(), COMMANDS, 42)
 }
 
 // The new file of 175 bytes, or of 90, or the 236 bytes of JSON, breaks off, and what is there stays.

@@ -17,6 +17,8 @@ mod edits;
 #[cfg(test)]
 mod enabling;
 #[cfg(test)]
+mod enveloped;
+#[cfg(test)]
 mod failing;
 #[cfg(test)]
 mod faults;

@@ -84,8 +84,8 @@ fn writes_replies_in_order_until_a_write_fails(rt: HostRuntime) -> Result<(), Fa
     run_table(rt.alloc(), WRITES, 15)
 }
 
-// The fills are an IV, an id, a key and an IV; the calls of the store load the file and make the new
-// one.
+// The fills are an IV, an id, a key and an IV; the calls of the store load the file, look the new one's name
+// up, and make it.
 const OTHERS: &str = "words: session --keyset k --keyset-format binary --out n --out-format binary
 file: GCM
 input: STORY
@@ -98,12 +98,13 @@ the id of the second | fill 2 | 5 EntropyFault | tinkey: entropy fault | REPLIES
 its key | fill 3 | 5 EntropyFault | tinkey: entropy fault | REPLIES[..102] | 16
 the IV of the third | fill 4 | 5 EntropyFault | tinkey: entropy fault | REPLIES[..115] | 32
 the load of the file | store 1 | 5 StoreFault | tinkey: store fault | | 0
-the new file, behind all replies | store 2 | 5 StoreFault | tinkey: store fault | REPLIES | 44
+the name of the new file, before any reply | store 2 | 5 StoreFault | tinkey: store fault | | 0
+the new file, behind all replies | store 3 | 5 StoreFault | tinkey: store fault | REPLIES | 44
 ";
 
 #[test]
 fn leaves_the_replies_before_a_fault(rt: HostRuntime) -> Result<(), Fail> {
-    run_table(rt.alloc(), OTHERS, 6)
+    run_table(rt.alloc(), OTHERS, 7)
 }
 
 // The tags are those of RFC 4231's first case.
@@ -148,7 +149,7 @@ a function with a prefix | session | 07; ENABLED TINK 07 @HmacPrfKey 12020803 1a
 a key of 15 bytes | session | 07; ENABLED TINK 07 @AesGcmKey 1a0f 15x00 | `seal^-^-` 0a `promote^7` 0a | 0 Done | | `no^key^0^is^not^valid:^key^size` 0a `ok` 0a
 no file | session | none | `hello` 0a | 4 InMissing | tinkey: input file missing |
 no keyset | session | 08 | `hello` 0a | 3 BadProto(0) | tinkey: bad protobuf at byte 0 |
-a new file that is there | session --out k | GCM | `hello` 0a | 4 OutExists | tinkey: output file exists | `no^bad^line` 0a
+a new file that is there | session --out k | GCM | `hello` 0a | 4 OutExists | tinkey: output file exists |
 a form of no new file | session --out-format json | GCM | `hello` 0a | 0 Done | | `no^bad^line` 0a
 ";
 

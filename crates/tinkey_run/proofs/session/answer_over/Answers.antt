@@ -1,12 +1,12 @@
-use Rattle.std.proofs.Common.{refl}
-use Rattle.tinkey_session.proofs.TalkLemmas.{talks_are_steady}
-use Rattle.tinkey_plans.specs.Ends.{world, exchanged, exchange_ended}
+use Rattle.tinkey_plans.specs.Ends.{world}
+use Rattle.tinkey_plans.specs.Plan.{exchanges}
+use Rattle.tinkey_plans.specs.Session.{saves}
+use Rattle.tinkey_session.specs.Talking.{talk}
+use Rattle.tinkey_words.specs.Words.{seen_place}
 use Rattle.tinkey_run.proofs.session.answer_over.Goals as goal
 
 pub returns-in-Ok : goal.returns-in-Ok
-returns-in-Ok g c =
-    let mid = world (g.S.Source.state c.talk.new.source) (g.K.Sink.state c.talk.new.sink) (g.D.Store.state c.args.store.now) (g.E.Entropy.state c.talk.new.entropy) in
-    exchanged c.in-Ok.last mid c.in-Ok.ensures.talks refl (talks_are_steady _ _) (c.save.ensures mid)
+returns-in-Ok g c = c.in-Ok.ensures (world (g.S.Source.state c.args.source.now) (g.K.Sink.state c.args.sink.now) (g.D.Store.state c.args.store.now) (g.E.Entropy.state c.args.entropy.now)) (λ free. exchanges (talk _ c.args.keyset) (saves (seen_place c.args.output))) _ _ c.answer_all.ensures
 
 pub returns-in-Err : goal.returns-in-Err
-returns-in-Err g c = exchange_ended c.in-Err.fault c.ended.ensures c.in-Err.ensures.talks refl (talks_are_steady _ _)
+returns-in-Err g c = c.in-Err.ensures (world (g.S.Source.state c.args.source.now) (g.K.Sink.state c.args.sink.now) (g.D.Store.state c.args.store.now) (g.E.Entropy.state c.args.entropy.now)) (λ free. exchanges (talk _ c.args.keyset) (saves (seen_place c.args.output)))

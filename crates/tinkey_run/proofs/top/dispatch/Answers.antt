@@ -1,11 +1,12 @@
 use Rattle.tinkey_plans.specs.Commands.{create_output, edit_output, list_keyset_output}
 use Rattle.tinkey_plans.specs.Ends.{world}
+use Rattle.tinkey_plans.specs.Envelopes.{envelope_output}
 use Rattle.tinkey_plans.specs.SelfTesting.{self_test_output}
 use Rattle.tinkey_plans.specs.Steps.{loads_keyset, takes_keyset}
 use Rattle.tinkey_plans.specs.Streaming.{loads_stream_keys}
 use Rattle.tinkey_plans.specs.Using.{use_output}
 use Rattle.tinkey_plans.specs.Wrapping.{unwrap_output, wrap_output}
-use Rattle.tinkey_words.specs.Words.{seen_edit, seen_place, seen_work}
+use Rattle.tinkey_words.specs.Words.{seen_edit, seen_envelope, seen_place, seen_work}
 use Rattle.tinkey_run.proofs.top.dispatch.Goals as goal
 
 pub returns-in-CreateKeyset : goal.returns-in-CreateKeyset
@@ -38,6 +39,13 @@ returns-in-UseKeyset g c =
     let w = world (g.S.Source.state c.args.source.now) (g.K.Sink.state c.args.sink.now) (g.D.Store.state c.args.store.now) (g.E.Entropy.state c.args.entropy.now) in
     let new = record w { source = g.S.Source.state c.use_keyset.new.source; entropy = g.E.Entropy.state c.use_keyset.new.entropy; store = g.D.Store.state c.use_keyset.new.store } in
     rw c.in-UseKeyset.is (c.finish-in-UseKeyset.ensures (use_output _ c.in-UseKeyset.keyset.now c.in-UseKeyset.form (seen_work c.in-UseKeyset.work)) w new (c.use_keyset.ensures w))
+
+pub returns-in-UseEnvelope : goal.returns-in-UseEnvelope
+returns-in-UseEnvelope g c =
+    let w = world (g.S.Source.state c.args.source.now) (g.K.Sink.state c.args.sink.now) (g.D.Store.state c.args.store.now) (g.E.Entropy.state c.args.entropy.now) in
+    let x = c.in-UseEnvelope in
+    let new = record w { source = g.S.Source.state c.use_envelope.new.source; entropy = g.E.Entropy.state c.use_envelope.new.entropy; store = g.D.Store.state c.use_envelope.new.store } in
+    rw x.is (c.finish-in-UseEnvelope.ensures (envelope_output _ x.keyset.now x.form x.template.now (seen_envelope x.work)) w new (c.use_envelope.ensures w))
 
 pub returns-in-SealStream : goal.returns-in-SealStream
 returns-in-SealStream g c =

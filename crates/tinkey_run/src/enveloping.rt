@@ -1,0 +1,201 @@
+//! Envelope sealing: eseal and eopen.
+
+ghost use Rattle.std.specs.Prelude.{◌≡◌, ◌≤◌, ◌^◌, length, IfOk};
+ghost use Rattle.key_msgs.specs.Templates.{Row, seen};
+ghost use Rattle.key_msgs.specs.declared.primitive.Primitive.TheVariants.{Aead};
+ghost use Rattle.keyset_model.specs.Keyset.{Keys};
+ghost use Rattle.seal_wrap.specs.Enveloping.{IsAead, url_made};
+ghost use Rattle.wrapped_prims.specs.Making.{IsOver};
+ghost use Rattle.tinkey_plans.specs.Ends.{World};
+ghost use Rattle.tinkey_plans.specs.Envelopes.{envelope_limit, envelope_output, envelopes, finds_dek, finds_scheme};
+ghost use Rattle.tinkey_plans.specs.Steps.{Passes, PassesAs};
+ghost use Rattle.tinkey_plans.specs.Using.{IsServing};
+ghost use Rattle.tinkey_words.specs.Words.{seen_datum, seen_envelope, to_eseal, to_eopen};
+
+use crate::steps::{find_template, load_keyset, read_input};
+use crate::using::{INPUT_LIMIT, SEALED_LIMIT, datum, handle_of, or_failed};
+use key_msgs::{Primitive, Template};
+use managers::{AeadManager, KeyManager, KeyTable, Managers};
+use seal_wrap::{EnvelopeFault, data_key, envelope_open, envelope_seal};
+use std::alloc::Global;
+use tink_base::{Bytes, Entropy, Source, Store};
+use tinkey_plans::Status;
+use tinkey_words::{Datum, Envelope, Format};
+use wrapped_prims::Handle;
+
+/// Work on the whole input, by data keys of a template under the keys of the keyset in the file of this
+/// name: what is put out.
+pub(crate) fn use_envelope<S: Source, E: Entropy, D: Store>(
+    alloc: Global,
+    managers: &Managers,
+    name: &str,
+    form: Format,
+    template: &str,
+    work: Envelope<'_>,
+    source: &mut S,
+    entropy: &mut E,
+    store: &mut D,
+) -> Result<Bytes, Status>
+    ensures { (w : World) → Passes
+        (envelope_output (⟦<Managers as KeyTable>⟧.table managers.now) name.now form template.now
+        (seen_envelope work.entry))
+        (record w {
+          source = S.state source.old;
+          store = D.state store.old;
+          entropy = E.state entropy.old;
+        }) result
+        (record w {
+          source = S.state source.new;
+          store = D.state store.new;
+          entropy = E.state entropy.new;
+        }) }
+{
+    let template = find_dek(template)?;
+    let keyset = load_keyset(alloc, name, form, store)?;
+    let handle = handle_of(alloc, &keyset, managers, Primitive::Aead)?;
+    let manager = find_manager(managers, &template)?;
+    let input = read_input(alloc, envelope_limit(work), source)?;
+    do_envelope(
+        alloc,
+        &handle,
+        manager,
+        &template,
+        work,
+        input.as_slice(),
+        entropy,
+    )
+}
+
+/// The template of this name, whose keys are of an AEAD. No memory is taken.
+fn find_dek(name: &str) -> Result<Template, Status>
+    ensures passes { (w : World) → PassesAs seen (finds_dek name.now) w result w }
+    ensures aead { IfOk result (λ template. IsAead (seen template)) }
+{
+    let template = find_template(name)?;
+    match template.primitive() {
+        Primitive::Aead => Ok(template),
+        _ => Err(Status::DekTemplate),
+    }
+}
+
+/// The manager of the keys of a template.
+fn find_manager<'m>(
+    managers: &'m Managers,
+    template: &Template,
+) -> Result<&'m dyn AeadManager, Status>
+    requires aead { IsAead (seen template.now) }
+    ensures passes { (w : World) → PassesAs
+        (λ m. (⟦<dyn AeadManager as KeyManager>⟧ m.now.0).scheme m.now.1)
+        (finds_scheme (⟦<Managers as KeyTable>⟧.table managers.now) (seen template.now)) w result w }
+    ensures url { IfOk result (λ m.
+        (⟦<dyn AeadManager as KeyManager>⟧ m.now.0).url m.now.1 ≡ url_made (seen template.now)) }
+{
+    match data_key(managers, template) {
+        Ok(manager) => Ok(manager),
+        Err(_) => Err(Status::NoDekManager),
+    }
+}
+
+/// What is put out for the input.
+fn do_envelope<E: Entropy>(
+    alloc: Global,
+    handle: &Handle<'_>,
+    manager: &dyn AeadManager,
+    template: &Template,
+    work: Envelope<'_>,
+    input: &[u8],
+    entropy: &mut E,
+) -> Result<Bytes, Status>
+    requires serving { IsServing (⟦<Managers as KeyTable>⟧.table handle.now.managers.now) Aead
+        handle.now.held }
+    requires aead { IsAead (seen template.now) }
+    requires url { (⟦<dyn AeadManager as KeyManager>⟧ manager.now.0).url manager.now.1
+        ≡ url_made (seen template.now) }
+    requires bound { length input.now ≤ envelope_limit (seen_envelope work) }
+    ensures { (w : World) (keys : Keys)
+        → IsOver (⟦<Managers as KeyTable>⟧.table handle.now.managers.now) Aead keys handle.now.held
+        → Passes (envelopes (⟦<Managers as KeyTable>⟧.table handle.now.managers.now) keys
+        ((⟦<dyn AeadManager as KeyManager>⟧ manager.now.0).scheme manager.now.1)
+        (seen template.now) (seen_envelope work.entry) input.now)
+        (record w { entropy = E.state entropy.old }) result (record w { entropy = E.state entropy.new }) }
+{
+    match work {
+        Envelope::Seal(ad) => seal_envelope(alloc, handle, manager, template, ad, input, entropy),
+        Envelope::Open(ad) => open_envelope(alloc, handle, manager, ad, input),
+    }
+}
+
+/// eseal: the envelope, under a data key that is made for it.
+fn seal_envelope<E: Entropy>(
+    alloc: Global,
+    handle: &Handle<'_>,
+    manager: &dyn AeadManager,
+    template: &Template,
+    ad: Datum<'_>,
+    plain: &[u8],
+    entropy: &mut E,
+) -> Result<Bytes, Status>
+    requires serving { IsServing (⟦<Managers as KeyTable>⟧.table handle.now.managers.now) Aead
+        handle.now.held }
+    requires aead { IsAead (seen template.now) }
+    requires url { (⟦<dyn AeadManager as KeyManager>⟧ manager.now.0).url manager.now.1
+        ≡ url_made (seen template.now) }
+    requires bound { length plain.now ≤ 16777216 }
+    ensures { (w : World) (keys : Keys)
+        → IsOver (⟦<Managers as KeyTable>⟧.table handle.now.managers.now) Aead keys handle.now.held
+        → Passes (envelopes (⟦<Managers as KeyTable>⟧.table handle.now.managers.now) keys
+        ((⟦<dyn AeadManager as KeyManager>⟧ manager.now.0).scheme manager.now.1)
+        (seen template.now) (to_eseal (seen_datum ad.entry)) plain.now)
+        (record w { entropy = E.state entropy.old }) result (record w { entropy = E.state entropy.new }) }
+{
+    let ad = datum(alloc, ad)?;
+    match envelope_seal(
+        alloc,
+        handle,
+        manager,
+        template,
+        plain,
+        ad.as_slice(),
+        entropy,
+    ) {
+        Ok(envelope) => Ok(Bytes::own(envelope)),
+        Err(EnvelopeFault::EntropyFault) => Err(Status::EntropyFault),
+        Err(EnvelopeFault::Refused(rule)) => Err(Status::DekRefused(rule)),
+        Err(EnvelopeFault::NoMemory) => Err(Status::NoMemory),
+    }
+}
+
+/// eopen: the plaintext of the envelope.
+fn open_envelope(
+    alloc: Global,
+    handle: &Handle<'_>,
+    manager: &dyn AeadManager,
+    ad: Datum<'_>,
+    envelope: &[u8],
+) -> Result<Bytes, Status>
+    requires serving { IsServing (⟦<Managers as KeyTable>⟧.table handle.now.managers.now) Aead
+        handle.now.held }
+    requires bound { length envelope.now ≤ 16778240 }
+    ensures { (w : World) (keys : Keys) (row : Row)
+        → IsOver (⟦<Managers as KeyTable>⟧.table handle.now.managers.now) Aead keys handle.now.held
+        → Passes (envelopes (⟦<Managers as KeyTable>⟧.table handle.now.managers.now) keys
+        ((⟦<dyn AeadManager as KeyManager>⟧ manager.now.0).scheme manager.now.1)
+        row (to_eopen (seen_datum ad.entry)) envelope.now) w result w }
+{
+    let ad = datum(alloc, ad)?;
+    match envelope_open(alloc, handle, manager, envelope, ad.as_slice()) {
+        Ok(opened) => or_failed(opened),
+        Err(_) => Err(Status::NoMemory),
+    }
+}
+
+/// How many bytes the input of the work may have.
+fn envelope_limit(work: Envelope<'_>) -> usize
+    ensures limit { result ≡ envelope_limit (seen_envelope work.entry) }
+    ensures bound { result ≤ 16778240 }
+{
+    match work {
+        Envelope::Seal(_) => INPUT_LIMIT,
+        Envelope::Open(_) => SEALED_LIMIT,
+    }
+}
