@@ -3,7 +3,7 @@ _tinkey() {
     local word=${COMP_WORDS[COMP_CWORD]} before=${COMP_WORDS[COMP_CWORD-1]} words=
     COMPREPLY=()
     if [ "$COMP_CWORD" -eq 1 ]; then
-        words='create-keyset add-key rotate-keyset promote-key enable-key disable-key destroy-key delete-key list-keyset convert-keyset list-key-templates seal open dseal dopen sseal sopen tag verify derive session selftest wrap-keyset unwrap-keyset'
+        words='create-keyset add-key rotate-keyset promote-key enable-key disable-key destroy-key delete-key list-keyset convert-keyset list-key-templates seal open dseal dopen sseal sopen tag verify derive session selftest wrap-keyset unwrap-keyset eseal eopen'
     else
         case "$before" in
         --in|--out|--keyset|--master)
@@ -38,6 +38,8 @@ _tinkey() {
             selftest) words='--seed --lines' ;;
             wrap-keyset) words='--master --master-format --in --in-format --out --out-format' ;;
             unwrap-keyset) words='--master --master-format --in --in-format --out --out-format' ;;
+            eseal) words='--keyset --dek-template --keyset-format --ad --ad-hex' ;;
+            eopen) words='--keyset --dek-template --keyset-format --ad --ad-hex' ;;
             esac ;;
         esac
     fi

@@ -231,6 +231,14 @@ hex "${sealed%??}de" | takes
 ends same '' none
 status=1 line='tinkey: open failed'
 refuse closed open --keyset gcm --keyset-format binary
+envelope=0000003301010203040000000000000000000000001998dace60b6a392f328c2b971b2fe78f7956d5be285ef332e80174f60c6e290b102
+envelope=${envelope}000000000000000000000000${sealed:34}
+zeros 16 | takes
+ends size 99 none
+refuse envelope eseal --keyset gcm --keyset-format binary --dek-template AES128_GCM
+hex "$envelope" | takes
+ends same "$(zeros 16 | shaped same)" none
+refuse opened-envelope eopen --keyset gcm --keyset-format binary --dek-template AES128_GCM
 printf 'Hi There' | takes
 ends same 003f691decd01ba02be727b014625c9a8606b032893191be none
 refuse dseal dseal --keyset siv --ad-hex 000e
@@ -256,6 +264,10 @@ refuse opened-stream sopen --keyset stream
 session | takes
 ends replies "$replies" "listing $(shaped listing < "$files/gcm")"
 refuse session session --keyset gcm --keyset-format binary --out n --out-format binary
+session | takes
+ends same '' none
+status=4 line='tinkey: output file exists'
+refuse taken session --keyset gcm --keyset-format binary --out gcm --out-format binary
 takes < /dev/null
 ends same "$(text 'lines 4 seals 3 opened 0 refused 0 edits 1 declined 0 lost 0')" none
 refuse selftest selftest --seed 0 --lines 4
