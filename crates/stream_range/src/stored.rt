@@ -21,11 +21,12 @@ pub struct StoreDevice<'s, D: Store> {
 }
 
 impl<'s, D: Store> StoreDevice<'s, D> {
-    /// The file of this name, if the store has one. `None` comes exactly where the store's `size` knows no
-    /// file of the name, and `Failed` exactly where that failed. No byte is read.
+    /// The file of this name, if the store has one. Where `None` comes the store's `size` knows no file of
+    /// the name, and where a device comes it knows one. No byte is read.
     ///
-    /// The borrow ends with the result, so no clause here can say how the store is left without a device;
-    /// a caller that has to know it asks the store for the file's size, and calls `over`.
+    /// `Failed` is for where `size` failed. The borrow ends with the result, so no clause here can say that,
+    /// nor how the store is left without a device; a caller that has to know it asks the store for the
+    /// file's size, and calls `over`.
     pub fn new(store: &'s mut D, name: Text) -> Result<Option<StoreDevice<'s, D>>, Failed>
         ensures absent { IfOk result (λ found.
             IfNone found (Holds (D.state store.old) name None)) }
