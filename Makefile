@@ -4,8 +4,11 @@
 # Where `make install` puts things.
 PREFIX ?= /usr/local
 
+# What `make run` builds for: `here` is x86-64-v3 where this machine has all of that, and else x86-64-v2.
+run: CPU ?= here
+
 # Proves the program and the crates below it side by side, leaves it as ./tinkey, and lists the
-# example's keyset with it. With CPU=x86-64-v3 it has instructions of newer processors.
+# example's keyset with it. With CPU=x86-64-v2 it runs on older machines too.
 run:
 	@tools/build tinkey $(CPU)
 	@cp crates/tinkey/out/tinkey tinkey
