@@ -6,7 +6,7 @@ use std::alloc::Global;
 use std::test::Fail;
 use stream_range::{Device, MemDevice, RangeFault, StoreDevice, open_range};
 use test_words::{cell, number_in, same_bytes, turned, unlike};
-use tink_base::{MemStore, Text};
+use tink_base::MemStore;
 
 // Ranges of a stream of three segments of 4,096 bytes, the last one shorter, with the plaintext
 // 0, 1, 2, ..: the keyset that sealed it, the size of the plaintext, the keyset that opens it, the byte
@@ -174,8 +174,7 @@ fn range_in(
     case: &Case,
     store: &mut MemStore,
 ) -> Result<Result<Vec<u8>, RangeFault>, Fail> {
-    let name = Text::copy(alloc, "stream")?;
-    match StoreDevice::new(store, name) {
+    match StoreDevice::new(store, "stream") {
         Ok(Some(mut device)) => range_over(alloc, row, case, &mut device),
         Ok(None) => Err("a file".into()),
         Err(_failed) => Ok(Err(RangeFault::ReadFault)),
@@ -208,8 +207,7 @@ fn opens_ranges_of_files(rt: HostRuntime) -> Result<(), Fail> {
 #[test]
 fn finds_no_device_without_a_file(rt: HostRuntime) -> Result<(), Fail> {
     let mut store = MemStore::new(rt.alloc(), Vec::new(rt.alloc()));
-    let name = Text::copy(rt.alloc(), "stream")?;
-    match StoreDevice::new(&mut store, name) {
+    match StoreDevice::new(&mut store, "stream") {
         Ok(None) => Ok(()),
         _found => Err("no device".into()),
     }

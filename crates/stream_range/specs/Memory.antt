@@ -1,5 +1,5 @@
 -- What a device in memory is, and what it tells.
-use Rattle.std.specs.Prelude.{ℕ, List, length, Some}
+use Rattle.std.specs.Prelude.{ℕ, List, length, Some, None}
 use Rattle.stream_range.specs.Device.{DeviceState}
 
 -- the bytes, how many a read gives at the most, the numbers of the calls that fail, from 1, how many
@@ -17,6 +17,7 @@ abbrev pub told_device : DeviceInMemory → DeviceState
 told_device s = record {
   size = length s.bytes;
   bytes = Some s.bytes;
+  files = None;
   given = s.given;
   faults = s.faults;
 }

@@ -19,6 +19,7 @@ abbrev pub stored_device : StoreState → (name : List ℕ) → (size : ℕ) →
 stored_device store name size = record {
   size = size;
   bytes = bytes_in store.files name;
+  files = store.files;
   given = store.given;
   faults = store.faults;
 }

@@ -9,8 +9,8 @@ use tink_base::Failed;
 
 /// A fixed count of bytes that are read at any place.
 pub trait Device {
-    /// How many bytes there are, which they are, where the device tells, how many it has given, and how
-    /// often it has failed.
+    /// How many bytes there are, which they are, where the device tells, which files the store has that it is
+    /// one of, how many bytes it has given, and how often it has failed.
     ghost state: { Self → DeviceState };
 
     /// Which borrow the device holds, if it holds one, so that the lender is known again.

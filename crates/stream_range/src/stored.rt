@@ -8,16 +8,16 @@ ghost use Rattle.stream_range.specs.Device.{KeptDevice, ReadsSome, TellsSize};
 ghost use Rattle.stream_range.specs.Stored.{size_in, stored_device};
 
 use crate::Device;
-use tink_base::{Failed, Store, Text};
+use tink_base::{Failed, Store};
 
 /// One file of a store, whose counts are those of the store.
 #[derive(Drop)]
 pub struct StoreDevice<'s, D: Store> {
     store: &'s mut D,
-    name: Text,
+    name: &'s str,
     size: u64,
     ghost bound: { size < 2 ^ 63 },
-    ghost held: { size_in (D.state store.now).files name size ≡ Some size },
+    ghost held: { size_in (D.state store.now).files name.now size ≡ Some size },
 }
 
 impl<'s, D: Store> StoreDevice<'s, D> {
@@ -27,11 +27,11 @@ impl<'s, D: Store> StoreDevice<'s, D> {
     /// `Failed` is for where `size` failed. The borrow ends with the result, so no clause here can say that,
     /// nor how the store is left without a device; a caller that has to know it asks the store for the
     /// file's size, and calls `over`.
-    pub fn new(store: &'s mut D, name: Text) -> Result<Option<StoreDevice<'s, D>>, Failed>
+    pub fn new(store: &'s mut D, name: &'s str) -> Result<Option<StoreDevice<'s, D>>, Failed>
         ensures absent { IfOk result (λ found.
-            IfNone found (Holds (D.state store.old) name None)) }
+            IfNone found (Holds (D.state store.old) name.now None)) }
         ensures found { IfOk result (λ found. IfSome found (λ device.
-            (device.name ≡ name) × HoldsSize (D.state store.old) name device.size)) }
+            (device.name.now ≡ name.now) × HoldsSize (D.state store.old) name.now device.size)) }
         ensures lends { IfOk result (λ found. IfSome found (λ device.
             device.store.ghost_name ≡ store.entry.ghost_name)) }
         ensures kept { IfOk result (λ found. IfSome found (λ device.
@@ -41,7 +41,7 @@ impl<'s, D: Store> StoreDevice<'s, D> {
         ensures given { IfOk result (λ found. IfSome found (λ device.
             (D.state device.store.now).given ≡ (D.state store.old).given)) }
     {
-        match store.size(name.as_str()) {
+        match store.size(name) {
             Ok(Some(size)) => Ok(Some(StoreDevice::over(store, name, size))),
             Ok(None) => Ok(None),
             Err(_) => Err(Failed),
@@ -49,12 +49,12 @@ impl<'s, D: Store> StoreDevice<'s, D> {
     }
 
     /// The file of this name, which has `size` bytes, as the store's `size` says.
-    pub fn over(store: &'s mut D, name: Text, size: u64) -> StoreDevice<'s, D>
+    pub fn over(store: &'s mut D, name: &'s str, size: u64) -> StoreDevice<'s, D>
         requires size_bound { size < 2 ^ 63 }
-        requires held { HoldsSize (D.state store.old) name size }
+        requires held { HoldsSize (D.state store.old) name.now size }
         ensures lends { result.store.ghost_name ≡ store.entry.ghost_name }
         ensures store { result.store.now ≡ store.old }
-        ensures name { result.name ≡ name }
+        ensures name { result.name.now ≡ name.now }
         ensures size { result.size ≡ size }
     {
         StoreDevice { store, name, size }
@@ -64,7 +64,7 @@ impl<'s, D: Store> StoreDevice<'s, D> {
 impl<D: Store> Device for StoreDevice<'_, D> {
     ghost use Rattle.stream_range.specs.Stored.{stored_device};
 
-    ghost state = { λ s. stored_device (D.state s.store.now) s.name s.size };
+    ghost state = { λ s. stored_device (D.state s.store.now) s.name.now s.size };
 
     ghost lent = { λ s. s.store.ghost_name };
 
@@ -73,6 +73,6 @@ impl<D: Store> Device for StoreDevice<'_, D> {
     }
 
     fn read_at(&mut self, at: u64, out: &mut [u8]) -> Result<usize, Failed> {
-        self.store.read_at(self.name.as_str(), at, out)
+        self.store.read_at(self.name, at, out)
     }
 }

@@ -8,7 +8,7 @@ use Rattle.stream_range.proofs.covering.open_run.Goals as goal
 
 pub loop-i-init : goal.loop-i-init
 loop-i-init g c = record {
-  kept = record { size = refl; bytes = refl };
+  kept = record { size = refl; bytes = refl; files = refl; faults = omega arith };
   lent = refl;
   stood = refl;
   given = omega arith;
@@ -28,7 +28,7 @@ returns-in-Err-clause-opens g c key bytes told begins =
 
 pub loop-i-preserved : goal.loop-i-preserved
 loop-i-preserved g c = record {
-  kept = record { size = c.in-Ok.ensures.kept.size ∙ c.loop-i.invariant.kept.size; bytes = c.in-Ok.ensures.kept.bytes ∙ c.loop-i.invariant.kept.bytes };
+  kept = record { size = c.in-Ok.ensures.kept.size ∙ c.loop-i.invariant.kept.size; bytes = c.in-Ok.ensures.kept.bytes ∙ c.loop-i.invariant.kept.bytes; files = c.in-Ok.ensures.kept.files ∙ c.loop-i.invariant.kept.files; faults = omega (arith, c.in-Ok.ensures.kept.faults, c.loop-i.invariant.kept.faults) };
   lent = c.in-Ok.ensures.lent ∙ c.loop-i.invariant.lent;
   stood = c.in-Ok.ensures.no_fault (λ h. absurd cc) ∙ c.loop-i.invariant.stood;
   given = omega (arith, c.in-Ok.ensures.given, c.loop-i.invariant.given);
