@@ -7,7 +7,7 @@ use Rattle.std.proofs.Math.Path.{fun_ext}
 use Rattle.tink_spec.specs.Messages.{◌>>=◌}
 use Rattle.tinkey_words.specs.declared.words.rows.CommandName.{CommandName}
 use Rattle.tinkey_words.specs.declared.words.rows.OptionName.{OptionName}
-use Rattle.tinkey_words.specs.Rows.{row_of, command_of, option_row, rival, same, is_one_of}
+use Rattle.tinkey_words.specs.Rows.{row_of, command_of, form_for, rival, same, is_one_of}
 use Rattle.tinkey_words.specs.Words.{Asked, Values, asked_with, Options, is_given, is_excluded, is_barred, put, options_of, no_options, given_in, has_required, complete, asked_of, words_of}
 use Rattle.tinkey_words.specs.Grammar.{IsValue, Spelling, spelled, IsGiven, IsOnce, AreApart, IsOneOf, Fits, values_of, Spells, WordsAreSpelled}
 use Rattle.tinkey_words.proofs.RowLemmas.{same_self, same_is, are_rivals, command_found, command_named}
@@ -90,7 +90,7 @@ still_new name value given (s ∷ run) once apart new =
       still_new name value given run (λ again. once (inr again)) (λ other excludes there. apart other excludes (inr there)) new.1,
     )
 
-runs_of : (command : CommandName) (given : Options) (run : List Spelling) → AllByRecursion (New given) run → IsOnce run → AreApart run → AllByRecursion (λ s. IsOneOf s.name ((row_of command).required ++ (row_of command).optional)) run → AllByRecursion (λ s. IsValue (option_row s.name).form s.value) run → Runs command given run
+runs_of : (command : CommandName) (given : Options) (run : List Spelling) → AllByRecursion (New given) run → IsOnce run → AreApart run → AllByRecursion (λ s. IsOneOf s.name ((row_of command).required ++ (row_of command).optional)) run → AllByRecursion (λ s. IsValue (form_for s.name command) s.value) run → Runs command given run
 runs_of command given [] new once apart taken formed = tt
 runs_of command given (s ∷ run) new once apart taken formed = (
   one_is s.name ((row_of command).required ++ (row_of command).optional) taken.0,
@@ -147,7 +147,7 @@ values_run : (command : CommandName) (run : List Spelling) → Runs command no_o
 values_run command run runs = fun_ext (λ name. value_run command no_options run name runs)
 
 -- a command that has all that it requires is complete
-completed : (command : CommandName) (count : ℕ) (run : List Spelling) (asked : Asked) → Fits (row_of command) run → Runs command no_options run → asked ≡ asked_with command (values_of run) → complete command count (all_put no_options run) ≡ Ok asked
+completed : (command : CommandName) (count : ℕ) (run : List Spelling) (asked : Asked) → Fits command run → Runs command no_options run → asked ≡ asked_with command (values_of run) → complete command count (all_put no_options run) ≡ Ok asked
 completed command count run asked fits runs asks =
     let there = all_there (row_of command).required run fits.complete in
     rw there (ap (λ (values : Values). Ok (asked_with command values)) (values_run command run runs) ∙ ap Ok (sym asks))
@@ -195,7 +195,7 @@ taken_of : (command : CommandName) (given : Options) (run : List Spelling) → R
 taken_of command given [] runs = tt
 taken_of command given (s ∷ run) runs = (is_one s.name ((row_of command).required ++ (row_of command).optional) runs.0, taken_of command (put s.name s.value given) run runs.3)
 
-formed_of : (command : CommandName) (given : Options) (run : List Spelling) → Runs command given run → AllByRecursion (λ s. IsValue (option_row s.name).form s.value) run
+formed_of : (command : CommandName) (given : Options) (run : List Spelling) → Runs command given run → AllByRecursion (λ s. IsValue (form_for s.name command) s.value) run
 formed_of command given [] runs = tt
 formed_of command given (s ∷ run) runs = (runs.2, formed_of command (put s.name s.value given) run runs.3)
 
@@ -224,7 +224,7 @@ complete_test true asks asked count is = (refl, let same : Ok asks ≡ Ok asked 
 complete_test false asks asked count is = let clash : Err count ≡ Ok asked = is in absurd (cc)
 
 -- a run of a complete command fits
-fits_of : (command : CommandName) (count : ℕ) (run : List Spelling) (asked : Asked) → Runs command no_options run → complete command count (all_put no_options run) ≡ Ok asked → Fits (row_of command) run × (asked ≡ asked_with command (values_of run))
+fits_of : (command : CommandName) (count : ℕ) (run : List Spelling) (asked : Asked) → Runs command no_options run → complete command count (all_put no_options run) ≡ Ok asked → Fits command run × (asked ≡ asked_with command (values_of run))
 fits_of command count run asked runs is =
     let done = complete_test (has_required command (all_put no_options run)) (asked_with command (all_put no_options run).values) asked count is in (
       record {
@@ -237,7 +237,7 @@ fits_of command count run asked runs is =
       done.1 ∙ ap (asked_with command) (values_run command run runs),
     )
 
-accepted_options : (command : CommandName) (words : List (List ℕ)) (asked : Asked) (r : Result Options ℕ) → options_of command 1 no_options words ≡ r → (r >>= complete command (1 + length words)) ≡ Ok asked → (run : List Spelling) × (words ≡ flat_map spelled run) × Fits (row_of command) run × (asked ≡ asked_with command (values_of run))
+accepted_options : (command : CommandName) (words : List (List ℕ)) (asked : Asked) (r : Result Options ℕ) → options_of command 1 no_options words ≡ r → (r >>= complete command (1 + length words)) ≡ Ok asked → (run : List Spelling) × (words ≡ flat_map spelled run) × Fits command run × (asked ≡ asked_with command (values_of run))
 accepted_options command words asked (Err at) taken is = let clash : Err at ≡ Ok asked = is in absurd (cc)
 accepted_options command words asked (Ok last) taken is =
     let found = run_read command 1 no_options words last taken in

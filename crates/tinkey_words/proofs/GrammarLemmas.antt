@@ -4,7 +4,7 @@ use Rattle.std.specs.Prelude.{if◌then◌else◌}
 use Rattle.tink_spec.specs.Messages.{◌>>=◌}
 use Rattle.tinkey_words.specs.declared.words.rows.CommandName.{CommandName}
 use Rattle.tinkey_words.specs.declared.words.rows.OptionName.{OptionName}
-use Rattle.tinkey_words.specs.Rows.{command_of, option_row, option_of, takes, is_value}
+use Rattle.tinkey_words.specs.Rows.{command_of, option_of, form_for, takes, is_value}
 use Rattle.tinkey_words.specs.Words.{Asked, Options, is_barred, new_option, put, with_value, own_value, option_word, word_after, next_word, ended, options_of, no_options, given_in, has_required, asked_with, complete, asked_of, words_of}
 use Rattle.tinkey_words.specs.Grammar.{PlacesAreDecided}
 
@@ -30,15 +30,15 @@ form_faults : (formed : Bool) (place : ℕ) (given : Options) → FaultsAt {A = 
 form_faults true place given = tt
 form_faults false place given = refl
 
-value_faults : (name : OptionName) (value : List ℕ) (place : ℕ) (given : Options) → FaultsAt (with_value name value place given) place
-value_faults name value place given = form_faults (is_value (option_row name).form value) place (put name value given)
+value_faults : (command : CommandName) (name : OptionName) (value : List ℕ) (place : ℕ) (given : Options) → FaultsAt (with_value command name value place given) place
+value_faults command name value place given = form_faults (is_value (form_for name command) value) place (put name value given)
 
 word_faults : (command : CommandName) (own : Option (List ℕ × List ℕ)) (word : List ℕ) (place : ℕ) (given : Options) → FaultsAt (option_word command own word place given) place
 word_faults command None word place given = next_faults (new_option command (option_of word) place given) _ place (option_faults command (option_of word) place given) (λ name. tt)
-word_faults command (Some own) word place given = next_faults (new_option command (option_of own.0) place given) _ place (option_faults command (option_of own.0) place given) (λ name. value_faults name own.1 place given)
+word_faults command (Some own) word place given = next_faults (new_option command (option_of own.0) place given) _ place (option_faults command (option_of own.0) place given) (λ name. value_faults command name own.1 place given)
 
 after_faults : (waiting : Option OptionName) (command : CommandName) (word : List ℕ) (place : ℕ) (given : Options) → FaultsAt (word_after waiting command word place given) place
-after_faults (Some name) command word place given = value_faults name word place given
+after_faults (Some name) command word place given = value_faults command name word place given
 after_faults None command word place given = word_faults command (own_value word) word place given
 
 -- options that are at fault are so at one of their own places, or at the one behind them

@@ -20,9 +20,10 @@ use Rattle.tinkey_words.specs.declared.words.rows.Form.TheVariants as forms
 use Rattle.tinkey_words.specs.declared.words.rows.OptionName.{OptionName}
 use Rattle.tinkey_words.specs.declared.words.rows.OptionName.TheVariants as options
 use Rattle.hex.specs.Hex.{is_hex_digit}
-use Rattle.tinkey_words.specs.Rows.{row_of, all_commands, command_of, option_row, all_options, option_of, rival, same, datum_limit, is_line_count, most_lines, format_of, is_hex, is_value}
+use Rattle.tinkey_words.specs.Rows.{row_of, all_commands, command_of, option_row, all_options, option_of, rival, same, datum_limit, is_line_count, most_lines, is_range_length, most_range, offset_in, format_of, is_hex, is_value}
 use Rattle.tinkey_words.specs.Words.{is_equals, own_value}
-use Rattle.tinkey_words.specs.Grammar.{IsHex, IsLineCount, IsNumber, IsValue}
+use Rattle.tinkey_words.specs.Grammar.{IsHex, IsLineCount, IsNumber, IsOffset, IsRangeLength, IsValue}
+use Rattle.tinkey_words.proofs.OffsetLemmas.{offset_is, offset_passes}
 
 pub same_option : {A : Type 0} (o : Option A) → option_map (λ x. x) o ≡ o
 same_option None = refl
@@ -70,6 +71,7 @@ command_found commands.WrapKeyset = refl
 command_found commands.UnwrapKeyset = refl
 command_found commands.Eseal = refl
 command_found commands.Eopen = refl
+command_found commands.Srange = refl
 
 pub command_named : (text : List ℕ) (command : CommandName) → command_of text ≡ Some command → text ≡ (row_of command).word
 unfolding command_of
@@ -100,6 +102,8 @@ is_found options.Lines = record { word = refl; plain = refl; place = refl }
 is_found options.Master = record { word = refl; plain = refl; place = refl }
 is_found options.MasterFormat = record { word = refl; plain = refl; place = refl }
 is_found options.DekTemplate = record { word = refl; plain = refl; place = refl }
+is_found options.File = record { word = refl; plain = refl; place = refl }
+is_found options.From = record { word = refl; plain = refl; place = refl }
 
 pub option_found : (name : OptionName) → option_of (option_row name).word ≡ Some name
 option_found name = (is_found name).word
@@ -141,6 +145,8 @@ are_rivals options.Lines b is = absurd (cc)
 are_rivals options.Master b is = absurd (cc)
 are_rivals options.MasterFormat b is = absurd (cc)
 are_rivals options.DekTemplate b is = absurd (cc)
+are_rivals options.File b is = absurd (cc)
+are_rivals options.From b is = absurd (cc)
 
 -- Words that are cut at their equals sign.
 
@@ -206,6 +212,32 @@ count_formed text is = by (number_in text) refl is
           most = (let e = tests.1 in grind (arith, nat_tests, same));
         }
     by None there is = absurd (cc)
+
+range_taken : (text : List ℕ) → IsRangeLength text → is_range_length (number_in text) ≡ true
+range_taken text formed =
+    let e : nat_le (digits_value 10 text) most_range ≡ true = grind (arith, nat_tests, formed.most) in
+    rw (number_is text formed.number, e) refl
+
+range_formed : (text : List ℕ) → is_range_length (number_in text) ≡ true → IsRangeLength text
+range_formed text is = by (number_in text) refl is
+  where
+    by : (o : Option ℕ) → number_in text ≡ o → is_range_length o ≡ true → IsRangeLength text
+    by (Some n) there is =
+        let same : digits_value 10 text ≡ n = (number_passes text n there).4 in
+        record {
+          number = number_formed text (rw there refl);
+          most = grind (arith, nat_tests, same);
+        }
+    by None there is = absurd (cc)
+
+offset_taken : (text : List ℕ) → IsOffset text → is_some (offset_in text) ≡ true
+offset_taken text formed = rw (offset_is text formed.some formed.short formed.digits formed.within) refl
+
+offset_formed : (text : List ℕ) → is_some (offset_in text) ≡ true → IsOffset text
+offset_formed text is =
+    let there = is_there (offset_in text) is in
+    let tests = offset_passes text there.0 there.1 in
+    record { digits = tests.2; some = tests.0; short = tests.1; within = tests.3 }
 
 not_empty : (value : List ℕ) → value ≢ [] → nat_lt 0 (length value) ≡ true
 not_empty [] some = absurd (some refl)
@@ -277,6 +309,8 @@ value_taken forms.Text value formed = refl
 value_taken forms.FileName value formed = not_empty value formed
 value_taken forms.Number value formed = rw (number_is value formed) refl
 value_taken forms.LineCount value formed = count_taken value formed
+value_taken forms.RangeLength value formed = range_taken value formed
+value_taken forms.Offset value formed = offset_taken value formed
 value_taken forms.Format value formed = format_taken value formed
 value_taken forms.Datum value formed = datum_taken value formed
 value_taken forms.Hex value formed = hex_taken value formed
@@ -287,6 +321,8 @@ value_formed forms.Text value is = tt
 value_formed forms.FileName value is = some_byte value is
 value_formed forms.Number value is = number_formed value is
 value_formed forms.LineCount value is = count_formed value is
+value_formed forms.RangeLength value is = range_formed value is
+value_formed forms.Offset value is = offset_formed value is
 value_formed forms.Format value is = format_formed value is
 value_formed forms.Datum value is = datum_formed value is
 value_formed forms.Hex value is = hex_formed value is

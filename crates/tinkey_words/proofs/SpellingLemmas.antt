@@ -8,7 +8,7 @@ use Rattle.std.proofs.lemmas.List.Sums.{passes_at_first}
 use Rattle.tink_spec.specs.Messages.{◌>>=◌}
 use Rattle.tinkey_words.specs.declared.words.rows.CommandName.{CommandName}
 use Rattle.tinkey_words.specs.declared.words.rows.OptionName.{OptionName}
-use Rattle.tinkey_words.specs.Rows.{option_row, option_of, takes, is_value}
+use Rattle.tinkey_words.specs.Rows.{option_row, option_of, form_for, takes, is_value}
 use Rattle.tinkey_words.specs.Words.{Options, is_equals, own_value, is_barred, new_option, put, with_value, option_word, word_after, next_word, ended, options_of}
 use Rattle.tinkey_words.specs.Grammar.{IsValue, Spelling, spelled_as, spelled}
 use Rattle.tinkey_words.proofs.RowLemmas.{option_found, option_named, own_plain, own_joined, value_taken, value_formed}
@@ -37,15 +37,15 @@ own_cut word own is = own_test word own _ refl is
 -- Options, one after another.
 
 -- a value of its form is taken, and no other
-with_taken : (name : OptionName) (value : List ℕ) (place : ℕ) (given : Options) → IsValue (option_row name).form value → with_value name value place given ≡ Ok (put name value given)
-with_taken name value place given formed = rw (value_taken (option_row name).form value formed) refl
+with_taken : (command : CommandName) (name : OptionName) (value : List ℕ) (place : ℕ) (given : Options) → IsValue (form_for name command) value → with_value command name value place given ≡ Ok (put name value given)
+with_taken command name value place given formed = rw (value_taken (form_for name command) value formed) refl
 
-form_test : (name : OptionName) (value : List ℕ) (b : Bool) (place : ℕ) (given more : Options) → is_value (option_row name).form value ≡ b → (if b then Ok (put name value given) else Err place) ≡ Ok more → IsValue (option_row name).form value × (more ≡ put name value given)
-form_test name value true place given more formed is = (value_formed (option_row name).form value formed, let ok : Ok (put name value given) ≡ Ok more = is in cc)
-form_test name value false place given more formed is = let clash : Err place ≡ Ok more = is in absurd (cc)
+form_test : (command : CommandName) (name : OptionName) (value : List ℕ) (b : Bool) (place : ℕ) (given more : Options) → is_value (form_for name command) value ≡ b → (if b then Ok (put name value given) else Err place) ≡ Ok more → IsValue (form_for name command) value × (more ≡ put name value given)
+form_test command name value true place given more formed is = (value_formed (form_for name command) value formed, let ok : Ok (put name value given) ≡ Ok more = is in cc)
+form_test command name value false place given more formed is = let clash : Err place ≡ Ok more = is in absurd (cc)
 
-with_formed : (name : OptionName) (value : List ℕ) (place : ℕ) (given more : Options) → with_value name value place given ≡ Ok more → IsValue (option_row name).form value × (more ≡ put name value given)
-with_formed name value place given more is = form_test name value _ place given more refl is
+with_formed : (command : CommandName) (name : OptionName) (value : List ℕ) (place : ℕ) (given more : Options) → with_value command name value place given ≡ Ok more → IsValue (form_for name command) value × (more ≡ put name value given)
+with_formed command name value place given more is = form_test command name value _ place given more refl is
 
 -- an option that is new and the command's is taken, and no other
 option_taken : (command : CommandName) (name : OptionName) (place : ℕ) (given : Options) → takes command name ≡ true → is_barred name given ≡ false → new_option command (Some name) place given ≡ Ok name
@@ -77,17 +77,17 @@ option_is command text (Some other) place given name named is =
 -- each option in turn is the command's, new, and of its form
 abbrev pub Runs : CommandName → Options → List Spelling → Type 0
 Runs command given [] = Unit {0}
-Runs command given (s ∷ more) = (takes command s.name ≡ true) × (is_barred s.name given ≡ false) × IsValue (option_row s.name).form s.value × Runs command (put s.name s.value given) more
+Runs command given (s ∷ more) = (takes command s.name ≡ true) × (is_barred s.name given ≡ false) × IsValue (form_for s.name command) s.value × Runs command (put s.name s.value given) more
 
 abbrev pub all_put : Options → List Spelling → Options
 all_put given [] = given
 all_put given (s ∷ more) = all_put (put s.name s.value given) more
 
 -- the words of a run are taken
-joined_word : (command : CommandName) (word : List ℕ) (first : ℕ) (given : Options) (name : OptionName) (value : List ℕ) → takes command name ≡ true → is_barred name given ≡ false → IsValue (option_row name).form value → option_word command (Some ((option_row name).word, value)) word first given ≡ Ok (put name value given)
-joined_word command word first given name value taken new formed = rw (option_found name, taken, new, with_taken name value first given formed) refl
+joined_word : (command : CommandName) (word : List ℕ) (first : ℕ) (given : Options) (name : OptionName) (value : List ℕ) → takes command name ≡ true → is_barred name given ≡ false → IsValue (form_for name command) value → option_word command (Some ((option_row name).word, value)) word first given ≡ Ok (put name value given)
+joined_word command word first given name value taken new formed = rw (option_found name, taken, new, with_taken command name value first given formed) refl
 
-joined_taken : (command : CommandName) (first : ℕ) (given : Options) (name : OptionName) (value : List ℕ) (rest : List (List ℕ)) → given.waiting ≡ None → takes command name ≡ true → is_barred name given ≡ false → IsValue (option_row name).form value → options_of command first given (((option_row name).word ++ (61 ∷ value)) ∷ rest) ≡ options_of command (first + 1) (put name value given) rest
+joined_taken : (command : CommandName) (first : ℕ) (given : Options) (name : OptionName) (value : List ℕ) (rest : List (List ℕ)) → given.waiting ≡ None → takes command name ≡ true → is_barred name given ≡ false → IsValue (form_for name command) value → options_of command first given (((option_row name).word ++ (61 ∷ value)) ∷ rest) ≡ options_of command (first + 1) (put name value given) rest
 joined_taken command first given name value rest waits taken new formed =
     let word = (option_row name).word ++ (61 ∷ value) in
     let next : next_word command word first given ≡ Ok (put name value given) =
@@ -99,7 +99,7 @@ joined_taken command first given name value rest waits taken new formed =
 name_word : (command : CommandName) (first : ℕ) (given : Options) (name : OptionName) → takes command name ≡ true → is_barred name given ≡ false → option_word command None ((option_row name).word) first given ≡ Ok (record given { waiting = Some name })
 name_word command first given name taken new = rw (option_found name, taken, new) refl
 
-apart_taken : (command : CommandName) (first : ℕ) (given : Options) (name : OptionName) (value : List ℕ) (rest : List (List ℕ)) → given.waiting ≡ None → takes command name ≡ true → is_barred name given ≡ false → IsValue (option_row name).form value → options_of command first given ((option_row name).word ∷ value ∷ rest) ≡ options_of command (first + 1 + 1) (put name value given) rest
+apart_taken : (command : CommandName) (first : ℕ) (given : Options) (name : OptionName) (value : List ℕ) (rest : List (List ℕ)) → given.waiting ≡ None → takes command name ≡ true → is_barred name given ≡ false → IsValue (form_for name command) value → options_of command first given ((option_row name).word ∷ value ∷ rest) ≡ options_of command (first + 1 + 1) (put name value given) rest
 apart_taken command first given name value rest waits taken new formed =
     let word = (option_row name).word in
     let mid = record given { waiting = Some name } in
@@ -107,12 +107,12 @@ apart_taken command first given name value rest waits taken new formed =
     ap (λ (w : Option OptionName). word_after w command word first given) waits
     ∙ ap (λ (o : Option (List ℕ × List ℕ)). option_word command o word first given) (own_plain name)
     ∙ name_word command first given name taken new in
-    let then_value : with_value name value (first + 1) mid ≡ Ok (put name value given) =
-    with_taken name value (first + 1) mid formed in
+    let then_value : with_value command name value (first + 1) mid ≡ Ok (put name value given) =
+    with_taken command name value (first + 1) mid formed in
     ap (λ (r : Result Options ℕ). r >>= (λ more. options_of command (first + 1) more (value ∷ rest))) next
     ∙ ap (λ (r : Result Options ℕ). r >>= (λ more. options_of command (first + 1 + 1) more rest)) then_value
 
-one_taken : (command : CommandName) (first : ℕ) (given : Options) (name : OptionName) (value : List ℕ) (joined : Bool) (more : List Spelling) → given.waiting ≡ None → takes command name ≡ true → is_barred name given ≡ false → IsValue (option_row name).form value → ((place : ℕ) → options_of command place (put name value given) (flat_map spelled more) ≡ Ok (all_put (put name value given) more)) → options_of command first given (spelled_as joined ((option_row name).word) value ++ flat_map spelled more) ≡ Ok (all_put (put name value given) more)
+one_taken : (command : CommandName) (first : ℕ) (given : Options) (name : OptionName) (value : List ℕ) (joined : Bool) (more : List Spelling) → given.waiting ≡ None → takes command name ≡ true → is_barred name given ≡ false → IsValue (form_for name command) value → ((place : ℕ) → options_of command place (put name value given) (flat_map spelled more) ≡ Ok (all_put (put name value given) more)) → options_of command first given (spelled_as joined ((option_row name).word) value ++ flat_map spelled more) ≡ Ok (all_put (put name value given) more)
 one_taken command first given name value true more waits taken new formed later = joined_taken command first given name value (flat_map spelled more) waits taken new formed ∙ later (first + 1)
 one_taken command first given name value false more waits taken new formed later = apart_taken command first given name value (flat_map spelled more) waits taken new formed ∙ later (first + 1 + 1)
 
@@ -125,7 +125,7 @@ run_taken command first given (s ∷ more) waits runs =
 -- words that were taken are those of a run
 abbrev pub Read : Option OptionName → CommandName → Options → List (List ℕ) → Options → Type 0
 Read None command given words last = (run : List Spelling) × (words ≡ flat_map spelled run) × Runs command given run × (last ≡ all_put given run)
-Read (Some name) command given words last = (value : List ℕ) × (run : List Spelling) × (words ≡ value ∷ flat_map spelled run) × IsValue (option_row name).form value × Runs command (put name value given) run × (last ≡ all_put (put name value given) run)
+Read (Some name) command given words last = (value : List ℕ) × (run : List Spelling) × (words ≡ value ∷ flat_map spelled run) × IsValue (form_for name command) value × Runs command (put name value given) run × (last ≡ all_put (put name value given) run)
 
 ended_read : (waiting : Option OptionName) (command : CommandName) (first : ℕ) (given last : Options) → ended waiting first given ≡ Ok last → Read waiting command given [] last
 ended_read None command first given last is = ([], refl, tt, let ok : Ok given ≡ Ok last = is in cc)
@@ -136,17 +136,17 @@ behind_value : (name : OptionName) (value : List ℕ) (command : CommandName) (g
 behind_value name value command given more words last same later =
     subst (λ (o : Options). Read o.waiting command o words last) same later
 
-value_read : (name : OptionName) (value : List ℕ) (command : CommandName) (place : ℕ) (given more : Options) (words : List (List ℕ)) (last : Options) → with_value name value place given ≡ Ok more → Read more.waiting command more words last → Read (Some name) command given (value ∷ words) last
+value_read : (name : OptionName) (value : List ℕ) (command : CommandName) (place : ℕ) (given more : Options) (words : List (List ℕ)) (last : Options) → with_value command name value place given ≡ Ok more → Read more.waiting command more words last → Read (Some name) command given (value ∷ words) last
 value_read name value command place given more words last is later =
-    let formed = with_formed name value place given more is in
+    let formed = with_formed command name value place given more is in
     let run = behind_value name value command given more words last formed.1 later in
     (value, run.0, ap (λ (ws : List (List ℕ)). value ∷ ws) run.1, formed.0, run.2, run.3)
 
-own_read : (command : CommandName) (own : List ℕ × List ℕ) (word : List ℕ) (place : ℕ) (given more : Options) (words : List (List ℕ)) (last : Options) (found : Result OptionName ℕ) → word ≡ own.0 ++ (61 ∷ own.1) → new_option command (option_of own.0) place given ≡ found → (found >>= (λ name. with_value name own.1 place given)) ≡ Ok more → Read more.waiting command more words last → Read None command given (word ∷ words) last
+own_read : (command : CommandName) (own : List ℕ × List ℕ) (word : List ℕ) (place : ℕ) (given more : Options) (words : List (List ℕ)) (last : Options) (found : Result OptionName ℕ) → word ≡ own.0 ++ (61 ∷ own.1) → new_option command (option_of own.0) place given ≡ found → (found >>= (λ name. with_value command name own.1 place given)) ≡ Ok more → Read more.waiting command more words last → Read None command given (word ∷ words) last
 own_read command own word place given more words last (Err at) cut_is test is later = let clash : Err at ≡ Ok more = is in absurd (cc)
 own_read command own word place given more words last (Ok name) cut_is test is later =
     let taken = option_is command own.0 (option_of own.0) place given name refl test in
-    let formed = with_formed name own.1 place given more is in
+    let formed = with_formed command name own.1 place given more is in
     let run = behind_value name own.1 command given more words last formed.1 later in
     let named : word ≡ (option_row name).word ++ (61 ∷ own.1) = cut_is ∙ ap (λ (text : List ℕ). text ++ (61 ∷ own.1)) taken.named in (
       record { name = name; value = own.1; joined = true } ∷ run.0,

@@ -11,7 +11,7 @@ use Rattle.tink_spec.specs.Messages.{◌>>=◌}
 use Rattle.tinkey_words.specs.declared.words.Request.{Request}
 use Rattle.tinkey_words.specs.declared.words.rows.CommandName.{CommandName}
 use Rattle.tinkey_words.specs.declared.words.rows.OptionName.{OptionName}
-use Rattle.tinkey_words.specs.Rows.{command_of, option_row, same, is_value}
+use Rattle.tinkey_words.specs.Rows.{command_of, option_row, form_for, same, is_value}
 use Rattle.tinkey_words.specs.Words.{Asked, Values, Options, is_equals, own_value, with_value, next_word, options_of, given_in, complete, asked_of, words_of, seen_command, seen_values, Reads}
 
 -- a word, and those behind it
@@ -49,8 +49,8 @@ abbrev with_values : Values → Result Options ℕ
 with_values values = Ok (record { values = values; waiting = None })
 
 -- an option that is written at its place is put
-pub value_put : (name : OptionName) (values : List (Option (Bor (List ℕ)))) (waiting : Option OptionName) (value : Bor (List ℕ)) (place at : ℕ) → at ≡ (option_row name).place → at < length values → is_value (option_row name).form value.now ≡ true → with_value name value.now place (record { values = seen_values values; waiting = waiting }) ≡ Ok (record { values = seen_values (set values at (Some value)); waiting = None })
-value_put name values waiting value place at is within formed =
+pub value_put : (command : CommandName) (name : OptionName) (values : List (Option (Bor (List ℕ)))) (waiting : Option OptionName) (value : Bor (List ℕ)) (place at : ℕ) → at ≡ (option_row name).place → at < length values → is_value (form_for name command) value.now ≡ true → with_value command name value.now place (record { values = seen_values values; waiting = waiting }) ≡ Ok (record { values = seen_values (set values at (Some value)); waiting = None })
+value_put command name values waiting value place at is within formed =
     let same_values = fun_ext (λ other. value_set (same name other) name other values value refl (omega (arith, is))) in
     rw (formed, is) (ap with_values same_values)
 

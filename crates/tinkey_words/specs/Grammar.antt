@@ -5,7 +5,7 @@
 --                      options that fit its row, in any order
 --
 -- The commands and options are those of the tables of Rows.
-use Rattle.std.specs.Prelude.{◌≡◌, ◌≢◌, ◌⊎◌, ◌↔◌, ℕ, ◌+◌, ◌*◌, ◌%◌, ◌<◌, ◌≤◌, List, [], ◌∷◌, ◌++◌, length, Bool, true, None, Some, if◌then◌else◌, Ok, Err, codes}
+use Rattle.std.specs.Prelude.{◌≡◌, ◌≢◌, ◌⊎◌, ◌↔◌, ℕ, ◌+◌, ◌*◌, ◌%◌, ◌^◌, ◌<◌, ◌≤◌, List, [], ◌∷◌, ◌++◌, length, Bool, true, None, Some, if◌then◌else◌, Ok, Err, codes}
 use Rattle.std.specs.List.{AllByRecursion, flat_map, list_all}
 use Rattle.std.specs.Str.{all_ascii_digits, str_to_ascii_lowercase}
 use Rattle.std.specs.Str.Parse.{digits_value}
@@ -14,7 +14,7 @@ use Rattle.tinkey_words.specs.declared.words.rows.Form.{Form}
 use Rattle.tinkey_words.specs.declared.words.rows.Form.TheVariants as forms
 use Rattle.tinkey_words.specs.declared.words.rows.OptionName.{OptionName}
 use Rattle.hex.specs.Hex.{is_hex_digit}
-use Rattle.tinkey_words.specs.Rows.{Row, row_of, option_row, rival, same, datum_limit, most_lines}
+use Rattle.tinkey_words.specs.Rows.{row_of, option_row, form_for, rival, same, datum_limit, most_lines, most_range}
 use Rattle.tinkey_words.specs.Words.{Asked, Values, asked_with, words_of}
 
 -- where the word of a place is at fault, it is so whatever words stand behind it
@@ -36,6 +36,18 @@ pub record IsLineCount (text : List ℕ) : Type 0 where
   pub some' : 1 ≤ digits_value 10 text
   pub most : digits_value 10 text ≤ most_lines
 
+-- the length of a range
+pub record IsRangeLength (text : List ℕ) : Type 0 where
+  pub number : IsNumber text
+  pub most : digits_value 10 text ≤ most_range
+
+-- a text of 1 to 19 decimal digits, of a number below 2^63
+pub record IsOffset (text : List ℕ) : Type 0 where
+  pub digits : all_ascii_digits text ≡ true
+  pub some : 0 < length text
+  pub short : length text ≤ 19
+  pub within : digits_value 10 text < 2 ^ 63
+
 -- a text of hexadecimal digits, two for each of at most 1,048,576 bytes
 pub record IsHex (text : List ℕ) : Type 0 where
   pub digits : list_all is_hex_digit text ≡ true
@@ -48,6 +60,8 @@ IsValue forms.Text value = Unit {0}
 IsValue forms.FileName value = value ≢ []
 IsValue forms.Number value = IsNumber value
 IsValue forms.LineCount value = IsLineCount value
+IsValue forms.RangeLength value = IsRangeLength value
+IsValue forms.Offset value = IsOffset value
 IsValue forms.Format value =
     (str_to_ascii_lowercase value ≡ codes "json")
     ⊎ (str_to_ascii_lowercase value ≡ codes "binary")
@@ -89,12 +103,12 @@ IsOneOf name (other ∷ names) = (name ≡ other) ⊎ IsOneOf name names
 
 -- the options fit a command: each is in its row, once and with a value of its form, no two exclude
 -- each other, and all that it requires are there
-pub record Fits (row : Row) (given : List Spelling) : Type 0 where
+pub record Fits (command : CommandName) (given : List Spelling) : Type 0 where
   pub once : IsOnce given
   pub apart : AreApart given
-  pub taken : AllByRecursion (λ s. IsOneOf s.name (row.required ++ row.optional)) given
-  pub formed : AllByRecursion (λ s. IsValue (option_row s.name).form s.value) given
-  pub complete : AllByRecursion (λ name. IsGiven name given) row.required
+  pub taken : AllByRecursion (λ s. IsOneOf s.name ((row_of command).required ++ (row_of command).optional)) given
+  pub formed : AllByRecursion (λ s. IsValue (form_for s.name command) s.value) given
+  pub complete : AllByRecursion (λ name. IsGiven name given) (row_of command).required
 
 -- the value that each option has, the first one of it
 abbrev pub values_of : List Spelling → Values
@@ -106,7 +120,7 @@ pub record Spells (words : List (List ℕ)) (asked : Asked) : Type 0 where
   pub command : CommandName
   pub given : List Spelling
   pub are : words ≡ (row_of command).word ∷ flat_map spelled given
-  pub fits : Fits (row_of command) given
+  pub fits : Fits command given
   pub asks : asked ≡ asked_with command (values_of given)
 
 -- the words are accepted as what they ask exactly where they spell it

@@ -1,8 +1,9 @@
 -- The tables of the command's words: the commands with the options that each requires and may have,
 -- and the options with the form of the value of each. A further command or option is a row.
-use Rattle.std.specs.Prelude.{ℕ, ◌*◌, ◌%◌, List, [], ◌∷◌, ◌++◌, length, Bool, true, false, Option, Some, None, is_some, ◌==◌, ◌&&◌, nat_lt, nat_le, if◌then◌else◌, codes}
+use Rattle.std.specs.Prelude.{ℕ, ◌*◌, ◌%◌, ◌^◌, List, [], ◌∷◌, ◌++◌, length, Bool, true, false, Option, Some, None, is_some, ◌==◌, ◌&&◌, nat_lt, nat_le, if◌then◌else◌, codes}
 use Rattle.std.specs.List.{find, list_any, list_all}
-use Rattle.std.specs.Str.{bytes_eq, str_eq_ignore_ascii_case}
+use Rattle.std.specs.Str.{all_ascii_digits, bytes_eq, str_eq_ignore_ascii_case}
+use Rattle.std.specs.Str.Parse.{digits_value}
 use Rattle.hex.specs.Hex.{is_hex_digit}
 use Rattle.tink_base.specs.Decimal.{number_in}
 use Rattle.tinkey_words.specs.declared.words.rows.CommandRow.{CommandRow as CodeRow}
@@ -67,6 +68,10 @@ by_keyset_and_dek = options.Keyset ∷ options.DekTemplate ∷ []
 abbrev pub with_ad : List OptionName
 with_ad = options.KeysetFormat ∷ options.Ad ∷ options.AdHex ∷ []
 
+-- what a command requires that opens a range of a stream in a file
+abbrev pub by_keyset_and_range : List OptionName
+by_keyset_and_range = options.Keyset ∷ options.File ∷ options.From ∷ options.Length ∷ []
+
 -- the row of each command
 abbrev pub row_of : CommandName → Row
 row_of commands.CreateKeyset = row (codes "create-keyset") by_template put_out
@@ -98,6 +103,7 @@ row_of commands.WrapKeyset = row (codes "wrap-keyset") by_master under_master
 row_of commands.UnwrapKeyset = row (codes "unwrap-keyset") by_master under_master
 row_of commands.Eseal = row (codes "eseal") by_keyset_and_dek with_ad
 row_of commands.Eopen = row (codes "eopen") by_keyset_and_dek with_ad
+row_of commands.Srange = row (codes "srange") by_keyset_and_range (with_ad ++ (options.Out ∷ []))
 
 -- all commands
 abbrev pub all_commands : List CommandName
@@ -107,7 +113,8 @@ all_commands =
     ∷ commands.ListKeyset ∷ commands.ConvertKeyset ∷ commands.ListKeyTemplates ∷ commands.Seal
     ∷ commands.Open ∷ commands.Dseal ∷ commands.Dopen ∷ commands.Sseal ∷ commands.Sopen
     ∷ commands.Tag ∷ commands.Verify ∷ commands.Derive ∷ commands.Session ∷ commands.Selftest
-    ∷ commands.WrapKeyset ∷ commands.UnwrapKeyset ∷ commands.Eseal ∷ commands.Eopen ∷ []
+    ∷ commands.WrapKeyset ∷ commands.UnwrapKeyset ∷ commands.Eseal ∷ commands.Eopen
+    ∷ commands.Srange ∷ []
 
 -- the command of this name
 unfoldable pub command_of : List ℕ → Option CommandName
@@ -144,6 +151,8 @@ option_row options.Lines = option 13 (codes "--lines") forms.LineCount
 option_row options.Master = option 14 (codes "--master") forms.FileName
 option_row options.MasterFormat = option 15 (codes "--master-format") forms.Format
 option_row options.DekTemplate = option 16 (codes "--dek-template") forms.Text
+option_row options.File = option 17 (codes "--file") forms.FileName
+option_row options.From = option 18 (codes "--from") forms.Offset
 
 -- all options, in the order of their places
 abbrev pub all_options : List OptionName
@@ -151,7 +160,7 @@ all_options =
     options.KeyTemplate ∷ options.KeyId ∷ options.In ∷ options.InFormat ∷ options.Out
     ∷ options.OutFormat ∷ options.Keyset ∷ options.KeysetFormat ∷ options.Ad ∷ options.AdHex
     ∷ options.TagHex ∷ options.Length ∷ options.Seed ∷ options.Lines ∷ options.Master
-    ∷ options.MasterFormat ∷ options.DekTemplate ∷ []
+    ∷ options.MasterFormat ∷ options.DekTemplate ∷ options.File ∷ options.From ∷ []
 
 -- the option of this name
 unfoldable pub option_of : List ℕ → Option OptionName
@@ -177,9 +186,38 @@ takes command name = is_one_of name ((row_of command).required ++ (row_of comman
 
 -- The values.
 
+-- the form of a length: a range is shorter than what may be derived
+abbrev pub length_form : CommandName → Form
+length_form commands.Srange = forms.RangeLength
+length_form _ = forms.Number
+
+-- the form of the option's value, for the command
+abbrev pub form_for : OptionName → CommandName → Form
+form_for options.Length command = length_form command
+form_for name command = (option_row name).form
+
 -- a self-test of more lines isn't made
 abbrev pub most_lines : ℕ
 most_lines = 100000
+
+-- a range of more bytes isn't opened
+abbrev pub most_range : ℕ
+most_range = 16777216
+
+-- a number is there, and may be the length of a range
+abbrev pub is_range_length : Option ℕ → Bool
+is_range_length None = false
+is_range_length (Some n) = nat_le n most_range
+
+-- 1 to 19 decimal digits, and no sign, of a number below 2^63, as the size of a file is
+abbrev pub is_offset : List ℕ → Bool
+is_offset text =
+    nat_lt 0 (length text) && nat_le (length text) 19 && all_ascii_digits text
+    && nat_lt (digits_value 10 text) (2 ^ 63)
+
+-- the offset that the text is, or none
+unfoldable pub offset_in : List ℕ → Option ℕ
+offset_in text = if is_offset text then Some (digits_value 10 text) else None
 
 -- a number is there, and may be a count of lines
 abbrev pub is_line_count : Option ℕ → Bool
@@ -207,12 +245,15 @@ is_hex text =
     nat_le (length text) (2 * datum_limit) && (length text % 2 == 0) && list_all is_hex_digit text
 
 -- the text is a value of this form: any text, the name of a file, which isn't empty, a number, a count
--- of lines, the name of a keyset's form, or a datum as it stands or in hexadecimal
+-- of lines, the length of a range, an offset in a file, the name of a keyset's form, or a datum as it stands
+-- or in hexadecimal
 unfoldable pub is_value : Form → List ℕ → Bool
 is_value forms.Text text = true
 is_value forms.FileName text = nat_lt 0 (length text)
 is_value forms.Number text = is_some (number_in text)
 is_value forms.LineCount text = is_line_count (number_in text)
+is_value forms.RangeLength text = is_range_length (number_in text)
+is_value forms.Offset text = is_some (offset_in text)
 is_value forms.Format text = is_some (format_of text)
 is_value forms.Datum text = is_datum text
 is_value forms.Hex text = is_hex text

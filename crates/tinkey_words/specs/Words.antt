@@ -22,6 +22,7 @@ use Rattle.tinkey_words.specs.declared.words.Request.{Request}
 use Rattle.tinkey_words.specs.declared.words.Request.TheVariants as asks
 use Rattle.tinkey_words.specs.declared.words.Options.{Options as CodeOptions}
 use Rattle.tinkey_words.specs.declared.words.Place.{Place as CodePlace}
+use Rattle.tinkey_words.specs.declared.words.range.Range.{Range as CodeRange}
 use Rattle.tinkey_words.specs.declared.words.Datum.{Datum}
 use Rattle.tinkey_words.specs.declared.words.Datum.TheVariants as data'
 use Rattle.tinkey_words.specs.declared.words.Work.{Work}
@@ -35,7 +36,7 @@ use Rattle.tinkey_words.specs.declared.words.rows.CommandName.TheVariants as com
 use Rattle.tinkey_words.specs.declared.words.rows.OptionName.{OptionName}
 use Rattle.tinkey_words.specs.declared.words.rows.OptionName.TheVariants as options
 use Rattle.tink_base.specs.Decimal.{number_in}
-use Rattle.tinkey_words.specs.Rows.{row_of, command_of, option_row, option_of, rival, same, takes, datum_limit, format_of, is_value}
+use Rattle.tinkey_words.specs.Rows.{row_of, command_of, option_row, option_of, form_for, rival, same, takes, datum_limit, most_range, format_of, is_value, offset_in}
 
 -- What is asked.
 
@@ -78,6 +79,12 @@ pub data AskedEnvelope : Type 0 where
   to_eseal : (ad : List ℕ) → AskedEnvelope
   to_eopen : (ad : List ℕ) → AskedEnvelope
 
+-- so many bytes of a plaintext from this offset on, of the stream in the file of this name
+pub record AskedRange : Type 0 where
+  pub file : List ℕ
+  pub from : ℕ
+  pub size : ℕ
+
 -- what the words ask for, without where they lie in memory
 pub data Asked : Type 0 where
   -- a new keyset of one key, by the template of this name
@@ -97,6 +104,10 @@ pub data Asked : Type 0 where
   -- the input as a stream, sealed or opened by such a keyset, with this associated data
   seal_stream : (keyset : List ℕ) (form : Format) (ad : List ℕ) → Asked
   open_stream : (keyset : List ℕ) (form : Format) (ad : List ℕ) → Asked
+  -- a range of the stream in a file, opened by such a keyset, with this associated data, and the new file
+  -- that it becomes
+  open_range : (keyset : List ℕ) (form : Format) (ad : List ℕ) (range : AskedRange)
+      (out : Option (List ℕ)) → Asked
   -- a keyset, sealed under the keyset in the file of this name, its master; or one that was so, opened
   wrap_keyset : (master : List ℕ) (form : Format) (in' out : Place) → Asked
   unwrap_keyset : (master : List ℕ) (form : Format) (in' out : Place) → Asked
@@ -122,6 +133,10 @@ or_zero (Some n) = n
 -- the number that an option gives, whose value is one
 abbrev pub number : Option (List ℕ) → ℕ
 number value = or_zero (number_in (text value))
+
+-- the offset that an option gives, whose value is one
+abbrev pub offset : Option (List ℕ) → ℕ
+offset value = or_zero (offset_in (text value))
 
 -- a datum as it stands; one that is too long is none
 abbrev pub datum_as : List ℕ → List ℕ
@@ -194,6 +209,18 @@ enveloped work values =
     use_envelope (text (values options.Keyset)) (form_in (values options.KeysetFormat))
     (text (values options.DekTemplate)) work
 
+-- a length of a range; one that is too long is none
+abbrev pub range_length : ℕ → ℕ
+range_length n = if nat_le n most_range then n else 0
+
+-- the range that is asked for
+abbrev pub range : Values → AskedRange
+range values = record {
+  file = text (values options.File);
+  from = offset (values options.From);
+  size = range_length (number (values options.Length));
+}
+
 -- what each command asks with these values of its options
 abbrev pub asked_with : CommandName → Values → Asked
 asked_with commands.CreateKeyset values = create_keyset (template values) (put_to values)
@@ -231,6 +258,9 @@ asked_with commands.UnwrapKeyset values =
     (taken_from values) (put_to values)
 asked_with commands.Eseal values = enveloped (to_eseal (ad values)) values
 asked_with commands.Eopen values = enveloped (to_eopen (ad values)) values
+asked_with commands.Srange values =
+    open_range (text (values options.Keyset)) (form_in (values options.KeysetFormat)) (ad values)
+    (range values) (values options.Out)
 
 -- The words, one after another.
 
@@ -276,9 +306,9 @@ put name value given = record {
 }
 
 -- the option with its value, which stands in the word of this place and is of its form
-abbrev pub with_value : OptionName → List ℕ → ℕ → Options → Result Options ℕ
-with_value name value place given =
-    if is_value (option_row name).form value then Ok (put name value given) else Err place
+abbrev pub with_value : CommandName → OptionName → List ℕ → ℕ → Options → Result Options ℕ
+with_value command name value place given =
+    if is_value (form_for name command) value then Ok (put name value given) else Err place
 
 -- an option's word of this place: its value is its own, or is the next word
 abbrev pub option_word : CommandName → Option (List ℕ × List ℕ) → List ℕ → ℕ → Options →
@@ -287,11 +317,12 @@ option_word command None word place given =
     new_option command (option_of word) place given
     >>= (λ name. Ok (record given { waiting = Some name }))
 option_word command (Some own) word place given =
-    new_option command (option_of own.0) place given >>= (λ name. with_value name own.1 place given)
+    new_option command (option_of own.0) place given
+    >>= (λ name. with_value command name own.1 place given)
 
 -- one more word, of this place: the value of the option that waits, or an option's word
 abbrev pub word_after : Option OptionName → CommandName → List ℕ → ℕ → Options → Result Options ℕ
-word_after (Some name) command word place given = with_value name word place given
+word_after (Some name) command word place given = with_value command name word place given
 word_after None command word place given = option_word command (own_value word) word place given
 
 -- one more word, of this place, behind the options so far
@@ -370,6 +401,10 @@ abbrev pub seen_envelope : Envelope → AskedEnvelope
 seen_envelope (envelopes.Seal ad) = to_eseal (seen_datum ad)
 seen_envelope (envelopes.Open ad) = to_eopen (seen_datum ad)
 
+-- a range, with the name of its file as bytes
+abbrev pub seen_range : CodeRange → AskedRange
+seen_range r = record { file = r.file.now; from = r.from; size = r.length }
+
 -- what a command asks, with its names and data as bytes
 abbrev pub seen_command : Request → Asked
 seen_command (asks.CreateKeyset template output) = create_keyset template.now (seen_place output)
@@ -390,6 +425,8 @@ seen_command (asks.UnwrapKeyset master form input output) =
     unwrap_keyset master.now form (seen_place input) (seen_place output)
 seen_command (asks.UseEnvelope keyset form template work) =
     use_envelope keyset.now form template.now (seen_envelope work)
+seen_command (asks.OpenRange keyset form ad range output) =
+    open_range keyset.now form (seen_datum ad) (seen_range range) (seen_name output)
 
 -- the values, which the code keeps at the places of their options
 abbrev pub seen_values : List (Option (Bor (List ℕ))) → Values

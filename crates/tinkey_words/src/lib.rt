@@ -7,4 +7,4 @@
 pub mod laws;
 mod words;
 
-pub use words::{DATUM_LIMIT, Datum, Envelope, Format, Place, Request, Work, parse};
+pub use words::{DATUM_LIMIT, Datum, Envelope, Format, Place, Range, Request, Work, parse};

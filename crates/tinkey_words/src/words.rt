@@ -1,16 +1,18 @@
 //! The command's words, read by the grammar of `specs/Words.antt`. No memory is taken.
 
-ghost use Rattle.std.specs.Prelude.{◌≡◌, ◌<◌, Some, length, map, option_map, slice_set, string_bytes};
+ghost use Rattle.std.specs.Prelude.{◌≡◌, ◌<◌, ◌≤◌, ◌^◌, Some, length, map, option_map, slice_set, string_bytes};
 ghost use Rattle.tinkey_words.specs.Rows.{option_of};
 ghost use Rattle.tinkey_words.specs.declared.words.rows.OptionName.TheVariants.{Lines};
-ghost use Rattle.tinkey_words.specs.Words.{words_of, given_in, lines_in, next_word, option_word, own_value, is_barred, new_option, with_value, no_options, has_required, complete, asked_with, text, number, id, template, ad, edited, enveloped, worked, seen_command, seen_datum, seen_edit, seen_envelope, seen_name, seen_options, seen_work, Reads, form_in, taken_from, put_to, seen_place};
+ghost use Rattle.tinkey_words.specs.Words.{words_of, given_in, lines_in, next_word, option_word, own_value, is_barred, new_option, with_value, no_options, has_required, complete, asked_with, text, number, id, template, ad, edited, enveloped, worked, seen_command, seen_datum, seen_edit, seen_envelope, seen_name, seen_options, seen_range, seen_work, offset, range, range_length, Reads, form_in, taken_from, put_to, seen_place};
 
+mod range;
 mod rows;
 
+pub use range::Range;
 pub use rows::{DATUM_LIMIT, Format};
 use rows::{
-    CommandName, OPTION_COUNT, OptionName, command_named, format_named, is_value, option_named,
-    takes,
+    CommandName, MOST_RANGE, OPTION_COUNT, OptionName, command_named, format_named, is_value,
+    offset_in, option_named, takes,
 };
 use tink_base::number_in;
 use tinkey_cmds::Command as Edit;
@@ -77,6 +79,19 @@ pub enum Request<'a> {
         form: Format,
         /// The associated data.
         ad: Datum<'a>,
+    },
+    /// Open a range of the stream in a file.
+    OpenRange {
+        /// The file of the keyset.
+        keyset: &'a str,
+        /// The form of the keyset.
+        form: Format,
+        /// The associated data.
+        ad: Datum<'a>,
+        /// The range.
+        range: Range<'a>,
+        /// The new file for the plaintext, or none for standard output.
+        output: Option<&'a str>,
     },
     /// Answer the lines of the input over a keyset.
     Session {
@@ -290,6 +305,13 @@ fn command_with<'a>(command: CommandName, given: &Options<'a>) -> Request<'a>
         },
         CommandName::Eseal => given.enveloped(Envelope::Seal(given.ad())),
         CommandName::Eopen => given.enveloped(Envelope::Open(given.ad())),
+        CommandName::Srange => Request::OpenRange {
+            keyset: given.text(OptionName::Keyset),
+            form: given.form(OptionName::KeysetFormat),
+            ad: given.ad(),
+            range: given.range(),
+            output: given.value(OptionName::Out),
+        },
     }
 }
 
@@ -324,6 +346,28 @@ impl<'a> Options<'a> {
     {
         match number_in(self.text(name)) {
             Some(number) => number,
+            None => 0,
+        }
+    }
+
+    /// The range that is opened.
+    fn range(&self) -> Range<'a>
+        ensures { seen_range result ≡ range (seen_options self.now).values }
+    {
+        Range {
+            file: self.text(OptionName::File),
+            from: self.offset(OptionName::From),
+            length: range_length(self.number(OptionName::Length)),
+        }
+    }
+
+    /// The offset of an option that the command requires.
+    fn offset(&self, name: OptionName) -> u64
+        ensures offset { result ≡ offset ((seen_options self.now).values name) }
+        ensures bound { result < 2 ^ 63 }
+    {
+        match offset_in(self.text(name)) {
+            Some(offset) => offset,
             None => 0,
         }
     }
@@ -439,6 +483,14 @@ impl<'a> Options<'a> {
     }
 }
 
+/// A length of a range, or none where it is too long.
+fn range_length(length: u32) -> u32
+    ensures length { result ≡ range_length length }
+    ensures bound { result ≤ 16777216 }
+{
+    if length <= MOST_RANGE { length } else { 0 }
+}
+
 /// The options of these words, which stand behind the command.
 #[tactic(auto, unfolding(crate::specs::Words::given_in))]
 fn given_options(command: CommandName, words: &[String]) -> Result<Options<'_>, usize>
@@ -477,7 +529,7 @@ fn next_word<'a>(
         (next_word command word.now place (seen_options so_far.old)) }
 {
     match so_far.waiting {
-        Some(name) => with_value(name, word, place, so_far),
+        Some(name) => with_value(command, name, word, place, so_far),
         None => option_word(command, word, place, so_far),
     }
 }
@@ -494,7 +546,7 @@ fn option_word<'a>(
 {
     match own_value(word) {
         Some((name, value)) => match new_option(command, name, place, so_far) {
-            Ok(name) => with_value(name, value, place, so_far),
+            Ok(name) => with_value(command, name, value, place, so_far),
             Err(place) => Err(place),
         },
         None => match new_option(command, word, place, so_far) {
@@ -538,15 +590,16 @@ fn new_option(
 
 /// The option with its value, which stands in the word of this place.
 fn with_value<'a>(
+    command: CommandName,
     name: OptionName,
     value: &'a str,
     place: usize,
     so_far: &mut Options<'a>,
 ) -> Result<(), usize>
     ensures { Reads (λ done. seen_options so_far.new) result
-        (with_value name value.now place (seen_options so_far.old)) }
+        (with_value command name value.now place (seen_options so_far.old)) }
 {
-    if !is_value(name.row().form, value) {
+    if !is_value(name.form_for(command), value) {
         return Err(place);
     }
     write(&mut so_far.values, name.place(), value);

@@ -4,7 +4,7 @@
 ghost use Rattle.std.specs.Prelude.{◌≡◌, ◌<◌};
 ghost use Rattle.std.specs.List.{list_all};
 ghost use Rattle.hex.specs.Hex.{is_hex_digit};
-ghost use Rattle.tinkey_words.specs.Rows.{row, row_of, command_of, option_row, option_of, rival, is_one_of, takes, format_of, is_hex, is_line_count, is_value, seen_row};
+ghost use Rattle.tinkey_words.specs.Rows.{row, row_of, command_of, option_row, option_of, rival, is_one_of, takes, format_of, is_hex, is_line_count, is_range_length, is_value, form_for, length_form, offset_in, seen_row};
 
 use tink_base::number_in;
 
@@ -63,6 +63,8 @@ pub enum CommandName {
     Eseal,
     /// `eopen`
     Eopen,
+    /// `srange`
+    Srange,
 }
 
 /// An option by its name.
@@ -90,7 +92,7 @@ pub enum OptionName {
     AdHex,
     /// `--tag-hex`, the tag that is verified, in hexadecimal.
     TagHex,
-    /// `--length`, how many bytes are derived.
+    /// `--length`, how many bytes are derived, or are in a range.
     Length,
     /// `--seed`, the number that a self-test is made from.
     Seed,
@@ -102,13 +104,26 @@ pub enum OptionName {
     MasterFormat,
     /// `--dek-template`, the name of the template of data keys.
     DekTemplate,
+    /// `--file`, the file of a stream.
+    File,
+    /// `--from`, the offset of a range's first byte.
+    From,
 }
 
 /// How many options there are.
-pub const OPTION_COUNT: usize = 17;
+pub const OPTION_COUNT: usize = 19;
 
 /// How many lines a self-test may have.
 const MOST_LINES: u32 = 100_000;
+
+/// How many bytes a range may have.
+pub const MOST_RANGE: u32 = 16_777_216;
+
+/// How many digits an offset may have.
+const MOST_OFFSET_DIGITS: usize = 19;
+
+/// The greatest offset.
+const MOST_OFFSET: u64 = 9_223_372_036_854_775_807;
 
 /// How many bytes a datum may have that stands in a word.
 pub const DATUM_LIMIT: usize = 1_048_576;
@@ -133,6 +148,10 @@ pub enum Form {
     Number,
     /// The same, of a number from 1 to 100,000.
     LineCount,
+    /// The same, of a number up to 16,777,216.
+    RangeLength,
+    /// 1 to 19 decimal digits, of a number up to 9,223,372,036,854,775,807.
+    Offset,
     /// The form of a keyset: `json` or `binary`, in letters of either case.
     Format,
     /// A text of at most 1,048,576 bytes, which are meant.
@@ -190,6 +209,7 @@ impl CommandName {
             CommandName::UnwrapKeyset => row("unwrap-keyset", &BY_MASTER, &UNDER_MASTER),
             CommandName::Eseal => row("eseal", &BY_KEYSET_AND_DEK, &WITH_AD),
             CommandName::Eopen => row("eopen", &BY_KEYSET_AND_DEK, &WITH_AD),
+            CommandName::Srange => row("srange", &BY_KEYSET_AND_RANGE, &WITH_AD_AND_OUT),
         }
     }
 }
@@ -215,6 +235,22 @@ const BY_KEYSET_AND_DEK: [OptionName; 2] = [OptionName::Keyset, OptionName::DekT
 
 /// What such a command may have that takes associated data.
 const WITH_AD: [OptionName; 3] = [OptionName::KeysetFormat, OptionName::Ad, OptionName::AdHex];
+
+/// What a command requires that opens a range of a stream in a file.
+const BY_KEYSET_AND_RANGE: [OptionName; 4] = [
+    OptionName::Keyset,
+    OptionName::File,
+    OptionName::From,
+    OptionName::Length,
+];
+
+/// What such a command may have that takes associated data and puts bytes.
+const WITH_AD_AND_OUT: [OptionName; 4] = [
+    OptionName::KeysetFormat,
+    OptionName::Ad,
+    OptionName::AdHex,
+    OptionName::Out,
+];
 
 /// What such a command may have that puts a keyset.
 const WITH_OUT: [OptionName; 3] = [
@@ -284,6 +320,18 @@ impl OptionName {
             OptionName::Master => option("--master", Form::FileName),
             OptionName::MasterFormat => option("--master-format", Form::Format),
             OptionName::DekTemplate => option("--dek-template", Form::Text),
+            OptionName::File => option("--file", Form::FileName),
+            OptionName::From => option("--from", Form::Offset),
+        }
+    }
+
+    /// The form of the option's value, for the command.
+    pub fn form_for(self, command: CommandName) -> Form
+        ensures { result ≡ form_for self command }
+    {
+        match self {
+            OptionName::Length => length_form(command),
+            _ => self.row().form,
         }
     }
 
@@ -307,6 +355,16 @@ impl OptionName {
     }
 }
 
+/// The form of a length.
+fn length_form(command: CommandName) -> Form
+    ensures { result ≡ length_form command }
+{
+    match command {
+        CommandName::Srange => Form::RangeLength,
+        _ => Form::Number,
+    }
+}
+
 fn option(word: &'static str, form: Form) -> OptionRow
     ensures word { result.word.now ≡ word.now }
     ensures form { result.form ≡ form }
@@ -315,7 +373,7 @@ fn option(word: &'static str, form: Form) -> OptionRow
 }
 
 /// All commands.
-const COMMANDS: [CommandName; 26] = [
+const COMMANDS: [CommandName; 27] = [
     CommandName::CreateKeyset,
     CommandName::AddKey,
     CommandName::RotateKeyset,
@@ -342,6 +400,7 @@ const COMMANDS: [CommandName; 26] = [
     CommandName::UnwrapKeyset,
     CommandName::Eseal,
     CommandName::Eopen,
+    CommandName::Srange,
 ];
 
 /// All options, in the order of their places.
@@ -363,6 +422,8 @@ const OPTIONS: [OptionName; OPTION_COUNT] = [
     OptionName::Master,
     OptionName::MasterFormat,
     OptionName::DekTemplate,
+    OptionName::File,
+    OptionName::From,
 ];
 
 /// The command of this name.
@@ -410,6 +471,8 @@ pub fn is_value(form: Form, text: &str) -> bool
         Form::FileName => !text.is_empty(),
         Form::Number => number_in(text).is_some(),
         Form::LineCount => is_line_count(number_in(text)),
+        Form::RangeLength => is_range_length(number_in(text)),
+        Form::Offset => offset_in(text).is_some(),
         Form::Format => format_named(text).is_some(),
         Form::Datum => text.len() <= DATUM_LIMIT,
         Form::Hex => is_hex(text),
@@ -423,6 +486,29 @@ fn is_line_count(number: Option<u32>) -> bool
     match number {
         Some(lines) => 1 <= lines && lines <= MOST_LINES,
         None => false,
+    }
+}
+
+/// The number is there, and may be the length of a range.
+fn is_range_length(number: Option<u32>) -> bool
+    ensures { result ≡ is_range_length number }
+{
+    match number {
+        Some(length) => length <= MOST_RANGE,
+        None => false,
+    }
+}
+
+/// The offset that the text is.
+pub fn offset_in(text: &str) -> Option<u64>
+    ensures { result ≡ offset_in text.now }
+{
+    if text.len() > MOST_OFFSET_DIGITS || !text.bytes().all(|b| b.is_ascii_digit()) {
+        return None;
+    }
+    match text.parse::<u64>() {
+        Ok(offset) if offset <= MOST_OFFSET => Some(offset),
+        _ => None,
     }
 }
 

@@ -1,10 +1,10 @@
 use Rattle.std.proofs.Common.{◌≡◌, ◌∙◌, sym, ap, true, arith}
 use Rattle.tinkey_words.specs.declared.words.rows.Form.{Form}
-use Rattle.tinkey_words.specs.Rows.{option_row, is_value}
+use Rattle.tinkey_words.specs.Rows.{form_for, is_value}
 use Rattle.tinkey_words.proofs.WordLemmas.{value_put}
 use Rattle.tinkey_words.proofs.words.with_value.Goals as goal
 
 pub returns : goal.returns
 returns c =
-    let formed : is_value (option_row c.args.name).form c.args.value.now ≡ true = ap (λ (form : Form). is_value form c.args.value.now) (sym c.row.ensures.form) ∙ sym c.is_value.ensures ∙ c.if-not-is_value.false in
-    rw c.write.ensures.written (value_put c.args.name c.args.so_far.now.values c.args.so_far.now.waiting c.args.value c.args.place c.place.result c.place.ensures.place (omega (arith, c.write.ensures.size, c.place.ensures.within)) formed)
+    let formed : is_value (form_for c.args.name c.args.command) c.args.value.now ≡ true = ap (λ (form : Form). is_value form c.args.value.now) (sym c.form_for.ensures) ∙ sym c.is_value.ensures ∙ c.if-not-is_value.false in
+    rw c.write.ensures.written (value_put c.args.command c.args.name c.args.so_far.now.values c.args.so_far.now.waiting c.args.value c.args.place c.place.result c.place.ensures.place (omega (arith, c.write.ensures.size, c.place.ensures.within)) formed)
