@@ -29,6 +29,9 @@ use Rattle.key_msgs.specs.declared.primitive.Primitive.TheVariants.{Aead, Daead,
 use Rattle.key_msgs.specs.declared.rule.Rule.{Rule}
 use Rattle.managers.specs.Schemes.{Scheme}
 use Rattle.seal_wrap.specs.Enveloped.{open_envelope_of}
+use Rattle.segment_stream.specs.Range.{stream_failed, past_end}
+use Rattle.tinkey_plans.specs.Ranging.{with_stretch}
+use Rattle.tinkey_plans.specs.Stretch.{Opened}
 use Rattle.tinkey_plans.specs.Envelopes.{envelopes, finds_dek, with_aead, with_enveloped, with_scheme}
 
 -- the rest of a plan is so, whatever it takes
@@ -110,6 +113,11 @@ unwrapped_each P c (Err unwrapped.Member) next all = c.ended _ _
 unwrapped_each P c (Err unwrapped.NotOpened) next all = c.ended _ _
 unwrapped_each P c (Err (unwrapped.InnerWire at)) next all = c.ended _ _
 unwrapped_each P c (Err (unwrapped.Fault fault)) next all = c.ended _ _
+
+pub stretch_each : (P : Plan → Type 0) → IsClosed P → (opened : Opened) (next : List ℕ → Plan) → AreAll P next → P (with_stretch opened next)
+stretch_each P c (Ok plain) next all = all plain
+stretch_each P c (Err (stream_failed number)) next all = c.ended _ _
+stretch_each P c (Err past_end) next all = c.ended _ _
 
 pub derived_each : (P : Plan → Type 0) → IsClosed P → (asked : ℕ) (found : Option (Result (List ℕ) ℕ)) (next : List ℕ → Plan) → AreAll P next → P (with_derived asked found next)
 derived_each P c asked None next all = all []

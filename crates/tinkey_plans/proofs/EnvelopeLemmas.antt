@@ -152,11 +152,11 @@ clear_keyset formats.Json bytes next clear = clear_memory _ (clear_json (reads_j
 clear_keyset formats.Binary bytes next clear = clear_memory _ (clear_binary (reads_binary bytes) next clear)
 
 clear_load : (name : List ℕ) (form : Format) (next : Keys → Plan) → ((keys : Keys) → Clears (next keys)) → Clears (loads_keyset name form next)
-clear_load name form next clear old s new (loaded bytes store kept stood within holds run) d = clear_keyset form bytes next clear (record old { store = store }) s new run d
-clear_load name form next clear old s new (load_absent is only kept stood holds) d = subst IsDekStatus is d
-clear_load name form next clear old s new (load_long is only kept stood holds) d = subst IsDekStatus is d
-clear_load name form next clear old s new (load_failed is only kept rose) d = subst IsDekStatus is d
-clear_load name form next clear old s new (load_starved is only kept stood) d = subst IsDekStatus is d
+clear_load name form next clear old s new (loaded bytes store kept stood given within holds run) d = clear_keyset form bytes next clear (record old { store = store }) s new run d
+clear_load name form next clear old s new (load_absent is only kept stood given holds) d = subst IsDekStatus is d
+clear_load name form next clear old s new (load_long is only kept stood given holds) d = subst IsDekStatus is d
+clear_load name form next clear old s new (load_failed is only kept rose given) d = subst IsDekStatus is d
+clear_load name form next clear old s new (load_starved is only kept stood given) d = subst IsDekStatus is d
 
 clear_aead : (p : Primitive) (next : Plan) → (p ≡ Aead → Clears next) → Clears (with_aead p next)
 clear_aead Aead next clear = clear refl

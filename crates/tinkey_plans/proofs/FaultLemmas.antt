@@ -16,8 +16,8 @@ use Rattle.tinkey_session.specs.declared.talk.TalkFault.{TalkFault}
 use Rattle.tinkey_session.specs.declared.talk.TalkFault.TheVariants as talk_faults
 use Rattle.tinkey_plans.specs.declared.status.Status.{Status}
 use Rattle.tinkey_plans.specs.declared.status.Status.TheVariants as status
-use Rattle.tinkey_plans.specs.Plan.{Plan, ends, writes, creates, looks, allocates, loads, reads_all, draws, pumps, exchanges, stream_status, limit_status, IsStated}
-use Rattle.tinkey_plans.specs.Ends.{World, Ends, OnlyStreams, pump_status, OnlySource, OnlySink, OnlyStore, OnlyEntropy, loaded, load_absent, load_long, load_failed, load_starved, wrote, write_failed, made, name_taken, create_failed, create_starved, look_free, look_taken, look_failed, read, too_long, read_failed, read_starved, settled, draw_failed, draw_starved, talk_status, sides_of, exchanged, exchange_ended}
+use Rattle.tinkey_plans.specs.Plan.{Plan, ends, writes, creates, looks, allocates, loads, reads_all, ranges, draws, pumps, exchanges, stream_status, limit_status, IsStated}
+use Rattle.tinkey_plans.specs.Ends.{World, Ends, OnlyStreams, pump_status, OnlySource, OnlySink, OnlyStore, OnlyEntropy, loaded, load_absent, load_long, load_failed, load_starved, ranged, range_absent, range_failed, range_starved, wrote, write_failed, made, name_taken, create_failed, create_starved, look_free, look_taken, look_failed, read, too_long, read_failed, read_starved, settled, draw_failed, draw_starved, talk_status, sides_of, exchanged, exchange_ended}
 use Rattle.tinkey_plans.specs.Promises.{HasCause, ShowsFaults, NoneFailed, Completes}
 
 -- a stated status is no fault, and no want of memory
@@ -126,24 +126,30 @@ pub has_cause : (p : Plan) (old : World) (s : Status) (new : World) → Ends p o
 has_cause (ends answered stated) old s new (is, same) = no_fault old new s (rw is stated)
 has_cause (writes output) old s new (wrote is only stood took) = no_fault old new s (rw is tt)
 has_cause (writes output) old s new (write_failed is only rose front) = record { read = λ h. absurd (cc); write = λ h. rose; store = λ h. absurd (cc); entropy = λ h. absurd (cc) }
-has_cause (creates name output taken stated) old s new (made is only stood added) = no_fault old new s (rw is tt)
-has_cause (creates name output taken stated) old s new (name_taken is only kept stood there) = no_fault old new s (rw is stated)
-has_cause (creates name output taken stated) old s new (create_failed is only rose may) = store_cause old new s is rose
-has_cause (creates name output taken stated) old s new (create_starved is only kept stood) = starved_cause old new s is
-has_cause (looks name taken stated next) old s new (look_free store kept stood holds run) =
+has_cause (creates name output taken stated) old s new (made is only stood given added) = no_fault old new s (rw is tt)
+has_cause (creates name output taken stated) old s new (name_taken is only kept stood given there) = no_fault old new s (rw is stated)
+has_cause (creates name output taken stated) old s new (create_failed is only rose given may) = store_cause old new s is rose
+has_cause (creates name output taken stated) old s new (create_starved is only kept stood given) = starved_cause old new s is
+has_cause (looks name taken stated next) old s new (look_free store kept stood given holds run) =
     let later = has_cause next (record old { store = store }) s new run in
     record { read = later.read; write = later.write; store = λ h. rose_after _ _ _ kept.faults (later.store h); entropy = later.entropy }
-has_cause (looks name taken stated next) old s new (look_taken is only kept stood there) = no_fault old new s (rw is stated)
-has_cause (looks name taken stated next) old s new (look_failed is only kept rose) = store_cause old new s is rose
+has_cause (looks name taken stated next) old s new (look_taken is only kept stood given there) = no_fault old new s (rw is stated)
+has_cause (looks name taken stated next) old s new (look_failed is only kept rose given) = store_cause old new s is rose
 has_cause (allocates next) old s new (inl run) = has_cause next old s new run
 has_cause (allocates next) old s new (inr (is, same)) = starved_cause old new s is
-has_cause (loads name limit absent long a l next) old s new (loaded bytes store kept stood within holds run) =
+has_cause (loads name limit absent long a l next) old s new (loaded bytes store kept stood given within holds run) =
     let later = has_cause (next bytes) (record old { store = store }) s new run in
     record { read = later.read; write = later.write; store = λ h. rose_after _ _ _ kept.faults (later.store h); entropy = later.entropy }
-has_cause (loads name limit absent long a l next) old s new (load_absent is only kept stood holds) = no_fault old new s (rw is a)
-has_cause (loads name limit absent long a l next) old s new (load_long is only kept stood holds) = no_fault old new s (rw is l)
-has_cause (loads name limit absent long a l next) old s new (load_failed is only kept rose) = store_cause old new s is rose
-has_cause (loads name limit absent long a l next) old s new (load_starved is only kept stood) = starved_cause old new s is
+has_cause (loads name limit absent long a l next) old s new (load_absent is only kept stood given holds) = no_fault old new s (rw is a)
+has_cause (loads name limit absent long a l next) old s new (load_long is only kept stood given holds) = no_fault old new s (rw is l)
+has_cause (loads name limit absent long a l next) old s new (load_failed is only kept rose given) = store_cause old new s is rose
+has_cause (loads name limit absent long a l next) old s new (load_starved is only kept stood given) = starved_cause old new s is
+has_cause (ranges x absent a next) old s new (ranged opened store most kept stood given least past holds run) =
+    let later = has_cause (next opened) (record old { store = store }) s new run in
+    record { read = later.read; write = later.write; store = λ h. rose_after _ _ _ kept.faults (later.store h); entropy = later.entropy }
+has_cause (ranges x absent a next) old s new (range_absent is only kept stood given holds) = no_fault old new s (rw is a)
+has_cause (ranges x absent a next) old s new (range_failed most is only kept rose given least) = store_cause old new s is rose
+has_cause (ranges x absent a next) old s new (range_starved most is only kept stood given least) = starved_cause old new s is
 has_cause (reads_all limit long stated next) old s new (read all source gave stood within end run) =
     let later = has_cause (next all) (record old { source = source }) s new run in
     record { read = λ h. rose_after _ _ _ gave.faults (later.read h); write = later.write; store = later.store; entropy = later.entropy }
@@ -222,24 +228,30 @@ pub shows_faults : (p : Plan) (old : World) (s : Status) (new : World) → Ends 
 shows_faults (ends answered stated) old s new (is, same) = all_stood old new s same
 shows_faults (writes output) old s new (wrote is only stood took) = sink_shown old new s only (λ other. stood)
 shows_faults (writes output) old s new (write_failed is only rose front) = sink_shown old new s only (λ other. absurd (other is))
-shows_faults (creates name output taken stated) old s new (made is only stood added) = store_shown old new s only (λ other. stood)
-shows_faults (creates name output taken stated) old s new (name_taken is only kept stood there) = store_shown old new s only (λ other. stood)
-shows_faults (creates name output taken stated) old s new (create_failed is only rose may) = store_shown old new s only (λ other. absurd (other is))
-shows_faults (creates name output taken stated) old s new (create_starved is only kept stood) = store_shown old new s only (λ other. stood)
-shows_faults (looks name taken stated next) old s new (look_free store kept stood holds run) =
+shows_faults (creates name output taken stated) old s new (made is only stood given added) = store_shown old new s only (λ other. stood)
+shows_faults (creates name output taken stated) old s new (name_taken is only kept stood given there) = store_shown old new s only (λ other. stood)
+shows_faults (creates name output taken stated) old s new (create_failed is only rose given may) = store_shown old new s only (λ other. absurd (other is))
+shows_faults (creates name output taken stated) old s new (create_starved is only kept stood given) = store_shown old new s only (λ other. stood)
+shows_faults (looks name taken stated next) old s new (look_free store kept stood given holds run) =
     let later = shows_faults next (record old { store = store }) s new run in
     record { read = later.read; write = later.write; store = λ other. later.store other ∙ stood; entropy = later.entropy }
-shows_faults (looks name taken stated next) old s new (look_taken is only kept stood there) = store_shown old new s only (λ other. stood)
-shows_faults (looks name taken stated next) old s new (look_failed is only kept rose) = store_shown old new s only (λ other. absurd (other is))
+shows_faults (looks name taken stated next) old s new (look_taken is only kept stood given there) = store_shown old new s only (λ other. stood)
+shows_faults (looks name taken stated next) old s new (look_failed is only kept rose given) = store_shown old new s only (λ other. absurd (other is))
 shows_faults (allocates next) old s new (inl run) = shows_faults next old s new run
 shows_faults (allocates next) old s new (inr (is, same)) = all_stood old new s same
-shows_faults (loads name limit absent long a l next) old s new (loaded bytes store kept stood within holds run) =
+shows_faults (loads name limit absent long a l next) old s new (loaded bytes store kept stood given within holds run) =
     let later = shows_faults (next bytes) (record old { store = store }) s new run in
     record { read = later.read; write = later.write; store = λ other. later.store other ∙ stood; entropy = later.entropy }
-shows_faults (loads name limit absent long a l next) old s new (load_absent is only kept stood holds) = store_shown old new s only (λ other. stood)
-shows_faults (loads name limit absent long a l next) old s new (load_long is only kept stood holds) = store_shown old new s only (λ other. stood)
-shows_faults (loads name limit absent long a l next) old s new (load_failed is only kept rose) = store_shown old new s only (λ other. absurd (other is))
-shows_faults (loads name limit absent long a l next) old s new (load_starved is only kept stood) = store_shown old new s only (λ other. stood)
+shows_faults (loads name limit absent long a l next) old s new (load_absent is only kept stood given holds) = store_shown old new s only (λ other. stood)
+shows_faults (loads name limit absent long a l next) old s new (load_long is only kept stood given holds) = store_shown old new s only (λ other. stood)
+shows_faults (loads name limit absent long a l next) old s new (load_failed is only kept rose given) = store_shown old new s only (λ other. absurd (other is))
+shows_faults (loads name limit absent long a l next) old s new (load_starved is only kept stood given) = store_shown old new s only (λ other. stood)
+shows_faults (ranges x absent a next) old s new (ranged opened store most kept stood given least past holds run) =
+    let later = shows_faults (next opened) (record old { store = store }) s new run in
+    record { read = later.read; write = later.write; store = λ other. later.store other ∙ stood; entropy = later.entropy }
+shows_faults (ranges x absent a next) old s new (range_absent is only kept stood given holds) = store_shown old new s only (λ other. stood)
+shows_faults (ranges x absent a next) old s new (range_failed most is only kept rose given least) = store_shown old new s only (λ other. absurd (other is))
+shows_faults (ranges x absent a next) old s new (range_starved most is only kept stood given least) = store_shown old new s only (λ other. stood)
 shows_faults (reads_all limit long stated next) old s new (read all source gave stood within end run) =
     let later = shows_faults (next all) (record old { source = source }) s new run in
     record { read = λ other. later.read other ∙ stood; write = later.write; store = later.store; entropy = later.entropy }
@@ -278,22 +290,27 @@ completes_from : (p : Plan) (old : World) (s : Status) (new : World) → Ends p 
 completes_from (ends answered stated) old s new (is, same) none memory = rw is stated
 completes_from (writes output) old s new (wrote is only stood took) none memory = rw is tt
 completes_from (writes output) old s new (write_failed is only rose front) none memory = absurd (none.write rose)
-completes_from (creates name output taken stated) old s new (made is only stood added) none memory = rw is tt
-completes_from (creates name output taken stated) old s new (name_taken is only kept stood there) none memory = rw is stated
-completes_from (creates name output taken stated) old s new (create_failed is only rose may) none memory = absurd (none.store rose)
-completes_from (creates name output taken stated) old s new (create_starved is only kept stood) none memory = absurd (memory is)
-completes_from (looks name taken stated next) old s new (look_free store kept stood holds run) none memory =
+completes_from (creates name output taken stated) old s new (made is only stood given added) none memory = rw is tt
+completes_from (creates name output taken stated) old s new (name_taken is only kept stood given there) none memory = rw is stated
+completes_from (creates name output taken stated) old s new (create_failed is only rose given may) none memory = absurd (none.store rose)
+completes_from (creates name output taken stated) old s new (create_starved is only kept stood given) none memory = absurd (memory is)
+completes_from (looks name taken stated next) old s new (look_free store kept stood given holds run) none memory =
     completes_from next (record old { store = store }) s new run (record { read = none.read; write = none.write; store = λ rose. none.store (rose_after _ _ _ kept.faults rose); entropy = none.entropy }) memory
-completes_from (looks name taken stated next) old s new (look_taken is only kept stood there) none memory = rw is stated
-completes_from (looks name taken stated next) old s new (look_failed is only kept rose) none memory = absurd (none.store rose)
+completes_from (looks name taken stated next) old s new (look_taken is only kept stood given there) none memory = rw is stated
+completes_from (looks name taken stated next) old s new (look_failed is only kept rose given) none memory = absurd (none.store rose)
 completes_from (allocates next) old s new (inl run) none memory = completes_from next old s new run none memory
 completes_from (allocates next) old s new (inr (is, same)) none memory = absurd (memory is)
-completes_from (loads name limit absent long a l next) old s new (loaded bytes store kept stood within holds run) none memory =
+completes_from (loads name limit absent long a l next) old s new (loaded bytes store kept stood given within holds run) none memory =
     completes_from (next bytes) (record old { store = store }) s new run (record { read = none.read; write = none.write; store = λ rose. none.store (rose_after _ _ _ kept.faults rose); entropy = none.entropy }) memory
-completes_from (loads name limit absent long a l next) old s new (load_absent is only kept stood holds) none memory = rw is a
-completes_from (loads name limit absent long a l next) old s new (load_long is only kept stood holds) none memory = rw is l
-completes_from (loads name limit absent long a l next) old s new (load_failed is only kept rose) none memory = absurd (none.store rose)
-completes_from (loads name limit absent long a l next) old s new (load_starved is only kept stood) none memory = absurd (memory is)
+completes_from (loads name limit absent long a l next) old s new (load_absent is only kept stood given holds) none memory = rw is a
+completes_from (loads name limit absent long a l next) old s new (load_long is only kept stood given holds) none memory = rw is l
+completes_from (loads name limit absent long a l next) old s new (load_failed is only kept rose given) none memory = absurd (none.store rose)
+completes_from (loads name limit absent long a l next) old s new (load_starved is only kept stood given) none memory = absurd (memory is)
+completes_from (ranges x absent a next) old s new (ranged opened store most kept stood given least past holds run) none memory =
+    completes_from (next opened) (record old { store = store }) s new run (record { read = none.read; write = none.write; store = λ rose. none.store (rose_after _ _ _ kept.faults rose); entropy = none.entropy }) memory
+completes_from (ranges x absent a next) old s new (range_absent is only kept stood given holds) none memory = rw is a
+completes_from (ranges x absent a next) old s new (range_failed most is only kept rose given least) none memory = absurd (none.store rose)
+completes_from (ranges x absent a next) old s new (range_starved most is only kept stood given least) none memory = absurd (memory is)
 completes_from (reads_all limit long stated next) old s new (read all source gave stood within end run) none memory =
     completes_from (next all) (record old { source = source }) s new run (record { read = λ rose. none.read (rose_after _ _ _ gave.faults rose); write = none.write; store = none.store; entropy = none.entropy }) memory
 completes_from (reads_all limit long stated next) old s new (too_long is only stood count) none memory = rw is stated

@@ -21,7 +21,7 @@ use Rattle.tinkey_plans.specs.declared.status.Status.TheVariants as status
 use Rattle.tinkey_words.specs.declared.words.rows.Format.{Format}
 use Rattle.tinkey_words.specs.declared.words.rows.Format.TheVariants as formats
 use Rattle.tinkey_plans.specs.Going.{DoneExactly, NoneRefuses}
-use Rattle.tinkey_plans.specs.Plan.{Answer, Of, Plan, Told, answer, create_answer, draw_answer, load_answer, look_answer, pump_answer, refused, stream_status, talk_answer, limit_status, ends, writes, creates, looks, allocates, loads, reads_all, draws, pumps, exchanges}
+use Rattle.tinkey_plans.specs.Plan.{Answer, Of, Plan, Told, answer, create_answer, draw_answer, load_answer, look_answer, range_answer, pump_answer, refused, stream_status, talk_answer, limit_status, ends, writes, creates, looks, allocates, loads, reads_all, ranges, draws, pumps, exchanges}
 use Rattle.tinkey_plans.specs.Steps.{takes_keyset, makes_keyset, puts, puts_keyset}
 use Rattle.seal_wrap.specs.Unwrapped.{unwrap_of}
 use Rattle.tinkey_plans.specs.Wrapping.{is_json, makes_wrapped, takes_wrapped}
@@ -31,11 +31,12 @@ use Rattle.tinkey_plans.specs.SelfTesting.{tells_counts}
 use Rattle.tinkey_plans.specs.Session.{finds_free, saves_as}
 use Rattle.tinkey_plans.specs.Streaming.{keys_for, opens_stream, seals_stream, with_keys}
 use Rattle.tinkey_plans.specs.Streaming as streaming
+use Rattle.tinkey_plans.specs.Stretch.{Opened, Stretch, stretch_in}
 use Rattle.tinkey_session.proofs.Options.{clash}
 use Rattle.tinkey_session.specs.Talking.{Stop, goes, wants, passes, long_line, many_lines, Talk, Limit}
 use Rattle.tinkey_plans.specs.Commands.{command_plan}
-use Rattle.tinkey_words.specs.Words.{Asked, self_test, Place, primitive_for, create_keyset, edit_keyset, list_keyset, convert_keyset, list_key_templates, use_keyset, use_envelope, seal_stream, open_stream, session, wrap_keyset, unwrap_keyset}
-use Rattle.tinkey_plans.proofs.EachLemmas.{AreAll, IsClosed, dek_each, envelope_each, scheme_each, edit_each, fit_each, keyset_each, made_each, row_each, work_each, written_each, wrapped_each, unwrapped_each}
+use Rattle.tinkey_words.specs.Words.{Asked, self_test, Place, primitive_for, create_keyset, edit_keyset, list_keyset, convert_keyset, list_key_templates, use_keyset, use_envelope, seal_stream, open_stream, open_range, session, wrap_keyset, unwrap_keyset}
+use Rattle.tinkey_plans.proofs.EachLemmas.{AreAll, IsClosed, dek_each, envelope_each, scheme_each, stretch_each, edit_each, fit_each, keyset_each, made_each, row_each, work_each, written_each, wrapped_each, unwrapped_each}
 
 -- the refusals of its steps aren't Done
 abbrev IsProper : Plan → Type 0
@@ -45,6 +46,7 @@ IsProper (creates name output taken stated) = taken ≢ status.Done
 IsProper (looks name taken stated next) = (taken ≢ status.Done) × IsProper next
 IsProper (allocates next) = IsProper next
 IsProper (loads name limit absent long a l next) = (absent ≢ status.Done) × (long ≢ status.Done) × ((bytes : List ℕ) → IsProper (next bytes))
+IsProper (ranges x absent a next) = (absent ≢ status.Done) × ((opened : Opened) → IsProper (next opened))
 IsProper (reads_all limit long stated next) = (long ≢ status.Done) × ((all : List ℕ) → IsProper (next all))
 IsProper (draws kind give next) = (given : Result (Of kind) CmdFault) → IsProper (next given)
 IsProper (pumps part) = Unit {0}
@@ -91,6 +93,15 @@ loaded (Some bytes) limit told absent long next Then other past each = (
     back true is x = (each bytes).1 x
     back false is x = absurd (cc)
 
+stretched : (found : Option (List ℕ)) (x : Stretch) (told : Told) (absent : Status) (next : Opened → Answer) (Then : Opened → Type 0) → absent ≢ status.Done → ((opened : Opened) → IsDone (next opened) ↔ Then opened)
+    → IsDone (range_answer found x (refused told absent) next) ↔ ((bytes : List ℕ) × (found ≡ Some bytes) × Then (stretch_in x bytes))
+stretched None x told absent next Then other each = (λ d. absurd (other d), λ y. clash y.1)
+stretched (Some bytes) x told absent next Then other each = (
+  λ d. (bytes, refl, (each (stretch_in x bytes)).0 d),
+  λ y. let same : bytes ≡ y.0 = (let e : Some bytes ≡ Some y.0 = y.1 in cc) in
+      (each (stretch_in x bytes)).1 (subst (λ b. Then (stretch_in x b)) (sym same) y.2),
+)
+
 read_in : (input : List ℕ) (limit : ℕ) (went long : Answer) (Then : Type 0) → long.status ≢ status.Done → (IsDone went ↔ Then) → IsDone (if nat_le (length input) limit then went else long) ↔ ((length input ≤ limit) × Then)
 read_in input limit went long Then past each = (λ d. by (nat_le (length input) limit) refl d, λ x. back (nat_le (length input) limit) (let fits = x.0 in grind (arith, nat_tests, fits)) x.1)
   where
@@ -125,6 +136,7 @@ done_exactly (creates name output taken stated) told proper = created (map.get t
 done_exactly (looks name taken stated next) told proper = looked (map.get told.files name) told taken _ _ proper.0 (done_exactly next told proper.1)
 done_exactly (allocates next) told proper = done_exactly next told proper
 done_exactly (loads name limit absent long a l next) told proper = loaded (map.get told.files name) limit told absent long _ _ proper.0 proper.1 (λ bytes. done_exactly (next bytes) told (proper.2 bytes))
+done_exactly (ranges x absent a next) told proper = stretched (map.get told.files x.name) x told absent _ _ proper.0 (λ opened. done_exactly (next opened) told (proper.1 opened))
 done_exactly (reads_all limit long stated next) told proper = read_in told.input limit _ _ _ proper.0 (done_exactly (next told.input) (record told { input = [] }) (proper.1 told.input))
 done_exactly (draws kind give next) told proper = drawn_in (give told.random) told _ _ (λ drawn. done_exactly (next drawn.answer) (record told { random = drawn.left }) (proper drawn.answer))
 done_exactly (pumps part) told proper = pumped part told (part.refusal told.input true)
@@ -190,6 +202,7 @@ commands_are_proper table (use_keyset name form work) = (λ e. cc, λ e. cc, λ 
 commands_are_proper table (use_envelope name form template work) = dek_each IsProper closed template _ (λ row. (λ e. cc, λ e. cc, λ bytes. keyset_each IsProper closed form bytes _ (λ keys. fit_each IsProper closed (unfit keys Aead table) _ (scheme_each IsProper closed (scheme_at table Aead (url_made row)) _ (λ scheme. (λ e. cc, λ input. envelope_each IsProper closed table keys scheme row work input _ (λ output. tt)))))))
 commands_are_proper table (seal_stream name form ad) = (λ e. cc, λ e. cc, λ bytes. keyset_each IsProper closed form bytes _ (λ keys. stream_fit_proper (streams.stream_unfit keys) _ (stream_keys_proper (keys_for keys) _ (seals_proper ad))))
 commands_are_proper table (open_stream name form ad) = (λ e. cc, λ e. cc, λ bytes. keyset_each IsProper closed form bytes _ (λ keys. stream_fit_proper (streams.stream_unfit keys) _ (stream_keys_proper (keys_for keys) _ (λ k. tt))))
+commands_are_proper table (open_range name form ad range out) = (λ e. cc, λ e. cc, λ bytes. keyset_each IsProper closed form bytes _ (λ keys. stream_fit_proper (streams.stream_unfit keys) _ (stream_keys_proper (keys_for keys) _ (λ k. (λ e. cc, λ opened. stretch_each IsProper closed opened _ (put_proper out))))))
 commands_are_proper table (self_test seed lines) = counts_proper (trial.self_test table seed lines) lines
 commands_are_proper table (wrap_keyset name form in' out) = (λ e. cc, λ e. cc, λ bytes. keyset_each IsProper closed form bytes _ (λ master. fit_each IsProper closed (unfit master Aead table) _ (taken_proper in'.file in'.form _ (λ keys. written_each IsProper closed formats.Binary keys (λ plain. makes_wrapped keys master table out.form (puts out.file)) (λ plain. wrapped_each IsProper closed keys master table out.form (puts out.file) (put_proper out.file))))))
 commands_are_proper table (unwrap_keyset name form in' out) = (λ e. cc, λ e. cc, λ bytes. keyset_each IsProper closed form bytes _ (λ master. fit_each IsProper closed (unfit master Aead table) _ (text_proper in'.file _ (λ text. unwrapped_each IsProper closed (unwrap_of master table text (is_json in'.form)) _ (out_proper out)))))

@@ -1,6 +1,8 @@
 pub mod AnswerLemmas
 pub mod CountLemmas
 pub mod FaultLemmas
+pub mod RangeLemmas
+pub mod GivenLemmas
 pub mod PromiseLemmas
 pub mod ReportLemmas
 pub mod StepLemmas

@@ -22,9 +22,11 @@ use Rattle.tinkey_session.specs.declared.talk.TalkFault.{TalkFault}
 use Rattle.tinkey_session.specs.declared.talk.TalkFault.TheVariants as talk_faults
 use Rattle.tinkey_plans.specs.declared.status.Status.{Status}
 use Rattle.tinkey_plans.specs.declared.status.Status.TheVariants as status
-use Rattle.tinkey_plans.specs.Plan.{Plan, ends, writes, creates, looks, allocates, loads, reads_all, draws, pumps, exchanges, Told, Answer, answer, refused, stream_status, limit_status, talk_answer, load_answer, create_answer, look_answer, draw_answer, IsStated}
-use Rattle.tinkey_plans.specs.Ends.{World, Ends, Settles, IsLasting, OnlyStreams, pump_status, OnlySource, OnlySink, OnlyStore, loaded, load_absent, load_long, load_failed, load_starved, wrote, write_failed, made, name_taken, create_failed, create_starved, look_free, look_taken, look_failed, read, too_long, read_failed, read_starved, settled, draw_failed, draw_starved, talk_status, sides_of, exchanged, exchange_ended}
+use Rattle.tinkey_plans.specs.Plan.{Plan, ends, writes, creates, looks, allocates, loads, reads_all, ranges, draws, pumps, exchanges, Told, Answer, answer, refused, stream_status, limit_status, talk_answer, load_answer, range_answer, create_answer, look_answer, draw_answer, IsStated}
+use Rattle.tinkey_plans.specs.Ends.{World, Ends, Settles, IsLasting, OnlyStreams, pump_status, OnlySource, OnlySink, OnlyStore, loaded, load_absent, load_long, load_failed, load_starved, ranged, range_absent, range_failed, range_starved, wrote, write_failed, made, name_taken, create_failed, create_starved, look_free, look_taken, look_failed, read, too_long, read_failed, read_starved, settled, draw_failed, draw_starved, talk_status, sides_of, exchanged, exchange_ended}
 use Rattle.tinkey_plans.specs.Promises.{Tells, IsAnswer, Answers, IsFront, Moved, nothing, IsPassLeft, pass_done, pass_refused, pass_unread, pass_unwritten, HasReplied, IsTalkLeft, talk_passed, talk_unread, talk_undrawn, talk_unwritten, talk_starved, then_moved, IsWhole, IsLeft, Leaves, IsTorn, Stands, Promised}
+use Rattle.tinkey_plans.specs.Stretch.{Opened, Stretch, HoldsStretch, stretch_in}
+use Rattle.tinkey_plans.proofs.GivenLemmas.{reads}
 use Rattle.tinkey_plans.proofs.FaultLemmas.{not_read_fault, not_write_fault, not_store_fault, not_entropy_fault, not_no_memory, of_result, of_refusal, of_fault, of_limit, went, Went, has_cause, shows_faults, completes}
 
 -- The stated answer.
@@ -94,6 +96,16 @@ long_loaded found bytes limit absent long next is lt = rw (is, past_test (length
 
 absent_answer : (found : Option (List ℕ)) (limit : ℕ) (absent long : Answer) (next : List ℕ → Answer) → found ≡ None → load_answer found limit absent long next ≡ absent
 absent_answer found limit absent long next is = rw is refl
+
+-- the answer goes on behind a stretch
+stretch_told : (store : StoreState) (files : Files) (x : Stretch) (opened : Opened) → store.files ≡ Some files → HoldsStretch store x opened → (bytes : List ℕ) × (map.get files x.name ≡ Some bytes) × (stretch_in x bytes ≡ opened)
+stretch_told store files x opened told holds = let h : IfSome (Some files) (λ f. (bytes : List ℕ) × (map.get f x.name ≡ Some bytes) × (stretch_in x bytes ≡ opened)) = rw told at holds in h
+
+opened_answer : (found : Option (List ℕ)) (bytes : List ℕ) (x : Stretch) (opened : Opened) (absent : Answer) (next : Opened → Answer) → found ≡ Some bytes → stretch_in x bytes ≡ opened → range_answer found x absent next ≡ next opened
+opened_answer found bytes x opened absent next is same = ap (λ f. range_answer f x absent next) is ∙ ap next same
+
+unfound_answer : (found : Option (List ℕ)) (x : Stretch) (absent : Answer) (next : Opened → Answer) → found ≡ None → range_answer found x absent next ≡ absent
+unfound_answer found x absent next is = ap (λ f. range_answer f x absent next) is
 
 -- the answer where a file may be made
 made_answer : (found : Option (List ℕ)) (told : Told) (name output : List ℕ) (taken : Answer) → found ≡ None → create_answer found told name output taken ≡ record (refused told status.Done) { files = map.insert told.files name output }
@@ -246,7 +258,7 @@ answers_over (writes output) old s new (wrote is only stood took) told tells ok 
   random = random_told old new told tells only.entropy;
 }
 answers_over (writes output) old s new (write_failed is only rose front) told tells ok = absurd (not_write_fault s ok is)
-answers_over (creates name output taken stated) old s new (made is only stood added) told tells ok =
+answers_over (creates name output taken stated) old s new (made is only stood given added) told tells ok =
     subst (λ (a : Answer). IsAnswer a old s new) (sym (made_answer _ told name output _ (file_told old.store told.files name None tells.files added.absent))) (record {
       status = is;
       input = input_told old new told tells only.source;
@@ -254,32 +266,41 @@ answers_over (creates name output taken stated) old s new (made is only stood ad
       files = added_told old.store new.store told.files name output tells.files added;
       random = random_told old new told tells only.entropy;
     })
-answers_over (creates name output taken stated) old s new (name_taken is only kept stood there) told tells ok =
+answers_over (creates name output taken stated) old s new (name_taken is only kept stood given there) told tells ok =
     let found = some_told old.store told.files name tells.files there in
     subst (λ (a : Answer). IsAnswer a old s new) (sym (taken_answer _ found.0 told name output _ found.1)) (refused_is told taken s old new is tells only kept)
-answers_over (creates name output taken stated) old s new (create_failed is only rose may) told tells ok = absurd (not_store_fault s ok is)
-answers_over (creates name output taken stated) old s new (create_starved is only kept stood) told tells ok = absurd (not_no_memory s ok is)
-answers_over (looks name taken stated next) old s new (look_free store kept stood holds run) told tells ok =
+answers_over (creates name output taken stated) old s new (create_failed is only rose given may) told tells ok = absurd (not_store_fault s ok is)
+answers_over (creates name output taken stated) old s new (create_starved is only kept stood given) told tells ok = absurd (not_no_memory s ok is)
+answers_over (looks name taken stated next) old s new (look_free store kept stood given holds run) told tells ok =
     let later = answers_over next (record old { store = store }) s new run told (record { input = tells.input; files = sym kept.files ∙ tells.files; random = tells.random }) ok in
     subst (λ (a : Answer). IsAnswer a old s new) (sym (free_answer _ _ _ (file_told old.store told.files name None tells.files holds)))
     (record { status = later.status; input = later.input; output = later.output; files = later.files; random = later.random })
-answers_over (looks name taken stated next) old s new (look_taken is only kept stood there) told tells ok =
+answers_over (looks name taken stated next) old s new (look_taken is only kept stood given there) told tells ok =
     let found = some_told old.store told.files name tells.files there in
     subst (λ (a : Answer). IsAnswer a old s new) (sym (found_answer _ found.0 _ _ found.1)) (refused_is told taken s old new is tells only kept)
-answers_over (looks name taken stated next) old s new (look_failed is only kept rose) told tells ok = absurd (not_store_fault s ok is)
+answers_over (looks name taken stated next) old s new (look_failed is only kept rose given) told tells ok = absurd (not_store_fault s ok is)
 answers_over (allocates next) old s new (inl run) told tells ok = answers_over next old s new run told tells ok
 answers_over (allocates next) old s new (inr (is, same)) told tells ok = absurd (not_no_memory s ok is)
-answers_over (loads name limit absent long a l next) old s new (loaded bytes store kept stood within holds run) told tells ok =
+answers_over (loads name limit absent long a l next) old s new (loaded bytes store kept stood given within holds run) told tells ok =
     let later = answers_over (next bytes) (record old { store = store }) s new run told (record { input = tells.input; files = sym kept.files ∙ tells.files; random = tells.random }) ok in
     subst (λ (a : Answer). IsAnswer a old s new) (sym (loaded_answer _ bytes limit _ _ _ (file_told old.store told.files name (Some bytes) tells.files holds) within))
     (record { status = later.status; input = later.input; output = later.output; files = later.files; random = later.random })
-answers_over (loads name limit absent long a l next) old s new (load_absent is only kept stood holds) told tells ok =
+answers_over (loads name limit absent long a l next) old s new (load_absent is only kept stood given holds) told tells ok =
     subst (λ (a : Answer). IsAnswer a old s new) (sym (absent_answer _ limit _ _ _ (file_told old.store told.files name None tells.files holds))) (refused_is told absent s old new is tells only kept)
-answers_over (loads name limit absent long a l next) old s new (load_long is only kept stood holds) told tells ok =
+answers_over (loads name limit absent long a l next) old s new (load_long is only kept stood given holds) told tells ok =
     let longer = longer_told old.store told.files name limit tells.files holds in
     subst (λ (a : Answer). IsAnswer a old s new) (sym (long_loaded _ longer.0 limit _ _ _ longer.1 longer.2)) (refused_is told long s old new is tells only kept)
-answers_over (loads name limit absent long a l next) old s new (load_failed is only kept rose) told tells ok = absurd (not_store_fault s ok is)
-answers_over (loads name limit absent long a l next) old s new (load_starved is only kept stood) told tells ok = absurd (not_no_memory s ok is)
+answers_over (loads name limit absent long a l next) old s new (load_failed is only kept rose given) told tells ok = absurd (not_store_fault s ok is)
+answers_over (loads name limit absent long a l next) old s new (load_starved is only kept stood given) told tells ok = absurd (not_no_memory s ok is)
+answers_over (ranges x absent a next) old s new (ranged opened store most kept stood given least past holds run) told tells ok =
+    let later = answers_over (next opened) (record old { store = store }) s new run told (record { input = tells.input; files = sym kept.files ∙ tells.files; random = tells.random }) ok in
+    let found = stretch_told old.store told.files x opened tells.files holds in
+    subst (λ (a : Answer). IsAnswer a old s new) (sym (opened_answer _ found.0 x opened _ _ found.1 found.2))
+    (record { status = later.status; input = later.input; output = later.output; files = later.files; random = later.random })
+answers_over (ranges x absent a next) old s new (range_absent is only kept stood given holds) told tells ok =
+    subst (λ (a : Answer). IsAnswer a old s new) (sym (unfound_answer _ x _ _ (file_told old.store told.files x.name None tells.files holds))) (refused_is told absent s old new is tells only kept)
+answers_over (ranges x absent a next) old s new (range_failed most is only kept rose given least) told tells ok = absurd (not_store_fault s ok is)
+answers_over (ranges x absent a next) old s new (range_starved most is only kept stood given least) told tells ok = absurd (not_no_memory s ok is)
 answers_over (reads_all limit long stated next) old s new (read all source gave stood within end run) told tells ok =
     let whole = whole_input old.source source told.input all tells.input gave end in
     let later = answers_over (next all) (record old { source = source }) s new run (record told { input = [] }) (record { input = whole.0; files = tells.files; random = tells.random }) ok in
@@ -383,36 +404,44 @@ pub stands : (p : Plan) (old : World) (s : Status) (new : World) → Ends p old 
 stands (ends answered stated) old s new (is, same) = untouched (ends answered stated) old s new (λ h. not_write_fault answered stated (sym is ∙ h)) (ap (λ (w : World). w.sink) same) (same_files _ _ (ap (λ (w : World). w.store) same))
 stands (writes output) old s new (wrote is only stood took) = record { files = λ done fault. same_files _ _ only.store; torn = λ h. inl (same_files _ _ only.store); kept = λ whole done fault. absurd (done is); front = λ whole h. absurd (cc); last = λ whole h. absurd (cc) }
 stands (writes output) old s new (write_failed is only rose front) = record { files = λ done fault. same_files _ _ only.store; torn = λ h. inl (same_files _ _ only.store); kept = λ whole done fault. absurd (fault is); front = λ whole h told tells. front; last = λ whole h told tells. refl }
-stands (creates name output taken stated) old s new (made is only stood added) = record { files = λ done fault. absurd (done is); torn = λ h. absurd (cc); kept = λ whole done fault. absurd (done is); front = λ whole h. absurd (cc); last = λ whole h. absurd (cc) }
-stands (creates name output taken stated) old s new (name_taken is only kept stood there) = untouched (creates name output taken stated) old s new (λ h. not_write_fault taken stated (sym is ∙ h)) only.sink kept
-stands (creates name output taken stated) old s new (create_failed is only rose may) = record {
+stands (creates name output taken stated) old s new (made is only stood given added) = record { files = λ done fault. absurd (done is); torn = λ h. absurd (cc); kept = λ whole done fault. absurd (done is); front = λ whole h. absurd (cc); last = λ whole h. absurd (cc) }
+stands (creates name output taken stated) old s new (name_taken is only kept stood given there) = untouched (creates name output taken stated) old s new (λ h. not_write_fault taken stated (sym is ∙ h)) only.sink kept
+stands (creates name output taken stated) old s new (create_failed is only rose given may) = record {
   files = λ done fault. absurd (fault is);
   torn = λ h. torn_file name output taken stated old new may;
   kept = λ whole done fault. took_same old.sink new.sink only.sink;
   front = λ whole h. absurd (cc);
   last = λ whole h. absurd (cc);
 }
-stands (creates name output taken stated) old s new (create_starved is only kept stood) = untouched (creates name output taken stated) old s new (λ h. absurd (cc)) only.sink kept
-stands (looks name taken stated next) old s new (look_free store kept stood holds run) =
+stands (creates name output taken stated) old s new (create_starved is only kept stood given) = untouched (creates name output taken stated) old s new (λ h. absurd (cc)) only.sink kept
+stands (looks name taken stated next) old s new (look_free store kept stood given holds run) =
     goes_on (looks name taken stated next) next old (record old { store = store }) s new (λ whole. whole) kept refl
     (λ told tells. (told, record { input = tells.input; files = sym kept.files ∙ tells.files; random = tells.random }, refl, free_answer _ _ _ (file_told old.store told.files name None tells.files holds)))
     (stands next (record old { store = store }) s new run)
-stands (looks name taken stated next) old s new (look_taken is only kept stood there) = untouched (looks name taken stated next) old s new (λ h. not_write_fault taken stated (sym is ∙ h)) only.sink kept
-stands (looks name taken stated next) old s new (look_failed is only kept rose) = untouched (looks name taken stated next) old s new (λ h. absurd (cc)) only.sink kept
+stands (looks name taken stated next) old s new (look_taken is only kept stood given there) = untouched (looks name taken stated next) old s new (λ h. not_write_fault taken stated (sym is ∙ h)) only.sink kept
+stands (looks name taken stated next) old s new (look_failed is only kept rose given) = untouched (looks name taken stated next) old s new (λ h. absurd (cc)) only.sink kept
 stands (allocates next) old s new (inl run) = let later = stands next old s new run in record { files = later.files; torn = λ h. torn_later (later.torn h); kept = later.kept; front = later.front; last = later.last }
   where
     torn_later : KeptFiles old.store new.store ⊎ IsTorn next old new → KeptFiles old.store new.store ⊎ IsTorn (allocates next) old new
     torn_later (inl files) = inl files
     torn_later (inr t) = inr (record { name = t.name; bytes = t.bytes; added = t.added; answered = t.answered; files = t.files })
 stands (allocates next) old s new (inr (is, same)) = untouched (allocates next) old s new (λ h. absurd (cc)) (ap (λ (w : World). w.sink) same) (same_files _ _ (ap (λ (w : World). w.store) same))
-stands (loads name limit absent long a l next) old s new (loaded bytes store kept stood within holds run) =
+stands (loads name limit absent long a l next) old s new (loaded bytes store kept stood given within holds run) =
     goes_on (loads name limit absent long a l next) (next bytes) old (record old { store = store }) s new (λ whole. whole bytes) kept refl
     (λ told tells. (told, record { input = tells.input; files = sym kept.files ∙ tells.files; random = tells.random }, refl, loaded_answer _ bytes limit _ _ _ (file_told old.store told.files name (Some bytes) tells.files holds) within))
     (stands (next bytes) (record old { store = store }) s new run)
-stands (loads name limit absent long a l next) old s new (load_absent is only kept stood holds) = untouched (loads name limit absent long a l next) old s new (λ h. not_write_fault absent a (sym is ∙ h)) only.sink kept
-stands (loads name limit absent long a l next) old s new (load_long is only kept stood holds) = untouched (loads name limit absent long a l next) old s new (λ h. not_write_fault long l (sym is ∙ h)) only.sink kept
-stands (loads name limit absent long a l next) old s new (load_failed is only kept rose) = untouched (loads name limit absent long a l next) old s new (λ h. absurd (cc)) only.sink kept
-stands (loads name limit absent long a l next) old s new (load_starved is only kept stood) = untouched (loads name limit absent long a l next) old s new (λ h. absurd (cc)) only.sink kept
+stands (loads name limit absent long a l next) old s new (load_absent is only kept stood given holds) = untouched (loads name limit absent long a l next) old s new (λ h. not_write_fault absent a (sym is ∙ h)) only.sink kept
+stands (loads name limit absent long a l next) old s new (load_long is only kept stood given holds) = untouched (loads name limit absent long a l next) old s new (λ h. not_write_fault long l (sym is ∙ h)) only.sink kept
+stands (loads name limit absent long a l next) old s new (load_failed is only kept rose given) = untouched (loads name limit absent long a l next) old s new (λ h. absurd (cc)) only.sink kept
+stands (loads name limit absent long a l next) old s new (load_starved is only kept stood given) = untouched (loads name limit absent long a l next) old s new (λ h. absurd (cc)) only.sink kept
+stands (ranges x absent a next) old s new (ranged opened store most kept stood given least past holds run) =
+    goes_on (ranges x absent a next) (next opened) old (record old { store = store }) s new (λ whole. whole opened) kept refl
+    (λ told tells. let found = stretch_told old.store told.files x opened tells.files holds in
+    (told, record { input = tells.input; files = sym kept.files ∙ tells.files; random = tells.random }, refl, opened_answer _ found.0 x opened _ _ found.1 found.2))
+    (stands (next opened) (record old { store = store }) s new run)
+stands (ranges x absent a next) old s new (range_absent is only kept stood given holds) = untouched (ranges x absent a next) old s new (λ h. not_write_fault absent a (sym is ∙ h)) only.sink kept
+stands (ranges x absent a next) old s new (range_failed most is only kept rose given least) = untouched (ranges x absent a next) old s new (λ h. absurd (cc)) only.sink kept
+stands (ranges x absent a next) old s new (range_starved most is only kept stood given least) = untouched (ranges x absent a next) old s new (λ h. absurd (cc)) only.sink kept
 stands (reads_all limit long stated next) old s new (read all source gave stood within end run) =
     goes_on (reads_all limit long stated next) (next all) old (record old { source = source }) s new (λ whole. whole all) (same_files old.store old.store refl) refl
     (λ told tells. let whole = whole_input old.source source told.input all tells.input gave end in
@@ -519,24 +548,30 @@ pub leaves : (p : Plan) (old : World) (s : Status) (new : World) → Ends p old 
 leaves (ends answered stated) old s new (is, same) = none_moved _ old s new same (is, refl)
 leaves (writes output) old s new (wrote is only stood took) = some_written _ old s new output took only (inl (is, refl))
 leaves (writes output) old s new (write_failed is only rose front) = some_written _ old s new front.front front.took only (inr (is, front_of _ _ _ front, refl))
-leaves (creates name output taken stated) old s new (made is only stood added) = store_used _ old s new only (refl, inl (is, added.absent))
-leaves (creates name output taken stated) old s new (name_taken is only kept stood there) = store_used _ old s new only (refl, inr (inl (is, there)))
-leaves (creates name output taken stated) old s new (create_failed is only rose may) = store_used _ old s new only (refl, inr (inr (inl is)))
-leaves (creates name output taken stated) old s new (create_starved is only kept stood) = store_used _ old s new only (refl, inr (inr (inr is)))
-leaves (looks name taken stated next) old s new (look_free store kept stood holds run) =
+leaves (creates name output taken stated) old s new (made is only stood given added) = store_used _ old s new only (refl, inl (is, added.absent))
+leaves (creates name output taken stated) old s new (name_taken is only kept stood given there) = store_used _ old s new only (refl, inr (inl (is, there)))
+leaves (creates name output taken stated) old s new (create_failed is only rose given may) = store_used _ old s new only (refl, inr (inr (inl is)))
+leaves (creates name output taken stated) old s new (create_starved is only kept stood given) = store_used _ old s new only (refl, inr (inr (inr is)))
+leaves (looks name taken stated next) old s new (look_free store kept stood given holds run) =
     let later = leaves next (record old { store = store }) s new run in
     record { moved = later.moved; gave = later.gave; drew = later.drew; took = later.took; is = inr (holds, subst (λ (f : Option Files). IsLeft next f s later.moved) (sym kept.files) later.is) }
-leaves (looks name taken stated next) old s new (look_taken is only kept stood there) = store_used _ old s new only (inl (refl, inl (is, there)))
-leaves (looks name taken stated next) old s new (look_failed is only kept rose) = store_used _ old s new only (inl (refl, inr is))
+leaves (looks name taken stated next) old s new (look_taken is only kept stood given there) = store_used _ old s new only (inl (refl, inl (is, there)))
+leaves (looks name taken stated next) old s new (look_failed is only kept rose given) = store_used _ old s new only (inl (refl, inr is))
 leaves (allocates next) old s new (inl run) = let later = leaves next old s new run in record { moved = later.moved; gave = later.gave; drew = later.drew; took = later.took; is = inr later.is }
 leaves (allocates next) old s new (inr (is, same)) = none_moved _ old s new same (inl (is, refl))
-leaves (loads name limit absent long a l next) old s new (loaded bytes store kept stood within holds run) =
+leaves (loads name limit absent long a l next) old s new (loaded bytes store kept stood given within holds run) =
     let later = leaves (next bytes) (record old { store = store }) s new run in
     record { moved = later.moved; gave = later.gave; drew = later.drew; took = later.took; is = inr (bytes, holds, within, subst (λ (f : Option Files). IsLeft (next bytes) f s later.moved) (sym kept.files) later.is) }
-leaves (loads name limit absent long a l next) old s new (load_absent is only kept stood holds) = store_used _ old s new only (inl (refl, inl (is, holds)))
-leaves (loads name limit absent long a l next) old s new (load_long is only kept stood holds) = store_used _ old s new only (inl (refl, inr (inl (is, holds))))
-leaves (loads name limit absent long a l next) old s new (load_failed is only kept rose) = store_used _ old s new only (inl (refl, inr (inr (inl is))))
-leaves (loads name limit absent long a l next) old s new (load_starved is only kept stood) = store_used _ old s new only (inl (refl, inr (inr (inr is))))
+leaves (loads name limit absent long a l next) old s new (load_absent is only kept stood given holds) = store_used _ old s new only (inl (refl, inl (is, holds)))
+leaves (loads name limit absent long a l next) old s new (load_long is only kept stood given holds) = store_used _ old s new only (inl (refl, inr (inl (is, holds))))
+leaves (loads name limit absent long a l next) old s new (load_failed is only kept rose given) = store_used _ old s new only (inl (refl, inr (inr (inl is))))
+leaves (loads name limit absent long a l next) old s new (load_starved is only kept stood given) = store_used _ old s new only (inl (refl, inr (inr (inr is))))
+leaves (ranges x absent a next) old s new (ranged opened store most kept stood given least past holds run) =
+    let later = leaves (next opened) (record old { store = store }) s new run in
+    record { moved = later.moved; gave = later.gave; drew = later.drew; took = later.took; is = inr (opened, holds, subst (λ (f : Option Files). IsLeft (next opened) f s later.moved) (sym kept.files) later.is) }
+leaves (ranges x absent a next) old s new (range_absent is only kept stood given holds) = store_used _ old s new only (inl (refl, inl (is, holds)))
+leaves (ranges x absent a next) old s new (range_failed most is only kept rose given least) = store_used _ old s new only (inl (refl, inr (inl is)))
+leaves (ranges x absent a next) old s new (range_starved most is only kept stood given least) = store_used _ old s new only (inl (refl, inr (inr is)))
 leaves (reads_all limit long stated next) old s new (read all source gave stood within end run) =
     let later = leaves (next all) (record old { source = source }) s new run in
     record { moved = record later.moved { taken = all ++ later.moved.taken }; gave = gave_more _ _ _ _ _ gave later.gave; drew = later.drew; took = later.took; is = inr (all, later.moved.taken, refl, within, later.is) }
@@ -576,6 +611,7 @@ promised p old s new run = record {
   cause = has_cause p old s new run;
   shown = shows_faults p old s new run;
   leaves = leaves p old s new run;
+  reads = reads p old s new run;
   stands = stands p old s new run;
   complete = completes p old s new run;
   ends = run;

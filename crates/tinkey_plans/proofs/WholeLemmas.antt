@@ -14,14 +14,17 @@ use Rattle.tinkey_words.specs.declared.words.rows.Format.TheVariants as formats
 use Rattle.tinkey_plans.specs.Laws.{CommandsAreWhole}
 use Rattle.tinkey_plans.specs.Plan.{writes, Plan}
 use Rattle.tinkey_plans.specs.Promises.{IsWhole}
-use Rattle.tinkey_plans.proofs.EachLemmas.{AreAll, IsClosed, dek_each, envelope_each, scheme_each, edit_each, fit_each, keyset_each, made_each, row_each, work_each, written_each, wrapped_each, unwrapped_each}
+use Rattle.tinkey_plans.proofs.EachLemmas.{AreAll, IsClosed, dek_each, envelope_each, scheme_each, stretch_each, edit_each, fit_each, keyset_each, made_each, row_each, work_each, written_each, wrapped_each, unwrapped_each}
 use Rattle.tinkey_plans.specs.Steps.{takes_keyset, makes_keyset, puts, puts_keyset}
 use Rattle.seal_wrap.specs.Unwrapped.{unwrap_of}
 use Rattle.tinkey_plans.specs.Wrapping.{is_json, makes_wrapped, takes_wrapped}
 use Rattle.tinkey_selftest.specs.Trial as trial
+use Rattle.segment_stream.specs.KeysModel.{KeysForStreams}
+use Rattle.segment_stream.specs.StreamKeys as streams
+use Rattle.tinkey_plans.specs.Streaming as streaming
 use Rattle.tinkey_selftest.specs.declared.counts.Counts.{Counts}
 use Rattle.tinkey_plans.specs.SelfTesting.{tells_counts}
-use Rattle.tinkey_words.specs.Words.{self_test, Place, primitive_for, create_keyset, edit_keyset, list_keyset, convert_keyset, list_key_templates, use_keyset, use_envelope, seal_stream, open_stream, session, wrap_keyset, unwrap_keyset}
+use Rattle.tinkey_words.specs.Words.{self_test, Place, primitive_for, create_keyset, edit_keyset, list_keyset, convert_keyset, list_key_templates, use_keyset, use_envelope, seal_stream, open_stream, open_range, session, wrap_keyset, unwrap_keyset}
 
 closed : IsClosed IsWhole
 closed = record { ended = λ s stated. tt; allocated = λ next all. all; drawn = λ kind give next all. all }
@@ -48,6 +51,15 @@ counts_whole : (r : Result Counts CmdFault) (lines : ℕ) → IsWhole (tells_cou
 counts_whole (Ok n) lines = tt
 counts_whole (Err fault) lines = tt
 
+stream_fit_whole : (found : Option (ℕ × streams.StreamUnfit)) (next : Plan) → IsWhole next → IsWhole (streaming.unless_unfit found next)
+stream_fit_whole None next whole = whole
+stream_fit_whole (Some (i, streams.not_stream)) next whole = tt
+stream_fit_whole (Some (i, streams.bad_key rule)) next whole = tt
+
+stream_keys_whole : (found : Option KeysForStreams) (next : KeysForStreams → Plan) → AreAll IsWhole next → IsWhole (streaming.with_keys found next)
+stream_keys_whole None next whole = tt
+stream_keys_whole (Some keys) next whole = whole keys
+
 pub commands_are_whole : CommandsAreWhole
 commands_are_whole table (create_keyset name out) = inl (row_each IsWhole closed (row_named name) name _ (λ row. draw_whole (first row) _ (out_whole out)))
 commands_are_whole table (edit_keyset edit in' out) = inl (edit_each IsWhole closed edit _ (λ edit. taken_whole in'.file in'.form _ (λ keys. draw_whole (step keys edit) _ (out_whole out))))
@@ -58,6 +70,7 @@ commands_are_whole table (use_keyset name form work) = inl (λ bytes. keyset_eac
 commands_are_whole table (use_envelope name form template work) = inl (dek_each IsWhole closed template _ (λ row bytes. keyset_each IsWhole closed form bytes _ (λ keys. fit_each IsWhole closed (unfit keys Aead table) _ (scheme_each IsWhole closed (scheme_at table Aead (url_made row)) _ (λ scheme input. envelope_each IsWhole closed table keys scheme row work input _ (λ output. tt))))))
 commands_are_whole table (seal_stream name form ad) = inr (inl tt)
 commands_are_whole table (open_stream name form ad) = inr (inl tt)
+commands_are_whole table (open_range name form ad range out) = inl (λ bytes. keyset_each IsWhole closed form bytes _ (λ keys. stream_fit_whole (streams.stream_unfit keys) _ (stream_keys_whole (streaming.keys_for keys) _ (λ k opened. stretch_each IsWhole closed opened _ (put_whole out)))))
 commands_are_whole table (self_test seed lines) = inl (counts_whole (trial.self_test table seed lines) lines)
 commands_are_whole table (session name form out) = inr (inr tt)
 commands_are_whole table (wrap_keyset name form in' out) = inl (λ bytes. keyset_each IsWhole closed form bytes _ (λ master. fit_each IsWhole closed (unfit master Aead table) _ (taken_whole in'.file in'.form _ (λ keys. written_each IsWhole closed formats.Binary keys (λ plain. makes_wrapped keys master table out.form (puts out.file)) (λ plain. wrapped_each IsWhole closed keys master table out.form (puts out.file) (put_whole out.file))))))

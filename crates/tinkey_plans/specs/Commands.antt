@@ -12,12 +12,13 @@ use Rattle.tinkey_plans.specs.declared.status.Status.TheVariants as status
 use Rattle.tinkey_plans.specs.Plan.{Plan, ends, writes}
 use Rattle.tinkey_plans.specs.Session.{holds_session}
 use Rattle.tinkey_plans.specs.Envelopes.{envelope_output}
+use Rattle.tinkey_plans.specs.Ranging.{range_output}
 use Rattle.tinkey_plans.specs.SelfTesting.{self_test_output}
 use Rattle.tinkey_plans.specs.Steps.{takes_keyset, loads_keyset, works_out, finds_template, finds_edit, makes_keyset, puts, puts_keyset}
 use Rattle.tinkey_plans.specs.Streaming.{loads_stream_keys, seals_stream, opens_stream}
 use Rattle.tinkey_plans.specs.Using.{use_output}
 use Rattle.tinkey_plans.specs.Wrapping.{wrap_output, unwrap_output}
-use Rattle.tinkey_words.specs.Words.{Place, AskedEdit, Asked, create_keyset, edit_keyset, list_keyset, convert_keyset, list_key_templates, use_keyset, use_envelope, seal_stream, open_stream, self_test, session, wrap_keyset, unwrap_keyset, words_of}
+use Rattle.tinkey_words.specs.Words.{Place, AskedEdit, Asked, create_keyset, edit_keyset, list_keyset, convert_keyset, list_key_templates, use_keyset, use_envelope, seal_stream, open_stream, open_range, self_test, session, wrap_keyset, unwrap_keyset, words_of}
 
 -- create-keyset: a keyset of one new key
 abbrev pub create_output : List ℕ → (Keys → Plan) → Plan
@@ -52,6 +53,7 @@ command_plan table (seal_stream name form ad) =
     loads_stream_keys name form (λ keys. seals_stream keys ad)
 command_plan table (open_stream name form ad) =
     loads_stream_keys name form (λ keys. opens_stream keys ad)
+command_plan table (open_range name form ad range out) = range_output name form ad range (puts out)
 command_plan table (self_test seed lines) = self_test_output table seed lines writes
 command_plan table (session name form out) = loads_keyset name form (holds_session table out)
 command_plan table (wrap_keyset master form in' out) =

@@ -14,9 +14,10 @@ use Rattle.tinkey_session.specs.Talking.{Exchange}
 use Rattle.tinkey_session.specs.Talks.{Sides, sides, Talks, IsSteady}
 use Rattle.tinkey_session.specs.declared.talk.TalkFault.{TalkFault}
 use Rattle.tinkey_session.specs.declared.talk.TalkFault.TheVariants as talk_faults
+use Rattle.tinkey_plans.specs.Stretch.{Opened, Stretch, GivesAtMost, HoldsStretch, IsShortPast}
 use Rattle.tinkey_plans.specs.declared.status.Status.{Status}
 use Rattle.tinkey_plans.specs.declared.status.Status.TheVariants as status
-use Rattle.tinkey_plans.specs.Plan.{Plan, ends, writes, creates, looks, allocates, loads, reads_all, draws, pumps, exchanges, Made, Of, IsMadeInParts}
+use Rattle.tinkey_plans.specs.Plan.{Plan, ends, writes, creates, looks, allocates, loads, reads_all, ranges, draws, pumps, exchanges, Made, Of, IsMadeInParts}
 
 -- the outside objects at one moment
 pub record World : Type 0 where
@@ -58,8 +59,12 @@ pub record OnlyEntropy (old new : World) : Type 0 where
   pub sink : old.sink ≡ new.sink
   pub store : old.store ≡ new.store
 
+-- at most so many bytes of files were given
+abbrev pub GaveWithin : StoreState → StoreState → (most : ℕ) → Type 0
+GaveWithin old new most = new.given ≤ old.given + most
+
 -- Where an object failed, its count of faults rose; with each other end that count stood, so that
--- no fault is passed over or told as something else.
+-- no fault is passed over or told as something else. Likewise each end has how many bytes of files were given.
 
 -- all of the output was written, or the first bytes of it where the sink failed
 pub data EndsWriting (output : List ℕ) (old : World) (s : Status) (new : World) : Type 0 where
@@ -73,27 +78,29 @@ pub data EndsWriting (output : List ℕ) (old : World) (s : Status) (new : World
 pub data EndsCreating (name output : List ℕ) (taken : Status)
     (old : World) (s : Status) (new : World) : Type 0 where
   made : s ≡ status.Done → OnlyStore old new → Stood old.store.faults new.store.faults →
-      Added old.store new.store name output → EndsCreating name output taken old s new
+      GaveWithin old.store new.store 0 → Added old.store new.store name output → EndsCreating name output taken old s new
   name_taken : s ≡ taken → OnlyStore old new → KeptFiles old.store new.store →
-      Stood old.store.faults new.store.faults → HoldsSome old.store name →
+      Stood old.store.faults new.store.faults → GaveWithin old.store new.store 0 → HoldsSome old.store name →
       EndsCreating name output taken old s new
   create_failed : s ≡ status.StoreFault → OnlyStore old new →
-      Rose old.store.faults new.store.faults → MayAdd old.store new.store name output →
+      Rose old.store.faults new.store.faults → GaveWithin old.store new.store 0 → MayAdd old.store new.store name output →
       EndsCreating name output taken old s new
   create_starved : s ≡ status.NoMemory → OnlyStore old new → KeptFiles old.store new.store →
-      Stood old.store.faults new.store.faults → EndsCreating name output taken old s new
+      Stood old.store.faults new.store.faults → GaveWithin old.store new.store 0 →
+      EndsCreating name output taken old s new
 
 -- the name was free, and then it went on; or it was taken; or the store failed
 pub data EndsLooking (name : List ℕ) (taken : Status) (Then : World → Status → World → Type 0)
     (old : World) (s : Status) (new : World) : Type 0 where
   look_free : (store : StoreState) → KeptFiles old.store store →
-      Stood old.store.faults store.faults → Holds old.store name None →
+      Stood old.store.faults store.faults → GaveWithin old.store store 0 → Holds old.store name None →
       Then (record old { store = store }) s new → EndsLooking name taken Then old s new
   look_taken : s ≡ taken → OnlyStore old new → KeptFiles old.store new.store →
-      Stood old.store.faults new.store.faults → HoldsSome old.store name →
-      EndsLooking name taken Then old s new
+      Stood old.store.faults new.store.faults → GaveWithin old.store new.store 0 →
+      HoldsSome old.store name → EndsLooking name taken Then old s new
   look_failed : s ≡ status.StoreFault → OnlyStore old new → KeptFiles old.store new.store →
-      Rose old.store.faults new.store.faults → EndsLooking name taken Then old s new
+      Rose old.store.faults new.store.faults → GaveWithin old.store new.store 0 →
+      EndsLooking name taken Then old s new
 
 -- the file was loaded, and then it went on; or it is missing, or longer than the limit; or the store
 -- failed, or memory was wanting
@@ -101,19 +108,42 @@ pub data EndsLoading (name : List ℕ) (limit : ℕ) (absent long : Status)
     (Then : List ℕ → World → Status → World → Type 0)
     (old : World) (s : Status) (new : World) : Type 0 where
   loaded : (bytes : List ℕ) (store : StoreState) → KeptFiles old.store store →
-      Stood old.store.faults store.faults → length bytes ≤ limit →
+      Stood old.store.faults store.faults → GaveWithin old.store store (length bytes) →
+      length bytes ≤ limit →
       Holds old.store name (Some bytes) → Then bytes (record old { store = store }) s new →
       EndsLoading name limit absent long Then old s new
   load_absent : s ≡ absent → OnlyStore old new → KeptFiles old.store new.store →
-      Stood old.store.faults new.store.faults → Holds old.store name None →
-      EndsLoading name limit absent long Then old s new
+      Stood old.store.faults new.store.faults → GaveWithin old.store new.store 0 →
+      Holds old.store name None → EndsLoading name limit absent long Then old s new
   load_long : s ≡ long → OnlyStore old new → KeptFiles old.store new.store →
-      Stood old.store.faults new.store.faults → HoldsLonger old.store name limit →
-      EndsLoading name limit absent long Then old s new
+      Stood old.store.faults new.store.faults → GaveWithin old.store new.store 0 →
+      HoldsLonger old.store name limit → EndsLoading name limit absent long Then old s new
   load_failed : s ≡ status.StoreFault → OnlyStore old new → KeptFiles old.store new.store →
-      Rose old.store.faults new.store.faults → EndsLoading name limit absent long Then old s new
+      Rose old.store.faults new.store.faults → GaveWithin old.store new.store 0 →
+      EndsLoading name limit absent long Then old s new
   load_starved : s ≡ status.NoMemory → OnlyStore old new → KeptFiles old.store new.store →
-      Stood old.store.faults new.store.faults → EndsLoading name limit absent long Then old s new
+      Stood old.store.faults new.store.faults → GaveWithin old.store new.store 0 →
+      EndsLoading name limit absent long Then old s new
+
+-- The stretch was opened or refused, and then it went on; or the file is missing; or the store failed, or
+-- memory was wanting. No more was read than that takes.
+pub data EndsRanging (x : Stretch) (absent : Status) (Then : Opened → World → Status → World → Type 0)
+    (old : World) (s : Status) (new : World) : Type 0 where
+  ranged : (opened : Opened) (store : StoreState) (most : ℕ) → KeptFiles old.store store →
+      Stood old.store.faults store.faults → GaveWithin old.store store most →
+      GivesAtMost old.store.files x most → IsShortPast x opened most → HoldsStretch old.store x opened →
+      Then opened (record old { store = store }) s new → EndsRanging x absent Then old s new
+  range_absent : s ≡ absent → OnlyStore old new → KeptFiles old.store new.store →
+      Stood old.store.faults new.store.faults → GaveWithin old.store new.store 0 →
+      Holds old.store x.name None → EndsRanging x absent Then old s new
+  range_failed : (most : ℕ) → s ≡ status.StoreFault → OnlyStore old new →
+      KeptFiles old.store new.store → Rose old.store.faults new.store.faults →
+      GaveWithin old.store new.store most → GivesAtMost old.store.files x most →
+      EndsRanging x absent Then old s new
+  range_starved : (most : ℕ) → s ≡ status.NoMemory → OnlyStore old new →
+      KeptFiles old.store new.store → Stood old.store.faults new.store.faults →
+      GaveWithin old.store new.store most → GivesAtMost old.store.files x most →
+      EndsRanging x absent Then old s new
 
 -- all bytes were read, and then it went on; or one byte more than the limit was taken; or the source
 -- failed, or memory was wanting, within the limit
@@ -213,6 +243,8 @@ Ends (looks name taken stated next) old s new = EndsLooking name taken (Ends nex
 Ends (allocates next) old s new = Ends next old s new ⊎ ((s ≡ status.NoMemory) × (old ≡ new))
 Ends (loads name limit absent long a l next) old s new =
     EndsLoading name limit absent long (λ bytes. Ends (next bytes)) old s new
+Ends (ranges stretch absent a next) old s new =
+    EndsRanging stretch absent (λ opened. Ends (next opened)) old s new
 Ends (reads_all limit long stated next) old s new =
     EndsReading limit long (λ all. Ends (next all)) old s new
 Ends (draws kind give next) old s new =

@@ -1,11 +1,16 @@
 -- The laws of what the program answers, over the definitions alone. Grammar of tinkey_words has
 -- those of its words.
-use Rattle.std.specs.Prelude.{◌≡◌, ◌⊎◌, List, [], ℕ, ◌+◌, None, Ok, IsSome}
+use Rattle.std.specs.Prelude.{◌≡◌, ◌⊎◌, List, [], ℕ, ◌+◌, ◌*◌, ◌≤◌, Option, None, Some, Ok, IsSome}
 use Rattle.key_msgs.specs.declared.primitive.Primitive.{Primitive}
 use Rattle.key_msgs.specs.declared.primitive.Primitive.TheVariants.{Daead, Mac, Prf}
+use Rattle.keyset_json.specs.Reading.{reads_json}
 use Rattle.keyset_model.specs.Keyset.{Keys, fault_of}
+use Rattle.keyset_model.specs.Reading.{reads_binary}
 use Rattle.managers.specs.Standard.{standard_table}
 use Rattle.managers.specs.Table.{Table}
+use Rattle.segment_stream.specs.KeysModel.{KeysForStreams}
+use Rattle.segment_stream.specs.StreamKeys.{largest_of}
+use Rattle.tink_spec.specs.Files.{Holds, StoreState}
 use Rattle.tink_spec.specs.Outside.{Took, TookPrefix}
 use Rattle.tinkey_cmds.specs.declared.command.CmdFault.TheVariants.{IdsExhausted}
 use Rattle.tinkey_selftest.specs.Telling.{counts_text}
@@ -15,11 +20,16 @@ use Rattle.wrapped_prims.specs.Fitness.{unfit}
 use Rattle.tinkey_plans.specs.declared.status.Status.{Status}
 use Rattle.tinkey_plans.specs.declared.status.Status.TheVariants as status
 use Rattle.tinkey_plans.specs.Commands.{command_plan, plan_of}
-use Rattle.tinkey_plans.specs.Ends.{World, Ends}
+use Rattle.tinkey_plans.specs.Ends.{World, Ends, GaveWithin}
 use Rattle.tinkey_plans.specs.Plan.{Answer, Told, answer}
 use Rattle.tinkey_plans.specs.Promises.{IsWhole}
+use Rattle.tinkey_plans.specs.Ranging.{stretch_for}
+use Rattle.tinkey_plans.specs.Steps.{keyset_limit}
+use Rattle.tinkey_plans.specs.Streaming.{keys_for}
+use Rattle.tinkey_plans.specs.Stretch.{GivesAtMost}
 use Rattle.tinkey_words.specs.declared.words.rows.Format.{Format}
-use Rattle.tinkey_words.specs.Words.{Asked, AskedEnvelope, seal_stream, open_stream, self_test, session, use_envelope, words_of}
+use Rattle.tinkey_words.specs.declared.words.rows.Format.TheVariants as formats
+use Rattle.tinkey_words.specs.Words.{Asked, AskedEnvelope, AskedRange, seal_stream, open_stream, open_range, self_test, session, use_envelope, words_of}
 
 -- a keyset without a fault, each record of which can serve for the primitive
 pub record IsFit (table : Table) (primitive : Primitive) (keys : Keys) : Type 0 where
@@ -67,6 +77,41 @@ DataKeysCome = (words : List (List ℕ)) (name : List ℕ) (form : Format) (temp
     (work : AskedEnvelope) (old : World) (s : Status) (new : World)
     → words_of words ≡ Ok (use_envelope name form template work)
     → Ends (plan_of standard_table words) old s new → IsDekStatus s → ⊥
+
+-- ---- ranges
+
+-- the bytes are this keyset, in this form
+abbrev pub IsKeysetIn : Format → List ℕ → Keys → Type 0
+IsKeysetIn formats.Json bytes keys = reads_json bytes ≡ Ok keys
+IsKeysetIn formats.Binary bytes keys = reads_binary bytes ≡ Ok keys
+
+-- the keys for streams of the keyset in the file of this name
+pub record KeysLieIn (store : StoreState) (name : List ℕ) (form : Format) (keys : KeysForStreams)
+    : Type 0 where
+  pub bytes : List ℕ
+  pub holds : Holds store name (Some bytes)
+  pub keyset : Keys
+  pub read : IsKeysetIn form bytes keyset
+  pub are : keys_for keyset ≡ Some keys
+
+-- The store has given at most the greatest keyset and what the range takes: two segments of the largest
+-- size, and as many as cover it under the key chosen; where it ends behind the plaintext, two alone.
+pub record RangeGave (name : List ℕ) (form : Format) (ad : List ℕ) (range : AskedRange)
+    (old : StoreState) (s : Status) (new : StoreState) : Type 0 where
+  pub keys : KeysForStreams
+  pub lie : KeysLieIn old name form keys
+  pub most : ℕ
+  pub least : GivesAtMost old.files (stretch_for keys ad range) most
+  pub past : s ≡ status.PastEnd → most ≤ 2 * largest_of keys.keys
+  pub within : GaveWithin old new (keyset_limit + most)
+
+-- A run of srange reads no more than that, whatever fails; without keys for streams, the keyset alone.
+abbrev pub RangesReadLittle : Type 0
+RangesReadLittle = (table : Table) (words : List (List ℕ)) (name : List ℕ) (form : Format) (ad : List ℕ)
+    (range : AskedRange) (out : Option (List ℕ)) (old : World) (s : Status) (new : World)
+    → words_of words ≡ Ok (open_range name form ad range out) → Ends (plan_of table words) old s new
+    → GaveWithin old.store new.store keyset_limit
+    ⊎ RangeGave name form ad range old.store s new.store
 
 -- ---- the self-test
 

@@ -5,9 +5,11 @@ pub mod Laws
 pub mod Plan
 pub mod Promises
 pub mod SelfTesting
+pub mod Ranging
 pub mod Session
 pub mod Status
 pub mod Steps
+pub mod Stretch
 pub mod Streaming
 pub mod Using
 pub mod Wrapping

@@ -10,6 +10,7 @@ use Rattle.segment_stream.specs.Pumping.{Part}
 use Rattle.tinkey_cmds.specs.Draws.{Draw, Drawn}
 use Rattle.tinkey_cmds.specs.declared.command.CmdFault.{CmdFault}
 use Rattle.tinkey_session.specs.Talking.{Exchange, Talk, Stop, goes, wants, passes, Limit, long_line, many_lines}
+use Rattle.tinkey_plans.specs.Stretch.{Opened, Stretch, stretch_in}
 use Rattle.tinkey_plans.specs.declared.status.Status.{Status}
 use Rattle.tinkey_plans.specs.declared.status.Status.TheVariants as status
 
@@ -58,6 +59,9 @@ pub data Plan : Type 0 where
       (next : List ℕ → Plan) → Plan
   -- the whole source is read; one of more bytes than the limit is answered so
   reads_all : (limit : ℕ) (long : Status) → IsStated long → (next : List ℕ → Plan) → Plan
+  -- a stretch of the stream in a file is opened; it or its refusal goes on, and a file that is missing is
+  -- answered so
+  ranges : (stretch : Stretch) (absent : Status) → IsStated absent → (next : Opened → Plan) → Plan
   -- something is made of random bytes, as many as that takes; it or its refusal goes on
   draws : (kind : Made) → (give : Draw (Of kind)) → (next : Result (Of kind) CmdFault → Plan) → Plan
   -- the source is read and the sink written in turn: what is settled is given out, and what is decided
@@ -135,6 +139,11 @@ load_answer None limit absent long next = absent
 load_answer (Some bytes) limit absent long next =
     if nat_le (length bytes) limit then next bytes else long
 
+-- the answer after a stretch was opened
+abbrev pub range_answer : Option (List ℕ) → Stretch → Answer → (Opened → Answer) → Answer
+range_answer None stretch absent next = absent
+range_answer (Some bytes) stretch absent next = next (stretch_in stretch bytes)
+
 -- the answer of a new file of this name, where that is free
 abbrev pub create_answer : Option (List ℕ) → Told → (name output : List ℕ) → Answer → Answer
 create_answer (Some there) told name output taken = taken
@@ -167,6 +176,9 @@ answer (loads name limit absent long a l next) told =
 answer (reads_all limit long stated next) told =
     if nat_le (length told.input) limit then answer (next told.input) (record told { input = [] })
     else record (refused told long) { input = Some (drop (limit + 1) told.input) }
+answer (ranges stretch absent a next) told =
+    range_answer (map.get told.files stretch.name) stretch (refused told absent)
+    (λ opened. answer (next opened) told)
 answer (draws kind give next) told =
     draw_answer (give told.random) (refused told status.EntropyFault)
     (λ drawn. answer (next drawn.answer) (record told { random = drawn.left }))

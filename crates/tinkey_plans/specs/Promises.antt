@@ -4,13 +4,15 @@ use Rattle.std.specs.FinMap as map
 use Rattle.tink_spec.specs.Files.{Files, StoreState, KeptFiles, Holds, HoldsSome, HoldsLonger, AddedFront}
 use Rattle.tink_spec.specs.Outside.{Rose, Stood, Gave, Took, TookPrefix, Drew}
 use Rattle.segment_stream.specs.Opening.{StreamRefusal}
+use Rattle.keyset_model.specs.Keyset.{Keys}
 use Rattle.segment_stream.specs.Pumping.{Part}
 use Rattle.tinkey_cmds.specs.declared.command.CmdFault.{CmdFault}
 use Rattle.tinkey_session.specs.Talking.{Exchange, Limit, Stop, goes, wants, passes}
 use Rattle.tinkey_plans.specs.declared.status.Status.{Status}
 use Rattle.tinkey_plans.specs.declared.status.Status.TheVariants as status
-use Rattle.tinkey_plans.specs.Plan.{Plan, ends, writes, creates, looks, allocates, loads, reads_all, draws, pumps, exchanges, Of, IsMadeInParts, Told, Answer, answer, stream_status, limit_status, IsStated}
-use Rattle.tinkey_plans.specs.Ends.{World, Ends, Settles}
+use Rattle.tinkey_plans.specs.Plan.{Plan, ends, writes, creates, looks, allocates, loads, reads_all, ranges, draws, pumps, exchanges, Of, IsMadeInParts, Told, Answer, answer, stream_status, limit_status, IsStated}
+use Rattle.tinkey_plans.specs.Ends.{World, Ends, GaveWithin, Settles}
+use Rattle.tinkey_plans.specs.Stretch.{Opened, Stretch, GivesAtMost, HoldsStretch, IsShortPast}
 
 -- the objects tell these bytes
 pub record Tells (w : World) (told : Told) : Type 0 where
@@ -141,6 +143,11 @@ IsLeft (loads name limit absent long a l next) files s moved =
     ⊎ (s ≡ status.StoreFault) ⊎ (s ≡ status.NoMemory)))
     ⊎ ((bytes : List ℕ) × Holds (over_files files) name (Some bytes) × (length bytes ≤ limit)
     × IsLeft (next bytes) files s moved)
+IsLeft (ranges x absent a next) files s moved =
+    ((moved ≡ nothing) × (((s ≡ absent) × Holds (over_files files) x.name None)
+    ⊎ (s ≡ status.StoreFault) ⊎ (s ≡ status.NoMemory)))
+    ⊎ ((opened : Opened) × HoldsStretch (over_files files) x opened
+    × IsLeft (next opened) files s moved)
 IsLeft (reads_all limit long stated next) files s moved =
     ((moved ≡ record nothing { taken = moved.taken })
     × (((s ≡ long) × (length moved.taken ≡ limit + 1))
@@ -169,6 +176,7 @@ IsWhole (creates name output taken stated) = Unit {0}
 IsWhole (looks name taken stated next) = IsWhole next
 IsWhole (allocates next) = IsWhole next
 IsWhole (loads name limit absent long a l next) = (bytes : List ℕ) → IsWhole (next bytes)
+IsWhole (ranges x absent a next) = (opened : Opened) → IsWhole (next opened)
 IsWhole (reads_all limit long stated next) = (all : List ℕ) → IsWhole (next all)
 IsWhole (draws kind give next) = (given : Result (Of kind) CmdFault) → IsWhole (next given)
 IsWhole (pumps part) = ⊥
@@ -183,6 +191,38 @@ pub record Leaves (p : Plan) (old : World) (s : Status) (new : World) : Type 0 w
   pub drew : Drew old.entropy new.entropy moved.drawn
   pub took : Took old.sink new.sink moved.written
   pub is : IsLeft p old.store.files s moved
+
+-- A run of the plan over these files may be given so many bytes of them: each file that was loaded, of a
+-- stretch what it takes, and nothing else.
+abbrev pub MayGive : Plan → Option Files → (given : ℕ) → Type 0
+MayGive (ends stated_status stated) files given = given ≡ 0
+MayGive (writes output) files given = given ≡ 0
+MayGive (creates name output taken stated) files given = given ≡ 0
+MayGive (looks name taken stated next) files given = (given ≡ 0) ⊎ MayGive next files given
+MayGive (allocates next) files given = (given ≡ 0) ⊎ MayGive next files given
+MayGive (loads name limit absent long a l next) files given =
+    (given ≡ 0)
+    ⊎ ((bytes : List ℕ) × (more : ℕ) × Holds (over_files files) name (Some bytes)
+    × (length bytes ≤ limit) × (given ≡ length bytes + more) × MayGive (next bytes) files more)
+MayGive (ranges x absent a next) files given =
+    (given ≡ 0) ⊎ GivesAtMost files x given
+    ⊎ ((opened : Opened) × (most : ℕ) × (more : ℕ) × HoldsStretch (over_files files) x opened
+    × GivesAtMost files x most × IsShortPast x opened most
+    × (given ≡ most + more) × MayGive (next opened) files more)
+MayGive (reads_all limit long stated next) files given =
+    (given ≡ 0) ⊎ ((all : List ℕ) × MayGive (next all) files given)
+MayGive (draws kind give next) files given =
+    (given ≡ 0) ⊎ ((drawn : Result (Of kind) CmdFault) × MayGive (next drawn) files given)
+MayGive (pumps part) files given = given ≡ 0
+MayGive (exchanges exchange next) files given =
+    (given ≡ 0) ⊎ ((keys : Keys) × MayGive (next keys) files given)
+
+-- What was read of files, whatever the status: no more than the plan takes. So no run loads a whole
+-- stream.
+pub record Reads (p : Plan) (old new : World) : Type 0 where
+  pub given : ℕ
+  pub may : MayGive p old.store.files given
+  pub within : GaveWithin old.store new.store given
 
 -- One file is new, with the first bytes of the one that the answer makes, or all of them; and the
 -- answer's status is Done.
@@ -219,13 +259,14 @@ pub record Completes (old : World) (s : Status) (new : World) : Type 0 where
   pub stated : NoneFailed old new → s ≢ status.NoMemory → IsStated s
 
 -- All that is promised of a run of the plan: the stated answer, the causes of faults, that none is
--- hidden, what was taken and written, what stands, and completeness. Each follows from `ends`, which
--- has each way in which a run may end.
+-- hidden, what was taken and written, how much was read of files, what stands, and completeness. Each
+-- follows from `ends`, which has each way in which a run may end.
 pub record Promised (p : Plan) (old : World) (s : Status) (new : World) : Type 0 where
   pub answer : Answers p old s new
   pub cause : HasCause old s new
   pub shown : ShowsFaults old s new
   pub leaves : Leaves p old s new
+  pub reads : Reads p old new
   pub stands : Stands p old s new
   pub complete : Completes old s new
   pub ends : Ends p old s new

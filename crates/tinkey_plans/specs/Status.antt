@@ -22,6 +22,7 @@ code_of status.UnknownTemplate = 2
 code_of status.AsymmetricTemplate = 2
 code_of status.DekTemplate = 2
 code_of (status.OutputTooLong asked greatest) = 2
+code_of status.PastEnd = 2
 code_of (status.BadProto at) = 3
 code_of status.NotJson = 3
 code_of (status.Shape path) = 3
@@ -96,6 +97,7 @@ text_of (status.DekRefused rule) =
     codes "data " ++ refusal_text (refused.EditRefused (edits.KeyRefused rule))
 text_of (status.OutputTooLong asked greatest) =
     refusal_text (refused.OutputTooLong asked greatest)
+text_of status.PastEnd = codes "range past the end"
 text_of (status.Command fault) = refusal_text (refused.EditRefused fault)
 text_of status.OutExists = codes "output file exists"
 text_of status.EntropyFault = codes "entropy fault"

@@ -89,6 +89,7 @@ fn push_text(line: &mut ShortText, status: Status)
         Status::OutputTooLong(asked, greatest) => {
             push_refusal(line, Refusal::OutputTooLong(asked, greatest));
         }
+        Status::PastEnd => line.push("range past the end"),
         Status::Command(fault) => push_refusal(line, Refusal::EditRefused(fault)),
         Status::OutExists => line.push("output file exists"),
         Status::EntropyFault => line.push("entropy fault"),

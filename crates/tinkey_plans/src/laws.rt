@@ -1,7 +1,7 @@
 //! Laws of what the program answers. These functions do nothing: their contracts are the laws.
 
 ghost use Rattle.tinkey_plans.specs.Going.{DoneExactly, FitKeysetsSeal};
-ghost use Rattle.tinkey_plans.specs.Laws.{CommandsAreWhole, DataKeysCome, FitKeysetsAnswer, SelfTestRuns, SelfTestsTell};
+ghost use Rattle.tinkey_plans.specs.Laws.{CommandsAreWhole, DataKeysCome, FitKeysetsAnswer, RangesReadLittle, SelfTestRuns, SelfTestsTell};
 
 use seal_wrap::laws::standard_data_keys;
 use tinkey_selftest::laws::{counts_add_up, nothing_is_lost};
@@ -42,3 +42,10 @@ pub fn data_keys_come()
 {
     standard_data_keys();
 }
+
+/// A run of `srange` is given at most the bytes of a keyset within its limit and of a range: two segments of
+/// the largest size under the keyset's keys, and as many as cover the range under the key chosen; two alone
+/// where the range ends behind the plaintext. Without keys for streams it is given the keyset alone.
+pub fn ranges_read_little()
+    ensures { RangesReadLittle }
+{}

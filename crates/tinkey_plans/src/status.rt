@@ -36,7 +36,7 @@ pub enum Status {
     Keyset(KeysetFault),
     /// The keyset has more than 1,048,576 bytes, or a wrapped one more than 4,194,304.
     KeysetTooLong,
-    /// The keyset's file is missing.
+    /// The file of the keyset, or of the stream, is missing.
     InMissing,
     /// The record of this place has a type URL that no manager of the command has.
     NoManager(usize),
@@ -64,6 +64,8 @@ pub enum Status {
     DekRefused(Rule),
     /// So many bytes were asked for, and the primary key gives at most so many.
     OutputTooLong(usize, usize),
+    /// The range ends behind the plaintext.
+    PastEnd,
     /// The edit is refused so.
     Command(CmdFault),
     /// A file of the output's name is there.
@@ -94,7 +96,8 @@ impl Status {
             | Status::UnknownTemplate
             | Status::AsymmetricTemplate
             | Status::DekTemplate
-            | Status::OutputTooLong(_, _) => 2,
+            | Status::OutputTooLong(_, _)
+            | Status::PastEnd => 2,
             Status::BadProto(_)
             | Status::NotJson
             | Status::Shape(_)
