@@ -1,16 +1,20 @@
 -- The options of a run fit their command, and options that fit are a run; so words are accepted exactly
--- where they spell a command and options that fit it.
-use Rattle.std.proofs.Common.{◌≡◌, ◌∙◌, sym, refl, ap, subst, inl, inr, ℕ, ◌+◌, Bool, true, false, List, [], ◌∷◌, ◌++◌, length, Option, Some, None, Ok, Err, Result}
+-- where they spell a command and options that fit it, or ask for help or for the version.
+use Rattle.std.proofs.Common.{◌≡◌, ◌⊎◌, ◌∙◌, sym, refl, ap, subst, inl, inr, ℕ, ◌+◌, Bool, true, false, List, [], ◌∷◌, ◌++◌, length, Option, Some, None, Ok, Err, Result}
 use Rattle.std.specs.Prelude.{◌&&◌, ◌||◌, is_some, if◌then◌else◌}
 use Rattle.std.specs.List.{AllByRecursion, flat_map, list_all}
 use Rattle.std.proofs.Math.Path.{fun_ext}
 use Rattle.tink_spec.specs.Messages.{◌>>=◌}
+use Rattle.tinkey_words.specs.declared.words.help.First.{First}
+use Rattle.tinkey_words.specs.declared.words.help.First.TheVariants as firsts
+use Rattle.tinkey_words.specs.declared.words.help.Topic.TheVariants as topics
 use Rattle.tinkey_words.specs.declared.words.rows.CommandName.{CommandName}
 use Rattle.tinkey_words.specs.declared.words.rows.OptionName.{OptionName}
-use Rattle.tinkey_words.specs.Rows.{row_of, command_of, form_for, rival, same, is_one_of}
-use Rattle.tinkey_words.specs.Words.{Asked, Values, asked_with, Options, is_given, is_excluded, is_barred, put, options_of, no_options, given_in, has_required, complete, asked_of, words_of}
-use Rattle.tinkey_words.specs.Grammar.{IsValue, Spelling, spelled, IsGiven, IsOnce, AreApart, IsOneOf, Fits, values_of, Spells, WordsAreSpelled}
-use Rattle.tinkey_words.proofs.RowLemmas.{same_self, same_is, are_rivals, command_found, command_named}
+use Rattle.tinkey_words.specs.Rows.{row_of, form_for, rival, same, is_one_of}
+use Rattle.tinkey_words.specs.Words.{Asked, Values, asked_with, Options, is_given, is_excluded, is_barred, put, options_of, no_options, given_in, has_required, complete, with_options, is_help_flag, help, version, first_of, by_itself, command_words, asked_of, words_of}
+use Rattle.tinkey_words.specs.Grammar.{IsValue, Spelling, spelled, IsGiven, IsOnce, AreApart, IsOneOf, Fits, values_of, Spells, Helps, the_list, its_help, the_version, WordsAreSpelled}
+use Rattle.tinkey_words.proofs.HelpLemmas.{first_found, first_is, flag_is, options_behind, alone_accepted, help_asked, helps_accepted}
+use Rattle.tinkey_words.proofs.RowLemmas.{same_self, same_is, are_rivals}
 use Rattle.tinkey_words.proofs.SpellingLemmas.{Runs, all_put, run_taken, run_read}
 
 -- One option more.
@@ -160,7 +164,8 @@ spelled_accepted words asked spells =
     let taken = run_taken command 1 no_options spells.given refl runs in
     let done = completed command (1 + length (flat_map spelled spells.given)) spells.given asked spells.fits runs spells.asks in
     ap words_of spells.are
-    ∙ ap (λ (found : Option CommandName). asked_of found (flat_map spelled spells.given)) (command_found command)
+    ∙ ap (λ (first : Option First). asked_of first (flat_map spelled spells.given)) (first_found command)
+    ∙ options_behind command spells.given
     ∙ ap (λ (r : Result Options ℕ). r >>= complete command (1 + length (flat_map spelled spells.given))) taken
     ∙ done
 
@@ -244,23 +249,48 @@ accepted_options command words asked (Ok last) taken is =
     let fits = fits_of command (1 + length words) found.0 asked found.2 (ap (complete command (1 + length words)) (sym found.3) ∙ is) in
     (found.0, found.1, fits.0, fits.1)
 
-accepted_named : (found : Option CommandName) (name : List ℕ) (words : List (List ℕ)) (asked : Asked) → command_of name ≡ found → asked_of found words ≡ Ok asked → Spells (name ∷ words) asked
+accepted_named : (command : CommandName) (name : List ℕ) (words : List (List ℕ)) (asked : Asked) → name ≡ (row_of command).word → with_options command words ≡ Ok asked → Spells (name ∷ words) asked
 unfolding given_in
-accepted_named None name words asked named is = let clash : Err 0 ≡ Ok asked = is in absurd (cc)
-accepted_named (Some command) name words asked named is =
+accepted_named command name words asked named is =
     let run = accepted_options command words asked _ refl is in
     record {
       command = command;
       given = run.0;
-      are = ap (λ (w : List ℕ). w ∷ words) (command_named name command named) ∙ ap (λ (ws : List (List ℕ)). (row_of command).word ∷ ws) run.1;
+      are = ap (λ (w : List ℕ). w ∷ words) named ∙ ap (λ (ws : List (List ℕ)). (row_of command).word ∷ ws) run.1;
       fits = run.2;
       asks = run.3;
     }
 
-accepted_spelled : (words : List (List ℕ)) (asked : Asked) → words_of words ≡ Ok asked → Spells words asked
+-- behind a command's word
+accepted_behind : (command : CommandName) (name : List ℕ) (words : List (List ℕ)) (asked : Asked) → name ≡ (row_of command).word → command_words command words ≡ Ok asked → Spells (name ∷ words) asked ⊎ Helps (name ∷ words) asked
+accepted_behind command name [] asked named is = inl (accepted_named command name [] asked named is)
+accepted_behind command name (word ∷ words) asked named is = by (is_help_flag word) refl is
+  where
+    by : (b : Bool) → is_help_flag word ≡ b → (if b then by_itself 2 (help (topics.Command command)) words else with_options command (word ∷ words)) ≡ Ok asked → Spells (name ∷ word ∷ words) asked ⊎ Helps (name ∷ word ∷ words) asked
+    by true flag is =
+        let done = alone_accepted 2 (help (topics.Command command)) asked words is in
+        inr (its_help command word (flag_is word flag) (ap (λ (w : List ℕ). w ∷ word ∷ words) named ∙ ap (λ (ws : List (List ℕ)). (row_of command).word ∷ word ∷ ws) done.0) done.1)
+    by false flag is = inl (accepted_named command name (word ∷ words) asked named is)
+
+accepted_first : (first : Option First) (name : List ℕ) (words : List (List ℕ)) (asked : Asked) → first_of name ≡ first → asked_of first words ≡ Ok asked → Spells (name ∷ words) asked ⊎ Helps (name ∷ words) asked
+accepted_first None name words asked named is = let clash : Err 0 ≡ Ok asked = is in absurd (cc)
+accepted_first (Some firsts.Help) name words asked named is = inr (help_asked name words asked (first_is name firsts.Help named) is)
+accepted_first (Some firsts.HelpFlag) name words asked named is =
+    let done = alone_accepted 1 (help topics.Commands) asked words is in
+    inr (the_list name (inr (first_is name firsts.HelpFlag named)) (ap (λ (ws : List (List ℕ)). name ∷ ws) done.0) done.1)
+accepted_first (Some firsts.Version) name words asked named is =
+    let done = alone_accepted 1 version asked words is in
+    inr (the_version name (first_is name firsts.Version named) (ap (λ (ws : List (List ℕ)). name ∷ ws) done.0) done.1)
+accepted_first (Some (firsts.Command command)) name words asked named is = accepted_behind command name words asked (first_is name (firsts.Command command) named) is
+
+accepted_spelled : (words : List (List ℕ)) (asked : Asked) → words_of words ≡ Ok asked → Spells words asked ⊎ Helps words asked
 unfolding words_of
 accepted_spelled [] asked is = let clash : Err 0 ≡ Ok asked = is in absurd (cc)
-accepted_spelled (name ∷ words) asked is = accepted_named (command_of name) name words asked refl is
+accepted_spelled (name ∷ words) asked is = accepted_first (first_of name) name words asked refl is
+
+both_accepted : (words : List (List ℕ)) (asked : Asked) → Spells words asked ⊎ Helps words asked → words_of words ≡ Ok asked
+both_accepted words asked (inl spells) = spelled_accepted words asked spells
+both_accepted words asked (inr helps) = helps_accepted words asked helps
 
 pub words_are_spelled : WordsAreSpelled
-words_are_spelled words asked = (accepted_spelled words asked, spelled_accepted words asked)
+words_are_spelled words asked = (accepted_spelled words asked, both_accepted words asked)

@@ -2,10 +2,14 @@
 use Rattle.std.proofs.Common.{◌≡◌, refl, ℕ, ◌+◌, ◌<◌, ◌≤◌, Bool, true, false, List, [], ◌∷◌, ◌++◌, length, arith, length-append, Option, Some, None, Ok, Err, Result}
 use Rattle.std.specs.Prelude.{if◌then◌else◌}
 use Rattle.tink_spec.specs.Messages.{◌>>=◌}
+use Rattle.tinkey_words.specs.declared.words.help.First.{First}
+use Rattle.tinkey_words.specs.declared.words.help.First.TheVariants as firsts
+use Rattle.tinkey_words.specs.declared.words.help.Topic.{Topic}
+use Rattle.tinkey_words.specs.declared.words.help.Topic.TheVariants as topics
 use Rattle.tinkey_words.specs.declared.words.rows.CommandName.{CommandName}
 use Rattle.tinkey_words.specs.declared.words.rows.OptionName.{OptionName}
-use Rattle.tinkey_words.specs.Rows.{command_of, option_of, form_for, takes, is_value}
-use Rattle.tinkey_words.specs.Words.{Asked, Options, is_barred, new_option, put, with_value, own_value, option_word, word_after, next_word, ended, options_of, no_options, given_in, has_required, asked_with, complete, asked_of, words_of}
+use Rattle.tinkey_words.specs.Rows.{option_of, form_for, takes, is_value}
+use Rattle.tinkey_words.specs.Words.{Asked, Options, is_barred, new_option, put, with_value, own_value, option_word, word_after, next_word, ended, options_of, no_options, given_in, has_required, asked_with, complete, with_options, is_help_flag, help, version, topic_of, first_of, by_itself, topic_words, help_words, command_words, asked_of, words_of}
 use Rattle.tinkey_words.specs.Grammar.{PlacesAreDecided}
 
 -- what is at fault is at fault at this place
@@ -79,15 +83,72 @@ options_fault : (command : CommandName) (r : Result Options ℕ) (count place : 
 options_fault command (Ok given) count place within is = absurd (omega (arith, complete_place command count given place is))
 options_fault command (Err at) count place within is = let same : at ≡ place = cc in rw same refl
 
-named_decided : (command : Option CommandName) (front rest others : List (List ℕ)) (place : ℕ) → length front ≡ place → asked_of command (front ++ rest) ≡ Err place → asked_of command (front ++ others) ≡ Err place
+-- Behind a command's word.
+
+options_same : (command : CommandName) (front rest others : List (List ℕ)) (place : ℕ) → length front ≡ place → with_options command (front ++ rest) ≡ Err place → with_options command (front ++ others) ≡ Err place
 unfolding given_in
-named_decided None front rest others place size is = is
-named_decided (Some command) front rest others place size is =
+options_same command front rest others place size is =
     let fault = options_fault command (options_of command 1 no_options (front ++ rest)) (1 + length (front ++ rest)) place (omega (arith, length-append front rest)) is in
     let same = options_decided command 1 no_options front rest others place (omega arith) fault in
     rw same refl
 
+-- such a fault isn't at the first word
+options_late : (command : CommandName) (words : List (List ℕ)) (place : ℕ) → with_options command words ≡ Err place → 1 ≤ place
+unfolding given_in
+options_late command words place is = by (options_of command 1 no_options words) refl is
+  where
+    by : (r : Result Options ℕ) → options_of command 1 no_options words ≡ r → (r >>= complete command (1 + length words)) ≡ Err place → 1 ≤ place
+    by (Ok given) taken is = let at = complete_place command (1 + length words) given place is in omega (arith, at)
+    by (Err at) taken is = let same : at ≡ place = cc in let late = options_place command 1 no_options words at taken in omega (arith, late, same)
+
+alone_late : (at : ℕ) (asked : Asked) (words : List (List ℕ)) (place : ℕ) → by_itself at asked words ≡ Err place → place ≡ at
+alone_late at asked [] place is = let clash : Ok asked ≡ Err place = is in absurd (cc)
+alone_late at asked (word ∷ words) place is = let same : Err at ≡ Err place = is in cc
+
+alone_decided : (at : ℕ) (asked : Asked) (front rest others : List (List ℕ)) (place : ℕ) → length front + at ≡ place + 1 → by_itself at asked (front ++ rest) ≡ Err place → by_itself at asked (front ++ others) ≡ Err place
+alone_decided at asked [] rest others place size is = absurd (omega (arith, alone_late at asked rest place is))
+alone_decided at asked (word ∷ front) rest others place size is = is
+
+topic_late : (found : Option Topic) (words : List (List ℕ)) (place : ℕ) → topic_words found words ≡ Err place → 1 ≤ place
+topic_late None words place is = let same : 1 ≡ place = cc in omega (arith, same)
+topic_late (Some topic) words place is = let at = alone_late 2 (help topic) words place is in omega (arith, at)
+
+topic_decided : (found : Option Topic) (front rest others : List (List ℕ)) (place : ℕ) → length front + 1 ≡ place → topic_words found (front ++ rest) ≡ Err place → topic_words found (front ++ others) ≡ Err place
+topic_decided None front rest others place size is = is
+topic_decided (Some topic) front rest others place size is = alone_decided 2 (help topic) front rest others place (omega arith) is
+
+help_late : (words : List (List ℕ)) (place : ℕ) → help_words words ≡ Err place → 1 ≤ place
+help_late [] place is = let clash : Ok (help topics.Commands) ≡ Err place = is in absurd (cc)
+help_late (name ∷ words) place is = topic_late (topic_of name) words place is
+
+help_decided : (front rest others : List (List ℕ)) (place : ℕ) → length front ≡ place → help_words (front ++ rest) ≡ Err place → help_words (front ++ others) ≡ Err place
+help_decided [] rest others place size is = absurd (omega (arith, help_late rest place is))
+help_decided (name ∷ front) rest others place size is = topic_decided (topic_of name) front rest others place (omega arith) is
+
+command_late : (command : CommandName) (words : List (List ℕ)) (place : ℕ) → command_words command words ≡ Err place → 1 ≤ place
+command_late command [] place is = options_late command [] place is
+command_late command (word ∷ words) place is = by (is_help_flag word) is
+  where
+    by : (b : Bool) → (if b then by_itself 2 (help (topics.Command command)) words else with_options command (word ∷ words)) ≡ Err place → 1 ≤ place
+    by true is = let at = alone_late 2 (help (topics.Command command)) words place is in omega (arith, at)
+    by false is = options_late command (word ∷ words) place is
+
+command_decided : (command : CommandName) (front rest others : List (List ℕ)) (place : ℕ) → length front ≡ place → command_words command (front ++ rest) ≡ Err place → command_words command (front ++ others) ≡ Err place
+command_decided command [] rest others place size is = absurd (omega (arith, command_late command rest place is))
+command_decided command (word ∷ front) rest others place size is = by (is_help_flag word) is
+  where
+    by : (b : Bool) → (if b then by_itself 2 (help (topics.Command command)) (front ++ rest) else with_options command (word ∷ (front ++ rest))) ≡ Err place → (if b then by_itself 2 (help (topics.Command command)) (front ++ others) else with_options command (word ∷ (front ++ others))) ≡ Err place
+    by true is = alone_decided 2 (help (topics.Command command)) front rest others place (omega arith) is
+    by false is = options_same command (word ∷ front) rest others place size is
+
+first_decided : (first : Option First) (front rest others : List (List ℕ)) (place : ℕ) → length front ≡ place → asked_of first (front ++ rest) ≡ Err place → asked_of first (front ++ others) ≡ Err place
+first_decided None front rest others place size is = is
+first_decided (Some firsts.Help) front rest others place size is = help_decided front rest others place size is
+first_decided (Some firsts.HelpFlag) front rest others place size is = alone_decided 1 (help topics.Commands) front rest others place (omega arith) is
+first_decided (Some firsts.Version) front rest others place size is = alone_decided 1 version front rest others place (omega arith) is
+first_decided (Some (firsts.Command command)) front rest others place size is = command_decided command front rest others place size is
+
 pub places_are_decided : PlacesAreDecided
 unfolding words_of
 places_are_decided [] rest others place size is = absurd (omega arith)
-places_are_decided (name ∷ front) rest others place size is = named_decided (command_of name) front rest others place (omega arith) is
+places_are_decided (name ∷ front) rest others place size is = first_decided (first_of name) front rest others place (omega arith) is

@@ -1,5 +1,6 @@
 pub mod FitLemmas
 pub mod GrammarLemmas
+pub mod HelpLemmas
 pub mod OffsetLemmas
 pub mod RowLemmas
 pub mod SpellingLemmas

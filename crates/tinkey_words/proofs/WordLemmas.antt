@@ -1,5 +1,5 @@
 -- Words, one after another.
-use Rattle.std.proofs.Common.{◌≡◌, ◌≢◌, ℕ, suc, ◌+◌, ◌<◌, List, ◌∷◌, length, get_or, set, drop, map, refl, sym, ◌∙◌, ap, subst, arith, add-one, drop-cons}
+use Rattle.std.proofs.Common.{◌≡◌, ◌≢◌, ℕ, suc, ◌+◌, ◌<◌, List, ◌∷◌, length, get_or, set, drop, map, refl, sym, ◌∙◌, ap, arith, add-one, drop-cons}
 use Rattle.std.specs.Prelude.{Bool, Option, Some, None, MatchOption, option_map, Result, Ok, Err, nat_lt, true, false, if◌then◌else◌}
 use Rattle.std.specs.List.{position_or_len, before_first, after_first}
 use Rattle.std.specs.Borrow.{Bor}
@@ -7,12 +7,10 @@ use Rattle.std.proofs.Math.Path.{fun_ext}
 use Rattle.std.proofs.lemmas.Bool.Decides.{nat_tests}
 use Rattle.std.proofs.lemmas.Grind.{get_or-set_at}
 use Rattle.std.proofs.lemmas.List.{get_or-set_other}
-use Rattle.tink_spec.specs.Messages.{◌>>=◌}
-use Rattle.tinkey_words.specs.declared.words.Request.{Request}
 use Rattle.tinkey_words.specs.declared.words.rows.CommandName.{CommandName}
 use Rattle.tinkey_words.specs.declared.words.rows.OptionName.{OptionName}
-use Rattle.tinkey_words.specs.Rows.{command_of, option_row, form_for, same, is_value}
-use Rattle.tinkey_words.specs.Words.{Asked, Values, Options, is_equals, own_value, with_value, next_word, options_of, given_in, complete, asked_of, words_of, seen_command, seen_values, Reads}
+use Rattle.tinkey_words.specs.Rows.{option_row, form_for, same, is_value}
+use Rattle.tinkey_words.specs.Words.{Values, Options, is_equals, own_value, with_value, next_word, options_of, seen_values}
 
 -- a word, and those behind it
 pub rest_of_words : {A : Type 0} (words : List A) (i : ℕ) (word : A) → i < length words → word ≡ get_or words i word → drop i words ≡ word ∷ drop (i + 1) words
@@ -53,15 +51,3 @@ pub value_put : (command : CommandName) (name : OptionName) (values : List (Opti
 value_put command name values waiting value place at is within formed =
     let same_values = fun_ext (λ other. value_set (same name other) name other values value refl (omega (arith, is))) in
     rw (formed, is) (ap with_values same_values)
-
--- the command with its options is what all words ask for
-pub reads_complete : (result : Result Request ℕ) (words : List (List ℕ)) (name : List ℕ) (rest : List (List ℕ)) (command : CommandName) (count : ℕ) (given : Options) → words ≡ name ∷ rest → command_of name ≡ Some command → given_in command rest ≡ Ok given → count ≡ length words → Reads seen_command result (complete command count given) → Reads seen_command result (words_of words)
-unfolding words_of
-reads_complete result words name rest command count given are named is size reads =
-    let counted : count ≡ 1 + length rest = omega (arith, ap length are) in
-    let e : words_of words ≡ complete command count given =
-    ap words_of are
-    ∙ ap (λ (found : Option CommandName). asked_of found rest) named
-    ∙ ap (λ (r : Result Options ℕ). r >>= complete command (1 + length rest)) is
-    ∙ ap (λ (n : ℕ). complete command n given) (sym counted) in
-    subst (λ (r : Result Asked ℕ). Reads seen_command result r) (sym e) reads

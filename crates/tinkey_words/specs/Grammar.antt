@@ -2,20 +2,22 @@
 --
 --   PlacesAreDecided   the place of a word at fault depends on the words up to it alone
 --   WordsAreSpelled    words are accepted exactly where they spell a command's word and then
---                      options that fit its row, in any order
+--                      options that fit its row, in any order, or ask for help or for the version
 --
 -- The commands and options are those of the tables of Rows.
 use Rattle.std.specs.Prelude.{◌≡◌, ◌≢◌, ◌⊎◌, ◌↔◌, ℕ, ◌+◌, ◌*◌, ◌%◌, ◌^◌, ◌<◌, ◌≤◌, List, [], ◌∷◌, ◌++◌, length, Bool, true, None, Some, if◌then◌else◌, Ok, Err, codes}
 use Rattle.std.specs.List.{AllByRecursion, flat_map, list_all}
 use Rattle.std.specs.Str.{all_ascii_digits, str_to_ascii_lowercase}
 use Rattle.std.specs.Str.Parse.{digits_value}
+use Rattle.tinkey_words.specs.declared.words.help.Topic.{Topic}
+use Rattle.tinkey_words.specs.declared.words.help.Topic.TheVariants as topics
 use Rattle.tinkey_words.specs.declared.words.rows.CommandName.{CommandName}
 use Rattle.tinkey_words.specs.declared.words.rows.Form.{Form}
 use Rattle.tinkey_words.specs.declared.words.rows.Form.TheVariants as forms
 use Rattle.tinkey_words.specs.declared.words.rows.OptionName.{OptionName}
 use Rattle.hex.specs.Hex.{is_hex_digit}
 use Rattle.tinkey_words.specs.Rows.{row_of, option_row, form_for, rival, same, datum_limit, most_lines, most_range}
-use Rattle.tinkey_words.specs.Words.{Asked, Values, asked_with, words_of}
+use Rattle.tinkey_words.specs.Words.{Asked, Values, asked_with, help, version, words_of}
 
 -- where the word of a place is at fault, it is so whatever words stand behind it
 abbrev pub PlacesAreDecided : Type 0
@@ -123,7 +125,44 @@ pub record Spells (words : List (List ℕ)) (asked : Asked) : Type 0 where
   pub fits : Fits command given
   pub asks : asked ≡ asked_with command (values_of given)
 
+-- Help.
+
+-- the word is `--help` or `-h`
+abbrev pub IsHelpFlag : List ℕ → Type 0
+IsHelpFlag word = (word ≡ codes "--help") ⊎ (word ≡ codes "-h")
+
+-- the word asks for the list of the commands
+abbrev pub IsHelpWord : List ℕ → Type 0
+IsHelpWord word = (word ≡ codes "help") ⊎ IsHelpFlag word
+
+-- the word asks for the version
+abbrev pub IsVersionWord : List ℕ → Type 0
+IsVersionWord word = (word ≡ codes "version") ⊎ (word ≡ codes "--version")
+
+-- the topic's name: `exit`, or a command's word; the list of the commands has none
+abbrev pub IsNameOf : Topic → List ℕ → Type 0
+IsNameOf topics.Commands name = ⊥
+IsNameOf topics.Exit name = name ≡ codes "exit"
+IsNameOf (topics.Command command) name = name ≡ (row_of command).word
+
+-- the words ask for help or for the version
+pub data Helps (words : List (List ℕ)) (asked : Asked) : Type 0 where
+  -- `help`, `--help` or `-h`
+  the_list : (word : List ℕ) → IsHelpWord word → words ≡ word ∷ [] → asked ≡ help topics.Commands →
+      Helps words asked
+  -- `help` and the name of a topic
+  a_topic : (topic : Topic) (name : List ℕ) → IsNameOf topic name → words ≡ codes "help" ∷ name ∷ [] →
+      asked ≡ help topic → Helps words asked
+  -- a command's word, and `--help` or `-h`
+  its_help : (command : CommandName) (word : List ℕ) → IsHelpFlag word →
+      words ≡ (row_of command).word ∷ word ∷ [] → asked ≡ help (topics.Command command) →
+      Helps words asked
+  -- `version` or `--version`
+  the_version : (word : List ℕ) → IsVersionWord word → words ≡ word ∷ [] → asked ≡ version →
+      Helps words asked
+
 -- the words are accepted as what they ask exactly where they spell it
 abbrev pub WordsAreSpelled : Type 0
 WordsAreSpelled =
-    (words : List (List ℕ)) (asked : Asked) → (words_of words ≡ Ok asked) ↔ Spells words asked
+    (words : List (List ℕ)) (asked : Asked) →
+    (words_of words ≡ Ok asked) ↔ (Spells words asked ⊎ Helps words asked)

@@ -1,15 +1,16 @@
 -- The grammar of the command's words: a command, and then options in any order, each at most once,
--- as `--name value` in two words or `--name=value` in one. Rows has the tables of commands and
--- options.
+-- as `--name value` in two words or `--name=value` in one; or a few words that ask for help or for the
+-- version. Rows has the tables of commands and options.
 --
 -- The answer is a command, or the place of the first word at fault: an unknown command or option,
 -- one that the command doesn't have, a repeat, the second of two that exclude each other, or one that
--- holds a value that isn't of its form.
+-- holds a value that isn't of its form; of help, a topic that isn't known, or a word too many.
 -- Where a value or a required option is missing at the end, the place is the number of words.
 -- Places count from 0.
-use Rattle.std.specs.Prelude.{◌≡◌, ℕ, ◌+◌, ◌*◌, List, [], ◌∷◌, length, Bool, false, ◌||◌, Option, Some, None, is_some, option_map, Result, Ok, Err, ◌==◌, nat_lt, nat_le, if◌then◌else◌, slice_index_or}
+use Rattle.std.specs.Prelude.{◌≡◌, ℕ, ◌+◌, ◌*◌, List, [], ◌∷◌, length, Bool, false, ◌||◌, Option, Some, None, is_some, option_map, Result, Ok, Err, ◌==◌, nat_lt, nat_le, if◌then◌else◌, slice_index_or, codes}
 use Rattle.std.specs.List.{list_all, position_or_len, before_first, after_first}
 use Rattle.std.specs.Borrow.{Bor}
+use Rattle.std.specs.Str.{bytes_eq}
 use Rattle.hex.specs.Hex.{decode_of}
 use Rattle.hex.specs.declared.error.FromHexError.{FromHexError}
 use Rattle.key_msgs.specs.declared.primitive.Primitive.{Primitive}
@@ -29,6 +30,10 @@ use Rattle.tinkey_words.specs.declared.words.Work.{Work}
 use Rattle.tinkey_words.specs.declared.words.Work.TheVariants as works
 use Rattle.tinkey_words.specs.declared.words.Envelope.{Envelope}
 use Rattle.tinkey_words.specs.declared.words.Envelope.TheVariants as envelopes
+use Rattle.tinkey_words.specs.declared.words.help.First.{First}
+use Rattle.tinkey_words.specs.declared.words.help.First.TheVariants as firsts
+use Rattle.tinkey_words.specs.declared.words.help.Topic.{Topic}
+use Rattle.tinkey_words.specs.declared.words.help.Topic.TheVariants as topics
 use Rattle.tinkey_words.specs.declared.words.rows.Format.{Format}
 use Rattle.tinkey_words.specs.declared.words.rows.Format.TheVariants as formats
 use Rattle.tinkey_words.specs.declared.words.rows.CommandName.{CommandName}
@@ -115,6 +120,9 @@ pub data Asked : Type 0 where
   session : (keyset : List ℕ) (form : Format) (out : Place) → Asked
   -- so many lines of a session, made from a number, and what becomes of them
   self_test : (seed lines : ℕ) → Asked
+  -- what a topic has to say, and the version
+  help : (topic : Topic) → Asked
+  version : Asked
 
 -- the values that were given, by option
 abbrev pub Values : Type 0
@@ -357,15 +365,70 @@ abbrev pub complete : CommandName → ℕ → Options → Result Asked ℕ
 complete command count given =
     if has_required command given then Ok (asked_with command given.values) else Err count
 
--- the command, where its name is known, with its options
-abbrev pub asked_of : Option CommandName → List (List ℕ) → Result Asked ℕ
+-- the command with its options
+abbrev pub with_options : CommandName → List (List ℕ) → Result Asked ℕ
+with_options command words = given_in command words >>= complete command (1 + length words)
+
+-- Words that ask for help.
+
+-- the word is `--help` or `-h`
+abbrev pub is_help_flag : List ℕ → Bool
+is_help_flag word = bytes_eq word (codes "--help") || bytes_eq word (codes "-h")
+
+-- the word is `version` or `--version`
+abbrev pub is_version_word : List ℕ → Bool
+is_version_word word = bytes_eq word (codes "version") || bytes_eq word (codes "--version")
+
+-- the topic of this name: `exit`, or a command by its word
+unfoldable pub topic_of : List ℕ → Option Topic
+topic_of name =
+    if bytes_eq name (codes "exit") then Some topics.Exit
+    else option_map topics.Command (command_of name)
+
+-- what the first word stands for
+unfoldable pub first_of : List ℕ → Option First
+first_of name =
+    if bytes_eq name (codes "help") then Some firsts.Help
+    else (if is_help_flag name then Some firsts.HelpFlag
+    else (if is_version_word name then Some firsts.Version
+    else option_map firsts.Command (command_of name)))
+
+-- what is asked, where no word stands behind; the first of them has this place
+abbrev pub by_itself : ℕ → Asked → List (List ℕ) → Result Asked ℕ
+by_itself place asked [] = Ok asked
+by_itself place asked (word ∷ words) = Err place
+
+-- help on a topic, where its name is known
+abbrev pub topic_words : Option Topic → List (List ℕ) → Result Asked ℕ
+topic_words None words = Err 1
+topic_words (Some topic) words = by_itself 2 (help topic) words
+
+-- what the words behind `help` ask: the list of commands, or a topic
+abbrev pub help_words : List (List ℕ) → Result Asked ℕ
+help_words [] = Ok (help topics.Commands)
+help_words (name ∷ words) = topic_words (topic_of name) words
+
+-- what a command's word and those behind it ask: help on the command, or what it does with its options
+abbrev pub command_words : CommandName → List (List ℕ) → Result Asked ℕ
+command_words command [] = with_options command []
+command_words command (word ∷ words) =
+    if is_help_flag word then by_itself 2 (help (topics.Command command)) words
+    else with_options command (word ∷ words)
+
+-- All words.
+
+-- what the first word, where it is known, and those behind it ask
+abbrev pub asked_of : Option First → List (List ℕ) → Result Asked ℕ
 asked_of None words = Err 0
-asked_of (Some command) words = given_in command words >>= complete command (1 + length words)
+asked_of (Some firsts.Help) words = help_words words
+asked_of (Some firsts.HelpFlag) words = by_itself 1 (help topics.Commands) words
+asked_of (Some firsts.Version) words = by_itself 1 version words
+asked_of (Some (firsts.Command command)) words = command_words command words
 
 -- what the words ask for, or the place of the word at fault
 unfoldable pub words_of : List (List ℕ) → Result Asked ℕ
 words_of [] = Err 0
-words_of (name ∷ words) = asked_of (command_of name) words
+words_of (name ∷ words) = asked_of (first_of name) words
 
 -- What the code's commands and options stand for.
 
@@ -427,6 +490,8 @@ seen_command (asks.UseEnvelope keyset form template work) =
     use_envelope keyset.now form template.now (seen_envelope work)
 seen_command (asks.OpenRange keyset form ad range output) =
     open_range keyset.now form (seen_datum ad) (seen_range range) (seen_name output)
+seen_command (asks.Help topic) = help topic
+seen_command asks.Version = version
 
 -- the values, which the code keeps at the places of their options
 abbrev pub seen_values : List (Option (Bor (List ℕ))) → Values

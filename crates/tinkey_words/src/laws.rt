@@ -8,7 +8,8 @@ pub fn places_are_decided()
 {}
 
 /// Words are accepted as what they ask exactly where they are a command's word, and then options
-/// that fit its row, each as `--name value` or `--name=value`, in any order.
+/// that fit its row, each as `--name value` or `--name=value`, in any order; or where they ask for help
+/// or for the version.
 pub fn words_are_spelled()
     ensures { WordsAreSpelled }
 {}

@@ -7,4 +7,6 @@
 pub mod laws;
 mod words;
 
-pub use words::{DATUM_LIMIT, Datum, Envelope, Format, Place, Range, Request, Work, parse};
+pub use words::{
+    CommandName, DATUM_LIMIT, Datum, Envelope, Format, Place, Range, Request, Topic, Work, parse,
+};

@@ -3,16 +3,18 @@
 ghost use Rattle.std.specs.Prelude.{◌≡◌, ◌<◌, ◌≤◌, ◌^◌, Some, length, map, option_map, slice_set, string_bytes};
 ghost use Rattle.tinkey_words.specs.Rows.{option_of};
 ghost use Rattle.tinkey_words.specs.declared.words.rows.OptionName.TheVariants.{Lines};
-ghost use Rattle.tinkey_words.specs.Words.{words_of, given_in, lines_in, next_word, option_word, own_value, is_barred, new_option, with_value, no_options, has_required, complete, asked_with, text, number, id, template, ad, edited, enveloped, worked, seen_command, seen_datum, seen_edit, seen_envelope, seen_name, seen_options, seen_range, seen_work, offset, range, range_length, Reads, form_in, taken_from, put_to, seen_place};
+ghost use Rattle.tinkey_words.specs.Words.{words_of, by_itself, command_words, help_words, topic_words, with_options, topic_of, given_in, lines_in, next_word, option_word, own_value, is_barred, new_option, with_value, no_options, has_required, complete, asked_with, text, number, id, template, ad, edited, enveloped, worked, seen_command, seen_datum, seen_edit, seen_envelope, seen_name, seen_options, seen_range, seen_work, offset, range, range_length, Reads, form_in, taken_from, put_to, seen_place};
 
+mod help;
 mod range;
 mod rows;
 
+pub use help::Topic;
+use help::{First, first_named, is_help_flag, topic_named};
 pub use range::Range;
-pub use rows::{DATUM_LIMIT, Format};
+pub use rows::{CommandName, DATUM_LIMIT, Format};
 use rows::{
-    CommandName, MOST_RANGE, OPTION_COUNT, OptionName, command_named, format_named, is_value,
-    offset_in, option_named, takes,
+    MOST_RANGE, OPTION_COUNT, OptionName, format_named, is_value, offset_in, option_named, takes,
 };
 use tink_base::number_in;
 use tinkey_cmds::Command as Edit;
@@ -142,6 +144,13 @@ pub enum Request<'a> {
         /// What is done.
         work: Envelope<'a>,
     },
+    /// Tell what a topic has to say.
+    Help {
+        /// The topic.
+        topic: Topic,
+    },
+    /// Tell the version.
+    Version,
 }
 
 /// What is done with the whole input by data keys under the keys of a keyset.
@@ -207,13 +216,81 @@ pub fn parse(words: &[String]) -> Result<Request<'_>, usize>
 {
     match words.split_first() {
         None => Err(0),
-        Some((name, options)) => match command_named(name.as_str()) {
+        Some((name, behind)) => match first_named(name.as_str()) {
             None => Err(0),
-            Some(command) => match given_options(command, options) {
-                Ok(given) => complete(command, words.len(), given),
-                Err(place) => Err(place),
+            Some(first) => match first {
+                First::Help => help_words(behind),
+                First::HelpFlag => by_itself(
+                    1,
+                    Request::Help {
+                        topic: Topic::Commands,
+                    },
+                    behind,
+                ),
+                First::Version => by_itself(1, Request::Version, behind),
+                First::Command(command) => command_words(command, behind),
             },
         },
+    }
+}
+
+/// What is asked, where no word stands behind; the first of them would have this place.
+fn by_itself<'a>(place: usize, asked: Request<'a>, words: &[String]) -> Result<Request<'a>, usize>
+    ensures { Reads seen_command result
+        (by_itself place (seen_command asked.entry) (map string_bytes words.now)) }
+{
+    if words.is_empty() {
+        Ok(asked)
+    } else {
+        Err(place)
+    }
+}
+
+/// What the words behind `help` ask for.
+fn help_words(words: &[String]) -> Result<Request<'_>, usize>
+    ensures { Reads seen_command result (help_words (map string_bytes words.now)) }
+{
+    match words.split_first() {
+        None => Ok(Request::Help {
+            topic: Topic::Commands,
+        }),
+        Some((name, behind)) => match topic_named(name.as_str()) {
+            None => Err(1),
+            Some(topic) => by_itself(2, Request::Help { topic }, behind),
+        },
+    }
+}
+
+/// What a command's word and those behind it ask for: help on the command, or what it does with its
+/// options.
+fn command_words(command: CommandName, words: &[String]) -> Result<Request<'_>, usize>
+    ensures { Reads seen_command result (command_words command (map string_bytes words.now)) }
+{
+    match words.split_first() {
+        None => with_options(command, words),
+        Some((word, behind)) => {
+            if is_help_flag(word.as_str()) {
+                by_itself(
+                    2,
+                    Request::Help {
+                        topic: Topic::Command(command),
+                    },
+                    behind,
+                )
+            } else {
+                with_options(command, words)
+            }
+        }
+    }
+}
+
+/// What a command asks with the options of these words, which stand behind its own.
+fn with_options(command: CommandName, words: &[String]) -> Result<Request<'_>, usize>
+    ensures { Reads seen_command result (with_options command (map string_bytes words.now)) }
+{
+    match given_options(command, words) {
+        Ok(given) => complete(command, 1 + words.len(), given),
+        Err(place) => Err(place),
     }
 }
 
