@@ -35,7 +35,7 @@ use Rattle.tinkey_plans.specs.Stretch.{Opened, Stretch, stretch_in}
 use Rattle.tinkey_session.proofs.Options.{clash}
 use Rattle.tinkey_session.specs.Talking.{Stop, goes, wants, passes, long_line, many_lines, Talk, Limit}
 use Rattle.tinkey_plans.specs.Commands.{command_plan}
-use Rattle.tinkey_words.specs.Words.{Asked, self_test, Place, primitive_for, create_keyset, edit_keyset, list_keyset, convert_keyset, list_key_templates, use_keyset, use_envelope, seal_stream, open_stream, open_range, session, wrap_keyset, unwrap_keyset}
+use Rattle.tinkey_words.specs.Words.{Asked, self_test, Place, primitive_for, create_keyset, edit_keyset, list_keyset, convert_keyset, list_key_templates, use_keyset, use_envelope, seal_stream, open_stream, open_range, session, wrap_keyset, unwrap_keyset, help, version}
 use Rattle.tinkey_plans.proofs.EachLemmas.{AreAll, IsClosed, dek_each, envelope_each, scheme_each, stretch_each, edit_each, fit_each, keyset_each, made_each, row_each, work_each, written_each, wrapped_each, unwrapped_each}
 
 -- the refusals of its steps aren't Done
@@ -207,6 +207,8 @@ commands_are_proper table (self_test seed lines) = counts_proper (trial.self_tes
 commands_are_proper table (wrap_keyset name form in' out) = (λ e. cc, λ e. cc, λ bytes. keyset_each IsProper closed form bytes _ (λ master. fit_each IsProper closed (unfit master Aead table) _ (taken_proper in'.file in'.form _ (λ keys. written_each IsProper closed formats.Binary keys (λ plain. makes_wrapped keys master table out.form (puts out.file)) (λ plain. wrapped_each IsProper closed keys master table out.form (puts out.file) (put_proper out.file))))))
 commands_are_proper table (unwrap_keyset name form in' out) = (λ e. cc, λ e. cc, λ bytes. keyset_each IsProper closed form bytes _ (λ master. fit_each IsProper closed (unfit master Aead table) _ (text_proper in'.file _ (λ text. unwrapped_each IsProper closed (unwrap_of master table text (is_json in'.form)) _ (out_proper out)))))
 commands_are_proper table (session name form out) = (λ e. cc, λ e. cc, λ bytes. keyset_each IsProper closed form bytes _ (λ keys. free_proper out.file _ (λ last. saves_proper out.file out.form last)))
+commands_are_proper table (help topic) = tt
+commands_are_proper table version = tt
 
 pub commands_done_exactly : DoneExactly
 commands_done_exactly table asked told = done_exactly (command_plan table asked) told (commands_are_proper table asked)

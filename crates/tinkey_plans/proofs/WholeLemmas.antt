@@ -24,7 +24,7 @@ use Rattle.segment_stream.specs.StreamKeys as streams
 use Rattle.tinkey_plans.specs.Streaming as streaming
 use Rattle.tinkey_selftest.specs.declared.counts.Counts.{Counts}
 use Rattle.tinkey_plans.specs.SelfTesting.{tells_counts}
-use Rattle.tinkey_words.specs.Words.{self_test, Place, primitive_for, create_keyset, edit_keyset, list_keyset, convert_keyset, list_key_templates, use_keyset, use_envelope, seal_stream, open_stream, open_range, session, wrap_keyset, unwrap_keyset}
+use Rattle.tinkey_words.specs.Words.{self_test, Place, primitive_for, create_keyset, edit_keyset, list_keyset, convert_keyset, list_key_templates, use_keyset, use_envelope, seal_stream, open_stream, open_range, session, wrap_keyset, unwrap_keyset, help, version}
 
 closed : IsClosed IsWhole
 closed = record { ended = λ s stated. tt; allocated = λ next all. all; drawn = λ kind give next all. all }
@@ -75,3 +75,5 @@ commands_are_whole table (self_test seed lines) = inl (counts_whole (trial.self_
 commands_are_whole table (session name form out) = inr (inr tt)
 commands_are_whole table (wrap_keyset name form in' out) = inl (λ bytes. keyset_each IsWhole closed form bytes _ (λ master. fit_each IsWhole closed (unfit master Aead table) _ (taken_whole in'.file in'.form _ (λ keys. written_each IsWhole closed formats.Binary keys (λ plain. makes_wrapped keys master table out.form (puts out.file)) (λ plain. wrapped_each IsWhole closed keys master table out.form (puts out.file) (put_whole out.file))))))
 commands_are_whole table (unwrap_keyset name form in' out) = inl (λ bytes. keyset_each IsWhole closed form bytes _ (λ master. fit_each IsWhole closed (unfit master Aead table) _ (text_whole in'.file _ (λ text. unwrapped_each IsWhole closed (unwrap_of master table text (is_json in'.form)) _ (out_whole out)))))
+commands_are_whole table (help topic) = inl tt
+commands_are_whole table version = inl tt

@@ -12,13 +12,14 @@ use Rattle.tinkey_plans.specs.declared.status.Status.TheVariants as status
 use Rattle.tinkey_plans.specs.Plan.{Plan, ends, writes}
 use Rattle.tinkey_plans.specs.Session.{holds_session}
 use Rattle.tinkey_plans.specs.Envelopes.{envelope_output}
+use Rattle.tinkey_plans.specs.Help.{help_text, version_text}
 use Rattle.tinkey_plans.specs.Ranging.{range_output}
 use Rattle.tinkey_plans.specs.SelfTesting.{self_test_output}
 use Rattle.tinkey_plans.specs.Steps.{takes_keyset, loads_keyset, works_out, finds_template, finds_edit, makes_keyset, puts, puts_keyset}
 use Rattle.tinkey_plans.specs.Streaming.{loads_stream_keys, seals_stream, opens_stream}
 use Rattle.tinkey_plans.specs.Using.{use_output}
 use Rattle.tinkey_plans.specs.Wrapping.{wrap_output, unwrap_output}
-use Rattle.tinkey_words.specs.Words.{Place, AskedEdit, Asked, create_keyset, edit_keyset, list_keyset, convert_keyset, list_key_templates, use_keyset, use_envelope, seal_stream, open_stream, open_range, self_test, session, wrap_keyset, unwrap_keyset, words_of}
+use Rattle.tinkey_words.specs.Words.{Place, AskedEdit, Asked, create_keyset, edit_keyset, list_keyset, convert_keyset, list_key_templates, use_keyset, use_envelope, seal_stream, open_stream, open_range, self_test, session, wrap_keyset, unwrap_keyset, help, version, words_of}
 
 -- create-keyset: a keyset of one new key
 abbrev pub create_output : List ℕ → (Keys → Plan) → Plan
@@ -60,6 +61,8 @@ command_plan table (wrap_keyset master form in' out) =
     wrap_output table master form in' out.form (puts out.file)
 command_plan table (unwrap_keyset master form in' out) =
     unwrap_output table master form in' (puts_keyset out)
+command_plan table (help topic) = writes (help_text topic)
+command_plan table version = writes version_text
 
 -- the command's plan, or the word at fault is the answer
 abbrev pub asked_plan : Table → Result Asked ℕ → Plan

@@ -1,6 +1,7 @@
 pub mod Commands
 pub mod Ends
 pub mod Envelopes
+pub mod Help
 pub mod Laws
 pub mod Plan
 pub mod Promises
