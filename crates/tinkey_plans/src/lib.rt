@@ -9,8 +9,10 @@
 #![tactic(auto)]
 
 mod diagnostic;
+mod help;
 pub mod laws;
 mod status;
 
 pub use diagnostic::{report, starve};
+pub use help::{help_text, version_text};
 pub use status::Status;
