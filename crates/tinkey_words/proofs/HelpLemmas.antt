@@ -9,7 +9,7 @@ use Rattle.tinkey_words.specs.declared.words.help.Topic.{Topic}
 use Rattle.tinkey_words.specs.declared.words.help.Topic.TheVariants as topics
 use Rattle.tinkey_words.specs.declared.words.rows.CommandName.{CommandName}
 use Rattle.tinkey_words.specs.declared.words.rows.OptionName.{OptionName}
-use Rattle.tinkey_words.specs.Rows.{row_of, command_of, option_row, option_of}
+use Rattle.tinkey_words.specs.Rows.{row_of, command_of, option_row, option_of, is_flag}
 use Rattle.tinkey_words.specs.Words.{Asked, help, version, own_value, with_options, is_help_flag, is_version_word, topic_of, first_of, by_itself, topic_words, help_words, command_words, asked_of, words_of}
 use Rattle.tinkey_words.specs.Grammar.{Spelling, spelled_as, spelled, IsHelpFlag, IsHelpWord, IsVersionWord, IsNameOf, Helps, the_list, a_topic, its_help, the_version}
 use Rattle.tinkey_words.proofs.RowLemmas.{same_text, command_found, command_named, option_found, own_joined}
@@ -152,13 +152,14 @@ joined_unlike name value = no_flag ((option_row name).word ++ (61 ∷ value)) by
     by (inl same) = something ((option_row name).word, value) (sym (own_joined name value) ∙ ap own_value same ∙ plain_flag)
     by (inr same) = something ((option_row name).word, value) (sym (own_joined name value) ∙ ap own_value same ∙ plain_short)
 
-one_behind : (command : CommandName) (joined : Bool) (name : OptionName) (value : List ℕ) (rest : List (List ℕ)) → command_words command (spelled_as joined (option_row name).word value ++ rest) ≡ with_options command (spelled_as joined (option_row name).word value ++ rest)
-one_behind command true name value rest = rw (joined_unlike name value) refl
-one_behind command false name value rest = rw (name_unlike name) refl
+one_behind : (command : CommandName) (flag joined : Bool) (name : OptionName) (value : List ℕ) (rest : List (List ℕ)) → command_words command (spelled_as flag joined (option_row name).word value ++ rest) ≡ with_options command (spelled_as flag joined (option_row name).word value ++ rest)
+one_behind command true joined name value rest = rw (name_unlike name) refl
+one_behind command false true name value rest = rw (joined_unlike name value) refl
+one_behind command false false name value rest = rw (name_unlike name) refl
 
 pub options_behind : (command : CommandName) (given : List Spelling) → command_words command (flat_map spelled given) ≡ with_options command (flat_map spelled given)
 options_behind command [] = refl
-options_behind command (s ∷ given) = one_behind command s.joined s.name s.value (flat_map spelled given)
+options_behind command (s ∷ given) = one_behind command (is_flag (option_row s.name).form) s.joined s.name s.value (flat_map spelled given)
 
 -- Words that ask for help are accepted.
 

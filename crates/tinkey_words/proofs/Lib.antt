@@ -1,4 +1,5 @@
 pub mod FitLemmas
+pub mod FlagLemmas
 pub mod GrammarLemmas
 pub mod HelpLemmas
 pub mod OffsetLemmas

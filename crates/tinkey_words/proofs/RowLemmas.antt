@@ -20,7 +20,7 @@ use Rattle.tinkey_words.specs.declared.words.rows.Form.TheVariants as forms
 use Rattle.tinkey_words.specs.declared.words.rows.OptionName.{OptionName}
 use Rattle.tinkey_words.specs.declared.words.rows.OptionName.TheVariants as options
 use Rattle.hex.specs.Hex.{is_hex_digit}
-use Rattle.tinkey_words.specs.Rows.{row_of, all_commands, command_of, option_row, all_options, option_of, rival, same, datum_limit, is_line_count, most_lines, is_range_length, most_range, offset_in, format_of, is_hex, is_value}
+use Rattle.tinkey_words.specs.Rows.{row_of, all_commands, command_of, option_row, all_options, option_of, rival, same, datum_limit, is_line_count, most_lines, is_range_length, most_range, offset_in, format_of, is_hex, is_value, is_flag}
 use Rattle.tinkey_words.specs.Words.{is_equals, own_value}
 use Rattle.tinkey_words.specs.Grammar.{IsHex, IsLineCount, IsNumber, IsOffset, IsRangeLength, IsValue}
 use Rattle.tinkey_words.proofs.OffsetLemmas.{offset_is, offset_passes}
@@ -104,6 +104,7 @@ is_found options.MasterFormat = record { word = refl; plain = refl; place = refl
 is_found options.DekTemplate = record { word = refl; plain = refl; place = refl }
 is_found options.File = record { word = refl; plain = refl; place = refl }
 is_found options.From = record { word = refl; plain = refl; place = refl }
+is_found options.Hex = record { word = refl; plain = refl; place = refl }
 
 pub option_found : (name : OptionName) → option_of (option_row name).word ≡ Some name
 option_found name = (is_found name).word
@@ -147,6 +148,7 @@ are_rivals options.MasterFormat b is = absurd (cc)
 are_rivals options.DekTemplate b is = absurd (cc)
 are_rivals options.File b is = absurd (cc)
 are_rivals options.From b is = absurd (cc)
+are_rivals options.Hex b is = absurd (cc)
 
 -- Words that are cut at their equals sign.
 
@@ -303,17 +305,19 @@ datum_taken value within = grind (arith, nat_tests)
 datum_formed : (value : List ℕ) → nat_le (length value) datum_limit ≡ true → length value ≤ datum_limit
 datum_formed value is = grind (arith, nat_tests)
 
-pub value_taken : (form : Form) (value : List ℕ) → IsValue form value → is_value form value ≡ true
+-- that no word holds a flag's value, and every other value of its form
+pub value_taken : (form : Form) (value : List ℕ) → is_flag form ≡ false → IsValue form value → is_value form value ≡ true
 unfolding is_value
-value_taken forms.Text value formed = refl
-value_taken forms.FileName value formed = not_empty value formed
-value_taken forms.Number value formed = rw (number_is value formed) refl
-value_taken forms.LineCount value formed = count_taken value formed
-value_taken forms.RangeLength value formed = range_taken value formed
-value_taken forms.Offset value formed = offset_taken value formed
-value_taken forms.Format value formed = format_taken value formed
-value_taken forms.Datum value formed = datum_taken value formed
-value_taken forms.Hex value formed = hex_taken value formed
+value_taken forms.Text value other formed = refl
+value_taken forms.FileName value other formed = not_empty value formed
+value_taken forms.Number value other formed = rw (number_is value formed) refl
+value_taken forms.LineCount value other formed = count_taken value formed
+value_taken forms.RangeLength value other formed = range_taken value formed
+value_taken forms.Offset value other formed = offset_taken value formed
+value_taken forms.Format value other formed = format_taken value formed
+value_taken forms.Datum value other formed = datum_taken value formed
+value_taken forms.Hex value other formed = hex_taken value formed
+value_taken forms.Flag value other formed = absurd (cc)
 
 pub value_formed : (form : Form) (value : List ℕ) → is_value form value ≡ true → IsValue form value
 unfolding is_value
@@ -326,3 +330,36 @@ value_formed forms.Offset value is = offset_formed value is
 value_formed forms.Format value is = format_formed value is
 value_formed forms.Datum value is = datum_formed value is
 value_formed forms.Hex value is = hex_formed value is
+value_formed forms.Flag value is = absurd (cc)
+
+pub value_other : (form : Form) (value : List ℕ) → is_value form value ≡ true → is_flag form ≡ false
+unfolding is_value
+value_other forms.Text value is = refl
+value_other forms.FileName value is = refl
+value_other forms.Number value is = refl
+value_other forms.LineCount value is = refl
+value_other forms.RangeLength value is = refl
+value_other forms.Offset value is = refl
+value_other forms.Format value is = refl
+value_other forms.Datum value is = refl
+value_other forms.Hex value is = refl
+value_other forms.Flag value is = absurd (cc)
+
+-- the value of a flag is empty
+pub flag_is : (form : Form) → is_flag form ≡ true → form ≡ forms.Flag
+flag_is forms.Text is = absurd (cc)
+flag_is forms.FileName is = absurd (cc)
+flag_is forms.Number is = absurd (cc)
+flag_is forms.LineCount is = absurd (cc)
+flag_is forms.RangeLength is = absurd (cc)
+flag_is forms.Offset is = absurd (cc)
+flag_is forms.Format is = absurd (cc)
+flag_is forms.Datum is = absurd (cc)
+flag_is forms.Hex is = absurd (cc)
+flag_is forms.Flag is = refl
+
+pub flag_empty : (form : Form) (value : List ℕ) → is_flag form ≡ true → IsValue form value → value ≡ []
+flag_empty form value is formed = subst (λ (f : Form). IsValue f value) (flag_is form is) formed
+
+pub flag_formed : (form : Form) → is_flag form ≡ true → IsValue form []
+flag_formed form is = subst (λ (f : Form). IsValue f []) (sym (flag_is form is)) refl

@@ -8,10 +8,11 @@ use Rattle.std.proofs.lemmas.List.Sums.{passes_at_first}
 use Rattle.tink_spec.specs.Messages.{◌>>=◌}
 use Rattle.tinkey_words.specs.declared.words.rows.CommandName.{CommandName}
 use Rattle.tinkey_words.specs.declared.words.rows.OptionName.{OptionName}
-use Rattle.tinkey_words.specs.Rows.{option_row, option_of, form_for, takes, is_value}
-use Rattle.tinkey_words.specs.Words.{Options, is_equals, own_value, is_barred, new_option, put, with_value, option_word, word_after, next_word, ended, options_of}
+use Rattle.tinkey_words.specs.Rows.{option_row, option_of, form_for, takes, is_value, is_flag}
+use Rattle.tinkey_words.specs.Words.{Options, is_equals, own_value, is_barred, new_option, put, with_value, option_word, word_after, next_word, ended, options_of, alone}
 use Rattle.tinkey_words.specs.Grammar.{IsValue, Spelling, spelled_as, spelled}
-use Rattle.tinkey_words.proofs.RowLemmas.{option_found, option_named, own_plain, own_joined, value_taken, value_formed}
+use Rattle.tinkey_words.proofs.FlagLemmas.{flag_form}
+use Rattle.tinkey_words.proofs.RowLemmas.{flag_empty, flag_formed, option_found, option_named, own_plain, own_joined, value_taken, value_formed, value_other}
 
 -- a word that is cut at its equals sign
 equals_sign : (b : ℕ) → is_equals b ≡ true → b ≡ 61
@@ -37,14 +38,14 @@ own_cut word own is = own_test word own _ refl is
 -- Options, one after another.
 
 -- a value of its form is taken, and no other
-with_taken : (command : CommandName) (name : OptionName) (value : List ℕ) (place : ℕ) (given : Options) → IsValue (form_for name command) value → with_value command name value place given ≡ Ok (put name value given)
-with_taken command name value place given formed = rw (value_taken (form_for name command) value formed) refl
+with_taken : (command : CommandName) (name : OptionName) (value : List ℕ) (place : ℕ) (given : Options) → is_flag (option_row name).form ≡ false → IsValue (form_for name command) value → with_value command name value place given ≡ Ok (put name value given)
+with_taken command name value place given other formed = rw (value_taken (form_for name command) value (flag_form name command ∙ other) formed) refl
 
-form_test : (command : CommandName) (name : OptionName) (value : List ℕ) (b : Bool) (place : ℕ) (given more : Options) → is_value (form_for name command) value ≡ b → (if b then Ok (put name value given) else Err place) ≡ Ok more → IsValue (form_for name command) value × (more ≡ put name value given)
-form_test command name value true place given more formed is = (value_formed (form_for name command) value formed, let ok : Ok (put name value given) ≡ Ok more = is in cc)
+form_test : (command : CommandName) (name : OptionName) (value : List ℕ) (b : Bool) (place : ℕ) (given more : Options) → is_value (form_for name command) value ≡ b → (if b then Ok (put name value given) else Err place) ≡ Ok more → IsValue (form_for name command) value × (more ≡ put name value given) × (is_flag (option_row name).form ≡ false)
+form_test command name value true place given more formed is = (value_formed (form_for name command) value formed, (let ok : Ok (put name value given) ≡ Ok more = is in cc), sym (flag_form name command) ∙ value_other (form_for name command) value formed)
 form_test command name value false place given more formed is = let clash : Err place ≡ Ok more = is in absurd (cc)
 
-with_formed : (command : CommandName) (name : OptionName) (value : List ℕ) (place : ℕ) (given more : Options) → with_value command name value place given ≡ Ok more → IsValue (form_for name command) value × (more ≡ put name value given)
+with_formed : (command : CommandName) (name : OptionName) (value : List ℕ) (place : ℕ) (given more : Options) → with_value command name value place given ≡ Ok more → IsValue (form_for name command) value × (more ≡ put name value given) × (is_flag (option_row name).form ≡ false)
 with_formed command name value place given more is = form_test command name value _ place given more refl is
 
 -- an option that is new and the command's is taken, and no other
@@ -84,42 +85,58 @@ all_put given [] = given
 all_put given (s ∷ more) = all_put (put s.name s.value given) more
 
 -- the words of a run are taken
-joined_word : (command : CommandName) (word : List ℕ) (first : ℕ) (given : Options) (name : OptionName) (value : List ℕ) → takes command name ≡ true → is_barred name given ≡ false → IsValue (form_for name command) value → option_word command (Some ((option_row name).word, value)) word first given ≡ Ok (put name value given)
-joined_word command word first given name value taken new formed = rw (option_found name, taken, new, with_taken command name value first given formed) refl
+joined_word : (command : CommandName) (word : List ℕ) (first : ℕ) (given : Options) (name : OptionName) (value : List ℕ) → takes command name ≡ true → is_barred name given ≡ false → is_flag (option_row name).form ≡ false → IsValue (form_for name command) value → option_word command (Some ((option_row name).word, value)) word first given ≡ Ok (put name value given)
+joined_word command word first given name value taken new other formed = rw (option_found name, taken, new, with_taken command name value first given other formed) refl
 
-joined_taken : (command : CommandName) (first : ℕ) (given : Options) (name : OptionName) (value : List ℕ) (rest : List (List ℕ)) → given.waiting ≡ None → takes command name ≡ true → is_barred name given ≡ false → IsValue (form_for name command) value → options_of command first given (((option_row name).word ++ (61 ∷ value)) ∷ rest) ≡ options_of command (first + 1) (put name value given) rest
-joined_taken command first given name value rest waits taken new formed =
+joined_taken : (command : CommandName) (first : ℕ) (given : Options) (name : OptionName) (value : List ℕ) (rest : List (List ℕ)) → given.waiting ≡ None → takes command name ≡ true → is_barred name given ≡ false → is_flag (option_row name).form ≡ false → IsValue (form_for name command) value → options_of command first given (((option_row name).word ++ (61 ∷ value)) ∷ rest) ≡ options_of command (first + 1) (put name value given) rest
+joined_taken command first given name value rest waits taken new other formed =
     let word = (option_row name).word ++ (61 ∷ value) in
     let next : next_word command word first given ≡ Ok (put name value given) =
     ap (λ (w : Option OptionName). word_after w command word first given) waits
     ∙ ap (λ (o : Option (List ℕ × List ℕ)). option_word command o word first given) (own_joined name value)
-    ∙ joined_word command word first given name value taken new formed in
+    ∙ joined_word command word first given name value taken new other formed in
     ap (λ (r : Result Options ℕ). r >>= (λ more. options_of command (first + 1) more rest)) next
 
-name_word : (command : CommandName) (first : ℕ) (given : Options) (name : OptionName) → takes command name ≡ true → is_barred name given ≡ false → option_word command None ((option_row name).word) first given ≡ Ok (record given { waiting = Some name })
+name_word : (command : CommandName) (first : ℕ) (given : Options) (name : OptionName) → takes command name ≡ true → is_barred name given ≡ false → option_word command None ((option_row name).word) first given ≡ Ok (alone (is_flag (option_row name).form) name given)
 name_word command first given name taken new = rw (option_found name, taken, new) refl
 
-apart_taken : (command : CommandName) (first : ℕ) (given : Options) (name : OptionName) (value : List ℕ) (rest : List (List ℕ)) → given.waiting ≡ None → takes command name ≡ true → is_barred name given ≡ false → IsValue (form_for name command) value → options_of command first given ((option_row name).word ∷ value ∷ rest) ≡ options_of command (first + 1 + 1) (put name value given) rest
-apart_taken command first given name value rest waits taken new formed =
+apart_taken : (command : CommandName) (first : ℕ) (given : Options) (name : OptionName) (value : List ℕ) (rest : List (List ℕ)) → given.waiting ≡ None → takes command name ≡ true → is_barred name given ≡ false → is_flag (option_row name).form ≡ false → IsValue (form_for name command) value → options_of command first given ((option_row name).word ∷ value ∷ rest) ≡ options_of command (first + 1 + 1) (put name value given) rest
+apart_taken command first given name value rest waits taken new other formed =
     let word = (option_row name).word in
     let mid = record given { waiting = Some name } in
     let next : next_word command word first given ≡ Ok mid =
     ap (λ (w : Option OptionName). word_after w command word first given) waits
     ∙ ap (λ (o : Option (List ℕ × List ℕ)). option_word command o word first given) (own_plain name)
-    ∙ name_word command first given name taken new in
+    ∙ name_word command first given name taken new
+    ∙ ap (λ (b : Bool). Ok (alone b name given)) other in
     let then_value : with_value command name value (first + 1) mid ≡ Ok (put name value given) =
-    with_taken command name value (first + 1) mid formed in
+    with_taken command name value (first + 1) mid other formed in
     ap (λ (r : Result Options ℕ). r >>= (λ more. options_of command (first + 1) more (value ∷ rest))) next
     ∙ ap (λ (r : Result Options ℕ). r >>= (λ more. options_of command (first + 1 + 1) more rest)) then_value
 
-one_taken : (command : CommandName) (first : ℕ) (given : Options) (name : OptionName) (value : List ℕ) (joined : Bool) (more : List Spelling) → given.waiting ≡ None → takes command name ≡ true → is_barred name given ≡ false → IsValue (form_for name command) value → ((place : ℕ) → options_of command place (put name value given) (flat_map spelled more) ≡ Ok (all_put (put name value given) more)) → options_of command first given (spelled_as joined ((option_row name).word) value ++ flat_map spelled more) ≡ Ok (all_put (put name value given) more)
-one_taken command first given name value true more waits taken new formed later = joined_taken command first given name value (flat_map spelled more) waits taken new formed ∙ later (first + 1)
-one_taken command first given name value false more waits taken new formed later = apart_taken command first given name value (flat_map spelled more) waits taken new formed ∙ later (first + 1 + 1)
+-- a flag is taken by its word
+flag_taken : (command : CommandName) (first : ℕ) (given : Options) (name : OptionName) (rest : List (List ℕ)) → given.waiting ≡ None → takes command name ≡ true → is_barred name given ≡ false → is_flag (option_row name).form ≡ true → options_of command first given ((option_row name).word ∷ rest) ≡ options_of command (first + 1) (put name [] given) rest
+flag_taken command first given name rest waits taken new flag =
+    let word = (option_row name).word in
+    let next : next_word command word first given ≡ Ok (put name [] given) =
+    ap (λ (w : Option OptionName). word_after w command word first given) waits
+    ∙ ap (λ (o : Option (List ℕ × List ℕ)). option_word command o word first given) (own_plain name)
+    ∙ name_word command first given name taken new
+    ∙ ap (λ (b : Bool). Ok (alone b name given)) flag in
+    ap (λ (r : Result Options ℕ). r >>= (λ more. options_of command (first + 1) more rest)) next
+
+one_taken : (command : CommandName) (first : ℕ) (given : Options) (name : OptionName) (value : List ℕ) (flag joined : Bool) (more : List Spelling) → is_flag (option_row name).form ≡ flag → given.waiting ≡ None → takes command name ≡ true → is_barred name given ≡ false → IsValue (form_for name command) value → ((place : ℕ) → options_of command place (put name value given) (flat_map spelled more) ≡ Ok (all_put (put name value given) more)) → options_of command first given (spelled_as flag joined ((option_row name).word) value ++ flat_map spelled more) ≡ Ok (all_put (put name value given) more)
+one_taken command first given name value true joined more is waits taken new formed later =
+    flag_taken command first given name (flat_map spelled more) waits taken new is
+    ∙ ap (λ (v : List ℕ). options_of command (first + 1) (put name v given) (flat_map spelled more)) (sym (flag_empty (form_for name command) value (flag_form name command ∙ is) formed))
+    ∙ later (first + 1)
+one_taken command first given name value false true more is waits taken new formed later = joined_taken command first given name value (flat_map spelled more) waits taken new is formed ∙ later (first + 1)
+one_taken command first given name value false false more is waits taken new formed later = apart_taken command first given name value (flat_map spelled more) waits taken new is formed ∙ later (first + 1 + 1)
 
 pub run_taken : (command : CommandName) (first : ℕ) (given : Options) (run : List Spelling) → given.waiting ≡ None → Runs command given run → options_of command first given (flat_map spelled run) ≡ Ok (all_put given run)
 run_taken command first given [] waits runs = rw waits refl
 run_taken command first given (s ∷ more) waits runs =
-    one_taken command first given s.name s.value s.joined more waits runs.0 runs.1 runs.2
+    one_taken command first given s.name s.value (is_flag (option_row s.name).form) s.joined more refl waits runs.0 runs.1 runs.2
     (λ place. run_taken command place (put s.name s.value given) more refl runs.3)
 
 -- words that were taken are those of a run
@@ -142,6 +159,10 @@ value_read name value command place given more words last is later =
     let run = behind_value name value command given more words last formed.1 later in
     (value, run.0, ap (λ (ws : List (List ℕ)). value ∷ ws) run.1, formed.0, run.2, run.3)
 
+-- the words of an option in front of others
+spelled_front : (name : OptionName) (value : List ℕ) (flag joined : Bool) (run : List Spelling) → is_flag (option_row name).form ≡ flag → spelled_as flag joined (option_row name).word value ++ flat_map spelled run ≡ flat_map spelled (record { name = name; value = value; joined = joined } ∷ run)
+spelled_front name value flag joined run is = ap (λ (b : Bool). spelled_as b joined (option_row name).word value ++ flat_map spelled run) (sym is)
+
 own_read : (command : CommandName) (own : List ℕ × List ℕ) (word : List ℕ) (place : ℕ) (given more : Options) (words : List (List ℕ)) (last : Options) (found : Result OptionName ℕ) → word ≡ own.0 ++ (61 ∷ own.1) → new_option command (option_of own.0) place given ≡ found → (found >>= (λ name. with_value command name own.1 place given)) ≡ Ok more → Read more.waiting command more words last → Read None command given (word ∷ words) last
 own_read command own word place given more words last (Err at) cut_is test is later = let clash : Err at ≡ Ok more = is in absurd (cc)
 own_read command own word place given more words last (Ok name) cut_is test is later =
@@ -150,21 +171,30 @@ own_read command own word place given more words last (Ok name) cut_is test is l
     let run = behind_value name own.1 command given more words last formed.1 later in
     let named : word ≡ (option_row name).word ++ (61 ∷ own.1) = cut_is ∙ ap (λ (text : List ℕ). text ++ (61 ∷ own.1)) taken.named in (
       record { name = name; value = own.1; joined = true } ∷ run.0,
-      ap (λ (w : List ℕ). w ∷ words) named ∙ ap (λ (ws : List (List ℕ)). ((option_row name).word ++ (61 ∷ own.1)) ∷ ws) run.1,
+      ap (λ (w : List ℕ). w ∷ words) named ∙ ap (λ (ws : List (List ℕ)). ((option_row name).word ++ (61 ∷ own.1)) ∷ ws) run.1 ∙ spelled_front name own.1 false true run.0 formed.2,
       (taken.takes, taken.new, formed.0, run.2),
       run.3,
     )
 
-name_read : (command : CommandName) (word : List ℕ) (place : ℕ) (given more : Options) (words : List (List ℕ)) (last : Options) (found : Result OptionName ℕ) → new_option command (option_of word) place given ≡ found → (found >>= (λ name. Ok (record given { waiting = Some name }))) ≡ Ok more → Read more.waiting command more words last → Read None command given (word ∷ words) last
+name_read : (command : CommandName) (word : List ℕ) (place : ℕ) (given more : Options) (words : List (List ℕ)) (last : Options) (found : Result OptionName ℕ) → new_option command (option_of word) place given ≡ found → (found >>= (λ name. Ok (alone (is_flag (option_row name).form) name given))) ≡ Ok more → Read more.waiting command more words last → Read None command given (word ∷ words) last
 name_read command word place given more words last (Err at) test is later = let clash : Err at ≡ Ok more = is in absurd (cc)
 name_read command word place given more words last (Ok name) test is later =
     let taken = option_is command word (option_of word) place given name refl test in
-    let same : record given { waiting = Some name } ≡ more = (let ok : Ok (record given { waiting = Some name }) ≡ Ok more = is in cc) in
-    let there = subst (λ (o : Options). Read o.waiting command o words last) (sym same) later in (
-      record { name = name; value = there.0; joined = false } ∷ there.1,
-      ap (λ (w : List ℕ). w ∷ words) taken.named ∙ ap (λ (ws : List (List ℕ)). (option_row name).word ∷ ws) there.2,
-      (taken.takes, taken.new, there.3, there.4),
-      there.5,
+    let same : alone (is_flag (option_row name).form) name given ≡ more = (let ok : Ok (alone (is_flag (option_row name).form) name given) ≡ Ok more = is in cc) in
+    by (is_flag (option_row name).form) refl taken (subst (λ (o : Options). Read o.waiting command o words last) (sym same) later)
+  where
+    by : (flag : Bool) → is_flag (option_row name).form ≡ flag → Taken command word name given → Read (alone flag name given).waiting command (alone flag name given) words last → Read None command given (word ∷ words) last
+    by true flag taken (run, are, runs, is) = (
+      record { name = name; value = []; joined = false } ∷ run,
+      ap (λ (w : List ℕ). w ∷ words) taken.named ∙ ap (λ (ws : List (List ℕ)). (option_row name).word ∷ ws) are ∙ spelled_front name [] true false run flag,
+      (taken.takes, taken.new, flag_formed (form_for name command) (flag_form name command ∙ flag), runs),
+      is,
+    )
+    by false flag taken (value, run, are, formed, runs, is) = (
+      record { name = name; value = value; joined = false } ∷ run,
+      ap (λ (w : List ℕ). w ∷ words) taken.named ∙ ap (λ (ws : List (List ℕ)). (option_row name).word ∷ ws) are ∙ spelled_front name value false false run flag,
+      (taken.takes, taken.new, formed, runs),
+      is,
     )
 
 word_read : (own : Option (List ℕ × List ℕ)) (command : CommandName) (word : List ℕ) (place : ℕ) (given more : Options) (words : List (List ℕ)) (last : Options) → own_value word ≡ own → option_word command own word place given ≡ Ok more → Read more.waiting command more words last → Read None command given (word ∷ words) last

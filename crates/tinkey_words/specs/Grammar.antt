@@ -5,7 +5,7 @@
 --                      options that fit its row, in any order, or ask for help or for the version
 --
 -- The commands and options are those of the tables of Rows.
-use Rattle.std.specs.Prelude.{◌≡◌, ◌≢◌, ◌⊎◌, ◌↔◌, ℕ, ◌+◌, ◌*◌, ◌%◌, ◌^◌, ◌<◌, ◌≤◌, List, [], ◌∷◌, ◌++◌, length, Bool, true, None, Some, if◌then◌else◌, Ok, Err, codes}
+use Rattle.std.specs.Prelude.{◌≡◌, ◌≢◌, ◌⊎◌, ◌↔◌, ℕ, ◌+◌, ◌*◌, ◌%◌, ◌^◌, ◌<◌, ◌≤◌, List, [], ◌∷◌, ◌++◌, length, Bool, true, None, Some, if◌then◌else◌, Ok, Err, codes, false}
 use Rattle.std.specs.List.{AllByRecursion, flat_map, list_all}
 use Rattle.std.specs.Str.{all_ascii_digits, str_to_ascii_lowercase}
 use Rattle.std.specs.Str.Parse.{digits_value}
@@ -16,7 +16,7 @@ use Rattle.tinkey_words.specs.declared.words.rows.Form.{Form}
 use Rattle.tinkey_words.specs.declared.words.rows.Form.TheVariants as forms
 use Rattle.tinkey_words.specs.declared.words.rows.OptionName.{OptionName}
 use Rattle.hex.specs.Hex.{is_hex_digit}
-use Rattle.tinkey_words.specs.Rows.{row_of, option_row, form_for, rival, same, datum_limit, most_lines, most_range}
+use Rattle.tinkey_words.specs.Rows.{row_of, option_row, form_for, rival, same, datum_limit, most_lines, most_range, is_flag}
 use Rattle.tinkey_words.specs.Words.{Asked, Values, asked_with, help, version, words_of}
 
 -- where the word of a place is at fault, it is so whatever words stand behind it
@@ -56,7 +56,7 @@ pub record IsHex (text : List ℕ) : Type 0 where
   pub even : length text % 2 ≡ 0
   pub short : length text ≤ 2 * datum_limit
 
--- the value is of the form
+-- the value is of the form; that of a flag, which no word holds, is empty
 abbrev pub IsValue : Form → List ℕ → Type 0
 IsValue forms.Text value = Unit {0}
 IsValue forms.FileName value = value ≢ []
@@ -69,6 +69,7 @@ IsValue forms.Format value =
     ⊎ (str_to_ascii_lowercase value ≡ codes "binary")
 IsValue forms.Datum value = length value ≤ datum_limit
 IsValue forms.Hex value = IsHex value
+IsValue forms.Flag value = value ≡ []
 
 -- an option with its value, and whether they stand in one word
 pub record Spelling : Type 0 where
@@ -76,13 +77,16 @@ pub record Spelling : Type 0 where
   pub value : List ℕ
   pub joined : Bool
 
--- the words of an option: `--name=value`, or `--name` and the value
-abbrev pub spelled_as : Bool → List ℕ → List ℕ → List (List ℕ)
-spelled_as joined name value = if joined then (name ++ (61 ∷ value)) ∷ [] else name ∷ value ∷ []
+-- the words of an option: `--name=value`, or `--name` and the value; of a flag, `--name` alone
+abbrev pub spelled_as : (flag joined : Bool) → List ℕ → List ℕ → List (List ℕ)
+spelled_as true joined name value = name ∷ []
+spelled_as false joined name value =
+    if joined then (name ++ (61 ∷ value)) ∷ [] else name ∷ value ∷ []
 
 -- the words of an option as it is spelled
 abbrev pub spelled : Spelling → List (List ℕ)
-spelled s = spelled_as s.joined (option_row s.name).word s.value
+spelled s =
+    spelled_as (is_flag (option_row s.name).form) s.joined (option_row s.name).word s.value
 
 -- one of them is this option
 abbrev pub IsGiven : OptionName → List Spelling → Type 0

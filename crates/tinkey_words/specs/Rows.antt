@@ -72,6 +72,14 @@ with_ad = options.KeysetFormat ∷ options.Ad ∷ options.AdHex ∷ []
 abbrev pub by_keyset_and_range : List OptionName
 by_keyset_and_range = options.Keyset ∷ options.File ∷ options.From ∷ options.Length ∷ []
 
+-- the same, where what is sealed or opened may become a file
+abbrev pub with_ad_and_out : List OptionName
+with_ad_and_out = options.KeysetFormat ∷ options.Ad ∷ options.AdHex ∷ options.Out ∷ []
+
+-- what a command may have that makes bytes by a keyset without associated data
+abbrev pub out_or_hex : List OptionName
+out_or_hex = options.KeysetFormat ∷ options.Out ∷ options.Hex ∷ []
+
 -- the row of each command
 abbrev pub row_of : CommandName → Row
 row_of commands.CreateKeyset = row (codes "create-keyset") by_template put_out
@@ -85,25 +93,25 @@ row_of commands.DeleteKey = row (codes "delete-key") by_key in_and_out
 row_of commands.ListKeyset = row (codes "list-keyset") [] taken
 row_of commands.ConvertKeyset = row (codes "convert-keyset") [] in_and_out
 row_of commands.ListKeyTemplates = row (codes "list-key-templates") [] []
-row_of commands.Seal = row (codes "seal") by_keyset with_ad
-row_of commands.Open = row (codes "open") by_keyset with_ad
-row_of commands.Dseal = row (codes "dseal") by_keyset with_ad
-row_of commands.Dopen = row (codes "dopen") by_keyset with_ad
+row_of commands.Seal = row (codes "seal") by_keyset with_ad_and_out
+row_of commands.Open = row (codes "open") by_keyset with_ad_and_out
+row_of commands.Dseal = row (codes "dseal") by_keyset with_ad_and_out
+row_of commands.Dopen = row (codes "dopen") by_keyset with_ad_and_out
 row_of commands.Sseal = row (codes "sseal") by_keyset with_ad
 row_of commands.Sopen = row (codes "sopen") by_keyset with_ad
-row_of commands.Tag = row (codes "tag") by_keyset (options.KeysetFormat ∷ [])
+row_of commands.Tag = row (codes "tag") by_keyset out_or_hex
 row_of commands.Verify =
     row (codes "verify") (options.Keyset ∷ options.TagHex ∷ []) (options.KeysetFormat ∷ [])
 row_of commands.Derive =
-    row (codes "derive") (options.Keyset ∷ options.Length ∷ []) (options.KeysetFormat ∷ [])
+    row (codes "derive") (options.Keyset ∷ options.Length ∷ []) out_or_hex
 row_of commands.Selftest =
     row (codes "selftest") (options.Seed ∷ []) (options.Lines ∷ [])
 row_of commands.Session = row (codes "session") by_keyset (options.KeysetFormat ∷ put_out)
 row_of commands.WrapKeyset = row (codes "wrap-keyset") by_master under_master
 row_of commands.UnwrapKeyset = row (codes "unwrap-keyset") by_master under_master
-row_of commands.Eseal = row (codes "eseal") by_keyset_and_dek with_ad
-row_of commands.Eopen = row (codes "eopen") by_keyset_and_dek with_ad
-row_of commands.Srange = row (codes "srange") by_keyset_and_range (with_ad ++ (options.Out ∷ []))
+row_of commands.Eseal = row (codes "eseal") by_keyset_and_dek with_ad_and_out
+row_of commands.Eopen = row (codes "eopen") by_keyset_and_dek with_ad_and_out
+row_of commands.Srange = row (codes "srange") by_keyset_and_range with_ad_and_out
 
 -- all commands
 abbrev pub all_commands : List CommandName
@@ -153,6 +161,7 @@ option_row options.MasterFormat = option 15 (codes "--master-format") forms.Form
 option_row options.DekTemplate = option 16 (codes "--dek-template") forms.Text
 option_row options.File = option 17 (codes "--file") forms.FileName
 option_row options.From = option 18 (codes "--from") forms.Offset
+option_row options.Hex = option 19 (codes "--hex") forms.Flag
 
 -- all options, in the order of their places
 abbrev pub all_options : List OptionName
@@ -160,7 +169,7 @@ all_options =
     options.KeyTemplate ∷ options.KeyId ∷ options.In ∷ options.InFormat ∷ options.Out
     ∷ options.OutFormat ∷ options.Keyset ∷ options.KeysetFormat ∷ options.Ad ∷ options.AdHex
     ∷ options.TagHex ∷ options.Length ∷ options.Seed ∷ options.Lines ∷ options.Master
-    ∷ options.MasterFormat ∷ options.DekTemplate ∷ options.File ∷ options.From ∷ []
+    ∷ options.MasterFormat ∷ options.DekTemplate ∷ options.File ∷ options.From ∷ options.Hex ∷ []
 
 -- the option of this name
 unfoldable pub option_of : List ℕ → Option OptionName
@@ -195,6 +204,11 @@ length_form _ = forms.Number
 abbrev pub form_for : OptionName → CommandName → Form
 form_for options.Length command = length_form command
 form_for name command = (option_row name).form
+
+-- a flag is a word without a value
+abbrev pub is_flag : Form → Bool
+is_flag forms.Flag = true
+is_flag _ = false
 
 -- a self-test of more lines isn't made
 abbrev pub most_lines : ℕ
@@ -246,7 +260,7 @@ is_hex text =
 
 -- the text is a value of this form: any text, the name of a file, which isn't empty, a number, a count
 -- of lines, the length of a range, an offset in a file, the name of a keyset's form, or a datum as it stands
--- or in hexadecimal
+-- or in hexadecimal; a flag has none
 unfoldable pub is_value : Form → List ℕ → Bool
 is_value forms.Text text = true
 is_value forms.FileName text = nat_lt 0 (length text)
@@ -257,6 +271,7 @@ is_value forms.Offset text = is_some (offset_in text)
 is_value forms.Format text = is_some (format_of text)
 is_value forms.Datum text = is_datum text
 is_value forms.Hex text = is_hex text
+is_value forms.Flag text = false
 
 -- What the code's rows stand for.
 

@@ -1,13 +1,13 @@
 -- The grammar of the command's words: a command, and then options in any order, each at most once,
--- as `--name value` in two words or `--name=value` in one; or a few words that ask for help or for the
--- version. Rows has the tables of commands and options.
+-- as `--name value` in two words or `--name=value` in one, and a flag as `--name` alone; or a few words that
+-- ask for help or for the version. Rows has the tables of commands and options.
 --
 -- The answer is a command, or the place of the first word at fault: an unknown command or option,
 -- one that the command doesn't have, a repeat, the second of two that exclude each other, or one that
 -- holds a value that isn't of its form; of help, a topic that isn't known, or a word too many.
 -- Where a value or a required option is missing at the end, the place is the number of words.
 -- Places count from 0.
-use Rattle.std.specs.Prelude.{◌≡◌, ℕ, ◌+◌, ◌*◌, List, [], ◌∷◌, length, Bool, false, ◌||◌, Option, Some, None, is_some, option_map, Result, Ok, Err, ◌==◌, nat_lt, nat_le, if◌then◌else◌, slice_index_or, codes}
+use Rattle.std.specs.Prelude.{◌≡◌, ℕ, ◌+◌, ◌*◌, List, [], ◌∷◌, length, Bool, false, ◌||◌, Option, Some, None, is_some, option_map, Result, Ok, Err, ◌==◌, nat_lt, nat_le, if◌then◌else◌, slice_index_or, codes, true}
 use Rattle.std.specs.List.{list_all, position_or_len, before_first, after_first}
 use Rattle.std.specs.Borrow.{Bor}
 use Rattle.std.specs.Str.{bytes_eq}
@@ -24,6 +24,7 @@ use Rattle.tinkey_words.specs.declared.words.Request.TheVariants as asks
 use Rattle.tinkey_words.specs.declared.words.Options.{Options as CodeOptions}
 use Rattle.tinkey_words.specs.declared.words.Place.{Place as CodePlace}
 use Rattle.tinkey_words.specs.declared.words.range.Range.{Range as CodeRange}
+use Rattle.tinkey_words.specs.declared.words.Output.{Output as CodeOutput}
 use Rattle.tinkey_words.specs.declared.words.Datum.{Datum}
 use Rattle.tinkey_words.specs.declared.words.Datum.TheVariants as data'
 use Rattle.tinkey_words.specs.declared.words.Work.{Work}
@@ -41,7 +42,7 @@ use Rattle.tinkey_words.specs.declared.words.rows.CommandName.TheVariants as com
 use Rattle.tinkey_words.specs.declared.words.rows.OptionName.{OptionName}
 use Rattle.tinkey_words.specs.declared.words.rows.OptionName.TheVariants as options
 use Rattle.tink_base.specs.Decimal.{number_in}
-use Rattle.tinkey_words.specs.Rows.{row_of, command_of, option_row, option_of, form_for, rival, same, takes, datum_limit, most_range, format_of, is_value, offset_in}
+use Rattle.tinkey_words.specs.Rows.{row_of, command_of, option_row, option_of, form_for, rival, same, takes, datum_limit, most_range, format_of, is_value, offset_in, is_flag}
 
 -- What is asked.
 
@@ -79,6 +80,12 @@ pub record Place : Type 0 where
   pub file : Option (List ℕ)
   pub form : Format
 
+-- where the bytes that work by keys gives are put, as a place but in no form of keysets: as they are, or
+-- in hexadecimal
+pub record Output : Type 0 where
+  pub file : Option (List ℕ)
+  pub hex : Bool
+
 -- what is done with the whole input by data keys under the keys of a keyset, with this associated data
 pub data AskedEnvelope : Type 0 where
   to_eseal : (ad : List ℕ) → AskedEnvelope
@@ -102,10 +109,11 @@ pub data Asked : Type 0 where
   convert_keyset : (in' out : Place) → Asked
   -- the names of the templates
   list_key_templates : Asked
-  -- work on the input, by the keys of the keyset in the file of this name
-  use_keyset : (keyset : List ℕ) (form : Format) (work : AskedWork) → Asked
+  -- work on the input, by the keys of the keyset in the file of this name, and where it is put
+  use_keyset : (keyset : List ℕ) (form : Format) (work : AskedWork) (out : Output) → Asked
   -- the same by data keys, which are of the template of this name, under such keys
-  use_envelope : (keyset : List ℕ) (form : Format) (template : List ℕ) (work : AskedEnvelope) → Asked
+  use_envelope : (keyset : List ℕ) (form : Format) (template : List ℕ) (work : AskedEnvelope)
+      (out : Option (List ℕ)) → Asked
   -- the input as a stream, sealed or opened by such a keyset, with this associated data
   seal_stream : (keyset : List ℕ) (form : Format) (ad : List ℕ) → Asked
   open_stream : (keyset : List ℕ) (form : Format) (ad : List ℕ) → Asked
@@ -202,6 +210,10 @@ taken_from values = record { file = values options.In; form = form_in (values op
 abbrev pub put_to : Values → Place
 put_to values = record { file = values options.Out; form = form_in (values options.OutFormat) }
 
+-- where the bytes of work by keys are put
+abbrev pub output_in : Values → Output
+output_in values = record { file = values options.Out; hex = is_some (values options.Hex) }
+
 -- a keyset that is changed so
 abbrev pub edited : AskedEdit → Values → Asked
 edited edit values = edit_keyset edit (taken_from values) (put_to values)
@@ -210,12 +222,13 @@ edited edit values = edit_keyset edit (taken_from values) (put_to values)
 abbrev pub worked : AskedWork → Values → Asked
 worked work values =
     use_keyset (text (values options.Keyset)) (form_in (values options.KeysetFormat)) work
+    (output_in values)
 
 -- work by data keys
 abbrev pub enveloped : AskedEnvelope → Values → Asked
 enveloped work values =
     use_envelope (text (values options.Keyset)) (form_in (values options.KeysetFormat))
-    (text (values options.DekTemplate)) work
+    (text (values options.DekTemplate)) work (values options.Out)
 
 -- a length of a range; one that is too long is none
 abbrev pub range_length : ℕ → ℕ
@@ -318,12 +331,18 @@ abbrev pub with_value : CommandName → OptionName → List ℕ → ℕ → Opti
 with_value command name value place given =
     if is_value (form_for name command) value then Ok (put name value given) else Err place
 
+-- an option whose word has no value of its own: a flag is given by it, with the empty value, and any
+-- other option waits for its value
+abbrev pub alone : (flag : Bool) → OptionName → Options → Options
+alone true name given = put name [] given
+alone false name given = record given { waiting = Some name }
+
 -- an option's word of this place: its value is its own, or is the next word
 abbrev pub option_word : CommandName → Option (List ℕ × List ℕ) → List ℕ → ℕ → Options →
     Result Options ℕ
 option_word command None word place given =
     new_option command (option_of word) place given
-    >>= (λ name. Ok (record given { waiting = Some name }))
+    >>= (λ name. Ok (alone (is_flag (option_row name).form) name given))
 option_word command (Some own) word place given =
     new_option command (option_of own.0) place given
     >>= (λ name. with_value command name own.1 place given)
@@ -444,6 +463,10 @@ seen_name name = option_map (λ name. name.now) name
 abbrev pub seen_place : CodePlace → Place
 seen_place place = record { file = seen_name place.file; form = place.form }
 
+-- a place of bytes
+abbrev pub seen_output : CodeOutput → Output
+seen_output output = record { file = seen_name output.file; hex = output.hex }
+
 -- a datum, as its bytes
 abbrev pub seen_datum : Datum → List ℕ
 seen_datum (data'.Plain plain) = datum_as plain.now
@@ -477,7 +500,8 @@ seen_command (asks.ListKeyset input) = list_keyset (seen_place input)
 seen_command (asks.ConvertKeyset input output) =
     convert_keyset (seen_place input) (seen_place output)
 seen_command asks.ListKeyTemplates = list_key_templates
-seen_command (asks.UseKeyset keyset form work) = use_keyset keyset.now form (seen_work work)
+seen_command (asks.UseKeyset keyset form work output) =
+    use_keyset keyset.now form (seen_work work) (seen_output output)
 seen_command (asks.SealStream keyset form ad) = seal_stream keyset.now form (seen_datum ad)
 seen_command (asks.OpenStream keyset form ad) = open_stream keyset.now form (seen_datum ad)
 seen_command (asks.Session keyset form output) = session keyset.now form (seen_place output)
@@ -486,8 +510,8 @@ seen_command (asks.WrapKeyset master form input output) =
     wrap_keyset master.now form (seen_place input) (seen_place output)
 seen_command (asks.UnwrapKeyset master form input output) =
     unwrap_keyset master.now form (seen_place input) (seen_place output)
-seen_command (asks.UseEnvelope keyset form template work) =
-    use_envelope keyset.now form template.now (seen_envelope work)
+seen_command (asks.UseEnvelope keyset form template work output) =
+    use_envelope keyset.now form template.now (seen_envelope work) (seen_name output)
 seen_command (asks.OpenRange keyset form ad range output) =
     open_range keyset.now form (seen_datum ad) (seen_range range) (seen_name output)
 seen_command (asks.Help topic) = help topic

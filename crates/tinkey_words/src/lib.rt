@@ -8,5 +8,6 @@ pub mod laws;
 mod words;
 
 pub use words::{
-    CommandName, DATUM_LIMIT, Datum, Envelope, Format, Place, Range, Request, Topic, Work, parse,
+    CommandName, DATUM_LIMIT, Datum, Envelope, Format, Output, Place, Range, Request, Topic, Work,
+    parse,
 };

@@ -1,9 +1,9 @@
 //! The command's words, read by the grammar of `specs/Words.antt`. No memory is taken.
 
 ghost use Rattle.std.specs.Prelude.{◌≡◌, ◌<◌, ◌≤◌, ◌^◌, Some, length, map, option_map, slice_set, string_bytes};
-ghost use Rattle.tinkey_words.specs.Rows.{option_of};
+ghost use Rattle.tinkey_words.specs.Rows.{option_of, is_flag, option_row};
 ghost use Rattle.tinkey_words.specs.declared.words.rows.OptionName.TheVariants.{Lines};
-ghost use Rattle.tinkey_words.specs.Words.{words_of, by_itself, command_words, help_words, topic_words, with_options, topic_of, given_in, lines_in, next_word, option_word, own_value, is_barred, new_option, with_value, no_options, has_required, complete, asked_with, text, number, id, template, ad, edited, enveloped, worked, seen_command, seen_datum, seen_edit, seen_envelope, seen_name, seen_options, seen_range, seen_work, offset, range, range_length, Reads, form_in, taken_from, put_to, seen_place};
+ghost use Rattle.tinkey_words.specs.Words.{words_of, by_itself, command_words, help_words, topic_words, with_options, topic_of, given_in, lines_in, next_word, option_word, own_value, is_barred, new_option, with_value, no_options, has_required, complete, asked_with, text, number, id, template, ad, edited, enveloped, worked, seen_command, seen_datum, seen_edit, seen_envelope, seen_name, seen_options, seen_range, seen_work, offset, range, range_length, Reads, form_in, taken_from, put_to, seen_place, alone, output_in, seen_output};
 
 mod help;
 mod range;
@@ -14,7 +14,8 @@ use help::{First, first_named, is_help_flag, topic_named};
 pub use range::Range;
 pub use rows::{CommandName, DATUM_LIMIT, Format};
 use rows::{
-    MOST_RANGE, OPTION_COUNT, OptionName, format_named, is_value, offset_in, option_named, takes,
+    MOST_RANGE, OPTION_COUNT, OptionName, format_named, is_flag, is_value, offset_in, option_named,
+    takes,
 };
 use tink_base::number_in;
 use tinkey_cmds::Command as Edit;
@@ -63,6 +64,8 @@ pub enum Request<'a> {
         form: Format,
         /// What is done.
         work: Work<'a>,
+        /// Where it is put.
+        output: Output<'a>,
     },
     /// Seal the input as a stream.
     SealStream {
@@ -143,6 +146,8 @@ pub enum Request<'a> {
         template: &'a str,
         /// What is done.
         work: Envelope<'a>,
+        /// The file that it is put into, or none for standard output.
+        output: Option<&'a str>,
     },
     /// Tell what a topic has to say.
     Help {
@@ -197,6 +202,15 @@ pub struct Place<'a> {
     pub file: Option<&'a str>,
     /// The form of the keyset.
     pub form: Format,
+}
+
+/// Where the bytes that work by keys gives are put.
+#[derive(Clone, Copy)]
+pub struct Output<'a> {
+    /// The file, or none for standard output.
+    pub file: Option<&'a str>,
+    /// Whether they are put in hexadecimal.
+    pub hex: bool,
 }
 
 /// The options of the words so far.
@@ -499,6 +513,16 @@ impl<'a> Options<'a> {
         }
     }
 
+    /// Where the bytes of work by keys are put.
+    fn output(&self) -> Output<'a>
+        ensures { seen_output result ≡ output_in (seen_options self.now).values }
+    {
+        Output {
+            file: self.value(OptionName::Out),
+            hex: self.value(OptionName::Hex).is_some(),
+        }
+    }
+
     /// The associated data.
     fn ad(&self) -> Datum<'a>
         ensures { seen_datum result ≡ ad (seen_options self.now).values }
@@ -518,6 +542,7 @@ impl<'a> Options<'a> {
             keyset: self.text(OptionName::Keyset),
             form: self.form(OptionName::KeysetFormat),
             work,
+            output: self.output(),
         }
     }
 
@@ -531,6 +556,7 @@ impl<'a> Options<'a> {
             form: self.form(OptionName::KeysetFormat),
             template: self.text(OptionName::DekTemplate),
             work,
+            output: self.value(OptionName::Out),
         }
     }
 
@@ -628,11 +654,25 @@ fn option_word<'a>(
         },
         None => match new_option(command, word, place, so_far) {
             Ok(name) => {
-                so_far.waiting = Some(name);
+                alone(name, so_far);
                 Ok(())
             }
             Err(place) => Err(place),
         },
+    }
+}
+
+/// An option whose word has no value of its own: a flag is given by it, and any other option waits for
+/// its value.
+fn alone<'a>(name: OptionName, so_far: &mut Options<'a>)
+    ensures { seen_options so_far.new
+        ≡ alone (is_flag (option_row name).form) name (seen_options so_far.old) }
+{
+    if is_flag(name.row().form) {
+        write(&mut so_far.values, name.place(), "");
+        so_far.waiting = None;
+    } else {
+        so_far.waiting = Some(name);
     }
 }
 

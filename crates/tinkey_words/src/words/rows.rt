@@ -4,7 +4,7 @@
 ghost use Rattle.std.specs.Prelude.{◌≡◌, ◌<◌};
 ghost use Rattle.std.specs.List.{list_all};
 ghost use Rattle.hex.specs.Hex.{is_hex_digit};
-ghost use Rattle.tinkey_words.specs.Rows.{row, row_of, command_of, option_row, option_of, rival, is_one_of, takes, format_of, is_hex, is_line_count, is_range_length, is_value, form_for, length_form, offset_in, seen_row};
+ghost use Rattle.tinkey_words.specs.Rows.{row, row_of, command_of, option_row, option_of, rival, is_one_of, takes, format_of, is_hex, is_line_count, is_range_length, is_value, form_for, length_form, offset_in, seen_row, is_flag};
 
 use tink_base::number_in;
 
@@ -108,10 +108,12 @@ pub enum OptionName {
     File,
     /// `--from`, the offset of a range's first byte.
     From,
+    /// `--hex`, whether what is put out is in hexadecimal.
+    Hex,
 }
 
 /// How many options there are.
-pub const OPTION_COUNT: usize = 19;
+pub const OPTION_COUNT: usize = 20;
 
 /// How many lines a self-test may have.
 const MOST_LINES: u32 = 100_000;
@@ -158,6 +160,8 @@ pub enum Form {
     Datum,
     /// An even number of hexadecimal digits of either case, at most 2,097,152.
     Hex,
+    /// None: the option's word stands alone.
+    Flag,
 }
 
 /// A command's word, the options that it requires, and those that it may have.
@@ -192,23 +196,21 @@ impl CommandName {
             CommandName::ListKeyset => row("list-keyset", &[], &IN),
             CommandName::ConvertKeyset => row("convert-keyset", &[], &IN_AND_OUT),
             CommandName::ListKeyTemplates => row("list-key-templates", &[], &[]),
-            CommandName::Seal => row("seal", &BY_KEYSET, &WITH_AD),
-            CommandName::Open => row("open", &BY_KEYSET, &WITH_AD),
-            CommandName::Dseal => row("dseal", &BY_KEYSET, &WITH_AD),
-            CommandName::Dopen => row("dopen", &BY_KEYSET, &WITH_AD),
+            CommandName::Seal => row("seal", &BY_KEYSET, &WITH_AD_AND_OUT),
+            CommandName::Open => row("open", &BY_KEYSET, &WITH_AD_AND_OUT),
+            CommandName::Dseal => row("dseal", &BY_KEYSET, &WITH_AD_AND_OUT),
+            CommandName::Dopen => row("dopen", &BY_KEYSET, &WITH_AD_AND_OUT),
             CommandName::Sseal => row("sseal", &BY_KEYSET, &WITH_AD),
             CommandName::Sopen => row("sopen", &BY_KEYSET, &WITH_AD),
-            CommandName::Tag => row("tag", &BY_KEYSET, &[OptionName::KeysetFormat]),
+            CommandName::Tag => row("tag", &BY_KEYSET, &OUT_OR_HEX),
             CommandName::Verify => row("verify", &BY_KEYSET_AND_TAG, &[OptionName::KeysetFormat]),
-            CommandName::Derive => {
-                row("derive", &BY_KEYSET_AND_LENGTH, &[OptionName::KeysetFormat])
-            }
+            CommandName::Derive => row("derive", &BY_KEYSET_AND_LENGTH, &OUT_OR_HEX),
             CommandName::Session => row("session", &BY_KEYSET, &WITH_OUT),
             CommandName::Selftest => row("selftest", &[OptionName::Seed], &[OptionName::Lines]),
             CommandName::WrapKeyset => row("wrap-keyset", &BY_MASTER, &UNDER_MASTER),
             CommandName::UnwrapKeyset => row("unwrap-keyset", &BY_MASTER, &UNDER_MASTER),
-            CommandName::Eseal => row("eseal", &BY_KEYSET_AND_DEK, &WITH_AD),
-            CommandName::Eopen => row("eopen", &BY_KEYSET_AND_DEK, &WITH_AD),
+            CommandName::Eseal => row("eseal", &BY_KEYSET_AND_DEK, &WITH_AD_AND_OUT),
+            CommandName::Eopen => row("eopen", &BY_KEYSET_AND_DEK, &WITH_AD_AND_OUT),
             CommandName::Srange => row("srange", &BY_KEYSET_AND_RANGE, &WITH_AD_AND_OUT),
         }
     }
@@ -244,13 +246,16 @@ const BY_KEYSET_AND_RANGE: [OptionName; 4] = [
     OptionName::Length,
 ];
 
-/// What such a command may have that takes associated data and puts bytes.
+/// The same, where what is sealed or opened may become a file.
 const WITH_AD_AND_OUT: [OptionName; 4] = [
     OptionName::KeysetFormat,
     OptionName::Ad,
     OptionName::AdHex,
     OptionName::Out,
 ];
+
+/// What such a command may have that makes bytes without associated data.
+const OUT_OR_HEX: [OptionName; 3] = [OptionName::KeysetFormat, OptionName::Out, OptionName::Hex];
 
 /// What such a command may have that puts a keyset.
 const WITH_OUT: [OptionName; 3] = [
@@ -322,6 +327,7 @@ impl OptionName {
             OptionName::DekTemplate => option("--dek-template", Form::Text),
             OptionName::File => option("--file", Form::FileName),
             OptionName::From => option("--from", Form::Offset),
+            OptionName::Hex => option("--hex", Form::Flag),
         }
     }
 
@@ -424,6 +430,7 @@ const OPTIONS: [OptionName; OPTION_COUNT] = [
     OptionName::DekTemplate,
     OptionName::File,
     OptionName::From,
+    OptionName::Hex,
 ];
 
 /// The command of this name.
@@ -476,7 +483,15 @@ pub fn is_value(form: Form, text: &str) -> bool
         Form::Format => format_named(text).is_some(),
         Form::Datum => text.len() <= DATUM_LIMIT,
         Form::Hex => is_hex(text),
+        Form::Flag => false,
     }
+}
+
+/// A flag is a word without a value.
+pub fn is_flag(form: Form) -> bool
+    ensures { result ≡ is_flag form }
+{
+    matches!(form, Form::Flag)
 }
 
 /// Whether a number is there, and may be a count of lines.
