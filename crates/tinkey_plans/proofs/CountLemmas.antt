@@ -90,7 +90,7 @@ self_tests_tell adds lost table seed lines told = by (trial.self_test table seed
     by (Err fault) is only = inr (ap (λ (f : CmdFault). status.Command f) only, refl)
 
 pub self_test_runs : CountsAddUp → NothingIsLost → SelfTestRuns
-self_test_runs adds lost table words seed lines old s new is run = by (trial.self_test table seed lines) refl (only_exhausted table seed lines) (subst (λ p. Ends p old s new) (ap (asked_plan table) is) run)
+self_test_runs adds lost table words seed lines old s new is run = by (trial.self_test table seed lines) refl (only_exhausted table seed lines) (subst (λ p. Ends p old s new) (ap (λ r. asked_plan table r words) is) run)
   where
     by : (r : Result Counts CmdFault) → trial.self_test table seed lines ≡ r → IsExhausted r → Ends (tells_counts lines r writes) old s new → HasTested table lines old s new
     by r is only (inr (e, same)) = starved e same

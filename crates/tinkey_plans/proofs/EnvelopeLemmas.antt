@@ -31,11 +31,11 @@ use Rattle.tinkey_words.specs.declared.words.rows.Format.{Format}
 use Rattle.tinkey_words.specs.declared.words.rows.Format.TheVariants as formats
 use Rattle.tinkey_words.specs.Words.{AskedEnvelope, to_eseal, to_eopen}
 use Rattle.tinkey_plans.specs.Commands.{asked_plan}
-use Rattle.tinkey_plans.specs.Ends.{Ends, Settles, World, draw_failed, draw_starved, load_absent, load_failed, load_long, load_starved, loaded, read, read_failed, read_starved, settled, too_long, write_failed, wrote}
+use Rattle.tinkey_plans.specs.Ends.{Ends, Settles, World, create_failed, create_starved, made, name_taken, draw_failed, draw_starved, load_absent, load_failed, load_long, load_starved, loaded, read, read_failed, read_starved, settled, too_long, write_failed, wrote}
 use Rattle.tinkey_plans.specs.Envelopes.{as_enveloped, envelope_limit, envelope_output, envelopes, seals_envelope, with_aead, with_enveloped, with_scheme}
 use Rattle.tinkey_plans.specs.Laws.{DataKeysCome, IsDekStatus}
-use Rattle.tinkey_plans.specs.Plan.{IsStated, Plan, allocates, ends, writes}
-use Rattle.tinkey_plans.specs.Steps.{keyset_in, loads_keyset, reads_input, with_json, with_keyset, with_made, with_row}
+use Rattle.tinkey_plans.specs.Plan.{IsStated, Plan, allocates, creates, ends, writes}
+use Rattle.tinkey_plans.specs.Steps.{keyset_in, loads_keyset, puts, reads_input, with_json, with_keyset, with_made, with_row}
 use Rattle.tinkey_plans.specs.Using.{unless_unfit, with_opened}
 
 -- a template that is found stands in the table
@@ -66,19 +66,30 @@ clear_writes : (output : List ℕ) → Clears (writes output)
 clear_writes output old s new (wrote is only stood took) d = subst IsDekStatus is d
 clear_writes output old s new (write_failed is only rose front) d = subst IsDekStatus is d
 
+clear_creates : (name output : List ℕ) → Clears (creates name output status.OutExists tt)
+clear_creates name output old s new (made is only stood given added) d = subst IsDekStatus is d
+clear_creates name output old s new (name_taken is only kept stood given there) d = subst IsDekStatus is d
+clear_creates name output old s new (create_failed is only rose given may) d = subst IsDekStatus is d
+clear_creates name output old s new (create_starved is only kept stood given) d = subst IsDekStatus is d
+
+-- a new file, or the sink
+clear_puts : (out : Option (List ℕ)) (output : List ℕ) → Clears (puts out output)
+clear_puts (Some name) output = clear_creates name output
+clear_puts None output = clear_writes output
+
 -- ---- the work
 
-clear_opened : (o : Option (List ℕ)) → Clears (with_opened o writes)
-clear_opened None = clear_end status.OpenFailed tt (λ d. d)
-clear_opened (Some plain) = clear_writes plain
+clear_opened : (o : Option (List ℕ)) (out : Option (List ℕ)) → Clears (with_opened o (puts out))
+clear_opened None out = clear_end status.OpenFailed tt (λ d. d)
+clear_opened (Some plain) out = clear_puts out plain
 
-clear_enveloped : (r : Result (List ℕ) Rule) → ((rule : Rule) → r ≡ Err rule → ⊥) → Clears (with_enveloped r writes)
-clear_enveloped (Ok bytes) never = clear_writes bytes
-clear_enveloped (Err rule) never = absurd (never rule refl)
+clear_enveloped : (r : Result (List ℕ) Rule) (out : Option (List ℕ)) → ((rule : Rule) → r ≡ Err rule → ⊥) → Clears (with_enveloped r (puts out))
+clear_enveloped (Ok bytes) out never = clear_puts out bytes
+clear_enveloped (Err rule) out never = absurd (never rule refl)
 
-clear_made : (given : Result (Result (List ℕ) Rule) CmdFault) → ((rule : Rule) → given ≡ Ok (Err rule) → ⊥) → Clears (with_made given (λ e. with_enveloped e writes))
-clear_made (Ok r) never = clear_enveloped r (λ rule e. never rule (ap Ok e))
-clear_made (Err fault) never = clear_end (status.Command fault) tt (λ d. d)
+clear_made : (given : Result (Result (List ℕ) Rule) CmdFault) (out : Option (List ℕ)) → ((rule : Rule) → given ≡ Ok (Err rule) → ⊥) → Clears (with_made given (λ e. with_enveloped e (puts out)))
+clear_made (Ok r) out never = clear_enveloped r out (λ rule e. never rule (ap Ok e))
+clear_made (Err fault) out never = clear_end (status.Command fault) tt (λ d. d)
 
 -- what is sealed under a valid data key is no refusal
 payload_never : (sealed : List ℕ) (o : Option Sealed) (e : Enveloped) (rule : Rule) → option_map (λ (payload : Sealed). record { answer = Ok (envelope sealed payload.bytes); left = payload.left }) o ≡ Some e → e.answer ≡ Err rule → ⊥
@@ -111,13 +122,13 @@ no_refusal valid keys scheme row plain ad drawn rule known served settles =
     let whole : length (take (random_of row) random) ≡ random_of row = length-take-le (random_of row) random (omega (arith, length-append drawn more, length-replicate {A = ℕ} (random_of row) 0)) in
     under_never keys (data_key_of row (take (random_of row) random)) plain ad (drop (random_of row) random) _ _ (nat_lt (length random) (random_of row)) e.0 rule (valid row scheme (take (random_of row) random) known served whole) e.1 e.2
 
-clear_work : DataKeysAreValid → (keys : Keys) (scheme : Scheme) (row : Row) (work : AskedEnvelope) (input : List ℕ) → IsDataKeyRow row → scheme_at standard_table Aead (url_made row) ≡ Some scheme → Clears (envelopes standard_table keys scheme row work input writes)
-clear_work valid keys scheme row (to_eopen ad) input known served old s new run d = clear_memory _ (clear_opened (open_envelope_of keys standard_table scheme input ad)) old s new run d
-clear_work valid keys scheme row (to_eseal ad) input known served old s new (inl (settled drawn entropy given drew stood settles run)) d =
-    clear_memory _ (clear_made given (λ rule e. no_refusal valid keys scheme row input ad drawn rule known served (subst (λ g. Settles (seals_envelope keys standard_table scheme row input ad) drawn g) e settles))) (record old { entropy = entropy }) s new run d
-clear_work valid keys scheme row (to_eseal ad) input known served old s new (inl (draw_failed is only out)) d = subst IsDekStatus is d
-clear_work valid keys scheme row (to_eseal ad) input known served old s new (inl (draw_starved parts is only drawn drew stood none)) d = subst IsDekStatus is d
-clear_work valid keys scheme row (to_eseal ad) input known served old s new (inr (is, same)) d = subst IsDekStatus is d
+clear_work : DataKeysAreValid → (keys : Keys) (scheme : Scheme) (row : Row) (work : AskedEnvelope) (out : Option (List ℕ)) (input : List ℕ) → IsDataKeyRow row → scheme_at standard_table Aead (url_made row) ≡ Some scheme → Clears (envelopes standard_table keys scheme row work input (puts out))
+clear_work valid keys scheme row (to_eopen ad) out input known served old s new run d = clear_memory _ (clear_opened (open_envelope_of keys standard_table scheme input ad) out) old s new run d
+clear_work valid keys scheme row (to_eseal ad) out input known served old s new (inl (settled drawn entropy given drew stood settles run)) d =
+    clear_memory _ (clear_made given out (λ rule e. no_refusal valid keys scheme row input ad drawn rule known served (subst (λ g. Settles (seals_envelope keys standard_table scheme row input ad) drawn g) e settles))) (record old { entropy = entropy }) s new run d
+clear_work valid keys scheme row (to_eseal ad) out input known served old s new (inl (draw_failed is only spent)) d = subst IsDekStatus is d
+clear_work valid keys scheme row (to_eseal ad) out input known served old s new (inl (draw_starved parts is only drawn drew stood none)) d = subst IsDekStatus is d
+clear_work valid keys scheme row (to_eseal ad) out input known served old s new (inr (is, same)) d = subst IsDekStatus is d
 
 -- ---- the steps before it
 
@@ -173,8 +184,8 @@ clear_row : (found : Option Row) (name : List ℕ) (next : Row → Plan) → ((r
 clear_row (Some row) name next clear = clear row refl
 clear_row None name next clear = clear_asymmetric (is_asymmetric name)
 
-clear_envelope : DataKeysAreServed → DataKeysAreValid → (name : List ℕ) (form : Format) (template : List ℕ) (work : AskedEnvelope) → Clears (envelope_output standard_table name form template work writes)
-clear_envelope served valid name form template work =
+clear_envelope : DataKeysAreServed → DataKeysAreValid → (name : List ℕ) (form : Format) (template : List ℕ) (work : AskedEnvelope) (out : Option (List ℕ)) → Clears (envelope_output standard_table name form template work (puts out))
+clear_envelope served valid name form template work out =
     clear_row (row_named template) template _ (λ row named.
     clear_aead (primitive_of_type (type_made row)) _ (λ aead.
     let scheme = served row aead in
@@ -182,8 +193,8 @@ clear_envelope served valid name form template work =
     clear_memory _ (clear_unfit (unfit keys Aead standard_table) _
     (clear_scheme (scheme_at standard_table Aead (url_made row)) scheme.0 _ scheme.1
     (clear_input (envelope_limit work) _ (λ input.
-    clear_work valid keys scheme.0 row work input (record { known = row_known template row named; aead = aead }) scheme.1)))))))
+    clear_work valid keys scheme.0 row work out input (record { known = row_known template row named; aead = aead }) scheme.1)))))))
 
 pub data_keys_come : DataKeysAreServed → DataKeysAreValid → DataKeysCome
-data_keys_come served valid words name form template work old s new is run =
-    clear_envelope served valid name form template work old s new (subst (λ p. Ends p old s new) (ap (asked_plan standard_table) is) run)
+data_keys_come served valid words name form template work out old s new is run =
+    clear_envelope served valid name form template work out old s new (subst (λ p. Ends p old s new) (ap (λ r. asked_plan standard_table r words) is) run)

@@ -23,6 +23,7 @@ use Rattle.tinkey_words.specs.declared.words.rows.Format.TheVariants as formats
 use Rattle.tinkey_plans.specs.Going.{DoneExactly, NoneRefuses}
 use Rattle.tinkey_plans.specs.Plan.{Answer, Of, Plan, Told, answer, create_answer, draw_answer, load_answer, look_answer, range_answer, pump_answer, refused, stream_status, talk_answer, limit_status, ends, writes, creates, looks, allocates, loads, reads_all, ranges, draws, pumps, exchanges}
 use Rattle.tinkey_plans.specs.Steps.{takes_keyset, makes_keyset, puts, puts_keyset}
+use Rattle.tinkey_plans.specs.Using.{hex_line, puts_output, shows}
 use Rattle.seal_wrap.specs.Unwrapped.{unwrap_of}
 use Rattle.tinkey_plans.specs.Wrapping.{is_json, makes_wrapped, takes_wrapped}
 use Rattle.tinkey_selftest.specs.Trial as trial
@@ -163,6 +164,10 @@ put_proper None output = tt
 out_proper : (out : Place) (keys : Keys) → IsProper (puts_keyset out keys)
 out_proper out keys = written_each IsProper closed out.form keys (puts out.file) (put_proper out.file)
 
+shown_proper : (hex : Bool) (file : Option (List ℕ)) (bytes : List ℕ) → IsProper (shows hex bytes (puts file))
+shown_proper false file bytes = put_proper file bytes
+shown_proper true file bytes = put_proper file (hex_line bytes)
+
 text_proper : (file : Option (List ℕ)) (next : List ℕ → Plan) → AreAll IsProper next → IsProper (takes_wrapped file next)
 text_proper (Some name) next proper = (λ e. cc, λ e. cc, proper)
 text_proper None next proper = (λ e. cc, proper)
@@ -198,8 +203,8 @@ commands_are_proper table (edit_keyset edit in' out) = edit_each IsProper closed
 commands_are_proper table (list_keyset in') = taken_proper in'.file in'.form _ (λ keys. tt)
 commands_are_proper table (convert_keyset in' out) = taken_proper in'.file in'.form _ (out_proper out)
 commands_are_proper table list_key_templates = tt
-commands_are_proper table (use_keyset name form work) = (λ e. cc, λ e. cc, λ bytes. keyset_each IsProper closed form bytes _ (λ keys. fit_each IsProper closed (unfit keys (primitive_for work) table) _ (λ e. cc, λ input. work_each IsProper closed table keys work input _ (λ output. tt))))
-commands_are_proper table (use_envelope name form template work) = dek_each IsProper closed template _ (λ row. (λ e. cc, λ e. cc, λ bytes. keyset_each IsProper closed form bytes _ (λ keys. fit_each IsProper closed (unfit keys Aead table) _ (scheme_each IsProper closed (scheme_at table Aead (url_made row)) _ (λ scheme. (λ e. cc, λ input. envelope_each IsProper closed table keys scheme row work input _ (λ output. tt)))))))
+commands_are_proper table (use_keyset name form work out) = (λ e. cc, λ e. cc, λ bytes. keyset_each IsProper closed form bytes _ (λ keys. fit_each IsProper closed (unfit keys (primitive_for work) table) _ (λ e. cc, λ input. work_each IsProper closed table keys work input (puts_output out) (shown_proper out.hex out.file))))
+commands_are_proper table (use_envelope name form template work out) = dek_each IsProper closed template _ (λ row. (λ e. cc, λ e. cc, λ bytes. keyset_each IsProper closed form bytes _ (λ keys. fit_each IsProper closed (unfit keys Aead table) _ (scheme_each IsProper closed (scheme_at table Aead (url_made row)) _ (λ scheme. (λ e. cc, λ input. envelope_each IsProper closed table keys scheme row work input (puts out) (put_proper out)))))))
 commands_are_proper table (seal_stream name form ad) = (λ e. cc, λ e. cc, λ bytes. keyset_each IsProper closed form bytes _ (λ keys. stream_fit_proper (streams.stream_unfit keys) _ (stream_keys_proper (keys_for keys) _ (seals_proper ad))))
 commands_are_proper table (open_stream name form ad) = (λ e. cc, λ e. cc, λ bytes. keyset_each IsProper closed form bytes _ (λ keys. stream_fit_proper (streams.stream_unfit keys) _ (stream_keys_proper (keys_for keys) _ (λ k. tt))))
 commands_are_proper table (open_range name form ad range out) = (λ e. cc, λ e. cc, λ bytes. keyset_each IsProper closed form bytes _ (λ keys. stream_fit_proper (streams.stream_unfit keys) _ (stream_keys_proper (keys_for keys) _ (λ k. (λ e. cc, λ opened. stretch_each IsProper closed opened _ (put_proper out))))))

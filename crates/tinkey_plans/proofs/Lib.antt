@@ -7,6 +7,7 @@ pub mod PromiseLemmas
 pub mod ReportLemmas
 pub mod StepLemmas
 pub mod WholeLemmas
+pub mod WroteLemmas
 pub mod GoingLemmas
 pub mod EachLemmas
 pub mod EnvelopeLemmas

@@ -165,4 +165,4 @@ range_gave name form ad range out old s new (loaded bytes store kept stood given
 
 pub ranges_read_little : RangesReadLittle
 ranges_read_little table words name form ad range out old s new is run =
-    range_gave name form ad range out old s new (subst (λ (r : Result Asked ℕ). Ends (asked_plan table r) old s new) is run)
+    range_gave name form ad range out old s new (subst (λ (r : Result Asked ℕ). Ends (asked_plan table r words) old s new) is run)

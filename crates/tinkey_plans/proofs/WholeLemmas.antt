@@ -1,5 +1,5 @@
 -- Plans that write nothing but at their end.
-use Rattle.std.proofs.Common.{inl, inr, ℕ, List, Option, Some, None, Result, Ok, Err}
+use Rattle.std.proofs.Common.{inl, inr, ℕ, Bool, true, false, List, Option, Some, None, Result, Ok, Err}
 use Rattle.key_msgs.specs.Templates.{row_named}
 use Rattle.key_msgs.specs.declared.primitive.Primitive.TheVariants.{Aead}
 use Rattle.keyset_model.specs.Keyset.{Keys}
@@ -16,6 +16,7 @@ use Rattle.tinkey_plans.specs.Plan.{writes, Plan}
 use Rattle.tinkey_plans.specs.Promises.{IsWhole}
 use Rattle.tinkey_plans.proofs.EachLemmas.{AreAll, IsClosed, dek_each, envelope_each, scheme_each, stretch_each, edit_each, fit_each, keyset_each, made_each, row_each, work_each, written_each, wrapped_each, unwrapped_each}
 use Rattle.tinkey_plans.specs.Steps.{takes_keyset, makes_keyset, puts, puts_keyset}
+use Rattle.tinkey_plans.specs.Using.{hex_line, puts_output, shows}
 use Rattle.seal_wrap.specs.Unwrapped.{unwrap_of}
 use Rattle.tinkey_plans.specs.Wrapping.{is_json, makes_wrapped, takes_wrapped}
 use Rattle.tinkey_selftest.specs.Trial as trial
@@ -43,6 +44,10 @@ put_whole None output = tt
 out_whole : (out : Place) (keys : Keys) → IsWhole (puts_keyset out keys)
 out_whole out keys = written_each IsWhole closed out.form keys (puts out.file) (put_whole out.file)
 
+shown_whole : (hex : Bool) (file : Option (List ℕ)) (bytes : List ℕ) → IsWhole (shows hex bytes (puts file))
+shown_whole false file bytes = put_whole file bytes
+shown_whole true file bytes = put_whole file (hex_line bytes)
+
 text_whole : (file : Option (List ℕ)) (next : List ℕ → Plan) → AreAll IsWhole next → IsWhole (takes_wrapped file next)
 text_whole (Some name) next whole = whole
 text_whole None next whole = whole
@@ -66,8 +71,8 @@ commands_are_whole table (edit_keyset edit in' out) = inl (edit_each IsWhole clo
 commands_are_whole table (list_keyset in') = inl (taken_whole in'.file in'.form _ (λ keys. tt))
 commands_are_whole table (convert_keyset in' out) = inl (taken_whole in'.file in'.form _ (out_whole out))
 commands_are_whole table list_key_templates = inl tt
-commands_are_whole table (use_keyset name form work) = inl (λ bytes. keyset_each IsWhole closed form bytes _ (λ keys. fit_each IsWhole closed (unfit keys (primitive_for work) table) _ (λ input. work_each IsWhole closed table keys work input _ (λ output. tt))))
-commands_are_whole table (use_envelope name form template work) = inl (dek_each IsWhole closed template _ (λ row bytes. keyset_each IsWhole closed form bytes _ (λ keys. fit_each IsWhole closed (unfit keys Aead table) _ (scheme_each IsWhole closed (scheme_at table Aead (url_made row)) _ (λ scheme input. envelope_each IsWhole closed table keys scheme row work input _ (λ output. tt))))))
+commands_are_whole table (use_keyset name form work out) = inl (λ bytes. keyset_each IsWhole closed form bytes _ (λ keys. fit_each IsWhole closed (unfit keys (primitive_for work) table) _ (λ input. work_each IsWhole closed table keys work input (puts_output out) (shown_whole out.hex out.file))))
+commands_are_whole table (use_envelope name form template work out) = inl (dek_each IsWhole closed template _ (λ row bytes. keyset_each IsWhole closed form bytes _ (λ keys. fit_each IsWhole closed (unfit keys Aead table) _ (scheme_each IsWhole closed (scheme_at table Aead (url_made row)) _ (λ scheme input. envelope_each IsWhole closed table keys scheme row work input (puts out) (put_whole out))))))
 commands_are_whole table (seal_stream name form ad) = inr (inl tt)
 commands_are_whole table (open_stream name form ad) = inr (inl tt)
 commands_are_whole table (open_range name form ad range out) = inl (λ bytes. keyset_each IsWhole closed form bytes _ (λ keys. stream_fit_whole (streams.stream_unfit keys) _ (stream_keys_whole (streaming.keys_for keys) _ (λ k opened. stretch_each IsWhole closed opened _ (put_whole out)))))

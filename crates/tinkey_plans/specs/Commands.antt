@@ -1,7 +1,7 @@
 -- The plan of each command: its steps, in the order of refusals. What a keyset answers is said apart
 -- from plans, in keyset_model's Listing, in wrapped_prims' Answers and in seal_wrap's Wrapped, Unwrapped and
 -- Enveloped.
-use Rattle.std.specs.Prelude.{ℕ, List, ◌++◌, Result, Ok, Err, codes}
+use Rattle.std.specs.Prelude.{ℕ, List, [], ◌∷◌, ◌++◌, Result, Ok, Err, codes}
 use Rattle.std.specs.List.{flat_map}
 use Rattle.key_msgs.specs.Templates.{templates}
 use Rattle.keyset_model.specs.Keyset.{Keys}
@@ -17,7 +17,7 @@ use Rattle.tinkey_plans.specs.Ranging.{range_output}
 use Rattle.tinkey_plans.specs.SelfTesting.{self_test_output}
 use Rattle.tinkey_plans.specs.Steps.{takes_keyset, loads_keyset, works_out, finds_template, finds_edit, makes_keyset, puts, puts_keyset}
 use Rattle.tinkey_plans.specs.Streaming.{loads_stream_keys, seals_stream, opens_stream}
-use Rattle.tinkey_plans.specs.Using.{use_output}
+use Rattle.tinkey_plans.specs.Using.{puts_output, use_output}
 use Rattle.tinkey_plans.specs.Wrapping.{wrap_output, unwrap_output}
 use Rattle.tinkey_words.specs.Words.{Place, AskedEdit, Asked, create_keyset, edit_keyset, list_keyset, convert_keyset, list_key_templates, use_keyset, use_envelope, seal_stream, open_stream, open_range, self_test, session, wrap_keyset, unwrap_keyset, help, version, words_of}
 
@@ -47,9 +47,10 @@ command_plan table (edit_keyset edit in' out) = edit_output edit in' (puts_keyse
 command_plan table (list_keyset in') = list_keyset_output in' writes
 command_plan table (convert_keyset in' out) = takes_keyset in' (puts_keyset out)
 command_plan table list_key_templates = writes template_names
-command_plan table (use_keyset name form work) = use_output table name form work writes
-command_plan table (use_envelope name form template work) =
-    envelope_output table name form template work writes
+command_plan table (use_keyset name form work out) =
+    use_output table name form work (puts_output out)
+command_plan table (use_envelope name form template work out) =
+    envelope_output table name form template work (puts out)
 command_plan table (seal_stream name form ad) =
     loads_stream_keys name form (λ keys. seals_stream keys ad)
 command_plan table (open_stream name form ad) =
@@ -64,11 +65,13 @@ command_plan table (unwrap_keyset master form in' out) =
 command_plan table (help topic) = writes (help_text topic)
 command_plan table version = writes version_text
 
--- the command's plan, or the word at fault is the answer
-abbrev pub asked_plan : Table → Result Asked ℕ → Plan
-asked_plan table (Err word) = ends (status.Usage word) tt
-asked_plan table (Ok asked) = command_plan table asked
+-- the command's plan, or the word at fault is the answer; where there is no word, that is told by a status
+-- of its own
+abbrev pub asked_plan : Table → Result Asked ℕ → List (List ℕ) → Plan
+asked_plan table (Ok asked) words = command_plan table asked
+asked_plan table (Err word) [] = ends status.NoWords tt
+asked_plan table (Err word) (name ∷ words) = ends (status.Usage word) tt
 
 -- the plan of the command that the words ask for
 abbrev pub plan_of : Table → List (List ℕ) → Plan
-plan_of table words = asked_plan table (words_of words)
+plan_of table words = asked_plan table (words_of words) words

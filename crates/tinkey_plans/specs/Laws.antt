@@ -74,8 +74,8 @@ IsDekStatus _ = ⊥
 -- Over the standard table no run of eseal or eopen ends so, whatever fails.
 abbrev pub DataKeysCome : Type 0
 DataKeysCome = (words : List (List ℕ)) (name : List ℕ) (form : Format) (template : List ℕ)
-    (work : AskedEnvelope) (old : World) (s : Status) (new : World)
-    → words_of words ≡ Ok (use_envelope name form template work)
+    (work : AskedEnvelope) (out : Option (List ℕ)) (old : World) (s : Status) (new : World)
+    → words_of words ≡ Ok (use_envelope name form template work out)
     → Ends (plan_of standard_table words) old s new → IsDekStatus s → ⊥
 
 -- ---- ranges

@@ -8,8 +8,10 @@ use Rattle.tink_spec.specs.Outside.{SinkState, Rose, Took, TookPrefix}
 use Rattle.tinkey_cmds.specs.declared.command.CmdFault.TheVariants as edits
 use Rattle.tinkey_session.specs.declared.reply.Refusal.TheVariants as refused
 use Rattle.tinkey_session.specs.Texts.{refusal_text}
+use Rattle.tinkey_plans.specs.Help.{help_text}
 use Rattle.tinkey_plans.specs.declared.status.Status.{Status}
 use Rattle.tinkey_plans.specs.declared.status.Status.TheVariants as status
+use Rattle.tinkey_words.specs.declared.words.help.Topic.TheVariants as topics
 
 -- the exit code
 abbrev pub code_of : Status → ℕ
@@ -17,6 +19,7 @@ code_of status.Done = 0
 code_of status.OpenFailed = 1
 code_of status.VerifyFailed = 1
 code_of (status.StreamFailed number) = 1
+code_of status.NoWords = 2
 code_of (status.Usage word) = 2
 code_of status.UnknownTemplate = 2
 code_of status.AsymmetricTemplate = 2
@@ -74,6 +77,7 @@ text_of status.Done = []
 text_of status.OpenFailed = refusal_text refused.OpenFailed
 text_of status.VerifyFailed = refusal_text refused.VerifyFailed
 text_of (status.StreamFailed number) = codes "stream failed at segment " ++ decimal number
+text_of status.NoWords = codes "usage: word 0"
 text_of (status.Usage word) = codes "usage: word " ++ decimal word
 text_of (status.BadProto at) = codes "bad protobuf at byte " ++ decimal at
 text_of status.NotJson = codes "not JSON"
@@ -111,7 +115,16 @@ unfoldable pub line_of : Status → List ℕ
 line_of status.Done = []
 line_of other = codes "tinkey: " ++ text_of other ++ codes "\n"
 
--- the line was written, or the first bytes of it where the count of faults rose
-pub data Reports (s : Status) (old new : SinkState) : Type 0 where
-  reported : Took old new (line_of s) → Reports s old new
-  report_failed : Rose old.faults new.faults → TookPrefix old new (line_of s) → Reports s old new
+-- what stands behind the line: where there was no word, the list of the commands
+unfoldable pub behind_line : Status → List ℕ
+behind_line status.NoWords = help_text topics.Commands
+behind_line other = []
+
+-- these bytes were written, or the first of them where the count of faults rose
+pub data Wrote (bytes : List ℕ) (old new : SinkState) : Type 0 where
+  wrote : Took old new bytes → Wrote bytes old new
+  write_failed : Rose old.faults new.faults → TookPrefix old new bytes → Wrote bytes old new
+
+-- the line was written and what stands behind it, or the first bytes of them
+abbrev pub Reports : Status → SinkState → SinkState → Type 0
+Reports s old new = Wrote (line_of s ++ behind_line s) old new

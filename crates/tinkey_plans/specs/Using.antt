@@ -1,7 +1,8 @@
 -- Work by the keys of a keyset, as steps of plans. What the keys answer is said apart from plans, in
 -- Fitness and Answers of wrapped_prims.
-use Rattle.std.specs.Prelude.{ℕ, Bool, true, false, List, [], Option, Some, None, Result, Ok, Err}
+use Rattle.std.specs.Prelude.{ℕ, Bool, true, false, List, [], ◌++◌, Option, Some, None, Result, Ok, Err, codes}
 use Rattle.std.specs.Option.{option_map}
+use Rattle.hex.specs.Hex.{encode_lower}
 use Rattle.key_msgs.specs.declared.primitive.Primitive.{Primitive}
 use Rattle.keyset_model.specs.Keyset.{Keys}
 use Rattle.managers.specs.Table.{Table}
@@ -17,8 +18,8 @@ use Rattle.tinkey_plans.specs.declared.status.Status.TheVariants as status
 use Rattle.tinkey_words.specs.declared.words.rows.Format.{Format}
 use Rattle.tinkey_plans.specs.Plan.{Plan, ends, allocates, draws, sealings}
 use Rattle.tinkey_plans.specs.Ends.{World}
-use Rattle.tinkey_plans.specs.Steps.{input_limit, sealed_limit, loads_keyset, reads_input, works_out, with_made, Passes}
-use Rattle.tinkey_words.specs.Words.{AskedWork, to_seal, to_open, to_dseal, to_dopen, to_tag, to_verify, to_derive, primitive_for}
+use Rattle.tinkey_plans.specs.Steps.{input_limit, sealed_limit, loads_keyset, puts, reads_input, works_out, with_made, Passes}
+use Rattle.tinkey_words.specs.Words.{AskedWork, to_seal, to_open, to_dseal, to_dopen, to_tag, to_verify, to_derive, primitive_for, Output}
 
 -- the rest goes on, or the record that can't serve is refused
 abbrev pub unless_unfit : Option (ℕ × Unfit) → Plan → Plan
@@ -89,6 +90,19 @@ use_output table name form work next =
     handles table (primitive_for work) keys (λ fit.
     reads_input (limit_for work) (λ input.
     works table keys work input next)))
+
+-- bytes in lower-case hexadecimal, and the end of the line
+abbrev pub hex_line : List ℕ → List ℕ
+hex_line bytes = encode_lower bytes ++ codes "\n"
+
+-- the bytes go on as they are, or where it is asked for, in hexadecimal
+abbrev pub shows : (hex : Bool) → List ℕ → (List ℕ → Plan) → Plan
+shows false bytes next = next bytes
+shows true bytes next = works_out (hex_line bytes) next
+
+-- what the work gives is put here
+abbrev pub puts_output : Output → List ℕ → Plan
+puts_output out bytes = shows out.hex bytes (puts out.file)
 
 -- the status of a keyset that can't serve, and of want of memory
 abbrev pub handle_refusal : HandleFault → Status

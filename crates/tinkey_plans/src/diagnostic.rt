@@ -3,25 +3,48 @@
 ghost use Rattle.std.specs.Prelude.{◌≡◌, ◌+◌, ◌≤◌, ◌++◌, length, codes, decimal};
 ghost use Rattle.keyset_json.specs.Members.{name_of};
 ghost use Rattle.tinkey_session.specs.Texts.{refusal_text};
-ghost use Rattle.tinkey_plans.specs.Status.{key_text, line_of, text_of, fault_text, Reports};
+ghost use Rattle.tinkey_plans.specs.Status.{key_text, line_of, behind_line, text_of, fault_text, Reports, Wrote};
 ghost use Rattle.tinkey_cmds.specs.declared.command.CmdFault.TheVariants as edits;
 ghost use Rattle.tinkey_session.specs.declared.reply.Refusal.TheVariants as refused;
 
-use crate::Status;
+use crate::{Status, help_text};
 use key_msgs::Rule;
 use keyset_json::{Member, Path};
 use keyset_model::KeysetFault;
 use tink_base::{Sink, write_all};
 use tinkey_cmds::CmdFault;
 use tinkey_session::{Refusal, ShortText, refusal_text};
+use tinkey_words::Topic;
 
-/// Writes the line of a status. A fault of `diag` changes no status.
+/// Writes the line of a status, and behind that of no words the list of the commands. A fault of `diag`
+/// changes no status.
 pub fn report<G: Sink>(diag: &mut G, status: Status)
     ensures { Reports status (G.state diag.old) (G.state diag.new) }
 {
     match write_all(diag, line(status).as_slice()) {
+        Ok(()) => write_text(diag, behind(status)),
+        Err(_) => {}
+    }
+}
+
+/// Writes a text.
+fn write_text<G: Sink>(diag: &mut G, text: &str)
+    ensures { Wrote text.now (G.state diag.old) (G.state diag.new) }
+{
+    match write_all(diag, text.as_bytes()) {
         Ok(()) => {}
         Err(_) => {}
+    }
+}
+
+/// What stands behind the line of a status.
+#[tactic(auto, unfolding(crate::specs::Status::behind_line))]
+fn behind(status: Status) -> &'static str
+    ensures { result.now ≡ behind_line status }
+{
+    match status {
+        Status::NoWords => help_text(Topic::Commands),
+        _ => "",
     }
 }
 
@@ -60,6 +83,7 @@ fn push_text(line: &mut ShortText, status: Status)
         Status::OpenFailed => push_refusal(line, Refusal::OpenFailed),
         Status::VerifyFailed => push_refusal(line, Refusal::VerifyFailed),
         Status::StreamFailed(number) => push_segment(line, number),
+        Status::NoWords => line.push("usage: word 0"),
         Status::Usage(word) => {
             line.push("usage: word ");
             line.push_number(word);

@@ -99,7 +99,7 @@ The line is \"tinkey: \" and one of these; the code stands in front.
 
 1  verify failed
      The tag is that of no ENABLED key for this input. Give the whole tag, its prefix too,
-     in hexadecimal.
+     in hexadecimal, as tag --hex does.
 
 1  stream failed at segment {segment}
      From this segment on the stream is damaged, cut, or of another key or other associated
@@ -639,6 +639,7 @@ Example:
 tinkey seal: seals standard input under the primary key
 
   tinkey seal --keyset FILE [--keyset-format json|binary] [--ad TEXT] [--ad-hex HEX]
+      [--out FILE]
 
 Required:
   --keyset FILE                the file of the keyset that is used: the name of a file,
@@ -651,9 +652,11 @@ Optional:
                                as they stand
   --ad-hex HEX                 the associated data in hexadecimal: an even number of
                                hexadecimal digits of either case, at most 2,097,152, or none
+  --out FILE                   the file that is made: the name of a file, which isn't empty
 
 Reads  the keyset in the file of --keyset, and all of standard input
-Gives  the input sealed under the primary key, on standard output
+Gives  the input sealed under the primary key, as a new file of --out, or where none is
+       named, on standard output
 
 Exit codes:
   0  done
@@ -672,6 +675,7 @@ Example:
 tinkey open: opens what any enabled key sealed
 
   tinkey open --keyset FILE [--keyset-format json|binary] [--ad TEXT] [--ad-hex HEX]
+      [--out FILE]
 
 Required:
   --keyset FILE                the file of the keyset that is used: the name of a file,
@@ -684,9 +688,11 @@ Optional:
                                as they stand
   --ad-hex HEX                 the associated data in hexadecimal: an even number of
                                hexadecimal digits of either case, at most 2,097,152, or none
+  --out FILE                   the file that is made: the name of a file, which isn't empty
 
 Reads  the keyset in the file of --keyset, and all of standard input
-Gives  what the input opens to, on standard output
+Gives  what the input opens to, as a new file of --out, or where none is named, on standard
+       output
 
 Exit codes:
   0  done
@@ -706,6 +712,7 @@ Example:
 tinkey dseal: seals deterministically: equal texts give equal bytes
 
   tinkey dseal --keyset FILE [--keyset-format json|binary] [--ad TEXT] [--ad-hex HEX]
+      [--out FILE]
 
 Required:
   --keyset FILE                the file of the keyset that is used: the name of a file,
@@ -718,9 +725,11 @@ Optional:
                                as they stand
   --ad-hex HEX                 the associated data in hexadecimal: an even number of
                                hexadecimal digits of either case, at most 2,097,152, or none
+  --out FILE                   the file that is made: the name of a file, which isn't empty
 
 Reads  the keyset in the file of --keyset, and all of standard input
-Gives  as seal and open, without an IV
+Gives  as seal and open, without an IV, as a new file of --out, or where none is named, on
+       standard output
 
 Exit codes:
   0  done
@@ -739,6 +748,7 @@ Example:
 tinkey dopen: opens what dseal sealed
 
   tinkey dopen --keyset FILE [--keyset-format json|binary] [--ad TEXT] [--ad-hex HEX]
+      [--out FILE]
 
 Required:
   --keyset FILE                the file of the keyset that is used: the name of a file,
@@ -751,9 +761,11 @@ Optional:
                                as they stand
   --ad-hex HEX                 the associated data in hexadecimal: an even number of
                                hexadecimal digits of either case, at most 2,097,152, or none
+  --out FILE                   the file that is made: the name of a file, which isn't empty
 
 Reads  the keyset in the file of --keyset, and all of standard input
-Gives  as seal and open, without an IV
+Gives  as seal and open, without an IV, as a new file of --out, or where none is named, on
+       standard output
 
 Exit codes:
   0  done
@@ -839,7 +851,7 @@ Example:
         CommandName::Tag => "\
 tinkey tag: tags standard input under the primary key
 
-  tinkey tag --keyset FILE [--keyset-format json|binary]
+  tinkey tag --keyset FILE [--keyset-format json|binary] [--out FILE] [--hex]
 
 Required:
   --keyset FILE                the file of the keyset that is used: the name of a file,
@@ -848,9 +860,12 @@ Required:
 Optional:
   --keyset-format json|binary  the form of that keyset: json or binary, in ASCII letters of
                                either case; where it isn't named, json
+  --out FILE                   the file that is made: the name of a file, which isn't empty
+  --hex                        whether what is put out is in hexadecimal
 
 Reads  the keyset in the file of --keyset, and all of standard input
-Gives  the tag of the input under the primary key, on standard output
+Gives  the tag of the input under the primary key, as a new file of --out, or where none is
+       named, on standard output
 
 Exit codes:
   0  done
@@ -900,7 +915,7 @@ Example:
         CommandName::Derive => "\
 tinkey derive: derives bytes from standard input
 
-  tinkey derive --keyset FILE --length N [--keyset-format json|binary]
+  tinkey derive --keyset FILE --length N [--keyset-format json|binary] [--out FILE] [--hex]
 
 Required:
   --keyset FILE                the file of the keyset that is used: the name of a file,
@@ -912,9 +927,12 @@ Required:
 Optional:
   --keyset-format json|binary  the form of that keyset: json or binary, in ASCII letters of
                                either case; where it isn't named, json
+  --out FILE                   the file that is made: the name of a file, which isn't empty
+  --hex                        whether what is put out is in hexadecimal
 
 Reads  the keyset in the file of --keyset, and all of standard input
-Gives  so many bytes derived from the input by the primary key, on standard output
+Gives  so many bytes derived from the input by the primary key, as a new file of --out, or
+       where none is named, on standard output
 
 Exit codes:
   0  done
@@ -1072,7 +1090,7 @@ Example:
 tinkey eseal: seals under a fresh data key, and that key under the keyset: an envelope
 
   tinkey eseal --keyset FILE --dek-template NAME [--keyset-format json|binary] [--ad TEXT]
-      [--ad-hex HEX]
+      [--ad-hex HEX] [--out FILE]
 
 Required:
   --keyset FILE                the file of the keyset that is used: the name of a file,
@@ -1087,10 +1105,11 @@ Optional:
                                as they stand
   --ad-hex HEX                 the associated data in hexadecimal: an even number of
                                hexadecimal digits of either case, at most 2,097,152, or none
+  --out FILE                   the file that is made: the name of a file, which isn't empty
 
 Reads  the keyset in the file of --keyset, and all of standard input
 Gives  an envelope of the input, under a fresh data key of the template of --dek-template,
-       on standard output
+       as a new file of --out, or where none is named, on standard output
 
 Exit codes:
   0  done
@@ -1109,7 +1128,7 @@ Example:
 tinkey eopen: opens an envelope
 
   tinkey eopen --keyset FILE --dek-template NAME [--keyset-format json|binary] [--ad TEXT]
-      [--ad-hex HEX]
+      [--ad-hex HEX] [--out FILE]
 
 Required:
   --keyset FILE                the file of the keyset that is used: the name of a file,
@@ -1124,9 +1143,11 @@ Optional:
                                as they stand
   --ad-hex HEX                 the associated data in hexadecimal: an even number of
                                hexadecimal digits of either case, at most 2,097,152, or none
+  --out FILE                   the file that is made: the name of a file, which isn't empty
 
 Reads  the keyset in the file of --keyset, and all of standard input
-Gives  what the envelope opens to, on standard output
+Gives  what the envelope opens to, as a new file of --out, or where none is named, on
+       standard output
 
 Exit codes:
   0  done

@@ -22,6 +22,8 @@ pub enum Status {
     VerifyFailed,
     /// This segment of the stream, counted from 0, is the first that doesn't authenticate in its place.
     StreamFailed(u64),
+    /// There is no word.
+    NoWords,
     /// The word of this place is at fault, or missing where it is the number of words.
     Usage(usize),
     /// The field whose tag has this place can't be cut or read.
@@ -92,7 +94,8 @@ impl Status {
         match self {
             Status::Done => 0,
             Status::OpenFailed | Status::VerifyFailed | Status::StreamFailed(_) => 1,
-            Status::Usage(_)
+            Status::NoWords
+            | Status::Usage(_)
             | Status::UnknownTemplate
             | Status::AsymmetricTemplate
             | Status::DekTemplate

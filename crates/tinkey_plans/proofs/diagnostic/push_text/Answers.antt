@@ -4,7 +4,7 @@ use Rattle.tinkey_plans.proofs.diagnostic.push_text.Goals as goal
 
 pub returns-in-Usage-clause-text : goal.returns-in-Usage-clause-text
 unfolding text_of
-returns-in-Usage-clause-text c = rw (c.in-Usage.is, c.push_number.ensures.text, c.push.ensures) (simp append_assoc)
+returns-in-Usage-clause-text c = rw (c.in-Usage.is, c.push_number.ensures.text, c.push-in-Usage.ensures) (simp append_assoc)
 
 pub returns-in-BadProto-clause-text : goal.returns-in-BadProto-clause-text
 unfolding text_of
