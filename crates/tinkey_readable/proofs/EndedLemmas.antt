@@ -239,10 +239,10 @@ saved (Some name) form keys old s new (inr (is, same)) = (λ h. absurd (cc), ap 
 saved (Some name) form keys old s new (inl ended) = by (nat_le (length (written_in form keys)) keyset_limit) ended
   where
     by : (b : Bool) → Ends (if b then creates name (written_in form keys) status.OutExists tt else plans.ends status.KeysetTooLong tt) old s new → (s ≢ status.WriteFault) × (old.sink ≡ new.sink)
-    by true (made is only stood added) = (λ h. absurd (cc), only.sink)
-    by true (name_taken is only kept stood there) = (λ h. absurd (cc), only.sink)
-    by true (create_failed is only rose may) = (λ h. absurd (cc), only.sink)
-    by true (create_starved is only kept stood) = (λ h. absurd (cc), only.sink)
+    by true (made is only stood given added) = (λ h. absurd (cc), only.sink)
+    by true (name_taken is only kept stood given there) = (λ h. absurd (cc), only.sink)
+    by true (create_failed is only rose given may) = (λ h. absurd (cc), only.sink)
+    by true (create_starved is only kept stood given) = (λ h. absurd (cc), only.sink)
     by false (is, same) = (λ h. absurd (cc), ap (λ (w : World). w.sink) same)
 
 -- no fault of a session is its end
@@ -313,11 +313,11 @@ session_ends readable law table out keys told old s new is tells run = by out.fi
   where
     by : (file : Option (List ℕ)) → Ends (finds_free file (λ free. exchanges (talk table keys) (saves out))) old s new → HasReplies table keys told old s new
     by None run = talk_ends readable law table out keys told old s new is tells run
-    by (Some name) (look_free store kept stood holds run) =
+    by (Some name) (look_free store kept stood given holds run) =
         let r = talk_ends readable law table out keys told (record old { store = store }) s new is (record { input = tells.input; files = sym kept.files ∙ tells.files; random = tells.random }) run in
         record { answered = r.answered; later = r.later; cut = r.cut; all = r.all; whole = r.whole; took = r.took; front = r.front; readable = r.readable }
-    by (Some name) (look_taken e only kept stood there) = none_replied table keys told old s new (λ h. let clash : status.Done ≡ status.OutExists = sym h ∙ e in absurd (cc)) (λ h. let clash : status.WriteFault ≡ status.OutExists = sym h ∙ e in absurd (cc)) (took_same old.sink new.sink only.sink)
-    by (Some name) (look_failed e only kept rose) = none_replied table keys told old s new (λ h. absurd (cc)) (λ h. absurd (cc)) (took_same old.sink new.sink only.sink)
+    by (Some name) (look_taken e only kept stood given there) = none_replied table keys told old s new (λ h. let clash : status.Done ≡ status.OutExists = sym h ∙ e in absurd (cc)) (λ h. let clash : status.WriteFault ≡ status.OutExists = sym h ∙ e in absurd (cc)) (took_same old.sink new.sink only.sink)
+    by (Some name) (look_failed e only kept rose given) = none_replied table keys told old s new (λ h. absurd (cc)) (λ h. absurd (cc)) (took_same old.sink new.sink only.sink)
 
 -- ---- the keyset before it
 
@@ -337,7 +337,7 @@ starved_replies table keys told old s new is same = none_replied table keys told
 
 loads_ends : TurnsAreReadable → TalkIsTurns → ReadKeysFit → (table : Table) (name bytes : List ℕ) (form : Format) (out : Place) (keys : Keys) (told : Told) (old : World) (s : Status) (new : World) → Tells old told → map.get told.files name ≡ Some bytes → read_in form bytes ≡ Some keys
     → Ends (loads_keyset name form (holds_session table out)) old s new → HasReplies table keys told old s new
-loads_ends readable law fit table name bytes form out keys told old s new tells there read (loaded found store kept stood within holds run) =
+loads_ends readable law fit table name bytes form out keys told old s new tells there read (loaded found store kept stood given within holds run) =
     let same : bytes ≡ found = same_Some _ _ (sym there ∙ file_told old.store told.files name found tells.files holds) in
     let mid : World = record old { store = store } in
     let mid_tells : Tells mid told = record { input = tells.input; files = sym kept.files ∙ tells.files; random = tells.random } in
@@ -358,15 +358,15 @@ loads_ends readable law fit table name bytes form out keys told old s new tells 
           readable = r.readable;
         }
     by mid tells is sink (inr (e, same)) = starved_replies table keys told old s new e (sym sink ∙ ap (λ (w : World). w.sink) same)
-loads_ends readable law fit table name bytes form out keys told old s new tells there read (load_absent is only kept stood holds) = none_replied table keys told old s new (λ h. absurd (cc)) (λ h. absurd (cc)) (took_same old.sink new.sink only.sink)
-loads_ends readable law fit table name bytes form out keys told old s new tells there read (load_long is only kept stood holds) = none_replied table keys told old s new (λ h. absurd (cc)) (λ h. absurd (cc)) (took_same old.sink new.sink only.sink)
-loads_ends readable law fit table name bytes form out keys told old s new tells there read (load_failed is only kept rose) = none_replied table keys told old s new (λ h. absurd (cc)) (λ h. absurd (cc)) (took_same old.sink new.sink only.sink)
-loads_ends readable law fit table name bytes form out keys told old s new tells there read (load_starved is only kept stood) = starved_replies table keys told old s new is only.sink
+loads_ends readable law fit table name bytes form out keys told old s new tells there read (load_absent is only kept stood given holds) = none_replied table keys told old s new (λ h. absurd (cc)) (λ h. absurd (cc)) (took_same old.sink new.sink only.sink)
+loads_ends readable law fit table name bytes form out keys told old s new tells there read (load_long is only kept stood given holds) = none_replied table keys told old s new (λ h. absurd (cc)) (λ h. absurd (cc)) (took_same old.sink new.sink only.sink)
+loads_ends readable law fit table name bytes form out keys told old s new tells there read (load_failed is only kept rose given) = none_replied table keys told old s new (λ h. absurd (cc)) (λ h. absurd (cc)) (took_same old.sink new.sink only.sink)
+loads_ends readable law fit table name bytes form out keys told old s new tells there read (load_starved is only kept stood given) = starved_replies table keys told old s new is only.sink
 
 pub readable_ends : TurnsAreReadable → TalkIsTurns → ReadKeysFit → SessionsAreReadable
 readable_ends readable law fit table words old s new (inl run) = record {
   replies = λ told name bytes form out keys tells is there read.
-      loads_ends readable law fit table name bytes form out keys told old s new tells there read (subst (λ p. Ends p old s new) (ap (asked_plan table) is) run);
+      loads_ends readable law fit table name bytes form out keys told old s new tells there read (subst (λ p. Ends p old s new) (ap (λ r. asked_plan table r words) is) run);
 }
 readable_ends readable law fit table words old s new (inr (is, same)) = record {
   replies = λ told name bytes form out keys tells asked there read. starved_replies table keys told old s new is (ap (λ (w : World). w.sink) same);

@@ -1,5 +1,5 @@
 -- Envelopes that were sealed before runs, and opened after them.
-use Rattle.std.proofs.Common.{arith, ◌≡◌, ◌∙◌, sym, refl, ap, subst, ℕ, ◌+◌, ◌≤◌, Bool, true, false, List, [], length, Option, Some, None, Result, Ok, Err}
+use Rattle.std.proofs.Common.{arith, ◌≡◌, ◌∙◌, sym, refl, ap, subst, ℕ, ◌≤◌, Bool, true, false, List, [], length, Option, Some, None, Result, Ok, Err}
 use Rattle.std.specs.Prelude.{if◌then◌else◌, option_map}
 use Rattle.std.specs.FinMap as map
 use Rattle.std.proofs.lemmas.Option.{same_Some}
@@ -11,7 +11,7 @@ use Rattle.key_msgs.specs.declared.rule.Rule.{Rule}
 use Rattle.keyset_model.specs.Keyset.{Keys, primary_of}
 use Rattle.keyset_model.specs.Writing.{ReadKeysFit}
 use Rattle.keyset_model.specs.declared.record.Record.{Record}
-use Rattle.managers.specs.Schemes.{Scheme, type_under}
+use Rattle.managers.specs.Schemes.{Scheme}
 use Rattle.managers.specs.Standard.{standard_table}
 use Rattle.managers.specs.Table.{Table, scheme_at}
 use Rattle.seal_wrap.specs.EnvelopeLaws.{DataKeysAreServed, EnvelopeBack, EnvelopesFit, IsAeadScheme, IsDataKeyRow}
@@ -21,20 +21,20 @@ use Rattle.tinkey_cmds.specs.Draws.{Drawn}
 use Rattle.tinkey_session.proofs.UsableLemmas.{valid_key}
 use Rattle.tinkey_session.specs.Laws.{EditedIsKeyset, EditedIsSound, SoundIsUsable}
 use Rattle.tinkey_session.specs.SessionLaws.{SessionIsEdits}
-use Rattle.wrapped_prims.specs.Candidates.{prefix_of}
 use Rattle.wrapped_prims.specs.Fitness.{key_of_record, unfit}
 use Rattle.tinkey_plans.proofs.AnswerLemmas.{has_key}
 use Rattle.tinkey_plans.proofs.EnvelopeLemmas.{row_known}
-use Rattle.wrapped_prims.specs.Laws.{GivesKeyFor, HasSameKey, IsKeyset}
+use Rattle.wrapped_prims.specs.Laws.{GivesKeyFor, IsKeyset}
 use Rattle.tinkey_plans.specs.declared.status.Status.TheVariants as status
 use Rattle.tinkey_words.specs.declared.words.rows.Format.{Format}
 use Rattle.tinkey_words.specs.Words.{AskedEnvelope, to_eseal, to_eopen}
 use Rattle.tinkey_plans.specs.Envelopes.{as_enveloped, envelope_limit, envelope_output, envelopes, finds_dek, finds_scheme, with_aead, with_enveloped, with_scheme}
 use Rattle.tinkey_plans.specs.Plan.{Answer, Plan, Told, answer, draw_answer, ends, refused, writes}
-use Rattle.tinkey_plans.specs.Steps.{input_limit, keyset_limit, loads_keyset, reads_input, sealed_limit, with_made, with_row}
+use Rattle.tinkey_plans.specs.Steps.{keyset_limit, loads_keyset, puts, reads_input, sealed_limit, with_made, with_row}
 use Rattle.tinkey_plans.specs.Using.{handles, unless_unfit}
-use Rattle.tinkey_readable.specs.EnvelopeRuns.{IsEnveloped, RunsOpenEnvelope, WasEnveloped}
-use Rattle.tinkey_readable.specs.Runs.{LeadOn, Passage, RunStep, WrapStep, Written, keyset_of, read_in}
+use Rattle.tinkey_readable.specs.EnvelopeRuns.{RunsOpenEnvelope}
+use Rattle.tinkey_readable.specs.Runs.{RunStep, WrapStep, bytes_at, read_in}
+use Rattle.tinkey_readable.proofs.PutLemmas.{envelope_worked, made_is, made_put, made_written}
 use Rattle.tinkey_readable.proofs.ReachLemmas.{IsDoneAnswer, load_done, load_reached, load_within, input_done, input_reached, input_within, unfit_done}
 use Rattle.tinkey_readable.proofs.RunLemmas.{lead_ends, opens_so, still_fit}
 
@@ -86,27 +86,27 @@ aead_scheme served row scheme aead is =
 -- ---- the whole
 
 -- the plan from the template on, and from the keyset on
-abbrev behind_keys : Table → Row → AskedEnvelope → Keys → Plan
-behind_keys table row work keys =
+abbrev behind_keys : Table → Row → AskedEnvelope → (List ℕ → Plan) → Keys → Plan
+behind_keys table row work next keys =
     handles table Aead keys (λ fit.
     finds_scheme table row (λ scheme.
     reads_input (envelope_limit work) (λ input.
-    envelopes table keys scheme row work input writes)))
+    envelopes table keys scheme row work input next)))
 
-abbrev behind_dek : Table → (name : List ℕ) → Format → AskedEnvelope → Row → Plan
-behind_dek table name form work row = loads_keyset name form (behind_keys table row work)
+abbrev behind_dek : Table → (name : List ℕ) → Format → AskedEnvelope → (List ℕ → Plan) → Row → Plan
+behind_dek table name form work next row = loads_keyset name form (behind_keys table row work next)
 
-abbrev behind_fit : Table → Row → AskedEnvelope → Keys → Plan
-behind_fit table row work keys =
+abbrev behind_fit : Table → Row → AskedEnvelope → (List ℕ → Plan) → Keys → Plan
+behind_fit table row work next keys =
     finds_scheme table row (λ scheme.
     reads_input (envelope_limit work) (λ input.
-    envelopes table keys scheme row work input writes))
+    envelopes table keys scheme row work input next))
 
-abbrev behind_scheme : Table → Row → AskedEnvelope → Keys → Scheme → Plan
-behind_scheme table row work keys scheme =
-    reads_input (envelope_limit work) (λ input. envelopes table keys scheme row work input writes)
+abbrev behind_scheme : Table → Row → AskedEnvelope → (List ℕ → Plan) → Keys → Scheme → Plan
+behind_scheme table row work next keys scheme =
+    reads_input (envelope_limit work) (λ input. envelopes table keys scheme row work input next)
 
-record UsedEnvelope (table : Table) (keys : Keys) (template : List ℕ) (work : AskedEnvelope) (told : Told) (a : Answer) : Type 0 where
+record UsedEnvelope (table : Table) (keys : Keys) (template : List ℕ) (work : AskedEnvelope) (next : List ℕ → Plan) (told : Told) (a : Answer) : Type 0 where
   row : Row
   named : row_named template ≡ Some row
   aead : IsAead row
@@ -114,21 +114,21 @@ record UsedEnvelope (table : Table) (keys : Keys) (template : List ℕ) (work : 
   scheme : Scheme
   served : scheme_at table Aead (url_made row) ≡ Some scheme
   fits : length told.input ≤ envelope_limit work
-  goes_on : a ≡ answer (envelopes table keys scheme row work told.input writes) (record told { input = [] })
+  goes_on : a ≡ answer (envelopes table keys scheme row work told.input next) (record told { input = [] })
 
-used_done : (table : Table) (name : List ℕ) (form : Format) (template : List ℕ) (work : AskedEnvelope) (bytes : List ℕ) (keys : Keys) (told : Told) → map.get told.files name ≡ Some bytes → read_in form bytes ≡ Some keys → IsDoneAnswer (answer (envelope_output table name form template work writes) told)
-    → UsedEnvelope table keys template work told (answer (envelope_output table name form template work writes) told)
-used_done table name form template work bytes keys told there e done =
-    let d = dek_done template (behind_dek table name form work) told done in
-    let done1 : IsDoneAnswer (answer (behind_dek table name form work d.row) told) = ap (λ (a : Answer). a.status) (sym d.goes_on) ∙ done in
-    let l = load_done name form bytes keys (behind_keys table d.row work) told there e done1 in
-    let done2 : IsDoneAnswer (answer (unless_unfit (unfit keys Aead table) (behind_fit table d.row work keys)) told) = ap (λ (a : Answer). a.status) (sym l) ∙ done1 in
-    let fit = unfit_done (unfit keys Aead table) (behind_fit table d.row work keys) told done2 in
-    let f : answer (unless_unfit (unfit keys Aead table) (behind_fit table d.row work keys)) told ≡ answer (behind_fit table d.row work keys) told = ap (λ u. answer (unless_unfit u (behind_fit table d.row work keys)) told) fit in
-    let done3 : IsDoneAnswer (answer (behind_fit table d.row work keys) told) = ap (λ (a : Answer). a.status) (sym f) ∙ done2 in
-    let s = scheme_done (scheme_at table Aead (url_made d.row)) (behind_scheme table d.row work keys) told done3 in
-    let g : answer (behind_fit table d.row work keys) told ≡ answer (behind_scheme table d.row work keys s.0) told = ap (λ o. answer (with_scheme o (behind_scheme table d.row work keys)) told) s.1 in
-    let done4 : IsDoneAnswer (answer (behind_scheme table d.row work keys s.0) told) = ap (λ (a : Answer). a.status) (sym g) ∙ done3 in
+used_done : (table : Table) (name : List ℕ) (form : Format) (template : List ℕ) (work : AskedEnvelope) (next : List ℕ → Plan) (bytes : List ℕ) (keys : Keys) (told : Told) → map.get told.files name ≡ Some bytes → read_in form bytes ≡ Some keys → IsDoneAnswer (answer (envelope_output table name form template work next) told)
+    → UsedEnvelope table keys template work next told (answer (envelope_output table name form template work next) told)
+used_done table name form template work next bytes keys told there e done =
+    let d = dek_done template (behind_dek table name form work next) told done in
+    let done1 : IsDoneAnswer (answer (behind_dek table name form work next d.row) told) = ap (λ (a : Answer). a.status) (sym d.goes_on) ∙ done in
+    let l = load_done name form bytes keys (behind_keys table d.row work next) told there e done1 in
+    let done2 : IsDoneAnswer (answer (unless_unfit (unfit keys Aead table) (behind_fit table d.row work next keys)) told) = ap (λ (a : Answer). a.status) (sym l) ∙ done1 in
+    let fit = unfit_done (unfit keys Aead table) (behind_fit table d.row work next keys) told done2 in
+    let f : answer (unless_unfit (unfit keys Aead table) (behind_fit table d.row work next keys)) told ≡ answer (behind_fit table d.row work next keys) told = ap (λ u. answer (unless_unfit u (behind_fit table d.row work next keys)) told) fit in
+    let done3 : IsDoneAnswer (answer (behind_fit table d.row work next keys) told) = ap (λ (a : Answer). a.status) (sym f) ∙ done2 in
+    let s = scheme_done (scheme_at table Aead (url_made d.row)) (behind_scheme table d.row work next keys) told done3 in
+    let g : answer (behind_fit table d.row work next keys) told ≡ answer (behind_scheme table d.row work next keys s.0) told = ap (λ o. answer (with_scheme o (behind_scheme table d.row work next keys)) told) s.1 in
+    let done4 : IsDoneAnswer (answer (behind_scheme table d.row work next keys s.0) told) = ap (λ (a : Answer). a.status) (sym g) ∙ done3 in
     record {
       row = d.row;
       named = d.is;
@@ -136,24 +136,24 @@ used_done table name form template work bytes keys told there e done =
       fit = fit;
       scheme = s.0;
       served = s.1;
-      fits = input_within (envelope_limit work) (λ input. envelopes table keys s.0 d.row work input writes) told done4;
-      goes_on = d.goes_on ∙ l ∙ f ∙ g ∙ input_done (envelope_limit work) (λ input. envelopes table keys s.0 d.row work input writes) told done4;
+      fits = input_within (envelope_limit work) (λ input. envelopes table keys s.0 d.row work input next) told done4;
+      goes_on = d.goes_on ∙ l ∙ f ∙ g ∙ input_done (envelope_limit work) (λ input. envelopes table keys s.0 d.row work input next) told done4;
     }
 
-used_within : (table : Table) (name : List ℕ) (form : Format) (template : List ℕ) (work : AskedEnvelope) (bytes : List ℕ) (told : Told) → map.get told.files name ≡ Some bytes → IsDoneAnswer (answer (envelope_output table name form template work writes) told) → length bytes ≤ keyset_limit
-used_within table name form template work bytes told there done =
-    let d = dek_done template (behind_dek table name form work) told done in
-    load_within name form bytes (behind_keys table d.row work) told there (ap (λ (a : Answer). a.status) (sym d.goes_on) ∙ done)
+used_within : (table : Table) (name : List ℕ) (form : Format) (template : List ℕ) (work : AskedEnvelope) (next : List ℕ → Plan) (bytes : List ℕ) (told : Told) → map.get told.files name ≡ Some bytes → IsDoneAnswer (answer (envelope_output table name form template work next) told) → length bytes ≤ keyset_limit
+used_within table name form template work next bytes told there done =
+    let d = dek_done template (behind_dek table name form work next) told done in
+    load_within name form bytes (behind_keys table d.row work next) told there (ap (λ (a : Answer). a.status) (sym d.goes_on) ∙ done)
 
-used_reached : (table : Table) (name : List ℕ) (form : Format) (template : List ℕ) (row : Row) (scheme : Scheme) (work : AskedEnvelope) (bytes : List ℕ) (keys : Keys) (told : Told) → row_named template ≡ Some row → IsAead row → scheme_at table Aead (url_made row) ≡ Some scheme
+used_reached : (table : Table) (name : List ℕ) (form : Format) (template : List ℕ) (row : Row) (scheme : Scheme) (work : AskedEnvelope) (next : List ℕ → Plan) (bytes : List ℕ) (keys : Keys) (told : Told) → row_named template ≡ Some row → IsAead row → scheme_at table Aead (url_made row) ≡ Some scheme
     → map.get told.files name ≡ Some bytes → read_in form bytes ≡ Some keys → length bytes ≤ keyset_limit → unfit keys Aead table ≡ None → length told.input ≤ envelope_limit work
-    → answer (envelope_output table name form template work writes) told ≡ answer (envelopes table keys scheme row work told.input writes) (record told { input = [] })
-used_reached table name form template row scheme work bytes keys told named aead served there e within fit fits =
-    dek_reached template row (behind_dek table name form work) told named aead
-    ∙ load_reached name form bytes keys (behind_keys table row work) told there e within
-    ∙ ap (λ u. answer (unless_unfit u (behind_fit table row work keys)) told) fit
-    ∙ ap (λ o. answer (with_scheme o (behind_scheme table row work keys)) told) served
-    ∙ input_reached (envelope_limit work) (λ input. envelopes table keys scheme row work input writes) told fits
+    → answer (envelope_output table name form template work next) told ≡ answer (envelopes table keys scheme row work told.input next) (record told { input = [] })
+used_reached table name form template row scheme work next bytes keys told named aead served there e within fit fits =
+    dek_reached template row (behind_dek table name form work next) told named aead
+    ∙ load_reached name form bytes keys (behind_keys table row work next) told there e within
+    ∙ ap (λ u. answer (unless_unfit u (behind_fit table row work next keys)) told) fit
+    ∙ ap (λ o. answer (with_scheme o (behind_scheme table row work next keys)) told) served
+    ∙ input_reached (envelope_limit work) (λ input. envelopes table keys scheme row work input next) told fits
 
 -- ---- an envelope before and after
 
@@ -185,14 +185,21 @@ sealed_by old scheme row ad told output done gave = by (envelope_of old standard
 
 pub runs_open_envelope : EnvelopeBack → EnvelopesFit → DataKeysAreServed → ReadKeysFit → RunStep → WrapStep → SessionIsEdits → SoundIsUsable Aead → EditedIsSound → EditedIsKeyset → RunsOpenEnvelope
 runs_open_envelope back sizes served read_fit law wrap sessions usable sound keyset runs before after r prefix template ad sealed told x same is was =
-    let within = used_within standard_table was.name before.form template (to_eseal ad) before.bytes told was.lies was.done in
+    let within = used_within standard_table was.name before.form template (to_eseal ad) (puts was.out) before.bytes told was.lies was.done in
     let e = lead_ends read_fit law wrap sessions runs before after r within x in
-    let u = used_done standard_table was.name before.form template (to_eseal ad) before.bytes x.old told was.lies e.read was.done in
-    let s = sealed_by x.old u.scheme u.row ad told sealed (ap (λ (a : Answer). a.status) (sym u.goes_on) ∙ was.done) (ap (λ (a : Answer). a.output) (sym u.goes_on) ∙ was.gave) in
+    let u = used_done standard_table was.name before.form template (to_eseal ad) (puts was.out) before.bytes x.old told was.lies e.read was.done in
+    let sealing = envelopes standard_table x.old u.scheme u.row (to_eseal ad) told.input in
+    let done : IsDoneAnswer (answer (envelopes standard_table x.old u.scheme u.row (to_eseal ad) told.input (puts was.out)) (record told { input = [] })) = ap (λ (a : Answer). a.status) (sym u.goes_on) ∙ was.done in
+    let w = envelope_worked standard_table x.old u.scheme u.row (to_eseal ad) told.input (puts was.out) (record told { input = [] }) done in
+    let made = made_is sealing (record told { input = [] }) false was.out sealed w done (ap (λ (a : Answer). bytes_at was.out a.files a.output) (sym u.goes_on) ∙ was.gave) (λ hex. absurd (cc)) in
+    let gone = made_written sealing (record told { input = [] }) sealed w made in
+    let s = sealed_by x.old u.scheme u.row ad told sealed gone.0 gone.1 in
     let row : IsDataKeyRow u.row = record { known = row_known template u.row u.named; aead = u.aead } in
     let opened = back standard_table u.scheme u.row x.old x.new r prefix told.input ad told.random sealed s.0 row (aead_scheme served u.row u.scheme u.aead u.served) e.primary is (gives_key_for x.old r u.fit e.keyset e.primary) same s.1 in
     let short : length sealed ≤ sealed_limit = omega (arith, sizes standard_table u.scheme u.row x.old told.input ad told.random sealed s.0 row s.1, u.fits) in
-    λ t name lies input.
-    let r' = used_reached standard_table name after.form template u.row u.scheme (to_eopen ad) after.bytes x.new t u.named u.aead u.served lies e.read_again e.within (still_fit Aead usable sound keyset x.old x.new e.keyset e.edited u.fit) (subst (λ i. length i ≤ sealed_limit) (sym input) short) in
+    λ t name out lies input free.
+    let r' = used_reached standard_table name after.form template u.row u.scheme (to_eopen ad) (puts out) after.bytes x.new t u.named u.aead u.served lies e.read_again e.within (still_fit Aead usable sound keyset x.old x.new e.keyset e.edited u.fit) (subst (λ i. length i ≤ sealed_limit) (sym input) short) in
     let g = opens_so (open_envelope_of x.new standard_table u.scheme t.input ad) told.input (record t { input = [] }) (ap (λ i. open_envelope_of x.new standard_table u.scheme i ad) input ∙ opened) in
-    (ap (λ (a : Answer). a.status) r' ∙ g.0, ap (λ (a : Answer). a.output) r' ∙ g.1)
+    let opening = envelope_worked standard_table x.new u.scheme u.row (to_eopen ad) t.input writes (record t { input = [] }) g.0 in
+    let p = made_put (envelopes standard_table x.new u.scheme u.row (to_eopen ad) t.input) (record t { input = [] }) false out told.input opening g.1 free in
+    (ap (λ (a : Answer). a.status) r' ∙ p.0, ap (λ (a : Answer). bytes_at out a.files a.output) r' ∙ p.1)

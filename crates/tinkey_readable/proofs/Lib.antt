@@ -1,9 +1,13 @@
 pub mod EndedLemmas
 pub mod EnvelopeRunLemmas
 pub mod LineRunLemmas
+pub mod PutLemmas
 pub mod ReachLemmas
 pub mod ReadableLemmas
 pub mod RunLemmas
 pub mod ReadBytesLemmas
+pub mod RangeRunLemmas
+pub mod StreamKeyLemmas
+pub mod StreamRunLemmas
 pub mod WrappedRunLemmas
 pub mod WrittenBytesLemmas

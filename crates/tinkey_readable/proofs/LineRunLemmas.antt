@@ -26,7 +26,7 @@ use Rattle.tinkey_plans.specs.Laws.{FitKeysetsAnswer, IsSession}
 use Rattle.tinkey_plans.specs.Plan.{Told, answer, writes}
 use Rattle.tinkey_plans.specs.Steps.{keyset_limit}
 use Rattle.tinkey_plans.specs.Using.{limit_for, works}
-use Rattle.tinkey_words.specs.Words.{Asked, AskedWork, create_keyset, edit_keyset, list_keyset, convert_keyset, list_key_templates, use_keyset, use_envelope, seal_stream, open_stream, self_test, session, wrap_keyset, unwrap_keyset, to_seal, to_open, to_dseal, to_dopen, to_tag, to_verify, primitive_for}
+use Rattle.tinkey_words.specs.Words.{Asked, AskedWork, create_keyset, edit_keyset, list_keyset, convert_keyset, list_key_templates, use_keyset, use_envelope, seal_stream, open_stream, open_range, self_test, session, wrap_keyset, unwrap_keyset, help, version, to_seal, to_open, to_dseal, to_dopen, to_tag, to_verify, primitive_for}
 use Rattle.tinkey_readable.specs.LineRuns.{HasTurn, IsRead, IsReadSomehow, MadeDopens, MadeDopensPresent, MadeOpens, MadeOpensPresent, MadeVerifies, WasMade, asks, by_line, by_run, done_reply}
 use Rattle.tinkey_readable.specs.Runs.{Does, IsDone, RunStep, WrapStep, Written, keyset_of}
 use Rattle.tinkey_readable.proofs.ReachLemmas.{IsDoneAnswer}
@@ -97,13 +97,16 @@ session_does table told old new (edit_keyset edit in' out) is does = absurd is
 session_does table told old new (list_keyset in') is does = absurd is
 session_does table told old new (convert_keyset in' out) is does = absurd is
 session_does table told old new list_key_templates is does = absurd is
-session_does table told old new (use_keyset name form work) is does = absurd is
-session_does table told old new (use_envelope name form template work) is does = absurd is
+session_does table told old new (use_keyset name form work out) is does = absurd is
+session_does table told old new (use_envelope name form template work out) is does = absurd is
 session_does table told old new (seal_stream name form ad) is does = absurd is
 session_does table told old new (open_stream name form ad) is does = absurd is
+session_does table told old new (open_range name form ad range out) is does = absurd is
 session_does table told old new (self_test seed lines) is does = absurd is
 session_does table told old new (wrap_keyset name form in' out) is does = absurd is
 session_does table told old new (unwrap_keyset name form in' out) is does = absurd is
+session_does table told old new (help topic) is does = absurd is
+session_does table told old new version is does = absurd is
 
 origin : ReadKeysFit → RunStep → WrapStep → SessionIsEdits → EditedIsKeyset → (work : AskedWork) (input output : List ℕ) (r : Record) (after : Written) (Makes : Keys → Type 0)
     → ((old : Keys) (told : Told) → IsKeyset old → Started work old told output → told.input ≡ input → Makes old)

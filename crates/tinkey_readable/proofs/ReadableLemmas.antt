@@ -139,7 +139,7 @@ replied opens dopens opens_present dopens_present verifies law table out keys to
 pub readable_answer : SessionOpens → SessionDopens → SessionOpensPresent → SessionDopensPresent → SessionVerifies → TalkIsTurns → ReadKeysFit → AnswersAreReadable
 readable_answer opens dopens opens_present dopens_present verifies law fit table words old s new stated answers = record {
   replies = λ told name bytes form out keys tells is there read.
-      let a : IsAnswer (answer (loads_keyset name form (holds_session table out)) told) old s new = subst (λ p. IsAnswer (answer p told) old s new) (ap (asked_plan table) is) (answers.over told tells stated) in
+      let a : IsAnswer (answer (loads_keyset name form (holds_session table out)) told) old s new = subst (λ p. IsAnswer (answer p told) old s new) (ap (λ r. asked_plan table r words) is) (answers.over told tells stated) in
       let b : IsAnswer (if nat_le (length bytes) keyset_limit then answer (keyset_in form bytes (holds_session table out)) told else refused told status.KeysetTooLong) old s new = rw there at a in
       by_length told bytes form out keys read (nat_le (length bytes) keyset_limit) refl b;
 }

@@ -49,10 +49,11 @@ use Rattle.tinkey_plans.specs.Session.{finds_free, holds_session, saves, saves_a
 use Rattle.tinkey_readable.specs.Runs.{Handing, hands_on, session_handing, AreRuns, Does, Gives, HandsOn, HoldsBytes, IsDone, Keeps, LeadOn, ReadIsStored, Passage, PassesBytes, Run, RunStep, RunsDopen, RunsDopenPresent, RunsOpen, RunsOpenPresent, RunsVerify, WasDone, WrapStep, Written, by_run, by_wrap, bytes_at, edit_of, keyset_of, read_in}
 use Rattle.tinkey_plans.specs.Laws.{FitKeysetsAnswer}
 use Rattle.tinkey_plans.specs.Steps.{input_limit, sealed_limit, keyset_limit, takes_keyset, makes_keyset, puts_keyset, with_made, written_in}
-use Rattle.tinkey_plans.specs.Using.{as_drawn, limit_for, made_bytes, with_opened, with_verified, works}
-use Rattle.tinkey_words.specs.Words.{Asked, AskedEdit, AskedWork, Place, create_keyset, edit_keyset, list_keyset, convert_keyset, list_key_templates, use_keyset, use_envelope, seal_stream, open_stream, self_test, session, wrap_keyset, unwrap_keyset, to_seal, to_open, to_dseal, to_dopen, to_tag, to_verify, primitive_for}
+use Rattle.tinkey_plans.specs.Using.{as_drawn, limit_for, made_bytes, with_opened, with_verified, works, puts_output}
+use Rattle.tinkey_words.specs.Words.{Asked, AskedEdit, AskedWork, Place, create_keyset, edit_keyset, list_keyset, convert_keyset, list_key_templates, use_keyset, use_envelope, seal_stream, open_stream, open_range, self_test, session, wrap_keyset, unwrap_keyset, to_seal, to_open, to_dseal, to_dopen, to_tag, to_verify, primitive_for, help, version}
 use Rattle.seal_wrap.specs.Sealings.{DsealingsFit, SealingsFit}
 use Rattle.tinkey_readable.proofs.ReachLemmas.{load_done, load_within, IsDoneAnswer, behind, found_edit, made_done, put_done, taken_done, taken_within, used_done, used_reached, used_within}
+use Rattle.tinkey_readable.proofs.PutLemmas.{made_is, made_put, made_written, worked}
 use Rattle.tinkey_readable.proofs.WrittenBytesLemmas.{written_bytes}
 
 -- ---- what is read is a keyset
@@ -325,13 +326,16 @@ by_asked law binary json keeps keeps_stored turns sessions edited keep_sessions 
 by_asked law binary json keeps keeps_stored turns sessions edited keep_sessions table (create_keyset template out) told before after old h e done form read put_form put random is stored = clash e
 by_asked law binary json keeps keeps_stored turns sessions edited keep_sessions table (list_keyset in') told before after old h e done form read put_form put random is stored = clash e
 by_asked law binary json keeps keeps_stored turns sessions edited keep_sessions table list_key_templates told before after old h e done form read put_form put random is stored = clash e
-by_asked law binary json keeps keeps_stored turns sessions edited keep_sessions table (use_keyset name form' work) told before after old h e done form read put_form put random is stored = clash e
-by_asked law binary json keeps keeps_stored turns sessions edited keep_sessions table (use_envelope name form' template work) told before after old h e done form read put_form put random is stored = clash e
+by_asked law binary json keeps keeps_stored turns sessions edited keep_sessions table (use_keyset name form' work out) told before after old h e done form read put_form put random is stored = clash e
+by_asked law binary json keeps keeps_stored turns sessions edited keep_sessions table (use_envelope name form' template work out) told before after old h e done form read put_form put random is stored = clash e
 by_asked law binary json keeps keeps_stored turns sessions edited keep_sessions table (seal_stream name form' ad) told before after old h e done form read put_form put random is stored = clash e
 by_asked law binary json keeps keeps_stored turns sessions edited keep_sessions table (open_stream name form' ad) told before after old h e done form read put_form put random is stored = clash e
+by_asked law binary json keeps keeps_stored turns sessions edited keep_sessions table (open_range name form' ad range out) told before after old h e done form read put_form put random is stored = clash e
 by_asked law binary json keeps keeps_stored turns sessions edited keep_sessions table (self_test seed lines) told before after old h e done form read put_form put random is stored = clash e
 by_asked law binary json keeps keeps_stored turns sessions edited keep_sessions table (wrap_keyset name form' in' out) told before after old h e done form read put_form put random is stored = clash e
 by_asked law binary json keeps keeps_stored turns sessions edited keep_sessions table (unwrap_keyset name form' in' out) told before after old h e done form read put_form put random is stored = clash e
+by_asked law binary json keeps keeps_stored turns sessions edited keep_sessions table (help topic) told before after old h e done form read put_form put random is stored = clash e
+by_asked law binary json keeps keeps_stored turns sessions edited keep_sessions table version told before after old h e done form read put_form put random is stored = clash e
 
 -- what it read is within the limit
 asked_within : (table : Table) (asked : Asked) (told : Told) (bytes : List ℕ) (h : Handing) → hands_on asked ≡ Some h → IsDoneAnswer (answer (command_plan table asked) told)
@@ -348,13 +352,16 @@ asked_within table (session name form out) told bytes h e done read = by_file ou
 asked_within table (create_keyset template out) told bytes h e done read = clash e
 asked_within table (list_keyset in') told bytes h e done read = clash e
 asked_within table list_key_templates told bytes h e done read = clash e
-asked_within table (use_keyset name form work) told bytes h e done read = clash e
-asked_within table (use_envelope name form template work) told bytes h e done read = clash e
+asked_within table (use_keyset name form work out) told bytes h e done read = clash e
+asked_within table (use_envelope name form template work out) told bytes h e done read = clash e
 asked_within table (seal_stream name form ad) told bytes h e done read = clash e
 asked_within table (open_stream name form ad) told bytes h e done read = clash e
+asked_within table (open_range name form ad range out) told bytes h e done read = clash e
 asked_within table (self_test seed lines) told bytes h e done read = clash e
 asked_within table (wrap_keyset name form in' out) told bytes h e done read = clash e
 asked_within table (unwrap_keyset name form in' out) told bytes h e done read = clash e
+asked_within table (help topic) told bytes h e done read = clash e
+asked_within table version told bytes h e done read = clash e
 
 pub hands_within : (table : Table) (run : Run) (before after : Written) → HandsOn table run before after → length before.bytes ≤ keyset_limit
 hands_within table run before after h = asked_within table run.asked run.told before.bytes h.handing h.hands h.handed.done h.handed.read
@@ -380,13 +387,16 @@ done_edits sessions table told (session name form out) old new does = subst (λ 
 done_edits sessions table told (create_keyset template out) old new does = absurd does
 done_edits sessions table told (list_keyset in') old new does = absurd does
 done_edits sessions table told list_key_templates old new does = absurd does
-done_edits sessions table told (use_keyset name form work) old new does = absurd does
-done_edits sessions table told (use_envelope name form template work) old new does = absurd does
+done_edits sessions table told (use_keyset name form work out) old new does = absurd does
+done_edits sessions table told (use_envelope name form template work out) old new does = absurd does
 done_edits sessions table told (seal_stream name form ad) old new does = absurd does
 done_edits sessions table told (open_stream name form ad) old new does = absurd does
+done_edits sessions table told (open_range name form ad range out) old new does = absurd does
 done_edits sessions table told (self_test seed lines) old new does = absurd does
 done_edits sessions table told (wrap_keyset name form in' out) old new does = absurd does
 done_edits sessions table told (unwrap_keyset name form in' out) old new does = absurd does
+done_edits sessions table told (help topic) old new does = absurd does
+done_edits sessions table told version old new does = absurd does
 
 pub record Led (old : Keys) (after : Written) : Type 0 where
   pub new : Keys
@@ -455,26 +465,31 @@ pub record Started (work : AskedWork) (old : Keys) (told : Told) (output : List 
 
 pub started : (work : AskedWork) (written : Written) (old : Keys) (told : Told) (output : List ℕ) → keyset_of written ≡ Some old → WasDone work written told output → Started work old told output
 started work written old told output is was =
-    let u = used_done standard_table was.name written.form work written.bytes old told was.lies is was.done in
-    record {
-      fit = u.fit;
-      fits = u.fits;
-      status' = ap (λ (a : Answer). a.status) (sym u.goes_on) ∙ was.done;
-      gave = ap (λ (a : Answer). a.output) (sym u.goes_on) ∙ was.gave;
-    }
+    let out = was.out in
+    let u = used_done standard_table was.name written.form work (puts_output out) written.bytes old told was.lies is was.done in
+    let left = record told { input = [] } in
+    let steps = works standard_table old work told.input in
+    let done : IsDoneAnswer (answer (works standard_table old work told.input (puts_output out)) left) = ap (λ (a : Answer). a.status) (sym u.goes_on) ∙ was.done in
+    let w = worked standard_table old work told.input (puts_output out) left done in
+    let same = made_is steps left out.hex out.file output w done (ap (λ (a : Answer). bytes_at out.file a.files a.output) (sym u.goes_on) ∙ was.gave) was.bytes in
+    let written' = made_written steps left output w same in
+    record { fit = u.fit; fits = u.fits; status' = written'.0; gave = written'.1 }
 
 -- the keyset that it was done over is within the limit
 pub done_within : (work : AskedWork) (written : Written) (told : Told) (output : List ℕ) → WasDone work written told output → length written.bytes ≤ keyset_limit
-done_within work written told output was = used_within standard_table was.name written.form work written.bytes told was.lies was.done
+done_within work written told output was = used_within standard_table was.name written.form work (puts_output was.out) written.bytes told was.lies was.done
 
 -- work over the last one is done, where its keys answer so
 pub finished : (work : AskedWork) (written : Written) (new : Keys) (input output : List ℕ) → keyset_of written ≡ Some new → length written.bytes ≤ keyset_limit → unfit new (primitive_for work) standard_table ≡ None → length input ≤ limit_for work
     → ((told : Told) → (IsDoneAnswer (answer (works standard_table new work input writes) told)) × ((answer (works standard_table new work input writes) told).output ≡ output))
     → IsDone work written input output
-finished work written new input output is within fit fits gives told name lies same =
-    let r = used_reached standard_table name written.form work written.bytes new told lies is within fit (subst (λ i. length i ≤ limit_for work) (sym same) fits) ∙ ap (λ i. answer (works standard_table new work i writes) (record told { input = [] })) same in
-    let g = gives (record told { input = [] }) in
-    (ap (λ (a : Answer). a.status) r ∙ g.0, ap (λ (a : Answer). a.output) r ∙ g.1)
+finished work written new input output is within fit fits gives told name out lies same free =
+    let left = record told { input = [] } in
+    let r = used_reached standard_table name written.form work (puts_output out) written.bytes new told lies is within fit (subst (λ i. length i ≤ limit_for work) (sym same) fits) ∙ ap (λ i. answer (works standard_table new work i (puts_output out)) left) same in
+    let g = gives left in
+    let w = worked standard_table new work input writes left g.0 in
+    let p = made_put (works standard_table new work input) left out.hex out.file output w g.1 free in
+    (ap (λ (a : Answer). a.status) r ∙ p.0, ap (λ (a : Answer). bytes_at out.file a.files a.output) r ∙ p.1)
 
 -- what was sealed, by the answer of its work
 pub sealed_by : (old : Keys) (ad : List ℕ) (told : Told) (output : List ℕ) → Started (to_seal ad) old told output → (s : Sealed) × (seal_answer old standard_table told.input ad told.random ≡ Some s) × (s.bytes ≡ output)

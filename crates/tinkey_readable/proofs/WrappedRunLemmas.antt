@@ -27,7 +27,7 @@ use Rattle.wrapped_prims.specs.Fitness.{key_of_record, unfit}
 use Rattle.wrapped_prims.specs.Laws.{GivesKeyFor, HasSameKey}
 use Rattle.tinkey_plans.specs.declared.status.Status.TheVariants as status
 use Rattle.tinkey_plans.specs.Commands.{command_plan}
-use Rattle.tinkey_plans.specs.Plan.{Answer, Plan, Told, answer, create_answer, draw_answer, ends, refused}
+use Rattle.tinkey_plans.specs.Plan.{Answer, Plan, Told, answer, draw_answer, ends, refused}
 use Rattle.tinkey_plans.specs.Steps.{keyset_limit, puts, puts_keyset, takes_keyset, with_made, within_limit, writes_keyset, written_in}
 use Rattle.tinkey_plans.specs.Using.{handles, unless_unfit}
 use Rattle.tinkey_plans.specs.Wrapping.{as_wrapping, is_json, makes_wrapped, takes_wrapped, unwraps, with_unwrapped, wrapped_limit}
@@ -35,7 +35,7 @@ use Rattle.tinkey_words.specs.Words.{Asked, Place, unwrap_keyset, wrap_keyset}
 use Rattle.tinkey_words.specs.declared.words.rows.Format.{Format}
 use Rattle.tinkey_words.specs.declared.words.rows.Format.TheVariants as formats
 use Rattle.tinkey_readable.specs.Runs.{DrawsBytes, HoldsBytes, IsFree, LiesIn, ReadIsStored, Run, RunStep, RunsUnwrap, WrapStep, Wraps, Written, bytes_at, keyset_of, read_in}
-use Rattle.tinkey_readable.proofs.ReachLemmas.{IsDoneAnswer, behind, bytes_put, load_done, load_reached, load_within, loaded, loaded_done, put_done, taken_done, taken_within, unfit_done, went_done, went_on}
+use Rattle.tinkey_readable.proofs.ReachLemmas.{IsDoneAnswer, behind, bytes_put, bytes_reached, load_done, load_reached, load_within, loaded, loaded_done, put_done, taken_done, taken_within, unfit_done, went_done, went_on}
 use Rattle.tinkey_readable.proofs.RunLemmas.{each_of, json_back, kept, lead_ends, primary_word, read_faultless, still_fit}
 use Rattle.tinkey_readable.proofs.WrittenBytesLemmas.{written_bytes}
 
@@ -224,14 +224,10 @@ wrap_step law binary json stored back wrap unwrap before after keys goes random 
 put_reached : (out : Place) (keys : Keys) (told : Told) → length (written_in out.form keys) ≤ keyset_limit → IsFree out.file told.files → IsDoneAnswer (answer (puts_keyset out keys) told)
 put_reached out keys told within free =
     ap (λ (b : Bool). (answer (if b then puts out.file bytes else ends status.KeysetTooLong tt) told).status) (let e : nat_le (length bytes) keyset_limit ≡ true = grind (arith, nat_tests, within) in e)
-    ∙ by out.file free
+    ∙ bytes_reached out.file bytes told free
   where
     bytes : List ℕ
     bytes = written_in out.form keys
-
-    by : (file : Option (List ℕ)) → IsFree file told.files → IsDoneAnswer (answer (puts file bytes) told)
-    by (Some name) free = ap (λ (found : Option (List ℕ)). (create_answer found told name bytes (refused told status.OutExists)).status) free
-    by None free = refl
 
 pub kept_wrapped : FaultlessKeysets → BinaryBack → JsonBack → ReadIsStored → WrapBackBytes → ReadKeysFit → RunStep → WrapStep → SessionIsEdits → SoundIsUsable Aead → EditedIsSound → EditedIsKeyset → RunsUnwrap
 kept_wrapped law binary json stored back fit_read law_run law_wrap sessions usable sound keyset runs master later r prefix lead same prefixed wrap before text keys x random holds is told name in' out lies in_form read free short =

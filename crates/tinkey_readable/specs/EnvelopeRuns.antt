@@ -1,7 +1,7 @@
 -- Runs of eseal and eopen, with runs between them that hand the keyset on.
 --
 --   RunsOpenEnvelope   what was sealed in an envelope before runs opens after them
-use Rattle.std.specs.Prelude.{◌≡◌, ℕ, List, Some}
+use Rattle.std.specs.Prelude.{◌≡◌, ℕ, List, Option, Some}
 use Rattle.keyset_model.specs.declared.record.Record.{Record}
 use Rattle.managers.specs.Standard.{standard_table}
 use Rattle.wrapped_prims.specs.Candidates.{prefix_of}
@@ -10,28 +10,32 @@ use Rattle.tinkey_plans.specs.declared.status.Status.TheVariants as status
 use Rattle.tinkey_plans.specs.Commands.{command_plan}
 use Rattle.tinkey_plans.specs.Plan.{Answer, Told, answer}
 use Rattle.tinkey_words.specs.Words.{AskedEnvelope, to_eseal, to_eopen, use_envelope}
-use Rattle.tinkey_readable.specs.Runs.{LeadOn, LiesIn, Passage, Written}
+use Rattle.tinkey_readable.specs.Runs.{IsFree, LeadOn, LiesIn, Passage, Written, bytes_at}
 
 -- the answer of work by data keys of a template under the keys of the keyset that lies in the file of this
--- name
-abbrev pub envelope_answer : AskedEnvelope → (template : List ℕ) → Written → (name : List ℕ) → Told → Answer
-envelope_answer work template written name told =
-    answer (command_plan standard_table (use_envelope name written.form template work)) told
+-- name, put here
+abbrev pub envelope_answer : AskedEnvelope → (out : Option (List ℕ)) → (template : List ℕ) → Written
+    → (name : List ℕ) → Told → Answer
+envelope_answer work out template written name told =
+    answer (command_plan standard_table (use_envelope name written.form template work out)) told
 
--- such work over a keyset was answered Done, with this output
+-- such work over a keyset was answered Done, and put this output, to standard output or into a new file
 pub record WasEnveloped (work : AskedEnvelope) (template : List ℕ) (written : Written) (told : Told)
     (output : List ℕ) : Type 0 where
   pub name : List ℕ
+  pub out : Option (List ℕ)
   pub lies : LiesIn written told name
-  pub done : (envelope_answer work template written name told).status ≡ status.Done
-  pub gave : (envelope_answer work template written name told).output ≡ output
+  pub done : (envelope_answer work out template written name told).status ≡ status.Done
+  pub gave : let a = envelope_answer work out template written name told in
+      bytes_at out a.files a.output ≡ Some output
 
--- such work over a keyset is answered Done, with this output, in whichever file the keyset lies
+-- such work over a keyset is answered Done, and puts this output, in whichever file the keyset lies, and
+-- wherever the output is asked to be put, where the name of a new file is free
 abbrev pub IsEnveloped : AskedEnvelope → (template : List ℕ) → Written → (input output : List ℕ) → Type 0
-IsEnveloped work template written input output = (told : Told) (name : List ℕ)
-    → LiesIn written told name → told.input ≡ input
-    → ((envelope_answer work template written name told).status ≡ status.Done)
-    × ((envelope_answer work template written name told).output ≡ output)
+IsEnveloped work template written input output = (told : Told) (name : List ℕ) (out : Option (List ℕ))
+    → LiesIn written told name → told.input ≡ input → IsFree out told.files
+    → let a = envelope_answer work out template written name told in
+    (a.status ≡ status.Done) × (bytes_at out a.files a.output ≡ Some output)
 
 -- What was sealed in an envelope under a key with a prefix opens to its plaintext, with its associated
 -- data and the template of its data key, while that key is ENABLED and alone under its prefix.

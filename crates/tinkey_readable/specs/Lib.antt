@@ -1,4 +1,6 @@
 pub mod EnvelopeRuns
 pub mod LineRuns
+pub mod RangeRuns
 pub mod Readable
 pub mod Runs
+pub mod StreamRuns

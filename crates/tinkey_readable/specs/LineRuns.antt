@@ -52,8 +52,8 @@ pub record Lead (runs : List Passage) (before after : Written) (old : Keys) : Ty
   pub read : keyset_of before ≡ Some old
 
 -- By this work this output was made of this input, by the key of this primary record: by a run of the
--- command over a keyset, or by a line of a session that hands the keyset on. From there runs have led
--- to the keyset that lies here.
+-- command over a keyset, wherever that put it, or by a line of a session that hands the keyset on. From
+-- there runs have led to the keyset that lies here.
 pub data WasMade (work : AskedWork) (input output : List ℕ) (r : Record) (after : Written)
     : Type 0 where
   by_run : (runs : List Passage) (before : Written) (old : Keys) → Lead runs before after old →
@@ -65,8 +65,8 @@ pub data WasMade (work : AskedWork) (input output : List ℕ) (r : Record) (afte
       primary_of t.before ≡ Some r → WasMade work input output r after
 
 -- This work on this input is done with this output, while that record's key is in the keyset as it is
--- said here: by a run of the command over the keyset that lies here, in whichever file, where the input
--- is within its limit, and by each line of a session over it.
+-- said here: by a run of the command over the keyset that lies here, in whichever file, wherever that puts
+-- it, where the input is within its limit, and by each line of a session over it.
 pub record IsRead (While : Record → Keys → Type 0) (work : AskedWork) (input output : List ℕ)
     (r : Record) (written : Written) : Type 0 where
   pub by_run : (new : Keys) → keyset_of written ≡ Some new → While r new

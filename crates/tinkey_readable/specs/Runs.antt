@@ -8,7 +8,7 @@
 --   WrapStep       a keyset that was wrapped and unwrapped is the keyset
 --   RunsUnwrap     what was wrapped before runs over the master is unwrapped after them
 --   RunsOpen ..    what was sealed or tagged before runs opens or verifies after them
-use Rattle.std.specs.Prelude.{◌≡◌, ℕ, ◌<◌, ◌≤◌, List, [], ◌∷◌, length, Option, Some, None, Ok}
+use Rattle.std.specs.Prelude.{◌≡◌, ℕ, ◌<◌, ◌≤◌, Bool, true, false, List, [], ◌∷◌, length, Option, Some, None, Ok}
 use Rattle.std.specs.FinMap as map
 use Rattle.std.specs.List.{AllByRecursion}
 use Rattle.std.specs.Option.{option_and_then}
@@ -32,7 +32,8 @@ use Rattle.tinkey_words.specs.declared.words.rows.Format.TheVariants as formats
 use Rattle.tinkey_plans.specs.Commands.{command_plan}
 use Rattle.tinkey_plans.specs.Plan.{Answer, Told, answer}
 use Rattle.tinkey_plans.specs.Steps.{keyset_limit, written_in}
-use Rattle.tinkey_words.specs.Words.{Asked, AskedEdit, AskedWork, Place, convert_keyset, edit_keyset, session, use_keyset, wrap_keyset, unwrap_keyset, to_seal, to_open, to_dseal, to_dopen, to_tag, to_verify}
+use Rattle.tinkey_plans.specs.Using.{hex_line}
+use Rattle.tinkey_words.specs.Words.{Asked, AskedEdit, AskedWork, Output, Place, convert_keyset, edit_keyset, session, use_keyset, wrap_keyset, unwrap_keyset, to_seal, to_open, to_dseal, to_dopen, to_tag, to_verify}
 
 -- the keyset that these bytes are, in this form
 abbrev pub read_in : Format → List ℕ → Option Keys
@@ -270,25 +271,35 @@ RunsUnwrap = (runs : List Passage) (master later : Written) (r : Record) (prefix
     → HoldsBytes before → keyset_of before ≡ Some old
     → IsUnwrapped later text old
 
--- the answer of work by the keys of the keyset that lies in the file of this name
-abbrev pub work_answer : AskedWork → Written → (name : List ℕ) → Told → Answer
-work_answer work written name told =
-    answer (command_plan standard_table (use_keyset name written.form work)) told
+-- the answer of work by the keys of the keyset that lies in the file of this name, put here
+abbrev pub work_answer : AskedWork → Output → Written → (name : List ℕ) → Told → Answer
+work_answer work out written name told =
+    answer (command_plan standard_table (use_keyset name written.form work out)) told
 
--- work over a keyset was answered Done, with this output
+-- bytes as they are put: as they are, or as their line of hexadecimal
+abbrev pub shown : (hex : Bool) → List ℕ → List ℕ
+shown false bytes = bytes
+shown true bytes = hex_line bytes
+
+-- work over a keyset was answered Done, and put this output, to standard output or into a new file; a line
+-- of hexadecimal is that of bytes
 pub record WasDone (work : AskedWork) (written : Written) (told : Told) (output : List ℕ)
     : Type 0 where
   pub name : List ℕ
+  pub out : Output
   pub lies : LiesIn written told name
-  pub done : (work_answer work written name told).status ≡ status.Done
-  pub gave : (work_answer work written name told).output ≡ output
+  pub done : (work_answer work out written name told).status ≡ status.Done
+  pub gave : let a = work_answer work out written name told in
+      bytes_at out.file a.files a.output ≡ Some (shown out.hex output)
+  pub bytes : out.hex ≡ true → AreBytes output
 
--- work over a keyset is answered Done, with this output, in whichever file the keyset lies
+-- work over a keyset is answered Done, and puts this output, in whichever file the keyset lies, and
+-- wherever the output is asked to be put, where the name of a new file is free
 abbrev pub IsDone : AskedWork → Written → (input output : List ℕ) → Type 0
-IsDone work written input output = (told : Told) (name : List ℕ)
-    → LiesIn written told name → told.input ≡ input
-    → ((work_answer work written name told).status ≡ status.Done)
-    × ((work_answer work written name told).output ≡ output)
+IsDone work written input output = (told : Told) (name : List ℕ) (out : Output)
+    → LiesIn written told name → told.input ≡ input → IsFree out.file told.files
+    → let a = work_answer work out written name told in
+    (a.status ≡ status.Done) × (bytes_at out.file a.files a.output ≡ Some (shown out.hex output))
 
 -- what was sealed under a key with a prefix opens to its plaintext, with its associated data, while that
 -- key is ENABLED and alone under its prefix

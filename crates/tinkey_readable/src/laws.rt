@@ -4,14 +4,17 @@ ghost use Rattle.keyset_json.specs.Writing.{JsonBack};
 ghost use Rattle.keyset_model.specs.Writing.{BinaryBack};
 ghost use Rattle.tinkey_readable.specs.EnvelopeRuns.{RunsOpenEnvelope};
 ghost use Rattle.tinkey_readable.specs.LineRuns.{MadeDopens, MadeDopensPresent, MadeOpens, MadeOpensPresent, MadeVerifies};
+ghost use Rattle.tinkey_readable.specs.RangeRuns.{RunsOpenRange};
 ghost use Rattle.tinkey_readable.specs.Readable.{AnswersAreReadable, SessionsAreReadable};
 ghost use Rattle.tinkey_readable.specs.Runs.{ReadIsStored, RunStep, RunsDopen, RunsDopenPresent, RunsOpen, RunsOpenPresent, RunsUnwrap, RunsVerify, WrapStep};
+ghost use Rattle.tinkey_readable.specs.StreamRuns.{RunsOpenStream, RunsOpenStreamPresent};
 
 use keyset_json::laws::{json_back, json_is_stored};
 use keyset_model::laws::{binary_back, faultless_keysets, read_keysets_fit};
 use seal_wrap::laws::{
     envelope_back, envelopes_fit, sealings_fit, standard_data_keys, wrap_back_bytes,
 };
+use segment_stream::laws::{range_is_slice, stream_back};
 use tinkey_cmds::laws::edits_keep_keysets;
 use tinkey_plans::laws::fit_keysets_answer;
 use tinkey_session::laws::{
@@ -90,7 +93,8 @@ pub fn kept_wrapped()
 /// What was sealed over a keyset opens after any runs that hand the keyset on, as it is or wrapped in
 /// between, with its associated data, to its plaintext, while the key that sealed is ENABLED in the last
 /// keyset and alone under its prefix. While the key is there, ENABLED, it opens to some plaintext, whatever
-/// the prefix type, and a tag verifies.
+/// the prefix type, and a tag verifies. What was made may lie in a new file, and a tag in hexadecimal; what
+/// opens may become a new file, where its name is free.
 pub fn kept_runs()
     ensures open { RunsOpen }
     ensures dopen { RunsDopen }
@@ -127,6 +131,42 @@ pub fn kept_envelopes()
     read_keysets_fit();
     session_is_edits();
     sound_usable();
+    edited_kept();
+}
+
+/// What was sealed as a stream over a keyset opens after any such runs, with its associated data, to its
+/// plaintext: while the key that sealed it is ENABLED in the last keyset, and no other key before it there
+/// opens the stream's first segment, since `sopen` takes the first one that does. While the key is there,
+/// ENABLED, the first segment opens, under that key or another one.
+///
+/// Of the run that sealed it is asked that its input and its random bytes are bytes. That the last keyset
+/// gives keys for streams need not be said, as edits of one that does keep it so; nor that the stream has
+/// at most 2^32 segments, as it was sealed.
+pub fn kept_streams()
+    ensures open { RunsOpenStream }
+    ensures open_present { RunsOpenStreamPresent }
+{
+    run_step();
+    wrap_step();
+    stream_back();
+    read_keysets_fit();
+    session_is_edits();
+    edited_kept();
+}
+
+/// Of what was sealed as a stream over a keyset, `srange` gives slices of its plaintext after any such runs,
+/// with its associated data, as `sopen` gives the whole of it: while the key that sealed it is ENABLED in the
+/// last keyset, and no other key before it there opens the stream's first segment. A range that ends behind
+/// the plaintext is refused.
+pub fn kept_ranges()
+    ensures { RunsOpenRange }
+{
+    run_step();
+    wrap_step();
+    stream_back();
+    range_is_slice();
+    read_keysets_fit();
+    session_is_edits();
     edited_kept();
 }
 

@@ -1,0 +1,222 @@
+-- Streams that were sealed before runs, and opened after them.
+use Rattle.std.proofs.Common.{arith, ◌≡◌, ◌∙◌, sym, refl, ap, ℕ, zero, suc, ◌+◌, ◌≤◌, Bool, true, false, List, [], ◌∷◌, length, take, drop, Option, Some, None, Ok}
+use Rattle.std.specs.Prelude.{All, nat_lt, option_map, if◌then◌else◌}
+use Rattle.std.specs.FinMap as map
+use Rattle.std.proofs.lemmas.Bool.Decides.{nat_tests}
+use Rattle.std.proofs.lemmas.List.{length-take-le}
+use Rattle.std.proofs.lemmas.List.Elements.{All-cons}
+use Rattle.keyset_model.specs.Keyset.{Keys}
+use Rattle.keyset_model.specs.Writing.{ReadKeysFit}
+use Rattle.keyset_model.specs.declared.record.Record.{Record}
+use Rattle.key_msgs.specs.declared.primitive.Primitive.TheVariants.{Stream}
+use Rattle.segment_stream.proofs.CipherLemmas.{cipher_of-is_cipher}
+use Rattle.segment_stream.specs.Cipher.{IsByte, SegmentCipher}
+use Rattle.segment_stream.specs.KeysModel.{KeysForStreams}
+use Rattle.segment_stream.specs.Laws.{StreamBack}
+use Rattle.segment_stream.specs.Opening.{Choice, StreamRefusal, choose, chosen, decides, decides_by, failed, released, released_by, stream_answer, too_many}
+use Rattle.segment_stream.specs.Pumping.{opening_any, opening_under, sealing}
+use Rattle.segment_stream.specs.Sealing.{header_of, many_plain, seal_decides, sealed}
+use Rattle.segment_stream.specs.Segments.{IsSound, cipher_of, ciphers_of}
+use Rattle.segment_stream.specs.StreamKeys.{StreamUnfit, bad_key, not_stream, primary_key, stream_key_of, stream_keys, stream_unfit}
+use Rattle.segment_stream.specs.declared.key.StreamKey.{StreamKey}
+use Rattle.tinkey_cmds.specs.Draws.{Drawn}
+use Rattle.tinkey_session.proofs.Options.{map_some}
+use Rattle.tinkey_session.specs.HeldLaws.{AreBytes}
+use Rattle.tinkey_session.specs.Laws.{EditedIsKeyset, EditedIsSound}
+use Rattle.tinkey_session.specs.SessionLaws.{SessionIsEdits}
+use Rattle.tinkey_plans.specs.declared.status.Status.TheVariants as status
+use Rattle.tinkey_words.specs.declared.words.rows.Format.{Format}
+use Rattle.tinkey_plans.specs.Plan.{Answer, Plan, Told, allocates, answer, draw_answer, pump_answer, pumps, refused, stream_status}
+use Rattle.tinkey_plans.specs.Steps.{keyset_limit, with_made}
+use Rattle.tinkey_plans.specs.Streaming.{keys_for, loads_stream_keys, opens_stream, seals_stream, unless_unfit, with_keys}
+use Rattle.tinkey_readable.specs.Runs.{LeadOn, Passage, RunStep, WrapStep, Written, keyset_of, read_in}
+use Rattle.tinkey_readable.specs.StreamRuns.{RunsOpenStream, RunsOpenStreamPresent, WasSealed}
+use Rattle.tinkey_readable.proofs.ReachLemmas.{IsDoneAnswer, load_done, load_reached, load_within}
+use Rattle.tinkey_readable.proofs.RunLemmas.{lead_ends}
+use Rattle.tinkey_readable.proofs.StreamKeyLemmas.{first_under, fit_sound, opens_under, primary_gives, primary_key_there, sound_fit, sound_key}
+
+-- ---- the keys of a keyset
+
+-- the plan behind a keyset
+abbrev pub behind_keyset : (KeysForStreams → Plan) → Keys → Plan
+behind_keyset next keys = allocates (unless_unfit (stream_unfit keys) (with_keys (keys_for keys) next))
+
+fit_done : (unfit : Option (ℕ × StreamUnfit)) (next : Plan) (told : Told) → IsDoneAnswer (answer (unless_unfit unfit next) told) → unfit ≡ None
+fit_done None next told done = refl
+fit_done (Some (i, not_stream)) next told done = absurd (cc)
+fit_done (Some (i, bad_key rule)) next told done = absurd (cc)
+
+keys_done : (found : Option KeysForStreams) (next : KeysForStreams → Plan) (told : Told) → IsDoneAnswer (answer (with_keys found next) told) → (keys : KeysForStreams) × (found ≡ Some keys)
+keys_done (Some keys) next told done = (keys, refl)
+keys_done None next told done = absurd (cc)
+
+-- the keys for streams of a keyset
+abbrev pub with_primary : Keys → StreamKey → KeysForStreams
+with_primary keys primary = record { primary = primary; keys = stream_keys keys }
+
+pub record LoadedKeys (keys : Keys) (next : KeysForStreams → Plan) (told : Told) (a : Answer) : Type 0 where
+  pub fit : stream_unfit keys ≡ None
+  pub primary : StreamKey
+  pub there : primary_key keys ≡ Some primary
+  pub goes_on : a ≡ answer (next (with_primary keys primary)) told
+
+pub keys_reached : (name : List ℕ) (form : Format) (bytes : List ℕ) (keys : Keys) (primary : StreamKey) (next : KeysForStreams → Plan) (told : Told) → map.get told.files name ≡ Some bytes → read_in form bytes ≡ Some keys → length bytes ≤ keyset_limit
+    → stream_unfit keys ≡ None → primary_key keys ≡ Some primary → answer (loads_stream_keys name form next) told ≡ answer (next (with_primary keys primary)) told
+keys_reached name form bytes keys primary next told there e within fit is =
+    load_reached name form bytes keys (behind_keyset next) told there e within
+    ∙ ap (λ u. answer (unless_unfit u (with_keys (keys_for keys) next)) told) fit
+    ∙ ap (λ o. answer (with_keys (option_map (with_primary keys) o) next) told) is
+
+pub keys_loaded : (name : List ℕ) (form : Format) (bytes : List ℕ) (keys : Keys) (next : KeysForStreams → Plan) (told : Told) → map.get told.files name ≡ Some bytes → read_in form bytes ≡ Some keys → IsDoneAnswer (answer (loads_stream_keys name form next) told)
+    → LoadedKeys keys next told (answer (loads_stream_keys name form next) told)
+keys_loaded name form bytes keys next told there e done =
+    let l = load_done name form bytes keys (behind_keyset next) told there e done in
+    let done1 : IsDoneAnswer (answer (unless_unfit (stream_unfit keys) (with_keys (keys_for keys) next)) told) = ap (λ (a : Answer). a.status) (sym l) ∙ done in
+    let fit = fit_done (stream_unfit keys) (with_keys (keys_for keys) next) told done1 in
+    let f : answer (unless_unfit (stream_unfit keys) (with_keys (keys_for keys) next)) told ≡ answer (with_keys (keys_for keys) next) told = ap (λ u. answer (unless_unfit u (with_keys (keys_for keys) next)) told) fit in
+    let k = keys_done (keys_for keys) next told (ap (λ (a : Answer). a.status) (sym f) ∙ done1) in
+    let primary = map_some (with_primary keys) (primary_key keys) k.0 k.1 in
+    record {
+      fit = fit;
+      primary = primary.0;
+      there = primary.1;
+      goes_on = l ∙ f ∙ ap (λ o. answer (with_keys (option_map (with_primary keys) o) next) told) primary.1;
+    }
+
+-- ---- a stream
+
+take_bytes : (n : ℕ) (bytes : List ℕ) → AreBytes bytes → AreBytes (take n bytes)
+take_bytes zero bytes all = tt
+take_bytes (suc n) [] all = tt
+take_bytes (suc n) (b ∷ bytes) all = (all.0, take_bytes n bytes all.1)
+
+each_byte : (bytes : List ℕ) → AreBytes bytes → All IsByte bytes
+each_byte [] all = λ k d lt. absurd (omega arith)
+each_byte (b ∷ bytes) all = All-cons IsByte b bytes all.0 (each_byte bytes all.1)
+
+-- what was sealed, by the answer of the plan behind the keys
+record SealedStream (key : StreamKey) (ad : List ℕ) (told : Told) (stream : List ℕ) : Type 0 where
+  random : List ℕ
+  whole : length random ≡ key.derived + 7
+  bytes : AreBytes told.random → AreBytes random
+  few : seal_decides (cipher_of ad key) random told.input ≡ None
+  is : sealed (cipher_of ad key) random told.input true ≡ stream
+
+sealed_by : (keys : KeysForStreams) (ad : List ℕ) (told : Told) (stream : List ℕ) → IsDoneAnswer (answer (seals_stream keys ad) told) → (answer (seals_stream keys ad) told).output ≡ stream → SealedStream keys.primary ad told stream
+sealed_by keys ad told stream done gave = by (nat_lt (length told.random) n) refl done gave
+  where
+    n : ℕ
+    n = keys.primary.derived + 7
+
+    cipher : SegmentCipher
+    cipher = cipher_of ad keys.primary
+
+    random : List ℕ
+    random = take n told.random
+
+    pumped : Option StreamRefusal → Answer
+    pumped o = pump_answer (sealing cipher (header_of cipher random)) (record told { random = drop n told.random }) o
+
+    a : Bool → Answer
+    a b = draw_answer (if b then None else Some (record { answer = Ok random; left = drop n told.random })) (refused told status.EntropyFault)
+        (λ (d : Drawn (List ℕ)). answer (with_made d.answer (λ r. pumps (sealing cipher (header_of cipher r)))) (record told { random = d.left }))
+
+    by_pass : (o : Option StreamRefusal) → length random ≡ n → many_plain cipher (header_of cipher random) told.input ≡ o → IsDoneAnswer (pumped o) → (pumped o).output ≡ stream → SealedStream keys.primary ad told stream
+    by_pass None whole few done gave = record { random = random; whole = whole; bytes = take_bytes n told.random; few = few; is = gave }
+    by_pass (Some too_many) whole few done gave = absurd (cc)
+    by_pass (Some (failed number)) whole few done gave = absurd (cc)
+
+    by : (b : Bool) → nat_lt (length told.random) n ≡ b → IsDoneAnswer (a b) → (a b).output ≡ stream → SealedStream keys.primary ad told stream
+    by true short done gave = absurd (cc)
+    by false long done gave =
+        let enough : n ≤ length told.random = grind (arith, nat_tests, long) in
+        by_pass (many_plain cipher (header_of cipher random) told.input) (length-take-le n told.random enough) refl done gave
+
+-- it opens under the key that sealed it
+opens_alone : StreamBack → (key : StreamKey) (ad : List ℕ) (told : Told) (stream : List ℕ) → IsSound key → AreBytes told.input → AreBytes told.random → SealedStream key ad told stream → stream_answer (cipher_of ad key ∷ []) stream ≡ (told.input, None)
+opens_alone back key ad told stream sound plain_bytes random_bytes s =
+    ap (stream_answer (cipher_of ad key ∷ [])) (sym s.is)
+    ∙ back (cipher_of ad key) s.random told.input (cipher_of-is_cipher ad key sound) (omega (arith, s.whole)) (each_byte s.random (s.bytes random_bytes)) (each_byte told.input plain_bytes) s.few
+
+-- a pass that opens it is Done, with its plaintext
+opened_so : (keys : KeysForStreams) (ad : List ℕ) (told : Told) (stream plain : List ℕ) → told.input ≡ stream → stream_answer (ciphers_of ad keys.keys) stream ≡ (plain, None) → (IsDoneAnswer (answer (opens_stream keys ad) told)) × ((answer (opens_stream keys ad) told).output ≡ plain)
+opened_so keys ad told stream plain same is =
+    let all : stream_answer (ciphers_of ad keys.keys) told.input ≡ (plain, None) = ap (stream_answer (ciphers_of ad keys.keys)) same ∙ is in
+    let none : decides (ciphers_of ad keys.keys) told.input true ≡ None = ap (λ (x : List ℕ × Option StreamRefusal). x.1) all in
+    let out : released (ciphers_of ad keys.keys) told.input true ≡ plain = ap (λ (x : List ℕ × Option StreamRefusal). x.0) all in
+    let e : answer (opens_stream keys ad) told ≡ pump_answer (opening_any (ciphers_of ad keys.keys)) told None = ap (pump_answer (opening_any (ciphers_of ad keys.keys)) told) none in
+    (ap (λ (a : Answer). a.status) e, ap (λ (a : Answer). a.output) e ∙ out)
+
+-- a pass goes as under the key chosen alone
+chosen_so : (keys : KeysForStreams) (key : StreamKey) (ad : List ℕ) (told : Told) (stream : List ℕ) → told.input ≡ stream → choose (ciphers_of ad keys.keys) stream true ≡ chosen (cipher_of ad key) → answer (opens_stream keys ad) told ≡ answer (pumps (opening_under (cipher_of ad key))) told
+chosen_so keys key ad told stream same is =
+    let here : choose (ciphers_of ad keys.keys) told.input true ≡ chosen (cipher_of ad key) = ap (λ (l : List ℕ). choose (ciphers_of ad keys.keys) l true) same ∙ is in
+    by_refusal (decides_by (chosen (cipher_of ad key)) told.input true) (ap (λ (c : Choice). decides_by c told.input true) here) (ap (λ (c : Choice). released_by c told.input true) here)
+  where
+    -- an answer by a refusal, and by what was put out
+    by_refusal : (o : Option StreamRefusal) → decides (ciphers_of ad keys.keys) told.input true ≡ o → released (ciphers_of ad keys.keys) told.input true ≡ released_by (chosen (cipher_of ad key)) told.input true
+        → pump_answer (opening_any (ciphers_of ad keys.keys)) told (decides (ciphers_of ad keys.keys) told.input true) ≡ pump_answer (opening_under (cipher_of ad key)) told o
+    by_refusal None refusal out =
+        ap (pump_answer (opening_any (ciphers_of ad keys.keys)) told) refusal
+        ∙ ap (λ (l : List ℕ). record (refused told status.Done) { input = Some []; output = l }) out
+    by_refusal (Some why) refusal out =
+        ap (pump_answer (opening_any (ciphers_of ad keys.keys)) told) refusal
+        ∙ ap (λ (l : List ℕ). record (refused told (stream_status why)) { input = None; output = l }) out
+
+-- ---- before and after runs
+
+-- A stream was sealed before runs under a key of this record, and the keyset that they led to gives keys
+-- for streams.
+pub record SealedBefore (after : Written) (r : Record) (new : Keys) (ad stream plain : List ℕ) : Type 0 where
+  pub read : keyset_of after ≡ Some new
+  pub within : length after.bytes ≤ keyset_limit
+  pub fit : stream_unfit new ≡ None
+  pub primary : StreamKey
+  pub there : primary_key new ≡ Some primary
+  pub key : StreamKey
+  pub gives : stream_key_of r ≡ Ok key
+  pub alone : stream_answer (cipher_of ad key ∷ []) stream ≡ (plain, None)
+
+pub sealed_before : StreamBack → ReadKeysFit → RunStep → WrapStep → SessionIsEdits → EditedIsSound → EditedIsKeyset → (runs : List Passage) (before after : Written) (r : Record) (ad stream : List ℕ) (told : Told) (lead : LeadOn runs before after r)
+    → WasSealed ad before told stream → SealedBefore after r lead.new ad stream told.input
+sealed_before back read_fit law wrap sessions sound keyset runs before after r ad stream told x was =
+    let within = load_within was.name before.form before.bytes (behind_keyset (λ k. seals_stream k ad)) told was.lies was.done in
+    let e = lead_ends read_fit law wrap sessions runs before after r within x in
+    let u = keys_loaded was.name before.form before.bytes x.old (λ k. seals_stream k ad) told was.lies e.read was.done in
+    let s = sealed_by (with_primary x.old u.primary) ad told stream (ap (λ (a : Answer). a.status) (sym u.goes_on) ∙ was.done) (ap (λ (a : Answer). a.output) (sym u.goes_on) ∙ was.gave) in
+    let gives : stream_key_of r ≡ Ok u.primary = primary_gives x.old r u.primary e.primary u.there in
+    let sound_new = sound Stream x.old x.new e.edited (fit_sound x.old e.keyset u.fit) in
+    let primary = primary_key_there x.new sound_new in
+    record {
+      read = e.read_again;
+      within = e.within;
+      fit = sound_fit x.new sound_new;
+      primary = primary.0;
+      there = primary.1;
+      key = u.primary;
+      gives = gives;
+      alone = opens_alone back u.primary ad told stream (sound_key r u.primary gives) was.plain_bytes was.random_bytes s;
+    }
+
+pub runs_open_stream : StreamBack → ReadKeysFit → RunStep → WrapStep → SessionIsEdits → EditedIsSound → EditedIsKeyset → RunsOpenStream
+runs_open_stream back read_fit law wrap sessions sound keyset runs before after r ad stream told x has only was =
+    let b = sealed_before back read_fit law wrap sessions sound keyset runs before after r ad stream told x was in
+    let opens = opens_under x.new r b.key ad stream told.input has b.gives only b.alone in
+    λ t name lies input.
+    let reached = keys_reached name after.form after.bytes x.new b.primary (λ k. opens_stream k ad) t lies b.read b.within b.fit b.there in
+    let g = opened_so (with_primary x.new b.primary) ad t stream told.input input opens.answer in
+    (ap (λ (a : Answer). a.status) reached ∙ g.0, ap (λ (a : Answer). a.output) reached ∙ g.1)
+
+pub runs_open_stream_present : StreamBack → ReadKeysFit → RunStep → WrapStep → SessionIsEdits → EditedIsSound → EditedIsKeyset → RunsOpenStreamPresent
+runs_open_stream_present back read_fit law wrap sessions sound keyset runs before after r ad stream told x has was =
+    let b = sealed_before back read_fit law wrap sessions sound keyset runs before after r ad stream told x was in
+    let f = first_under x.new r b.key ad stream told.input has b.gives b.alone in
+    record {
+      key = f.key;
+      place = f.place;
+      there = f.there;
+      first = f.first;
+      answers = λ t name lies input.
+          keys_reached name after.form after.bytes x.new b.primary (λ k. opens_stream k ad) t lies b.read b.within b.fit b.there
+          ∙ chosen_so (with_primary x.new b.primary) f.key ad t stream input f.choice;
+    }

@@ -1,0 +1,85 @@
+-- Runs of sseal and sopen, with runs between them that hand the keyset on.
+--
+--   NoOtherBefore           no other key before that one opens the first segment of a stream
+--   RunsOpenStream          what was sealed as a stream before runs opens after them
+--   RunsOpenStreamPresent   its first segment opens, under that key or another one
+use Rattle.std.specs.Prelude.{◌≡◌, ℕ, List, take, true, Some, Ok, slice_get}
+use Rattle.std.specs.List.{AllByRecursion, filter_map}
+use Rattle.keyset_model.specs.Keyset.{Keys}
+use Rattle.keyset_model.specs.declared.record.Record.{Record}
+use Rattle.managers.specs.Standard.{standard_table}
+use Rattle.segment_stream.specs.Opening.{fits}
+use Rattle.segment_stream.specs.Pumping.{opening_under}
+use Rattle.segment_stream.specs.Segments.{cipher_of}
+use Rattle.segment_stream.specs.StreamKeys.{key_in, stream_key_of, stream_keys}
+use Rattle.segment_stream.specs.declared.key.StreamKey.{StreamKey}
+use Rattle.tinkey_session.specs.HeldLaws.{AreBytes}
+use Rattle.wrapped_prims.specs.Laws.{HasKey}
+use Rattle.tinkey_plans.specs.declared.status.Status.TheVariants as status
+use Rattle.tinkey_plans.specs.Commands.{command_plan}
+use Rattle.tinkey_plans.specs.Plan.{Answer, Told, answer, pumps}
+use Rattle.tinkey_words.specs.Words.{seal_stream, open_stream}
+use Rattle.tinkey_readable.specs.Runs.{LeadOn, LiesIn, Passage, Written}
+
+-- the answer of sseal, and that of sopen, by the keys of the keyset that lies in the file of this name
+abbrev pub sseal_answer : (ad : List ℕ) → Written → (name : List ℕ) → Told → Answer
+sseal_answer ad written name told =
+    answer (command_plan standard_table (seal_stream name written.form ad)) told
+
+abbrev pub sopen_answer : (ad : List ℕ) → Written → (name : List ℕ) → Told → Answer
+sopen_answer ad written name told =
+    answer (command_plan standard_table (open_stream name written.form ad)) told
+
+-- A run of sseal over a keyset was answered Done, and put out this stream. Its input and its random
+-- bytes are bytes, as those of any file or device.
+pub record WasSealed (ad : List ℕ) (written : Written) (told : Told) (stream : List ℕ) : Type 0 where
+  pub name : List ℕ
+  pub lies : LiesIn written told name
+  pub plain_bytes : AreBytes told.input
+  pub random_bytes : AreBytes told.random
+  pub done : (sseal_answer ad written name told).status ≡ status.Done
+  pub gave : (sseal_answer ad written name told).output ≡ stream
+
+-- a run of sopen over a keyset is answered Done, with this output, in whichever file the keyset lies
+abbrev pub IsOpened : (ad : List ℕ) → Written → (stream output : List ℕ) → Type 0
+IsOpened ad written stream output = (told : Told) (name : List ℕ)
+    → LiesIn written told name → told.input ≡ stream
+    → ((sopen_answer ad written name told).status ≡ status.Done)
+    × ((sopen_answer ad written name told).output ≡ output)
+
+-- Among the ENABLED records before this place none gives a key for streams, other than that of this
+-- record, under which the first segment of the stream opens. Nothing in a stream tells its key, so the
+-- first one that opens its first segment is taken.
+abbrev pub NoOtherBefore : (r : Record) (place : ℕ) (ad stream : List ℕ) → Keys → Type 0
+NoOtherBefore r place ad stream keys =
+    AllByRecursion (λ key. fits (cipher_of ad key) stream ≡ true → stream_key_of r ≡ Ok key)
+    (filter_map key_in (take place keys.records))
+
+-- What was sealed as a stream opens to its plaintext, with its associated data, while the key that
+-- sealed it is there, ENABLED, and no other key before it opens the stream's first segment.
+abbrev pub RunsOpenStream : Type 0
+RunsOpenStream = (runs : List Passage) (before after : Written) (r : Record) (ad stream : List ℕ)
+    (told : Told) (lead : LeadOn runs before after r) (has : HasKey r lead.new)
+    → NoOtherBefore r has.place ad stream lead.new
+    → WasSealed ad before told stream
+    → IsOpened ad after stream told.input
+
+-- The first segment of the stream opens under a key of the keyset, and a run of sopen over it is answered
+-- as under that key alone.
+pub record OpensFirst (ad : List ℕ) (written : Written) (keys : Keys) (stream : List ℕ) : Type 0
+  where
+    pub key : StreamKey
+    pub place : ℕ
+    pub there : slice_get (stream_keys keys) place ≡ Some key
+    pub first : fits (cipher_of ad key) stream ≡ true
+    pub answers : (told : Told) (name : List ℕ) → LiesIn written told name → told.input ≡ stream
+        → sopen_answer ad written name told ≡ answer (pumps (opening_under (cipher_of ad key))) told
+
+-- While the key that sealed it is there, ENABLED, its first segment opens: under that key, or by chance
+-- under another one before it, which may refuse a later segment then.
+abbrev pub RunsOpenStreamPresent : Type 0
+RunsOpenStreamPresent = (runs : List Passage) (before after : Written) (r : Record)
+    (ad stream : List ℕ) (told : Told) (lead : LeadOn runs before after r)
+    → HasKey r lead.new
+    → WasSealed ad before told stream
+    → OpensFirst ad after lead.new stream
