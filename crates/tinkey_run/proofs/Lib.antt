@@ -1,6 +1,9 @@
 pub mod EnvelopeLemmas
+pub mod GivenLemmas
+pub mod RangingLemmas
 pub mod SelfTestLemmas
 pub mod StreamLemmas
 pub mod TemplateLemmas
 pub mod UseLemmas
+pub mod WordLemmas
 pub mod WrapLemmas

@@ -10,6 +10,7 @@ mod enveloping;
 pub mod laws;
 mod list;
 mod output;
+mod ranging;
 mod self_testing;
 mod session;
 mod steps;

@@ -1,12 +1,13 @@
 //! The last step of a command: its output is written, or becomes a new file.
 
-ghost use Rattle.std.specs.Prelude.{◌≡◌, ◌≤◌, List, ℕ, length, IfOk};
+ghost use Rattle.std.specs.Prelude.{◌≡◌, ◌≤◌, ◌++◌, List, ℕ, codes, length, IfOk};
 ghost use Rattle.std.specs.List.{AllByRecursion};
 ghost use Rattle.keyset_model.specs.Keyset.{Keys, IsShort};
 ghost use Rattle.tinkey_plans.specs.Plan.{Plan, writes, creates};
 ghost use Rattle.tinkey_plans.specs.Ends.{Ends, World};
 ghost use Rattle.tinkey_plans.specs.Steps.{written_in, within_limit, writes_keyset, puts, puts_keyset, Passes};
-ghost use Rattle.tinkey_words.specs.Words.{seen_name, seen_place};
+ghost use Rattle.tinkey_plans.specs.Using.{hex_line, puts_output};
+ghost use Rattle.tinkey_words.specs.Words.{seen_name, seen_output, seen_place};
 ghost use Rattle.tinkey_plans.specs.declared.status.Status.TheVariants as status;
 
 use crate::steps::KEYSET_LIMIT;
@@ -15,7 +16,7 @@ use keyset_model::{Keyset, write_binary};
 use std::alloc::Global;
 use tink_base::{Bytes, Created, NoMemory, Sink, Store, StoreError, write_all};
 use tinkey_plans::Status;
-use tinkey_words::{Format, Place};
+use tinkey_words::{Format, Output, Place};
 
 /// Writes a command's output, its last step, or hands on why there is none.
 pub(crate) fn finish<K: Sink>(sink: &mut K, output: Result<Bytes, Status>) -> Status
@@ -48,6 +49,68 @@ pub(crate) fn finish_text<K: Sink, D: Store>(
         Ok(bytes) => put(alloc, out, sink, store, bytes.as_slice()),
         Err(status) => status,
     }
+}
+
+/// Puts out the bytes that work by keys gives, as its last step: as they are or in hexadecimal, into a
+/// new file, or where none is named, to the sink. Or hands on why there are none.
+pub(crate) fn finish_output<K: Sink, D: Store>(
+    alloc: Global,
+    out: Output<'_>,
+    sink: &mut K,
+    store: &mut D,
+    made: Result<Bytes, Status>,
+) -> Status
+    ensures { (step : (List ℕ → Plan) → Plan) (first w : World) →
+        Passes step first made
+        (record w { sink = K.state sink.old; store = D.state store.old }) →
+        Ends (step (puts_output (seen_output out.entry))) first result
+        (record w { sink = K.state sink.new; store = D.state store.new }) }
+{
+    match made {
+        Ok(bytes) => put_output(alloc, out, sink, store, bytes.as_slice()),
+        Err(status) => status,
+    }
+}
+
+/// Puts bytes as they are or in hexadecimal.
+fn put_output<K: Sink, D: Store>(
+    alloc: Global,
+    out: Output<'_>,
+    sink: &mut K,
+    store: &mut D,
+    bytes: &[u8],
+) -> Status
+    ensures { (w : World) → Ends (puts_output (seen_output out.entry) bytes.now)
+        (record w { sink = K.state sink.old; store = D.state store.old }) result
+        (record w { sink = K.state sink.new; store = D.state store.new }) }
+{
+    if !out.hex {
+        return put(alloc, out.file, sink, store, bytes);
+    }
+    match hex_line(alloc, bytes) {
+        Ok(line) => put(alloc, out.file, sink, store, line.as_slice()),
+        Err(_) => Status::NoMemory,
+    }
+}
+
+/// The line of bytes in lower-case hexadecimal.
+fn hex_line(alloc: Global, bytes: &[u8]) -> Result<Vec<u8>, NoMemory>
+    ensures { IfOk result (λ line. line.items ≡ hex_line bytes.now) }
+{
+    match hex::encode(alloc, bytes) {
+        Ok(digits) => line_of(alloc, digits.as_bytes()),
+        Err(_) => Err(NoMemory),
+    }
+}
+
+/// A text, and the end of its line.
+fn line_of(alloc: Global, text: &[u8]) -> Result<Vec<u8>, NoMemory>
+    ensures { IfOk result (λ line. line.items ≡ text.now ++ codes "\n") }
+{
+    let mut line = Vec::new(alloc);
+    line.extend_from_slice(text)?;
+    line.push(b'\n')?;
+    Ok(line)
 }
 
 /// Writes the output.

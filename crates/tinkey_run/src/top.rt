@@ -1,8 +1,9 @@
 //! The top call.
 
-ghost use Rattle.std.specs.Prelude.{◌≡◌, map, string_bytes};
-ghost use Rattle.tinkey_plans.specs.Ends.{Ends, world};
-ghost use Rattle.tinkey_plans.specs.Commands.{plan_of, command_plan};
+ghost use Rattle.std.specs.Prelude.{◌≡◌, map, string_bytes, Err};
+ghost use Rattle.managers.specs.Table.{Table};
+ghost use Rattle.tinkey_plans.specs.Ends.{Ends, World, world};
+ghost use Rattle.tinkey_plans.specs.Commands.{asked_plan, plan_of, command_plan};
 ghost use Rattle.tinkey_plans.specs.Promises.{Promised};
 ghost use Rattle.tinkey_readable.specs.Readable.{IsReadable};
 ghost use Rattle.tinkey_plans.specs.Status.{Reports};
@@ -11,7 +12,8 @@ ghost use Rattle.tinkey_words.specs.Words.{seen_command};
 use crate::edits::{create_keyset, edit_keyset};
 use crate::enveloping::use_envelope;
 use crate::list::list_keyset;
-use crate::output::{finish, finish_keyset, finish_text};
+use crate::output::{finish, finish_keyset, finish_output, finish_text, write_output};
+use crate::ranging::open_stretch;
 use crate::self_testing::tell_self_test;
 use crate::session::answer_lines;
 use crate::steps::{load_keyset, take_keyset};
@@ -22,7 +24,7 @@ use crate::wrapping::{unwrap_keyset, wrap_keyset};
 use managers::{KeyTable, Managers};
 use std::alloc::Global;
 use tink_base::{Entropy, Sink, Source, Store};
-use tinkey_plans::{Status, report};
+use tinkey_plans::{Status, help_text, report, version_text};
 use tinkey_readable::laws::sessions_are_readable;
 use tinkey_words::{Request, parse};
 
@@ -82,7 +84,19 @@ fn obey<S: Source, K: Sink, E: Entropy, D: Store>(
 {
     match parse(words) {
         Ok(command) => dispatch(alloc, command, managers, source, sink, entropy, store),
-        Err(word) => Status::Usage(word),
+        Err(word) => unasked(words, word),
+    }
+}
+
+/// The status of words that ask for nothing, of which this one is at fault, or which are none.
+fn unasked(words: &[String], word: usize) -> Status
+    ensures { (table : Table) (w : World) →
+        Ends (asked_plan table (Err word) (map string_bytes words.now)) w result w }
+{
+    if words.is_empty() {
+        Status::NoWords
+    } else {
+        Status::Usage(word)
     }
 }
 
@@ -123,21 +137,27 @@ fn dispatch<S: Source, K: Sink, E: Entropy, D: Store>(
             finish_keyset(alloc, output, sink, store, taken)
         }
         Request::ListKeyTemplates => list_templates(sink),
-        Request::UseKeyset { keyset, form, work } => finish(
-            sink,
-            use_keyset(alloc, managers, keyset, form, work, source, entropy, store),
-        ),
+        Request::UseKeyset {
+            keyset,
+            form,
+            work,
+            output,
+        } => {
+            let done = use_keyset(alloc, managers, keyset, form, work, source, entropy, store);
+            finish_output(alloc, output, sink, store, done)
+        }
         Request::UseEnvelope {
             keyset,
             form,
             template,
             work,
-        } => finish(
-            sink,
-            use_envelope(
+            output,
+        } => {
+            let done = use_envelope(
                 alloc, managers, keyset, form, template, work, source, entropy, store,
-            ),
-        ),
+            );
+            finish_text(alloc, output, sink, store, done)
+        }
         Request::SealStream { keyset, form, ad } => {
             let keys = load_stream_keys(alloc, keyset, form, store);
             seal_stream(alloc, keys, ad, source, sink, entropy)
@@ -145,6 +165,16 @@ fn dispatch<S: Source, K: Sink, E: Entropy, D: Store>(
         Request::OpenStream { keyset, form, ad } => {
             let keys = load_stream_keys(alloc, keyset, form, store);
             open_stream(alloc, keys, ad, source, sink)
+        }
+        Request::OpenRange {
+            keyset,
+            form,
+            ad,
+            range,
+            output,
+        } => {
+            let opened = open_stretch(alloc, keyset, form, ad, range, store);
+            finish_text(alloc, output, sink, store, opened)
         }
         Request::SelfTest { seed, lines } => {
             finish(sink, tell_self_test(alloc, managers, seed, lines))
@@ -187,5 +217,7 @@ fn dispatch<S: Source, K: Sink, E: Entropy, D: Store>(
             let unwrapped = unwrap_keyset(alloc, managers, master, form, input, source, store);
             finish_keyset(alloc, output, sink, store, unwrapped)
         }
+        Request::Help { topic } => write_output(sink, help_text(topic).as_bytes()),
+        Request::Version => write_output(sink, version_text().as_bytes()),
     }
 }

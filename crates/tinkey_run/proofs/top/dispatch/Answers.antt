@@ -1,12 +1,14 @@
+use Rattle.std.proofs.Common.{◌∙◌}
 use Rattle.tinkey_plans.specs.Commands.{create_output, edit_output, list_keyset_output}
 use Rattle.tinkey_plans.specs.Ends.{world}
 use Rattle.tinkey_plans.specs.Envelopes.{envelope_output}
+use Rattle.tinkey_plans.specs.Ranging.{range_output}
 use Rattle.tinkey_plans.specs.SelfTesting.{self_test_output}
 use Rattle.tinkey_plans.specs.Steps.{loads_keyset, takes_keyset}
 use Rattle.tinkey_plans.specs.Streaming.{loads_stream_keys}
 use Rattle.tinkey_plans.specs.Using.{use_output}
 use Rattle.tinkey_plans.specs.Wrapping.{unwrap_output, wrap_output}
-use Rattle.tinkey_words.specs.Words.{seen_edit, seen_envelope, seen_place, seen_work}
+use Rattle.tinkey_words.specs.Words.{seen_datum, seen_edit, seen_envelope, seen_place, seen_range, seen_work}
 use Rattle.tinkey_run.proofs.top.dispatch.Goals as goal
 
 pub returns-in-CreateKeyset : goal.returns-in-CreateKeyset
@@ -37,15 +39,15 @@ returns-in-ListKeyTemplates g c =
 pub returns-in-UseKeyset : goal.returns-in-UseKeyset
 returns-in-UseKeyset g c =
     let w = world (g.S.Source.state c.args.source.now) (g.K.Sink.state c.args.sink.now) (g.D.Store.state c.args.store.now) (g.E.Entropy.state c.args.entropy.now) in
-    let new = record w { source = g.S.Source.state c.use_keyset.new.source; entropy = g.E.Entropy.state c.use_keyset.new.entropy; store = g.D.Store.state c.use_keyset.new.store } in
-    rw c.in-UseKeyset.is (c.finish-in-UseKeyset.ensures (use_output _ c.in-UseKeyset.keyset.now c.in-UseKeyset.form (seen_work c.in-UseKeyset.work)) w new (c.use_keyset.ensures w))
+    let new = record w { source = g.S.Source.state c.use_keyset-done.new.source; entropy = g.E.Entropy.state c.use_keyset-done.new.entropy; store = g.D.Store.state c.use_keyset-done.new.store } in
+    rw c.in-UseKeyset.is (c.finish_output.ensures (use_output _ c.in-UseKeyset.keyset.now c.in-UseKeyset.form (seen_work c.in-UseKeyset.work)) w new (c.use_keyset-done.ensures w))
 
 pub returns-in-UseEnvelope : goal.returns-in-UseEnvelope
 returns-in-UseEnvelope g c =
     let w = world (g.S.Source.state c.args.source.now) (g.K.Sink.state c.args.sink.now) (g.D.Store.state c.args.store.now) (g.E.Entropy.state c.args.entropy.now) in
     let x = c.in-UseEnvelope in
-    let new = record w { source = g.S.Source.state c.use_envelope.new.source; entropy = g.E.Entropy.state c.use_envelope.new.entropy; store = g.D.Store.state c.use_envelope.new.store } in
-    rw x.is (c.finish-in-UseEnvelope.ensures (envelope_output _ x.keyset.now x.form x.template.now (seen_envelope x.work)) w new (c.use_envelope.ensures w))
+    let new = record w { source = g.S.Source.state c.use_envelope-done.new.source; entropy = g.E.Entropy.state c.use_envelope-done.new.entropy; store = g.D.Store.state c.use_envelope-done.new.store } in
+    rw x.is (c.finish_text.ensures (envelope_output _ x.keyset.now x.form x.template.now (seen_envelope x.work)) w new (c.use_envelope-done.ensures w))
 
 pub returns-in-SealStream : goal.returns-in-SealStream
 returns-in-SealStream g c =
@@ -56,6 +58,12 @@ pub returns-in-OpenStream : goal.returns-in-OpenStream
 returns-in-OpenStream g c =
     let w = world (g.S.Source.state c.args.source.now) (g.K.Sink.state c.args.sink.now) (g.D.Store.state c.args.store.now) (g.E.Entropy.state c.args.entropy.now) in
     rw c.in-OpenStream.is (c.open_stream.ensures (loads_stream_keys c.in-OpenStream.keyset.now c.in-OpenStream.form) w (record w { store = g.D.Store.state c.load_stream_keys-keys-in-OpenStream.new.store }) (c.load_stream_keys-keys-in-OpenStream.ensures.passes w))
+
+pub returns-in-OpenRange : goal.returns-in-OpenRange
+returns-in-OpenRange g c =
+    let w = world (g.S.Source.state c.args.source.now) (g.K.Sink.state c.args.sink.now) (g.D.Store.state c.args.store.now) (g.E.Entropy.state c.args.entropy.now) in
+    let x = c.in-OpenRange in
+    rw x.is (c.finish_text-in-OpenRange.ensures (range_output x.keyset.now x.form (seen_datum x.ad) (seen_range x.range)) w (record w { store = g.D.Store.state c.open_stretch-opened.new.store }) (c.open_stretch-opened.ensures w))
 
 pub returns-in-Session : goal.returns-in-Session
 returns-in-Session g c =
@@ -72,7 +80,7 @@ returns-in-WrapKeyset g c =
     let w = world (g.S.Source.state c.args.source.now) (g.K.Sink.state c.args.sink.now) (g.D.Store.state c.args.store.now) (g.E.Entropy.state c.args.entropy.now) in
     let x = c.in-WrapKeyset in
     let new = record w { source = g.S.Source.state c.wrap_keyset-wrapped.new.source; entropy = g.E.Entropy.state c.wrap_keyset-wrapped.new.entropy; store = g.D.Store.state c.wrap_keyset-wrapped.new.store } in
-    rw x.is (c.finish_text.ensures (wrap_output _ x.master.now x.form (seen_place x.input) x.output.form) w new (c.wrap_keyset-wrapped.ensures w))
+    rw x.is (c.finish_text-in-WrapKeyset.ensures (wrap_output _ x.master.now x.form (seen_place x.input) x.output.form) w new (c.wrap_keyset-wrapped.ensures w))
 
 pub returns-in-UnwrapKeyset : goal.returns-in-UnwrapKeyset
 returns-in-UnwrapKeyset g c =
@@ -80,3 +88,13 @@ returns-in-UnwrapKeyset g c =
     let x = c.in-UnwrapKeyset in
     let new = record w { source = g.S.Source.state c.unwrap_keyset-unwrapped.new.source; store = g.D.Store.state c.unwrap_keyset-unwrapped.new.store } in
     rw x.is (c.finish_keyset-in-UnwrapKeyset.ensures (unwrap_output _ x.master.now x.form (seen_place x.input)) w new (c.unwrap_keyset-unwrapped.ensures.passes w))
+
+pub returns-in-Help : goal.returns-in-Help
+returns-in-Help g c =
+    let w = world (g.S.Source.state c.args.source.now) (g.K.Sink.state c.args.sink.now) (g.D.Store.state c.args.store.now) (g.E.Entropy.state c.args.entropy.now) in
+    rw c.in-Help.is (rw (c.as_bytes.ensures.value ∙ c.help_text.ensures) at (c.write_output.ensures w))
+
+pub returns-in-Version : goal.returns-in-Version
+returns-in-Version g c =
+    let w = world (g.S.Source.state c.args.source.now) (g.K.Sink.state c.args.sink.now) (g.D.Store.state c.args.store.now) (g.E.Entropy.state c.args.entropy.now) in
+    rw c.in-Version.is (rw (c.as_bytes-in-Version.ensures.value ∙ c.version_text.ensures) at (c.write_output-in-Version.ensures w))
