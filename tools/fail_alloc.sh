@@ -239,6 +239,11 @@ refuse envelope eseal --keyset gcm --keyset-format binary --dek-template AES128_
 hex "$envelope" | takes
 ends same "$(zeros 16 | shaped same)" none
 refuse opened-envelope eopen --keyset gcm --keyset-format binary --dek-template AES128_GCM
+ends same '' "same $(zeros 16 | shaped same)"
+refuse opened-envelope-in-a-file eopen --keyset gcm --keyset-format binary --dek-template AES128_GCM --out n
+zeros 16 | takes
+ends same '' 'size 49'
+refuse sealed-file seal --keyset gcm --keyset-format binary --out n
 printf 'Hi There' | takes
 ends same 003f691decd01ba02be727b014625c9a8606b032893191be none
 refuse dseal dseal --keyset siv --ad-hex 000e
@@ -248,6 +253,10 @@ refuse dopen dopen --keyset siv --ad-hex 000e
 printf 'Hi There' | takes
 ends same b0344c61d8db38535ca8afceaf0bf12b none
 refuse tag tag --keyset hmac --keyset-format binary
+ends same "$(text b0344c61d8db38535ca8afceaf0bf12b)" none
+refuse tag-digits tag --keyset hmac --keyset-format binary --hex
+ends same '' "same $(text b0344c61d8db38535ca8afceaf0bf12b)"
+refuse tag-digits-in-a-file tag --keyset hmac --keyset-format binary --hex --out n
 ends same '' none
 refuse verify verify --tag-hex b0344c61d8db38535ca8afceaf0bf12b --keyset hmac --keyset-format binary
 ends same b0344c61d8db38535ca8afceaf0bf12b881dc200c9833da726e9376c2e32cff7 none
@@ -260,6 +269,12 @@ refuse sealed-stream sseal --keyset stream
 takes < "$work/sealed"
 ends same "$(zeros 4057 | shaped same)" none
 refuse opened-stream sopen --keyset stream
+cp "$work/sealed" "$files/pages"
+: | takes
+ends same "$(zeros 7 | shaped same)" none
+refuse range srange --keyset stream --file pages --from 4050 --length 7
+ends same '' "same $(zeros 1 | shaped same)"
+refuse range-in-a-file srange --keyset stream --file pages --from 4056 --length 1 --out n
 
 session | takes
 ends replies "$replies" "listing $(shaped listing < "$files/gcm")"

@@ -1,5 +1,6 @@
 //! Bytes as text, in the cells of tables.
 
+use crate::pages::{LETTERS, PAGES, STREAM};
 use std::alloc::Global;
 use std::test::Fail;
 
@@ -175,11 +176,12 @@ const TEXTS: [(&str, &str); 12] = [
     ("WRAPPED_JSON", WRAPPED_JSON),
 ];
 
-/// The keysets in binary form that have names in cells.
-const KEYSETS: [(&str, &[u8]); 3] = [
+/// The keysets in binary form, and a stream, that have names in cells.
+const KEYSETS: [(&str, &[u8]); 4] = [
     ("GCM", GCM_KEYSET),
     ("HMAC", HMAC_KEYSET),
     ("WRAPPED", WRAPPED),
+    ("STREAM", STREAM),
 ];
 
 /// The bytes that a cell spells, one item after another, with spaces between them.
@@ -285,6 +287,12 @@ fn named(name: &str) -> Option<&'static [u8]> {
         if known == name {
             return Some(keyset);
         }
+    }
+    if name == "PAGES" {
+        return Some(PAGES);
+    }
+    if name == "LETTERS" {
+        return Some(LETTERS);
     }
     None
 }

@@ -88,6 +88,13 @@ a keyset wrapped | wrap-keyset --master k --master-format binary --in-format bin
 a keyset unwrapped in a file | unwrap-keyset --master k --master-format binary --in-format binary --out-format binary --out n | 64 | GCM | WRAPPED | | 0 Done | | | HMAC | 0 | 5 0 0 2 0
 an envelope sealed | eseal --dek-template AES128_GCM_RAW --keyset k --keyset-format binary | 64 | GCM | 16x00 | 40x00 | 0 Done | | 00000033 0101020304 12x00 1998dace60b6a392f328c2b971b2fe78f7956d5be285ef332e80174f60c6e290b102 12x00 0388dace60b6a392f328c2b971b2fe78 ab6e47d42cec13bdf53a67b21257bddf | none | 40 | 2 2 0 1 3
 an envelope opened | eopen --dek-template AES128_GCM_RAW --keyset k --keyset-format binary | 64 | GCM | 00000033 0101020304 12x00 1998dace60b6a392f328c2b971b2fe78f7956d5be285ef332e80174f60c6e290b102 12x00 0388dace60b6a392f328c2b971b2fe78 ab6e47d42cec13bdf53a67b21257bddf | | 0 Done | | 16x00 | none | 0 | 3 1 0 1 0
+a range opened | srange --file s --from 22 --length 4 --keyset k --keyset-format binary | 64 | 07; ENABLED RAW 07 @AesGcmHkdfStreamingKey 12( 0840 1010 1803 ) 1a( 000102030405060708090a0b0c0d0e0f ) | STREAM | | 0 Done | | 2x61 2x62 | none | 0 | 0 1 0 6 0
+a range in a file | srange --file s --from 24 --length 48 --out n --keyset k --keyset-format binary | 64 | 07; ENABLED RAW 07 @AesGcmHkdfStreamingKey 12( 0840 1010 1803 ) 1a( 000102030405060708090a0b0c0d0e0f ) | STREAM | | 0 Done | | | 48x62 | 0 | 0 0 0 6 0
+a range past the end | srange --file s --from 73 --length 1 --keyset k --keyset-format binary | 64 | 07; ENABLED RAW 07 @AesGcmHkdfStreamingKey 12( 0840 1010 1803 ) 1a( 000102030405060708090a0b0c0d0e0f ) | STREAM | | 2 PastEnd | tinkey: range past the end | | none | 0 | 0 0 1 4 0
+a text sealed in a file | seal --out n --keyset k --keyset-format binary | 64 | GCM | 16x00 | 12x00 | 0 Done | | | 0101020304 12x00 0388dace60b6a392f328c2b971b2fe78 ab6e47d42cec13bdf53a67b21257bddf | 12 | 2 0 0 2 1
+an envelope opened in a file | eopen --dek-template AES128_GCM_RAW --out n --keyset k --keyset-format binary | 64 | GCM | 00000033 0101020304 12x00 1998dace60b6a392f328c2b971b2fe78f7956d5be285ef332e80174f60c6e290b102 12x00 0388dace60b6a392f328c2b971b2fe78 ab6e47d42cec13bdf53a67b21257bddf | | 0 Done | | | 16x00 | 0 | 3 0 0 2 0
+a tag in hexadecimal | tag --hex --keyset k --keyset-format binary | 64 | HMAC | 4869205468657265 | | 0 Done | | `b0344c61d8db38535ca8afceaf0bf12b` 0a | none | 0 | 2 1 0 1 0
+a tag over a file that is there | tag --hex --out k --keyset k --keyset-format binary | 64 | HMAC | 4869205468657265 | | 4 OutExists | tinkey: output file exists | | none | 0 | 2 0 1 2 0
 a self-test | selftest --seed 0 --lines 4 | 64 | none | | | 0 Done | | `lines^4^seals^3^opened^0^refused^0^edits^1^declined^0^lost^0` 0a | none | 0 | 0 1 0 0 0
 a line in pieces | list-keyset --in-format binary | 7 | none | 08 | | 3 BadProto(0) | tinkey: bad protobuf at byte 0 | | none | 0 | 2 0 5 0 0
 a missing file | tag --keyset k --keyset-format binary | 7 | none | | | 4 InMissing | tinkey: input file missing | | none | 0 | 0 0 4 1 0
@@ -96,7 +103,7 @@ words at fault | verify | 7 | none | | | 2 Usage(1) | tinkey: usage: word 1 | | 
 
 #[test]
 fn ends_by_the_call_that_failed(rt: HostRuntime) -> Result<(), Fail> {
-    run_failing(rt.alloc(), COMMANDS, 42)
+    run_failing(rt.alloc(), COMMANDS, 49)
 }
 
 // The new file of 175 bytes, or of 90, or the 236 bytes of JSON, breaks off, and what is there stays.

@@ -25,6 +25,8 @@ mod faults;
 #[cfg(test)]
 mod handed;
 #[cfg(test)]
+mod help;
+#[cfg(test)]
 mod json;
 #[cfg(test)]
 mod json_members;
@@ -37,7 +39,13 @@ mod list_keyset;
 #[cfg(test)]
 mod objects;
 #[cfg(test)]
+mod outputs;
+#[cfg(test)]
+mod pages;
+#[cfg(test)]
 mod published;
+#[cfg(test)]
+mod ranges;
 #[cfg(test)]
 mod records;
 #[cfg(test)]

@@ -17,7 +17,7 @@ pub(crate) struct Objects<'a> {
     pub(crate) fails: (&'a str, u64),
     /// The bytes of the file `k`, where there is one.
     pub(crate) file: Option<&'a [u8]>,
-    /// The bytes of the input.
+    /// The bytes of the input, and of the file `s`.
     pub(crate) input: Vec<u8>,
     /// The random bytes.
     pub(crate) random: Vec<u8>,
@@ -82,6 +82,7 @@ fn run_whole(alloc: Global, words: &[String], objects: Objects<'_>) -> Result<Ou
     if let Some(bytes) = file {
         store.put("k", bytes)?;
     }
+    store.put("s", &objects.input)?;
     let mut outside = outside_of(alloc, objects)?;
     let status = run_under(alloc, managers, words, &mut outside, &mut store)?;
     let left = Left {
@@ -102,6 +103,7 @@ fn run_torn(alloc: Global, words: &[String], objects: Objects<'_>) -> Result<Out
     if let Some(bytes) = file {
         store.put("k", bytes)?;
     }
+    store.put("s", &objects.input)?;
     let mut outside = outside_of(alloc, objects)?;
     let status = run_under(alloc, managers, words, &mut outside, &mut store)?;
     let left = Left {
@@ -124,7 +126,7 @@ fn outside_of(alloc: Global, objects: Objects<'_>) -> Result<Outside, Fail> {
         .saturating_add(1 << 16);
     Ok(Outside {
         sink: MemSink::new(alloc, room, piece, calls(alloc, fails, "write")?)?,
-        diag: MemSink::new(alloc, 256, piece, calls(alloc, fails, "line")?)?,
+        diag: MemSink::new(alloc, 4096, piece, calls(alloc, fails, "line")?)?,
         source: MemSource::new(objects.input, piece, calls(alloc, fails, "read")?),
         entropy: MemEntropy::new(objects.random, calls(alloc, fails, "fill")?),
     })

@@ -21,7 +21,7 @@ pub(crate) enum Column {
     Words,
     /// The bytes of the file `k`, or `none` where there is none.
     File,
-    /// The bytes of the input.
+    /// The bytes of the input, which the file `s` has too.
     Input,
     /// The random bytes.
     Random,

@@ -7,7 +7,6 @@ use std::test::Fail;
 const AT_FAULT: &str = "input: GCM
 
 shows | words | status | line
-no word | | 2 Usage(0) | tinkey: usage: word 0
 an unknown command | list | 2 Usage(0) | tinkey: usage: word 0
 a command's name in capitals | Tag | 2 Usage(0) | tinkey: usage: word 0
 the program's name in front | tinkey list-keyset | 2 Usage(0) | tinkey: usage: word 0
@@ -50,7 +49,7 @@ an unknown form | seal --keyset-format proto --keyset k | 2 Usage(2) | tinkey: u
 
 #[test]
 fn names_the_word_at_fault(rt: HostRuntime) -> Result<(), Fail> {
-    run_table(rt.alloc(), AT_FAULT, 39)
+    run_table(rt.alloc(), AT_FAULT, 38)
 }
 
 // A command has the options of its row alone, and wants those that it requires.
@@ -82,7 +81,7 @@ derive: no length | derive --keyset k | 2 Usage(3) | tinkey: usage: word 3
 derive: no keyset | derive --length=1 | 2 Usage(2) | tinkey: usage: word 2
 a sealing has no tag | seal --tag-hex 00 | 2 Usage(1) | tinkey: usage: word 1
 nor a length | open --length 1 | 2 Usage(1) | tinkey: usage: word 1
-nor a file out | seal --keyset k --out n | 2 Usage(3) | tinkey: usage: word 3
+nor a file that is taken | seal --keyset k --in n | 2 Usage(3) | tinkey: usage: word 3
 its keyset isn't the input | dopen --in k | 2 Usage(1) | tinkey: usage: word 1
 a tag has no associated data | tag --ad x | 2 Usage(1) | tinkey: usage: word 1
 a tag isn't compared | tag --keyset k --tag-hex 00 | 2 Usage(3) | tinkey: usage: word 3
