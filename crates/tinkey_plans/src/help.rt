@@ -35,6 +35,8 @@ tinkey makes and changes keysets of Google Tink, and uses their symmetric keys.
 
   tinkey COMMAND [OPTION VALUE]...
 
+An option is given once, as --option VALUE or --option=VALUE.
+
 Make and change a keyset:
   create-keyset       makes a keyset of one new key, the primary
   add-key             puts a new key behind the others
@@ -91,11 +93,12 @@ The line is \"tinkey: \" and one of these; the code stands in front.
 0  done, and no line
 
 1  open failed
-     No key of the keyset opens these bytes with these associated data. Give the same --ad;
-     look whether the key is still there and ENABLED (list-keyset); what dseal, sseal or
-     eseal made is for dopen, sopen or eopen, and an envelope needs a template of its data
-     key's kind. For an encrypted keyset: the master is another one or lacks the key that
-     sealed, or the input is a keyset in clear.
+     No ENABLED key of the keyset opens these bytes with these associated data: another key
+     sealed them, the data are others, or the bytes are cut or altered. Give the same --ad;
+     look whether the key is still there and ENABLED (list-keyset); what seal, dseal, sseal
+     or eseal made is for open, dopen, sopen or eopen, and an envelope needs a template of
+     its data key's kind. For an encrypted keyset: the master is another one or lacks the
+     key that sealed, or the input is a keyset in clear.
 
 1  verify failed
      The tag is that of no ENABLED key for this input. Give the whole tag, its prefix too,
@@ -103,15 +106,19 @@ The line is \"tinkey: \" and one of these; the code stands in front.
 
 1  stream failed at segment {segment}
      From this segment on the stream is damaged, cut, or of another key or other associated
-     data. What was written before it is authentic; the rest has to come from a copy.
+     data; at segment 0 it may be no stream at all. What was written before it is authentic;
+     the rest has to come from a copy.
 
 2  usage: word {word}
-     The words are no command. Words count from 0; where the number is that of the words,
-     one is missing. tinkey help lists the commands, and tinkey help COMMAND tells a
-     command's options.
+     This word is at fault: no command, no option of this command, one that was given before
+     or can't stand beside another, or a value that isn't of its form. Words count from 0,
+     which is the command. Where the number is that of the words, one is missing behind
+     them: a value, or an option that the command requires. Look at the word before, too:
+     where its value was left out, the next word was taken for it. tinkey help lists the
+     commands, and tinkey help COMMAND tells a command's options.
 
 2  unknown key template
-     list-key-templates lists the names.
+     list-key-templates lists the names. The AEADs over Poly1305 are left out.
 
 2  asymmetric key template
      Keys of this template are left out: Tinkey makes them.
@@ -124,15 +131,18 @@ The line is \"tinkey: \" and one of these; the code stands in front.
      The key can derive at most the second number of bytes.
 
 2  range past the end
-     The stream's plaintext is shorter than offset and length together.
+     The stream's plaintext is shorter than offset and length together. Ask for less; sopen,
+     piped to wc -c, tells how long it is.
 
 3  bad protobuf at byte {at}
-     The keyset isn't one in the binary form. If it is JSON, name no form, or json; else it
-     is damaged from about that byte on.
+     The keyset isn't one in the binary form. If it is JSON, name no form, or json. An
+     encrypted keyset may be told so too: unwrap-keyset opens it. Else it is damaged from
+     about that byte on.
 
 3  not JSON
-     The keyset isn't JSON. If it is in the binary form, say so: --in-format binary, or
-     --keyset-format binary.
+     The keyset isn't JSON: it is empty, cut or damaged, or in the binary form. If it is in
+     that form, say so: --in-format binary, --keyset-format binary or --master-format
+     binary. Where no --in is given, standard input was read.
 
 3  bad JSON member {member}
      The JSON isn't a keyset's: this member isn't of its form.
@@ -176,9 +186,9 @@ The line is \"tinkey: \" and one of these; the code stands in front.
 3  key {key} has no manager for this command
      The key is of a kind that this command doesn't use: keys for AEAD are for seal, open,
      eseal and eopen, AES-SIV for dseal and dopen, HMAC and CMAC for tag and verify, PRFs
-     for derive, streaming keys for sseal and sopen. One ENABLED key of another kind is
-     enough: disable it (behind another primary, where it is that), or keep it in a keyset
-     of its own.
+     for derive, streaming keys for sseal, sopen and srange. The keys of a master are for
+     AEAD. One ENABLED key of another kind is enough: disable it (behind another primary,
+     where it is that), or keep it in a keyset of its own.
 
 3  key {key} is not valid: {rule}
      The key's message breaks this rule, as a size that its kind doesn't have. It was made
@@ -196,7 +206,7 @@ The line is \"tinkey: \" and one of these; the code stands in front.
      each.
 
 4  input file missing
-     No file has this name.
+     No file has the name behind --in, --keyset, --master or --file.
 
 4  key not found
      No key of the keyset has this id: list-keyset shows the ids.
@@ -241,9 +251,10 @@ The line is \"tinkey: \" and one of these; the code stands in front.
      The system's random device couldn't be read, or isn't the system's.
 
 5  store fault
-     A file couldn't be read or made: a folder, a name without permission, a full disk. The
-     new file isn't there, or is there whole; on a file system without hard links it may
-     have its first bytes alone. Remove it before the next try.
+     A file couldn't be read or made: it is a folder, or behind --file a pipe; the folder of
+     the new file isn't there; a name without permission; a full disk. The new file isn't
+     there, or is there whole; on a file system without hard links it may have its first
+     bytes alone. Remove it before the next try.
 
 6  keyset too long
      A keyset has at most 1,048,576 bytes, as it is read and as it is written; in JSON it is
@@ -288,7 +299,7 @@ Required:
                             as the name of a template
 
 Optional:
-  --out FILE                the file that is made: the name of a file, which isn't empty
+  --out FILE                the file that is made: a file's name, of one byte or more
   --out-format json|binary  the form of the keyset that is written: json or binary, in ASCII
                             letters of either case; where it isn't named, json
 
@@ -318,11 +329,11 @@ Required:
                             as the name of a template
 
 Optional:
-  --in FILE                 the file of the keyset that is read: the name of a file, which
-                            isn't empty
+  --in FILE                 the file of the keyset that is read: a file's name, of one byte
+                            or more
   --in-format json|binary   the form of that keyset: json or binary, in ASCII letters of
                             either case; where it isn't named, json
-  --out FILE                the file that is made: the name of a file, which isn't empty
+  --out FILE                the file that is made: a file's name, of one byte or more
   --out-format json|binary  the form of the keyset that is written: json or binary, in ASCII
                             letters of either case; where it isn't named, json
 
@@ -354,11 +365,11 @@ Required:
                             as the name of a template
 
 Optional:
-  --in FILE                 the file of the keyset that is read: the name of a file, which
-                            isn't empty
+  --in FILE                 the file of the keyset that is read: a file's name, of one byte
+                            or more
   --in-format json|binary   the form of that keyset: json or binary, in ASCII letters of
                             either case; where it isn't named, json
-  --out FILE                the file that is made: the name of a file, which isn't empty
+  --out FILE                the file that is made: a file's name, of one byte or more
   --out-format json|binary  the form of the keyset that is written: json or binary, in ASCII
                             letters of either case; where it isn't named, json
 
@@ -390,11 +401,11 @@ Required:
                             to 4,294,967,295
 
 Optional:
-  --in FILE                 the file of the keyset that is read: the name of a file, which
-                            isn't empty
+  --in FILE                 the file of the keyset that is read: a file's name, of one byte
+                            or more
   --in-format json|binary   the form of that keyset: json or binary, in ASCII letters of
                             either case; where it isn't named, json
-  --out FILE                the file that is made: the name of a file, which isn't empty
+  --out FILE                the file that is made: a file's name, of one byte or more
   --out-format json|binary  the form of the keyset that is written: json or binary, in ASCII
                             letters of either case; where it isn't named, json
 
@@ -426,11 +437,11 @@ Required:
                             to 4,294,967,295
 
 Optional:
-  --in FILE                 the file of the keyset that is read: the name of a file, which
-                            isn't empty
+  --in FILE                 the file of the keyset that is read: a file's name, of one byte
+                            or more
   --in-format json|binary   the form of that keyset: json or binary, in ASCII letters of
                             either case; where it isn't named, json
-  --out FILE                the file that is made: the name of a file, which isn't empty
+  --out FILE                the file that is made: a file's name, of one byte or more
   --out-format json|binary  the form of the keyset that is written: json or binary, in ASCII
                             letters of either case; where it isn't named, json
 
@@ -462,11 +473,11 @@ Required:
                             to 4,294,967,295
 
 Optional:
-  --in FILE                 the file of the keyset that is read: the name of a file, which
-                            isn't empty
+  --in FILE                 the file of the keyset that is read: a file's name, of one byte
+                            or more
   --in-format json|binary   the form of that keyset: json or binary, in ASCII letters of
                             either case; where it isn't named, json
-  --out FILE                the file that is made: the name of a file, which isn't empty
+  --out FILE                the file that is made: a file's name, of one byte or more
   --out-format json|binary  the form of the keyset that is written: json or binary, in ASCII
                             letters of either case; where it isn't named, json
 
@@ -498,11 +509,11 @@ Required:
                             to 4,294,967,295
 
 Optional:
-  --in FILE                 the file of the keyset that is read: the name of a file, which
-                            isn't empty
+  --in FILE                 the file of the keyset that is read: a file's name, of one byte
+                            or more
   --in-format json|binary   the form of that keyset: json or binary, in ASCII letters of
                             either case; where it isn't named, json
-  --out FILE                the file that is made: the name of a file, which isn't empty
+  --out FILE                the file that is made: a file's name, of one byte or more
   --out-format json|binary  the form of the keyset that is written: json or binary, in ASCII
                             letters of either case; where it isn't named, json
 
@@ -534,11 +545,11 @@ Required:
                             to 4,294,967,295
 
 Optional:
-  --in FILE                 the file of the keyset that is read: the name of a file, which
-                            isn't empty
+  --in FILE                 the file of the keyset that is read: a file's name, of one byte
+                            or more
   --in-format json|binary   the form of that keyset: json or binary, in ASCII letters of
                             either case; where it isn't named, json
-  --out FILE                the file that is made: the name of a file, which isn't empty
+  --out FILE                the file that is made: a file's name, of one byte or more
   --out-format json|binary  the form of the keyset that is written: json or binary, in ASCII
                             letters of either case; where it isn't named, json
 
@@ -565,8 +576,8 @@ tinkey list-keyset: lists a keyset without key material
   tinkey list-keyset [--in FILE] [--in-format json|binary]
 
 Optional:
-  --in FILE                the file of the keyset that is read: the name of a file, which
-                           isn't empty
+  --in FILE                the file of the keyset that is read: a file's name, of one byte
+                           or more
   --in-format json|binary  the form of that keyset: json or binary, in ASCII letters of
                            either case; where it isn't named, json
 
@@ -593,11 +604,11 @@ tinkey convert-keyset: writes a keyset in another form or place
       [--out-format json|binary]
 
 Optional:
-  --in FILE                 the file of the keyset that is read: the name of a file, which
-                            isn't empty
+  --in FILE                 the file of the keyset that is read: a file's name, of one byte
+                            or more
   --in-format json|binary   the form of that keyset: json or binary, in ASCII letters of
                             either case; where it isn't named, json
-  --out FILE                the file that is made: the name of a file, which isn't empty
+  --out FILE                the file that is made: a file's name, of one byte or more
   --out-format json|binary  the form of the keyset that is written: json or binary, in ASCII
                             letters of either case; where it isn't named, json
 
@@ -642,17 +653,18 @@ tinkey seal: seals standard input under the primary key
       [--out FILE]
 
 Required:
-  --keyset FILE                the file of the keyset that is used: the name of a file,
-                               which isn't empty
+  --keyset FILE                the file of the keyset that is used: a file's name, of one
+                               byte or more
 
 Optional:
   --keyset-format json|binary  the form of that keyset: json or binary, in ASCII letters of
                                either case; where it isn't named, json
   --ad TEXT                    the associated data: a text of at most 1,048,576 bytes, taken
-                               as they stand
+                               as they stand; not beside --ad-hex
   --ad-hex HEX                 the associated data in hexadecimal: an even number of
-                               hexadecimal digits of either case, at most 2,097,152, or none
-  --out FILE                   the file that is made: the name of a file, which isn't empty
+                               hexadecimal digits of either case, at most 2,097,152, or
+                               none; not beside --ad
+  --out FILE                   the file that is made: a file's name, of one byte or more
 
 Reads  the keyset in the file of --keyset, and all of standard input
 Gives  the input sealed under the primary key, as a new file of --out, or where none is
@@ -678,17 +690,18 @@ tinkey open: opens what any enabled key sealed
       [--out FILE]
 
 Required:
-  --keyset FILE                the file of the keyset that is used: the name of a file,
-                               which isn't empty
+  --keyset FILE                the file of the keyset that is used: a file's name, of one
+                               byte or more
 
 Optional:
   --keyset-format json|binary  the form of that keyset: json or binary, in ASCII letters of
                                either case; where it isn't named, json
   --ad TEXT                    the associated data: a text of at most 1,048,576 bytes, taken
-                               as they stand
+                               as they stand; not beside --ad-hex
   --ad-hex HEX                 the associated data in hexadecimal: an even number of
-                               hexadecimal digits of either case, at most 2,097,152, or none
-  --out FILE                   the file that is made: the name of a file, which isn't empty
+                               hexadecimal digits of either case, at most 2,097,152, or
+                               none; not beside --ad
+  --out FILE                   the file that is made: a file's name, of one byte or more
 
 Reads  the keyset in the file of --keyset, and all of standard input
 Gives  what the input opens to, as a new file of --out, or where none is named, on standard
@@ -715,17 +728,18 @@ tinkey dseal: seals deterministically: equal texts give equal bytes
       [--out FILE]
 
 Required:
-  --keyset FILE                the file of the keyset that is used: the name of a file,
-                               which isn't empty
+  --keyset FILE                the file of the keyset that is used: a file's name, of one
+                               byte or more
 
 Optional:
   --keyset-format json|binary  the form of that keyset: json or binary, in ASCII letters of
                                either case; where it isn't named, json
   --ad TEXT                    the associated data: a text of at most 1,048,576 bytes, taken
-                               as they stand
+                               as they stand; not beside --ad-hex
   --ad-hex HEX                 the associated data in hexadecimal: an even number of
-                               hexadecimal digits of either case, at most 2,097,152, or none
-  --out FILE                   the file that is made: the name of a file, which isn't empty
+                               hexadecimal digits of either case, at most 2,097,152, or
+                               none; not beside --ad
+  --out FILE                   the file that is made: a file's name, of one byte or more
 
 Reads  the keyset in the file of --keyset, and all of standard input
 Gives  as seal and open, without an IV, as a new file of --out, or where none is named, on
@@ -751,17 +765,18 @@ tinkey dopen: opens what dseal sealed
       [--out FILE]
 
 Required:
-  --keyset FILE                the file of the keyset that is used: the name of a file,
-                               which isn't empty
+  --keyset FILE                the file of the keyset that is used: a file's name, of one
+                               byte or more
 
 Optional:
   --keyset-format json|binary  the form of that keyset: json or binary, in ASCII letters of
                                either case; where it isn't named, json
   --ad TEXT                    the associated data: a text of at most 1,048,576 bytes, taken
-                               as they stand
+                               as they stand; not beside --ad-hex
   --ad-hex HEX                 the associated data in hexadecimal: an even number of
-                               hexadecimal digits of either case, at most 2,097,152, or none
-  --out FILE                   the file that is made: the name of a file, which isn't empty
+                               hexadecimal digits of either case, at most 2,097,152, or
+                               none; not beside --ad
+  --out FILE                   the file that is made: a file's name, of one byte or more
 
 Reads  the keyset in the file of --keyset, and all of standard input
 Gives  as seal and open, without an IV, as a new file of --out, or where none is named, on
@@ -787,16 +802,17 @@ tinkey sseal: seals a stream of any length, in one pass
   tinkey sseal --keyset FILE [--keyset-format json|binary] [--ad TEXT] [--ad-hex HEX]
 
 Required:
-  --keyset FILE                the file of the keyset that is used: the name of a file,
-                               which isn't empty
+  --keyset FILE                the file of the keyset that is used: a file's name, of one
+                               byte or more
 
 Optional:
   --keyset-format json|binary  the form of that keyset: json or binary, in ASCII letters of
                                either case; where it isn't named, json
   --ad TEXT                    the associated data: a text of at most 1,048,576 bytes, taken
-                               as they stand
+                               as they stand; not beside --ad-hex
   --ad-hex HEX                 the associated data in hexadecimal: an even number of
-                               hexadecimal digits of either case, at most 2,097,152, or none
+                               hexadecimal digits of either case, at most 2,097,152, or
+                               none; not beside --ad
 
 Reads  the keyset, and standard input as a stream
 Gives  as seal and open, of a stream, written as it is read
@@ -820,16 +836,17 @@ tinkey sopen: opens such a stream; only at exit code 0 is it whole
   tinkey sopen --keyset FILE [--keyset-format json|binary] [--ad TEXT] [--ad-hex HEX]
 
 Required:
-  --keyset FILE                the file of the keyset that is used: the name of a file,
-                               which isn't empty
+  --keyset FILE                the file of the keyset that is used: a file's name, of one
+                               byte or more
 
 Optional:
   --keyset-format json|binary  the form of that keyset: json or binary, in ASCII letters of
                                either case; where it isn't named, json
   --ad TEXT                    the associated data: a text of at most 1,048,576 bytes, taken
-                               as they stand
+                               as they stand; not beside --ad-hex
   --ad-hex HEX                 the associated data in hexadecimal: an even number of
-                               hexadecimal digits of either case, at most 2,097,152, or none
+                               hexadecimal digits of either case, at most 2,097,152, or
+                               none; not beside --ad
 
 Reads  the keyset, and standard input as a stream
 Gives  as seal and open, of a stream, written as it is read
@@ -854,13 +871,13 @@ tinkey tag: tags standard input under the primary key
   tinkey tag --keyset FILE [--keyset-format json|binary] [--out FILE] [--hex]
 
 Required:
-  --keyset FILE                the file of the keyset that is used: the name of a file,
-                               which isn't empty
+  --keyset FILE                the file of the keyset that is used: a file's name, of one
+                               byte or more
 
 Optional:
   --keyset-format json|binary  the form of that keyset: json or binary, in ASCII letters of
                                either case; where it isn't named, json
-  --out FILE                   the file that is made: the name of a file, which isn't empty
+  --out FILE                   the file that is made: a file's name, of one byte or more
   --hex                        whether what is put out is in hexadecimal
 
 Reads  the keyset in the file of --keyset, and all of standard input
@@ -878,7 +895,7 @@ Exit codes:
   8  a word of the command isn't text
 
 Example:
-  tinkey tag --keyset mac.json < letter.txt > letter.tag
+  tinkey tag --keyset mac.json --hex < letter.txt > letter.tag
 ",
         CommandName::Verify => "\
 tinkey verify: says whether a tag is that of any enabled key
@@ -886,8 +903,8 @@ tinkey verify: says whether a tag is that of any enabled key
   tinkey verify --keyset FILE --tag-hex HEX [--keyset-format json|binary]
 
 Required:
-  --keyset FILE                the file of the keyset that is used: the name of a file,
-                               which isn't empty
+  --keyset FILE                the file of the keyset that is used: a file's name, of one
+                               byte or more
   --tag-hex HEX                the tag that is verified, in hexadecimal: an even number of
                                hexadecimal digits of either case, at most 2,097,152, or none
 
@@ -918,8 +935,8 @@ tinkey derive: derives bytes from standard input
   tinkey derive --keyset FILE --length N [--keyset-format json|binary] [--out FILE] [--hex]
 
 Required:
-  --keyset FILE                the file of the keyset that is used: the name of a file,
-                               which isn't empty
+  --keyset FILE                the file of the keyset that is used: a file's name, of one
+                               byte or more
   --length N                   how many bytes are derived, or are in a range: 1 to 10
                                decimal digits, of a number up to 4,294,967,295; a length of
                                srange is at most 16,777,216
@@ -927,7 +944,7 @@ Required:
 Optional:
   --keyset-format json|binary  the form of that keyset: json or binary, in ASCII letters of
                                either case; where it isn't named, json
-  --out FILE                   the file that is made: the name of a file, which isn't empty
+  --out FILE                   the file that is made: a file's name, of one byte or more
   --hex                        whether what is put out is in hexadecimal
 
 Reads  the keyset in the file of --keyset, and all of standard input
@@ -954,17 +971,20 @@ tinkey session: answers lines that seal, open, tag, verify, derive and edit
       [--out-format json|binary]
 
 Required:
-  --keyset FILE                the file of the keyset that is used: the name of a file,
-                               which isn't empty
+  --keyset FILE                the file of the keyset that is used: a file's name, of one
+                               byte or more
 
 Optional:
   --keyset-format json|binary  the form of that keyset: json or binary, in ASCII letters of
                                either case; where it isn't named, json
-  --out FILE                   the file that is made: the name of a file, which isn't empty
+  --out FILE                   the file that is made: a file's name, of one byte or more
   --out-format json|binary     the form of the keyset that is written: json or binary, in
                                ASCII letters of either case; where it isn't named, json
 
-Reads  the keyset, and lines on standard input
+Reads  the keyset, and lines on standard input: seal HEX HEX and dseal HEX HEX (a text, its
+       associated data), open HEX HEX and dopen HEX HEX, tag HEX, verify HEX HEX (a tag, its
+       text), derive N HEX, add NAME and rotate NAME (a template), promote N, enable N,
+       disable N, destroy N, delete N (a key id); - stands for no bytes
 Gives  one reply a line, on standard output; and then the last keyset to the new file of
        --out, where one is named
 
@@ -1015,17 +1035,17 @@ tinkey wrap-keyset: seals a keyset under another one, the master
       [--in-format json|binary] [--out FILE] [--out-format json|binary]
 
 Required:
-  --master FILE                the file of the keyset under which another one is sealed: the
-                               name of a file, which isn't empty
+  --master FILE                the file of the keyset under which another one is sealed: a
+                               file's name, of one byte or more
 
 Optional:
   --master-format json|binary  the form of that keyset: json or binary, in ASCII letters of
                                either case; where it isn't named, json
-  --in FILE                    the file of the keyset that is read: the name of a file,
-                               which isn't empty
+  --in FILE                    the file of the keyset that is read: a file's name, of one
+                               byte or more
   --in-format json|binary      the form of that keyset: json or binary, in ASCII letters of
                                either case; where it isn't named, json
-  --out FILE                   the file that is made: the name of a file, which isn't empty
+  --out FILE                   the file that is made: a file's name, of one byte or more
   --out-format json|binary     the form of the keyset that is written: json or binary, in
                                ASCII letters of either case; where it isn't named, json
 
@@ -1054,17 +1074,17 @@ tinkey unwrap-keyset: opens a keyset that was wrapped
       [--in-format json|binary] [--out FILE] [--out-format json|binary]
 
 Required:
-  --master FILE                the file of the keyset under which another one is sealed: the
-                               name of a file, which isn't empty
+  --master FILE                the file of the keyset under which another one is sealed: a
+                               file's name, of one byte or more
 
 Optional:
   --master-format json|binary  the form of that keyset: json or binary, in ASCII letters of
                                either case; where it isn't named, json
-  --in FILE                    the file of the keyset that is read: the name of a file,
-                               which isn't empty
+  --in FILE                    the file of the keyset that is read: a file's name, of one
+                               byte or more
   --in-format json|binary      the form of that keyset: json or binary, in ASCII letters of
                                either case; where it isn't named, json
-  --out FILE                   the file that is made: the name of a file, which isn't empty
+  --out FILE                   the file that is made: a file's name, of one byte or more
   --out-format json|binary     the form of the keyset that is written: json or binary, in
                                ASCII letters of either case; where it isn't named, json
 
@@ -1093,8 +1113,8 @@ tinkey eseal: seals under a fresh data key, and that key under the keyset: an en
       [--ad-hex HEX] [--out FILE]
 
 Required:
-  --keyset FILE                the file of the keyset that is used: the name of a file,
-                               which isn't empty
+  --keyset FILE                the file of the keyset that is used: a file's name, of one
+                               byte or more
   --dek-template NAME          the name of the template of data keys: any text; it is looked
                                up as the name of a template
 
@@ -1102,10 +1122,11 @@ Optional:
   --keyset-format json|binary  the form of that keyset: json or binary, in ASCII letters of
                                either case; where it isn't named, json
   --ad TEXT                    the associated data: a text of at most 1,048,576 bytes, taken
-                               as they stand
+                               as they stand; not beside --ad-hex
   --ad-hex HEX                 the associated data in hexadecimal: an even number of
-                               hexadecimal digits of either case, at most 2,097,152, or none
-  --out FILE                   the file that is made: the name of a file, which isn't empty
+                               hexadecimal digits of either case, at most 2,097,152, or
+                               none; not beside --ad
+  --out FILE                   the file that is made: a file's name, of one byte or more
 
 Reads  the keyset in the file of --keyset, and all of standard input
 Gives  an envelope of the input, under a fresh data key of the template of --dek-template,
@@ -1131,8 +1152,8 @@ tinkey eopen: opens an envelope
       [--ad-hex HEX] [--out FILE]
 
 Required:
-  --keyset FILE                the file of the keyset that is used: the name of a file,
-                               which isn't empty
+  --keyset FILE                the file of the keyset that is used: a file's name, of one
+                               byte or more
   --dek-template NAME          the name of the template of data keys: any text; it is looked
                                up as the name of a template
 
@@ -1140,10 +1161,11 @@ Optional:
   --keyset-format json|binary  the form of that keyset: json or binary, in ASCII letters of
                                either case; where it isn't named, json
   --ad TEXT                    the associated data: a text of at most 1,048,576 bytes, taken
-                               as they stand
+                               as they stand; not beside --ad-hex
   --ad-hex HEX                 the associated data in hexadecimal: an even number of
-                               hexadecimal digits of either case, at most 2,097,152, or none
-  --out FILE                   the file that is made: the name of a file, which isn't empty
+                               hexadecimal digits of either case, at most 2,097,152, or
+                               none; not beside --ad
+  --out FILE                   the file that is made: a file's name, of one byte or more
 
 Reads  the keyset in the file of --keyset, and all of standard input
 Gives  what the envelope opens to, as a new file of --out, or where none is named, on
@@ -1170,9 +1192,10 @@ tinkey srange: opens a range of such a stream in a file
       [--ad TEXT] [--ad-hex HEX] [--out FILE]
 
 Required:
-  --keyset FILE                the file of the keyset that is used: the name of a file,
-                               which isn't empty
-  --file FILE                  the file of a stream: the name of a file, which isn't empty
+  --keyset FILE                the file of the keyset that is used: a file's name, of one
+                               byte or more
+  --file FILE                  the file of a stream: a file's name, of one byte or more; the
+                               file is no folder and no pipe
   --from N                     the offset of a range's first byte: 1 to 19 decimal digits,
                                of a number up to 9,223,372,036,854,775,807
   --length N                   how many bytes are derived, or are in a range: 1 to 10
@@ -1183,10 +1206,11 @@ Optional:
   --keyset-format json|binary  the form of that keyset: json or binary, in ASCII letters of
                                either case; where it isn't named, json
   --ad TEXT                    the associated data: a text of at most 1,048,576 bytes, taken
-                               as they stand
+                               as they stand; not beside --ad-hex
   --ad-hex HEX                 the associated data in hexadecimal: an even number of
-                               hexadecimal digits of either case, at most 2,097,152, or none
-  --out FILE                   the file that is made: the name of a file, which isn't empty
+                               hexadecimal digits of either case, at most 2,097,152, or
+                               none; not beside --ad
+  --out FILE                   the file that is made: a file's name, of one byte or more
 
 Reads  the keyset, and the stream in the file of --file
 Gives  so many bytes of the stream's plaintext, as --length says, from the offset of --from
