@@ -11,7 +11,7 @@ use tink_base::{MemEntropy, MemSink, MemSource};
 const MOST: usize = 1000;
 
 // The room of a sink.
-const ROOM: usize = 20000;
+const ROOM: usize = 3145728;
 
 /// How source and sink are called.
 #[derive(Clone, Copy)]

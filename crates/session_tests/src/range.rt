@@ -8,13 +8,14 @@ use stream_range::{Device, MemDevice, RangeFault, StoreDevice, open_range};
 use test_words::{cell, number_in, same_bytes, turned, unlike};
 use tink_base::MemStore;
 
-// Ranges of a stream of three segments of 4,096 bytes, the last one shorter, with the plaintext
+// Ranges of a stream of three segments of 4,096 bytes or 1 MiB, the last one shorter, with the plaintext
 // 0, 1, 2, ..: the keyset that sealed it, the size of the plaintext, the keyset that opens it, the byte
 // that is changed (- for none), how many bytes of the stream there are (- for all), where the range
 // begins, how long it is, how the range ends, and how many bytes the device gives at most.
 //
 // The plaintext of a segment ends, under GCM, at 4,056, 8,136 and 8,137; under CTR, at 4,024, 8,088 and
-// 8,137. The final segment of GCM has 17 bytes.
+// 8,137. The final segment of GCM has 17 bytes. Of the streams in segments of 1 MiB it ends, under GCM, at
+// 1,048,520, 2,097,080 and 2,097,081; under CTR, at 1,048,504, 2,097,048 and 2,097,049.
 const RANGES: &str = "\
 GCM|8137|GCM|-|-|0|0|done|8192
 GCM|8137|GCM|-|-|0|1|done|12288
@@ -62,7 +63,29 @@ CTR|8137|CTR|-|-|8087|2|done|16384
 CTR|8137|CTR|-|-|8088|49|done|12288
 CTR|8137|CTR|-|-|8088|50|PastEnd|8192
 CTR|8137|CTR|4096|-|4023|1|done|12288
-CTR|8137|CTR|4096|-|4023|2|StreamFailed(1)|16384";
+CTR|8137|CTR|4096|-|4023|2|StreamFailed(1)|16384
+GCM1M|2097081|GCM1M|-|-|1048519|1|done|3145728
+GCM1M|2097081|GCM1M|-|-|1048519|2|done|4194304
+GCM1M|2097081|GCM1M|-|-|1048520|1|done|3145728
+GCM1M|2097081|GCM1M|-|-|1048519|1048562|done|5242880
+GCM1M|2097081|GCM1M|-|-|2097079|2|done|4194304
+GCM1M|2097081|GCM1M|-|-|2097080|1|done|3145728
+GCM1M|2097081|GCM1M|-|-|2097081|0|done|2097152
+GCM1M|2097081|GCM1M|-|-|2097081|1|PastEnd|2097152
+GCM1M|2097081|GCM1M|1053576|-|1048519|1|done|3145728
+GCM1M|2097081|GCM1M|1053576|-|1048519|2|StreamFailed(1)|4194304
+GCM1M|2097081|GCM1M|2097153|-|1048519|1|StreamFailed(2)|2097152
+CTR1M|2097049|CTR1M|-|-|1048503|1|done|3145728
+CTR1M|2097049|CTR1M|-|-|1048503|2|done|4194304
+CTR1M|2097049|CTR1M|-|-|1048504|1|done|3145728
+CTR1M|2097049|CTR1M|-|-|1048503|1048546|done|5242880
+CTR1M|2097049|CTR1M|-|-|2097047|2|done|4194304
+CTR1M|2097049|CTR1M|-|-|2097048|1|done|3145728
+CTR1M|2097049|CTR1M|-|-|2097049|0|done|2097152
+CTR1M|2097049|CTR1M|-|-|2097049|1|PastEnd|2097152
+CTR1M|2097049|CTR1M|1053576|-|1048503|1|done|3145728
+CTR1M|2097049|CTR1M|1053576|-|1048503|2|StreamFailed(1)|4194304
+CTR1M|2097049|CTR1M|2097153|-|1048503|1|StreamFailed(2)|2097152";
 
 // The number in a cell, or the other one where it has a dash.
 fn number_or(row: &str, place: usize, other: usize) -> Result<usize, Fail> {
