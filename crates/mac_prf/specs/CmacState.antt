@@ -1,25 +1,18 @@
 -- What a CMAC in the making stands for.
-use Rattle.std.specs.Prelude.{◌≡◌, ℕ, zero, suc, ◌*◌, List, [], ◌++◌, length, take, drop}
-use Rattle.aes_core.specs.Aes.{cipher}
-use Rattle.aes_core.specs.Bytes.{xor_bytes}
+use Rattle.std.specs.Prelude.{◌≡◌, ℕ, ◌%◌, List, [], ◌++◌, length, take}
+use Rattle.aes_core.specs.Chain.{chained, whole_blocks}
 use Rattle.mac_prf.specs.declared.cmac.Cmac.{Cmac}
 use Rattle.mac_prf.specs.Cmac.{zero_block}
 
--- C i over the first i blocks of these bytes, of which none is the last
-unfoldable pub chained : List ℕ → List ℕ → ℕ → List ℕ
-chained key bytes zero = zero_block
-chained key bytes (suc i) =
-    cipher key (xor_bytes (chained key bytes i) (take 16 (drop (i * 16) bytes)))
-
--- the state is under this key: of m its whole blocks in front are chained, and the rest is held
+-- the state is under this key: of m the whole blocks in front, of which none is the last, are chained,
+-- and the rest is held
 pub record Keeps (state : Cmac) (key m : List ℕ) : Type 0 where
   pub front : List ℕ
-  pub count : ℕ
-  pub under : state.aes ≡ key
+  pub under : state.aes.now ≡ key
   pub parts : m ≡ front ++ take state.size state.held
-  pub whole : length front ≡ count * 16
+  pub whole : length front % 16 ≡ 0
   pub room : length state.held ≡ 16
-  pub value : state.chained ≡ chained key front count
+  pub value : state.chained ≡ chained key zero_block (whole_blocks front)
 
 -- the same, where bytes are held unless m is empty
 pub record Holds (state : Cmac) (key m : List ℕ) : Type 0 where

@@ -1,19 +1,19 @@
 //! CMAC (SP 800-38B, which RFC 4493 repeats) over AES, of a message that comes in pieces.
 
-ghost use Rattle.std.specs.Prelude.{◌≡◌, ◌≢◌, ◌↔◌, ◌+◌, ◌-◌, ◌<◌, ◌≤◌, ℕ, List, [], ◌∷◌, ◌++◌, length, replicate, take, IfOk, IsErr};
+ghost use Rattle.std.specs.Prelude.{◌≡◌, ◌+◌, ◌-◌, ◌%◌, ◌<◌, ◌≤◌, ℕ, List, [], ◌∷◌, ◌++◌, length, replicate, take};
 ghost use Rattle.aes_core.specs.Bytes.{xor_bytes};
 ghost use Rattle.mac_prf.specs.Cmac.{cmac, doubled_block, masked};
 
 use crate::blocks::{doubled, padded, xor};
-use aes_core::{Aes, KeySize};
+use aes_core::Aes;
 
-/// CMAC under one key, of a message that comes in pieces: `new`, an `update` for each piece, and
+/// CMAC under one key, of a message that comes in pieces: `under`, an `update` for each piece, and
 /// `finish`.
 ///
-/// No call takes memory. No running time is promised, nor that a key leaves memory.
+/// No call takes memory or expands a key. No running time is promised.
 #[derive(Drop)]
-pub struct Cmac {
-    aes: Aes,
+pub struct Cmac<'k> {
+    aes: &'k Aes,
     // C i of the whole blocks before those bytes that are held.
     chained: [u8; 16],
     // The last bytes of the message, since the last block is masked. What comes after them counts
@@ -24,47 +24,36 @@ pub struct Cmac {
     ghost within: { size ≤ 16 },
 }
 
-impl Cmac {
+impl<'k> Cmac<'k> {
     ghost use Rattle.mac_prf.specs.CmacState.{Holds, Keeps};
 
-    /// Begins with the empty message, under `key`.
-    ///
-    /// `KeySize` comes exactly where the key has neither 16 nor 32 bytes.
-    pub fn new(key: &[u8]) -> Result<Cmac, KeySize>
-        ensures holds { IfOk result (λ state. Holds state key.now []) }
-        ensures key_size { IsErr result ↔ ((length key.now ≢ 16) × (length key.now ≢ 32)) }
+    /// Begins with the empty message, under this key.
+    pub fn under(aes: &'k Aes) -> Cmac<'k>
+        ensures { Holds result aes.now [] }
     {
-        let aes = Aes::new(key)?;
-        Ok(Cmac {
+        Cmac {
             aes,
             chained: [0; 16],
             held: [0; 16],
             size: 0,
-        })
+        }
     }
 
     /// Adds `body` to the message. How a message is cut into pieces doesn't change its tag.
     pub fn update(&mut self, body: &[u8])
         ensures { (key m : List ℕ) → Holds self.old key m → Holds self.new key (m ++ body.now) }
     {
-        for piece in body.chunks(16) {
-            self.add(piece);
-        }
-    }
-
-    // Adds at most a block to the message.
-    fn add(&mut self, piece: &[u8])
-        requires { length piece.now ≤ 16 }
-        ensures { (key m : List ℕ) → Holds self.old key m → Holds self.new key (m ++ piece.now) }
-    {
         let room = 16 - self.size;
-        if piece.len() <= room {
-            self.hold(piece);
+        if body.len() <= room {
+            self.hold(body);
         } else {
-            let (front, back) = piece.split_at(room);
+            let (front, back) = body.split_at(room);
             self.hold(front);
-            self.chain();
-            self.hold(back);
+            self.chain_held();
+            // The last block, whole or not, stays behind.
+            let (blocks, last) = back.split_at((back.len() - 1) / 16 * 16);
+            self.chain(blocks);
+            self.hold(last);
         }
     }
 
@@ -81,18 +70,29 @@ impl Cmac {
     }
 
     // Chains the block that is held, which isn't the last one.
-    fn chain(&mut self)
+    fn chain_held(&mut self)
         requires { self.old.size ≡ 16 }
         ensures keeps { (key m : List ℕ) → Keeps self.old key m → Keeps self.new key m }
         ensures size { self.new.size ≡ 0 }
     {
-        self.chained = self.aes.encrypt_block(&xor(&self.chained, &self.held));
+        self.chained = self.aes.chain(&self.chained, &self.held);
         self.size = 0;
+    }
+
+    // Chains whole blocks, none of which is the last one, where no byte is held.
+    fn chain(&mut self, blocks: &[u8])
+        requires none { self.old.size ≡ 0 }
+        requires whole { length blocks.now % 16 ≡ 0 }
+        ensures keeps { (key m : List ℕ) →
+            Keeps self.old key m → Keeps self.new key (m ++ blocks.now) }
+        ensures size { self.new.size ≡ 0 }
+    {
+        self.chained = self.aes.chain(&self.chained, blocks);
     }
 
     /// The tag of the message, all 16 bytes of it (SP 800-38B, 6.2).
     pub fn finish(self) -> [u8; 16]
-        ensures { (key m : List ℕ) → Holds self key m → result ≡ cmac key m }
+        ensures { (key m : List ℕ) → Holds self.entry key m → result ≡ cmac key m }
     {
         let last = self.masked_block();
         self.aes.encrypt_block(&xor(&self.chained, &last))

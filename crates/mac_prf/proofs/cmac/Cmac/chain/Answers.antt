@@ -1,26 +1,25 @@
--- What was held is one block more of those in front.
-use Rattle.std.proofs.Common.{◌≡◌, ◌++◌, ◌∙◌, List, ℕ, suc, ap, append-nil, arith, length-append, sym, take}
-use Rattle.std.proofs.lemmas.List.{take_all}
-use Rattle.aes_core.specs.Aes.{cipher}
-use Rattle.aes_core.specs.Bytes.{xor_bytes}
-use Rattle.mac_prf.proofs.CmacLemmas.{chained-next}
+-- The blocks are so many more of those in front.
+use Rattle.std.proofs.Common.{◌≡◌, ◌++◌, ◌∙◌, [], List, ℕ, ap, append-nil, arith, length-append, sym, take}
+use Rattle.aes_core.specs.Chain.{chained, whole_blocks}
+use Rattle.mac_prf.proofs.CmacLemmas.{chained-behind}
 use Rattle.mac_prf.proofs.cmac.Cmac.chain.Goals as goal
 
 pub returns-clause-keeps : goal.returns-clause-keeps
 returns-clause-keeps c = λ key m keeps.
     let held = c.args.self.now.held in
     let front = keeps.front in
-    let all : take c.args.self.now.size held ≡ held
-    = ap (λ n. take n held) c.requires ∙ take_all 16 held (omega (arith, keeps.room)) in
+    let blocks = c.args.blocks.now in
+    let none : take c.args.self.now.size held ≡ [] = ap (λ n. take n held) c.requires.none in
+    let before : m ≡ front = keeps.parts ∙ ap (λ (u : List ℕ). front ++ u) none ∙ append-nil front in
     record {
-      front = front ++ held;
-      count = suc keeps.count;
+      front = front ++ blocks;
       under = keeps.under;
-      parts = keeps.parts ∙ ap (λ (u : List ℕ). front ++ u) all ∙ sym (append-nil (front ++ held));
-      whole = omega (arith, length-append front held, keeps.whole, keeps.room);
+      parts = ap (λ (u : List ℕ). u ++ blocks) before ∙ sym (append-nil (front ++ blocks))
+          ∙ ap (λ (u : List ℕ). (front ++ blocks) ++ u) (sym none);
+      whole = omega (arith, length-append front blocks, keeps.whole, c.requires.whole);
       room = keeps.room;
-      value = c.encrypt_block-self.ensures
-          ∙ ap (λ (u : List ℕ). cipher u c.xor.result) keeps.under
-          ∙ ap (cipher key) (c.xor.ensures ∙ ap (λ (u : List ℕ). xor_bytes u held) keeps.value)
-          ∙ sym (chained-next key front held keeps.count keeps.whole keeps.room);
+      value = c.chain-self.ensures
+          ∙ ap (λ (k : List ℕ). chained k c.args.self.now.chained (whole_blocks blocks)) keeps.under
+          ∙ ap (λ (b : List ℕ). chained key b (whole_blocks blocks)) keeps.value
+          ∙ chained-behind key front blocks keeps.whole;
     }

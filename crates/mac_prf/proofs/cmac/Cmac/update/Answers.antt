@@ -1,37 +1,26 @@
--- Each piece is the next bytes of the body.
-use Rattle.std.proofs.Common.{◌≡◌, ℕ, List, [], ◌++◌, sym, ◌∙◌, ap, subst, append-nil, append_assoc, rules}
-use Rattle.std.specs.Slice.Iter.{chunks_rest}
-use Rattle.std.proofs.lemmas.List.{nil_from_length}
-use Rattle.mac_prf.specs.CmacState.{Holds}
+-- The room is filled, all but the last block is chained, and that one is held.
+use Rattle.std.proofs.Common.{rules, ◌≡◌, ◌++◌, ◌∙◌, List, ℕ, ap, append_assoc, arith, subst}
+use Rattle.mac_prf.specs.CmacState.{Keeps}
 use Rattle.mac_prf.proofs.cmac.Cmac.update.Goals as goal
 
-pub loop-piece-init : goal.loop-piece-init
-loop-piece-init c = (
-  search rules,
-  ([], search rules, λ key m holds. subst (Holds _ key) (sym (append-nil m)) holds),
-)
-
-pub loop-piece-preserved : goal.loop-piece-preserved
-loop-piece-preserved c =
-    let so_far = c.loop-piece.invariant.1 in
-    let steps = c.in-Some.ensures.steps in
-    let rest = chunks_rest c.next.new.self in
-    let piece = c.in-Some.piece.now in (
-      steps.0 ∙ c.loop-piece.invariant.0,
-      (
-        so_far.0 ++ piece,
-        append_assoc so_far.0 piece rest
-            ∙ ap (λ (u : List ℕ). so_far.0 ++ u) (sym steps.1.0) ∙ so_far.1,
-        λ key m holds. subst (Holds _ key) (append_assoc m so_far.0 piece)
-            (c.add.ensures key (m ++ so_far.0) (so_far.2 key m holds)),
-      ),
-    )
-
-pub returns : goal.returns
-returns c = λ key m holds.
-    let so_far = c.loop-piece.invariant.1 in
-    let none : chunks_rest c.loop-piece.piece-iterator ≡ []
-    = nil_from_length _ c.in-None.ensures.steps.1.0 in
-    let all : so_far.0 ≡ c.args.body.now
-    = sym (append-nil so_far.0) ∙ ap (λ (u : List ℕ). so_far.0 ++ u) (sym none) ∙ so_far.1 in
-    subst (λ (u : List ℕ). Holds c.loop-piece.self key (m ++ u)) all (so_far.2 key m holds)
+pub returns-else-body-room : goal.returns-else-body-room
+returns-else-body-room c = λ key m holds.
+    let body = c.args.body.now in
+    let front = c.split_at.result.0.now in
+    let back = c.split_at.result.1.now in
+    let blocks = c.split_at-else-body-room.result.0.now in
+    let last = c.split_at-else-body-room.result.1.now in
+    let filled = c.hold-else-body-room.ensures.keeps key m holds.keeps in
+    let chained = c.chain.ensures.keeps key (m ++ front)
+    (c.chain_held.ensures.keeps key (m ++ front) filled) in
+    let held = c.hold-else-body-room-2.ensures.keeps key ((m ++ front) ++ blocks) chained in
+    let behind : blocks ++ last ≡ back = search rules in
+    let all : front ++ back ≡ body = search rules in
+    let joined : ((m ++ front) ++ blocks) ++ last ≡ m ++ body
+    = append_assoc (m ++ front) blocks last
+    ∙ ap (λ (u : List ℕ). (m ++ front) ++ u) behind ∙ append_assoc m front back
+    ∙ ap (λ (u : List ℕ). m ++ u) all in
+    record {
+      keeps = subst (Keeps _ key) joined held;
+      some = λ none. absurd (omega arith);
+    }
