@@ -1,10 +1,11 @@
 -- What AES-SIV gives has its length, consists of bytes and opens again.
-use Rattle.std.proofs.Common.{◌≡◌, ℕ, suc, ◌+◌, ◌-◌, ◌<◌, ◌≤◌, ◌≢◌, cond, nat_lt, Some, None, List, ◌++◌, length, sym, ap, ◌∙◌, arith, refl}
+use Rattle.std.proofs.Common.{◌≡◌, ℕ, suc, ◌+◌, ◌-◌, ◌/◌, ◌<◌, ◌≤◌, ◌≢◌, cond, nat_lt, Some, None, List, ◌++◌, length, sym, ap, ◌∙◌, arith, refl}
 use Rattle.std.proofs.lemmas.Bool.{cond-false, cond-true, cond_both, le-ltb, lt-ltb, ltb-false}
 use Rattle.std.proofs.lemmas.List.{drop_at, length-append, take-append-drop, take_at}
 use Rattle.std.proofs.lemmas.Option.{none-some, same_Some}
 use Rattle.std.proofs.lemmas.Slice.Eq.{bytes_eq-Decides}
 use Rattle.aes_core.specs.Bytes.{xor_bytes}
+use Rattle.aes_core.specs.Counter.{ctr}
 use Rattle.aes_core.specs.declared.counter.CtrKind.TheVariants.{All128}
 use Rattle.aes_core.proofs.BlockXor.{length-xor_bytes}
 use Rattle.aes_core.proofs.CounterMode.{ctr-ctr, length-cipher, length-ctr}
@@ -48,6 +49,28 @@ length-siv_seal key plain ad =
       length-s2v (mac_key key) ad plain,
       length-siv_text key v plain,
     )
+
+-- ---- the halves of a key, joined
+
+half : (mac ctr : List ℕ) → length mac ≡ length ctr → length (mac ++ ctr) / 2 ≡ length mac
+half mac ctr same = omega (arith, length-append mac ctr)
+
+pub mac_key-joined : (mac ctr : List ℕ) → length mac ≡ length ctr → mac_key (mac ++ ctr) ≡ mac
+mac_key-joined mac ctr same =
+    take_at mac ctr (length (mac ++ ctr) / 2) (sym (half mac ctr same))
+
+pub ctr_key-joined : (mac ctr : List ℕ) → length mac ≡ length ctr → ctr_key (mac ++ ctr) ≡ ctr
+ctr_key-joined mac ctr same =
+    drop_at mac ctr (length (mac ++ ctr) / 2) (sym (half mac ctr same))
+
+-- counter mode under the second half
+pub siv_text-joined : (mac second v text : List ℕ) → length mac ≡ length second
+    → ctr second (first_counter v) All128 text ≡ siv_text (mac ++ second) v text
+unfolding siv_text
+siv_text-joined mac second v text same =
+    ap (λ (k : List ℕ). ctr k (first_counter v) All128 text) (sym (ctr_key-joined mac second same))
+
+-- ---- opening and sealing
 
 -- where the test of V holds and the bytes are long enough, they open
 pub opens : (key bytes ad : List ℕ) → 16 ≤ length bytes

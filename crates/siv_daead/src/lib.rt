@@ -5,4 +5,4 @@
 pub mod laws;
 mod siv;
 
-pub use siv::{siv_open, siv_seal};
+pub use siv::{SivKey, siv_open, siv_seal};
