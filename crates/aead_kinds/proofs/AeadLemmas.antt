@@ -1,9 +1,9 @@
 -- What sealing and opening give, of the parts that the code works on.
 use Rattle.std.proofs.Common.{◌≡◌, ℕ, ◌+◌, ◌-◌, ◌≤◌, Some, None, List, ◌++◌, length, take, drop, sym, ap, ◌∙◌, arith}
-use Rattle.std.proofs.lemmas.List.{drop-drop, drop_at, length-append, length-drop, length-take-le, take-append-le, take_at}
+use Rattle.std.proofs.lemmas.List.{drop-drop, length-append, length-drop, length-take-le, take-append-le}
 use Rattle.std.proofs.lemmas.Slice.{take-put_mid}
 use borrow.Rule.Slice.PartMut.{post_of, put_mid}
-use Rattle.aead_kinds.specs.Gcm.{gcm_open, gcm_seal, gcm_tag, gcm_text, iv_of, tag_of, text_of}
+use Rattle.aead_kinds.specs.Gcm.{gcm_open, gcm_tag, gcm_text, iv_of, tag_of, text_of}
 use Rattle.aead_kinds.proofs.GcmLemmas.{closed, opens}
 
 -- ---- opening
@@ -72,14 +72,3 @@ written_behind n items slice new len e l long size =
     take-append-le len all (drop (length all) items) within
     ∙ take-put_mid n (length slice - n) slice new len (omega arith) (omega (arith, same))
     ∙ ap (λ xs. take n xs ++ new) e
-
--- what stands behind the IV was encrypted in its place, and the tag appended
-pub sealed_in_place : (key iv plain ad body text tag all : List ℕ) → length iv ≡ 12
-    → body ≡ drop 12 (iv ++ plain) → text ≡ gcm_text key iv body → tag ≡ gcm_tag key iv ad text
-    → all ≡ take 12 (iv ++ plain) ++ text ++ tag → all ≡ gcm_seal key iv plain ad
-unfolding gcm_seal
-sealed_in_place key iv plain ad body text tag all h body_is text_is tag_is all_is =
-    let same : text ≡ gcm_text key iv plain
-    = text_is ∙ ap (λ b. gcm_text key iv b) (body_is ∙ drop_at iv plain 12 h) in
-    all_is ∙ ap (λ front. front ++ text ++ tag) (take_at iv plain 12 h)
-    ∙ ap (λ t. iv ++ text ++ t) tag_is ∙ ap (λ t. iv ++ t ++ gcm_tag key iv ad t) same

@@ -5,7 +5,7 @@
 --   iv_size_of    the bytes of an IV
 --   seal_of       IV, ciphertext and tag, joined, of IV, plaintext and associated data
 --   open_key      the plaintext of those bytes, or none where they aren't authentic
-use Rattle.std.specs.Prelude.{◌≡◌, ◌⊎◌, ◌≤◌, ℕ, Option, List, length}
+use Rattle.std.specs.Prelude.{⊤, ◌≡◌, ◌⊎◌, ◌≤◌, ℕ, Option, List, length}
 use Rattle.tink_base.specs.Hash.{hash_size}
 use Rattle.aead_kinds.specs.CtrHmac.{ctr_hmac_open, ctr_hmac_seal}
 use Rattle.aead_kinds.specs.Eax.{eax_open, eax_seal}
@@ -13,15 +13,14 @@ use Rattle.aead_kinds.specs.Gcm.{gcm_open, gcm_seal}
 use Rattle.aead_kinds.specs.declared.aead.AeadKey.{AeadKey}
 use Rattle.aead_kinds.specs.declared.aead.AeadKey.TheVariants.{CtrHmac, Eax, Gcm}
 
--- AES takes keys of 128 and 256 bits here. An IV of EAX has 12 or 16 bytes; one of AES-CTR-HMAC 12 to
--- 16, its key of HMAC at least 16, and its tag from 10 up to a digest's.
+-- An expanded AES key is one of 128 or 256 bits. An IV of EAX has 12 or 16 bytes; one of AES-CTR-HMAC
+-- 12 to 16, its key of HMAC at least 16, and its tag from 10 up to a digest's.
 abbrev pub IsFit : AeadKey → Type 0
-IsFit (Gcm key) = (length key.now ≡ 16) ⊎ (length key.now ≡ 32)
-IsFit (Eax key iv_size) =
-    ((length key.now ≡ 16) ⊎ (length key.now ≡ 32)) × ((iv_size ≡ 12) ⊎ (iv_size ≡ 16))
+IsFit (Gcm key) = ⊤
+IsFit (Eax key iv_size) = (iv_size ≡ 12) ⊎ (iv_size ≡ 16)
 IsFit (CtrHmac aes iv_size hash mac tag_size) =
-    ((length aes.now ≡ 16) ⊎ (length aes.now ≡ 32)) × (12 ≤ iv_size) × (iv_size ≤ 16)
-    × (16 ≤ length mac.now) × (10 ≤ tag_size) × (tag_size ≤ hash_size hash)
+    (12 ≤ iv_size) × (iv_size ≤ 16) × (16 ≤ length mac.now) × (10 ≤ tag_size)
+    × (tag_size ≤ hash_size hash)
 
 -- bytes of an IV: 12 for GCM, as the key says for the others
 abbrev pub iv_size_of : AeadKey → ℕ

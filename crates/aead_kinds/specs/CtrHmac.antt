@@ -31,11 +31,13 @@ authenticated iv ad text = ad ++ iv ++ text ++ to_be_bytes w64 (8 * length ad)
 unfoldable pub ctr_hmac_tag : Hash → List ℕ → ℕ → List ℕ → List ℕ → List ℕ → List ℕ
 ctr_hmac_tag hash mac tag_size iv ad text = take tag_size (hmac hash mac (authenticated iv ad text))
 
+-- the IV, the ciphertext of the plaintext, and the tag, joined
 unfoldable pub ctr_hmac_seal : List ℕ → Hash → List ℕ → ℕ → List ℕ → List ℕ → List ℕ → List ℕ
 ctr_hmac_seal aes hash mac tag_size iv plain ad =
     sealed_by (ctr_hmac_text aes) (ctr_hmac_tag hash mac tag_size) iv plain ad
 
--- the bytes have an IV of that size at their front
+-- the plaintext of such bytes, which have an IV of that size at their front; none where the tag isn't
+-- the right one
 unfoldable pub ctr_hmac_open : List ℕ → ℕ → Hash → List ℕ → ℕ → List ℕ → List ℕ → Option (List ℕ)
 ctr_hmac_open aes iv_size hash mac tag_size bytes ad =
     opened_by (ctr_hmac_text aes) (ctr_hmac_tag hash mac tag_size) iv_size tag_size bytes ad

@@ -27,9 +27,10 @@ eax_text key iv text = ctr key (omac 0 key iv) All128 text
 unfoldable pub eax_tag : List ℕ → List ℕ → List ℕ → List ℕ → List ℕ
 eax_tag key iv ad text = xor_bytes (xor_bytes (omac 0 key iv) (omac 1 key ad)) (omac 2 key text)
 
+-- the IV, C of M, and Tag, joined
 unfoldable pub eax_seal : List ℕ → List ℕ → List ℕ → List ℕ → List ℕ
 eax_seal key iv plain ad = sealed_by (eax_text key) (eax_tag key) iv plain ad
 
--- the bytes have an IV of that size at their front
+-- M of such bytes, which have an IV of that size at their front; none where the tag isn't the right one
 unfoldable pub eax_open : List ℕ → ℕ → List ℕ → List ℕ → Option (List ℕ)
 eax_open key iv_size bytes ad = opened_by (eax_text key) (eax_tag key) iv_size 16 bytes ad

@@ -7,6 +7,7 @@
 use Rattle.std.specs.Prelude.{ℕ, ◌+◌, ◌-◌, nat_lt, if◌then◌else◌, Option, Some, None, List, ◌++◌, length, take, drop}
 use Rattle.std.specs.Str.{bytes_eq}
 
+-- the IV, the ciphertext, and the tag of IV, associated data and ciphertext, joined
 unfoldable pub sealed_by : (List ℕ → List ℕ → List ℕ) → (List ℕ → List ℕ → List ℕ → List ℕ)
     → List ℕ → List ℕ → List ℕ → List ℕ
 sealed_by crypt tag iv plain ad = let text = crypt iv plain in iv ++ text ++ tag iv ad text
@@ -25,8 +26,8 @@ text_of iv_size tag_size bytes = take (length bytes - (iv_size + tag_size)) (dro
 abbrev pub tag_of : ℕ → List ℕ → List ℕ
 tag_of tag_size bytes = drop (length bytes - tag_size) bytes
 
--- none where there are fewer bytes than IV and tag have, and where the tag isn't the one computed
--- anew
+-- the plaintext; none where there are fewer bytes than IV and tag have, and where the tag isn't the one
+-- computed anew
 unfoldable pub opened_by : (List ℕ → List ℕ → List ℕ) → (List ℕ → List ℕ → List ℕ → List ℕ)
     → ℕ → ℕ → List ℕ → List ℕ → Option (List ℕ)
 opened_by crypt tag iv_size tag_size bytes ad =

@@ -35,7 +35,8 @@ body_of tag_size segment = take (length segment - tag_size) segment
 abbrev pub tag_of : ℕ → List ℕ → List ℕ
 tag_of tag_size segment = drop (length segment - tag_size) segment
 
--- none where there are fewer bytes than a tag has, and where the tag isn't the one computed anew
+-- the plaintext; none where there are fewer bytes than a tag has, and where the tag isn't the one
+-- computed anew
 unfoldable pub opened_with : (crypt tag : List ℕ → List ℕ) → ℕ → List ℕ → Option (List ℕ)
 opened_with crypt tag tag_size segment =
     if nat_lt (length segment) tag_size then None
@@ -45,10 +46,12 @@ opened_with crypt tag tag_size segment =
 
 -- ---- a segment
 
+-- the ciphertext of the plaintext from this start, and the tag of both, joined
 unfoldable pub segment_seal : List ℕ → Hash → List ℕ → ℕ → List ℕ → List ℕ → List ℕ
 segment_seal aes hash mac tag_size start plain =
     sealed_with (segment_text aes start) (segment_tag hash mac tag_size start) plain
 
+-- the plaintext of such a segment; none where the tag isn't the right one
 unfoldable pub segment_open : List ℕ → Hash → List ℕ → ℕ → List ℕ → List ℕ → Option (List ℕ)
 segment_open aes hash mac tag_size start segment =
     opened_with (segment_text aes start) (segment_tag hash mac tag_size start) tag_size segment

@@ -1,11 +1,11 @@
 //! Sealing and opening under a key of any kind.
 
-ghost use Rattle.std.specs.Prelude.{◌≡◌, ◌⊎◌, ◌↔◌, ◌+◌, ◌^◌, ◌≤◌, length, IfOk, IsTrue};
+ghost use Rattle.std.specs.Prelude.{◌≡◌, ◌↔◌, ◌+◌, ◌^◌, ◌≤◌, ◌++◌, length, IfOk, IsTrue};
 ghost use Rattle.std.specs.Option.{option_map};
 ghost use Rattle.aead_kinds.specs.Aead.{IsFit, iv_size_of, open_key, seal_of};
 ghost use Rattle.aead_kinds.specs.Gcm.{gcm_open, gcm_seal};
 
-use crate::gcm::{gcm_open_in_place, gcm_seal_in_place};
+use crate::gcm::{crypt as gcm_crypt, gcm_seal_in_place, is_tag as is_gcm_tag};
 use crate::scheme::Scheme;
 use aes_core::Aes;
 use std::alloc::Global;
@@ -17,22 +17,22 @@ const GCM_IV: usize = 12;
 /// The bytes of its tag.
 const TAG: usize = 16;
 
-/// A key of some kind of AEAD.
+/// A key of some kind of AEAD, whose AES key is expanded.
 #[derive(Clone, Copy)]
 pub enum AeadKey<'k> {
     /// AES-GCM (SP 800-38D) with an IV of 12 bytes and a tag of 16.
     Gcm {
-        key: &'k [u8],
+        key: &'k Aes,
     },
     /// EAX (Bellare, Rogaway and Wagner) with a tag of 16 bytes.
     Eax {
-        key: &'k [u8],
+        key: &'k Aes,
         iv_size: usize,
     },
     /// AES-CTR-HMAC by Tink's wire format: counter mode under `aes`, and the first bytes of HMAC
     /// under `mac`.
     CtrHmac {
-        aes: &'k [u8],
+        aes: &'k Aes,
         iv_size: usize,
         hash: Hash,
         mac: &'k [u8],
@@ -41,26 +41,22 @@ pub enum AeadKey<'k> {
 }
 
 impl AeadKey<'_> {
-    /// Whether the key's sizes are those of its kind: an AES key has 16 or 32 bytes, an IV of EAX 12
-    /// or 16, one of AES-CTR-HMAC 12 to 16, its key of HMAC at least 16, and its tag 10 up to a
-    /// digest's.
+    /// Whether the key's sizes are those of its kind: an IV of EAX has 12 or 16 bytes, one of
+    /// AES-CTR-HMAC 12 to 16, its key of HMAC at least 16, and its tag 10 up to a digest's.
     pub fn fits(&self) -> bool
         ensures { IsTrue result ↔ IsFit self.now }
     {
         match self {
-            AeadKey::Gcm { key } => key.len() == 16 || key.len() == 32,
-            AeadKey::Eax { key, iv_size } => {
-                (key.len() == 16 || key.len() == 32) && (*iv_size == 12 || *iv_size == 16)
-            }
+            AeadKey::Gcm { .. } => true,
+            AeadKey::Eax { iv_size, .. } => *iv_size == 12 || *iv_size == 16,
             AeadKey::CtrHmac {
-                aes,
                 iv_size,
                 hash,
                 mac,
                 tag_size,
+                ..
             } => {
-                (aes.len() == 16 || aes.len() == 32)
-                    && 12 <= *iv_size
+                12 <= *iv_size
                     && *iv_size <= 16
                     && 16 <= mac.len()
                     && 10 <= *tag_size
@@ -80,27 +76,29 @@ impl AeadKey<'_> {
     }
 }
 
-/// Seals `plain`: the IV, the ciphertext and the tag, joined.
+/// Seals `plain`: behind the bytes of `front` the IV, the ciphertext and the tag.
 ///
-/// `plain` and `ad` have at most 2^30 bytes each. No IV may serve twice under one key: this is for
+/// `plain` and `ad` have at most 2^30 bytes each, and `front` 2^10. No IV may serve twice under one key: this is for
 /// the caller to see to.
 #[tactic(auto, unfolding(crate::specs::Eax::eax_seal, crate::specs::CtrHmac::ctr_hmac_seal))]
 pub fn seal(
     alloc: Global,
     key: &AeadKey<'_>,
+    front: &[u8],
     iv: &[u8],
     plain: &[u8],
     ad: &[u8],
 ) -> Result<Vec<u8>, NoMemory>
     requires fits { IsFit key.now }
+    requires front_bound { length front.now ≤ 2 ^ 10 }
     requires iv_size { length iv.now ≡ iv_size_of key.now }
     requires plain_bound { length plain.now ≤ 2 ^ 30 }
     requires ad_bound { length ad.now ≤ 2 ^ 30 }
-    ensures { IfOk result (λ v. v.items ≡ seal_of key.now iv.now plain.now ad.now) }
+    ensures { IfOk result (λ v. v.items ≡ front.now ++ seal_of key.now iv.now plain.now ad.now) }
 {
     match key {
-        AeadKey::Gcm { key } => gcm_sealed(alloc, key, iv, plain, ad),
-        AeadKey::Eax { key, .. } => Scheme::Eax { key }.seal(alloc, iv, plain, ad),
+        AeadKey::Gcm { key } => gcm_sealed(alloc, key, front, iv, plain, ad),
+        AeadKey::Eax { key, .. } => Scheme::Eax { key }.seal(alloc, front, iv, plain, ad),
         AeadKey::CtrHmac {
             aes,
             hash,
@@ -115,7 +113,7 @@ pub fn seal(
                 mac,
                 tag_size,
             }
-            .seal(alloc, iv, plain, ad)
+            .seal(alloc, front, iv, plain, ad)
         }
     }
 }
@@ -160,24 +158,26 @@ pub fn open(
 
 fn gcm_sealed(
     alloc: Global,
-    key: &[u8],
+    key: &Aes,
+    front: &[u8],
     iv: &[u8],
     plain: &[u8],
     ad: &[u8],
 ) -> Result<Vec<u8>, NoMemory>
-    requires fits { (length key.now ≡ 16) ⊎ (length key.now ≡ 32) }
+    requires front_bound { length front.now ≤ 2 ^ 10 }
     requires iv_size { length iv.now ≡ 12 }
     requires plain_bound { length plain.now ≤ 2 ^ 30 }
     requires ad_bound { length ad.now ≤ 2 ^ 30 }
-    ensures { IfOk result (λ v. v.items ≡ gcm_seal key.now iv.now plain.now ad.now) }
+    ensures { IfOk result (λ v. v.items ≡ front.now ++ gcm_seal key.now iv.now plain.now ad.now) }
 {
-    let mut sealed = Vec::with_capacity(alloc, GCM_IV + plain.len() + TAG)?;
+    let mut sealed = Vec::with_capacity(alloc, front.len() + GCM_IV + plain.len() + TAG)?;
+    sealed.extend_from_slice(front)?;
     sealed.extend_from_slice(iv)?;
     sealed.extend_from_slice(plain)?;
     let tag = match iv.first_chunk::<GCM_IV>() {
         Some(iv) => {
-            let body = &mut sealed.as_mut_slice()[GCM_IV..];
-            gcm_seal_in_place(&expanded(key), iv, ad, body)
+            let body = &mut sealed.as_mut_slice()[front.len() + GCM_IV..];
+            gcm_seal_in_place(key, iv, ad, body)
         }
         None => unreachable!(),
     };
@@ -185,13 +185,13 @@ fn gcm_sealed(
     Ok(sealed)
 }
 
+// The tag is compared before the ciphertext is copied.
 fn gcm_opened(
     alloc: Global,
-    key: &[u8],
+    key: &Aes,
     bytes: &[u8],
     ad: &[u8],
 ) -> Result<Option<Vec<u8>>, NoMemory>
-    requires fits { (length key.now ≡ 16) ⊎ (length key.now ≡ 32) }
     requires bytes_bound { length bytes.now ≤ 2 ^ 30 + 96 }
     requires ad_bound { length ad.now ≤ 2 ^ 30 }
     ensures { IfOk result (λ o. option_map (λ v. v.items) o ≡ gcm_open key.now bytes.now ad.now) }
@@ -202,21 +202,10 @@ fn gcm_opened(
     let Some((text, tag)) = rest.split_last_chunk::<TAG>() else {
         return Ok(None);
     };
+    if !is_gcm_tag(key, iv, ad, text, tag) {
+        return Ok(None);
+    }
     let mut body = text.to_vec(alloc)?;
-    if gcm_open_in_place(&expanded(key), iv, ad, body.as_mut_slice(), tag) {
-        Ok(Some(body))
-    } else {
-        Ok(None)
-    }
-}
-
-/// The expansion of a key that fits.
-pub(crate) fn expanded(key: &[u8]) -> Aes
-    requires { (length key.now ≡ 16) ⊎ (length key.now ≡ 32) }
-    ensures { result ≡ key.now }
-{
-    match Aes::new(key) {
-        Ok(aes) => aes,
-        Err(_) => unreachable!(),
-    }
+    gcm_crypt(key, iv, body.as_mut_slice());
+    Ok(Some(body))
 }

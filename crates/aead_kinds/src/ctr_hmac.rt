@@ -2,25 +2,12 @@
 //!
 //! No branch and no place in memory depends on a key or on a byte of text or associated data.
 
-ghost use Rattle.std.specs.Prelude.{◌≡◌, ◌⊎◌, ◌-◌, ◌^◌, ◌≤◌, ◌++◌, length, replicate};
+ghost use Rattle.std.specs.Prelude.{◌≡◌, ◌^◌, ◌≤◌, length};
 ghost use Rattle.tink_base.specs.Hash.{hash_size};
-ghost use Rattle.aead_kinds.specs.CtrHmac.{ctr_hmac_tag, ctr_hmac_text};
+ghost use Rattle.aead_kinds.specs.CtrHmac.{ctr_hmac_tag, first_counter};
 
-use crate::aead::expanded;
-use aes_core::CtrKind;
 use mac_prf::Hmac;
 use tink_base::Hash;
-
-/// Encrypts or decrypts `body` in place: counter mode from the IV with zeros after it, where all 128
-/// bits count.
-#[tactic(auto, unfolding(crate::specs::CtrHmac::ctr_hmac_text))]
-pub(crate) fn crypt(aes: &[u8], iv: &[u8], body: &mut [u8])
-    requires fits { (length aes.now ≡ 16) ⊎ (length aes.now ≡ 32) }
-    requires iv_bound { length iv.now ≤ 16 }
-    ensures { body.new ≡ ctr_hmac_text aes.now iv.now body.old }
-{
-    expanded(aes).ctr_xor(&counter_block(iv), CtrKind::All128, body);
-}
 
 /// Writes the tag of IV, associated data and ciphertext: as many of its first bytes as `tag` has.
 pub(crate) fn write_tag(hash: Hash, mac: &[u8], iv: &[u8], ad: &[u8], text: &[u8], tag: &mut [u8])
@@ -36,10 +23,10 @@ pub(crate) fn write_tag(hash: Hash, mac: &[u8], iv: &[u8], ad: &[u8], text: &[u8
     hmac.finish(tag);
 }
 
-// The IV, with zeros after it.
-fn counter_block(iv: &[u8]) -> [u8; 16]
+/// The block from which counter mode begins: the IV, with zeros after it.
+pub(crate) fn counter_block(iv: &[u8]) -> [u8; 16]
     requires { length iv.now ≤ 16 }
-    ensures { result ≡ iv.now ++ replicate (16 - length iv.now) 0 }
+    ensures { result ≡ first_counter iv.now }
 {
     let mut block = [0; 16];
     block[..iv.len()].copy_from_slice(iv);

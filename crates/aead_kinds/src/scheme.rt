@@ -1,11 +1,12 @@
 //! Sealing by encryption and a tag over what was encrypted, which EAX and AES-CTR-HMAC have in common.
 
-ghost use Rattle.std.specs.Prelude.{◌≡◌, ◌↔◌, ◌+◌, ◌^◌, ◌≤◌, length, IfOk, IsTrue};
+ghost use Rattle.std.specs.Prelude.{◌≡◌, ◌↔◌, ◌+◌, ◌^◌, ◌≤◌, ℕ, List, ◌++◌, length, IfOk, IsTrue};
 ghost use Rattle.std.specs.Option.{option_map};
 ghost use Rattle.aead_kinds.specs.EncryptThenTag.{opened_by, sealed_by};
-ghost use Rattle.aead_kinds.specs.SchemeState.{crypt_under, IsSound, tag_size_of, tag_under};
+ghost use Rattle.aead_kinds.specs.SchemeState.{crypt_under, IsSound, start_under, tag_size_of, tag_under};
 
 use crate::{ctr_hmac, eax};
+use aes_core::{Aes, CtrKind};
 use mac_prf::blocks::same_bytes;
 use std::alloc::Global;
 use tink_base::{Hash, NoMemory};
@@ -18,11 +19,11 @@ pub(crate) const LONGEST_TAG: usize = 64;
 pub(crate) enum Scheme<'k> {
     /// EAX, with a tag of 16 bytes.
     Eax {
-        key: &'k [u8],
+        key: &'k Aes,
     },
     /// AES-CTR-HMAC.
     CtrHmac {
-        aes: &'k [u8],
+        aes: &'k Aes,
         hash: Hash,
         mac: &'k [u8],
         tag_size: usize,
@@ -30,29 +31,37 @@ pub(crate) enum Scheme<'k> {
 }
 
 impl Scheme<'_> {
-    /// Seals `plain`: the IV, the ciphertext and the tag, joined.
+    /// Seals `plain`: behind the bytes of `front` the IV, the ciphertext and the tag.
     pub(crate) fn seal(
         &self,
         alloc: Global,
+        front: &[u8],
         iv: &[u8],
         plain: &[u8],
         ad: &[u8],
     ) -> Result<Vec<u8>, NoMemory>
         requires sound { IsSound self.now }
+        requires front_bound { length front.now ≤ 2 ^ 10 }
         requires iv_bound { length iv.now ≤ 16 }
         requires plain_bound { length plain.now ≤ 2 ^ 30 }
         requires ad_bound { length ad.now ≤ 2 ^ 30 }
         ensures { IfOk result (λ v. v.items
-            ≡ sealed_by (crypt_under self.now) (tag_under self.now) iv.now plain.now ad.now) }
+            ≡ front.now
+            ++ sealed_by (crypt_under self.now) (tag_under self.now) iv.now plain.now ad.now) }
     {
         let mut longest = [0; LONGEST_TAG];
         let tag = &mut longest[..self.tag_size()];
-        let mut sealed = Vec::with_capacity(alloc, iv.len() + plain.len() + tag.len())?;
+        let start = self.start(iv);
+        let mut sealed = Vec::with_capacity(
+            alloc,
+            front.len() + iv.len() + plain.len() + tag.len(),
+        )?;
+        sealed.extend_from_slice(front)?;
         sealed.extend_from_slice(iv)?;
         sealed.extend_from_slice(plain)?;
-        let body = &mut sealed.as_mut_slice()[iv.len()..];
-        self.crypt(iv, body);
-        self.write_tag(iv, ad, body, tag);
+        let body = &mut sealed.as_mut_slice()[front.len() + iv.len()..];
+        self.crypt(&start, body);
+        self.write_tag(&start, iv, ad, body, tag);
         sealed.extend_from_slice(tag)?;
         Ok(sealed)
     }
@@ -79,11 +88,12 @@ impl Scheme<'_> {
         }
         let (iv, rest) = bytes.split_at(iv_size);
         let (text, tag) = rest.split_at(rest.len() - tag_size);
-        if !self.is_tag(iv, ad, text, tag) {
+        let start = self.start(iv);
+        if !self.is_tag(&start, iv, ad, text, tag) {
             return Ok(None);
         }
         let mut body = text.to_vec(alloc)?;
-        self.crypt(iv, body.as_mut_slice());
+        self.crypt(&start, body.as_mut_slice());
         Ok(Some(body))
     }
 
@@ -99,27 +109,38 @@ impl Scheme<'_> {
         }
     }
 
-    // Encrypts or decrypts.
-    fn crypt(&self, iv: &[u8], body: &mut [u8])
-        requires sound { IsSound self.now }
-        requires iv_bound { length iv.now ≤ 16 }
-        ensures { body.new ≡ crypt_under self.now iv.now body.old }
+    // The block from which counter mode begins.
+    fn start(&self, iv: &[u8]) -> [u8; 16]
+        requires { length iv.now ≤ 16 }
+        ensures { result ≡ start_under self.now iv.now }
     {
         match self {
-            Scheme::Eax { key } => eax::crypt(key, iv, body),
-            Scheme::CtrHmac { aes, .. } => ctr_hmac::crypt(aes, iv, body),
+            Scheme::Eax { key } => eax::nonce_of(key, iv),
+            Scheme::CtrHmac { .. } => ctr_hmac::counter_block(iv),
+        }
+    }
+
+    // Encrypts or decrypts from there.
+    fn crypt(&self, start: &[u8; 16], body: &mut [u8])
+        ensures { (iv : List ℕ) → start.now ≡ start_under self.now iv
+            → body.new ≡ crypt_under self.now iv body.old }
+    {
+        match self {
+            Scheme::Eax { key } => key.ctr_xor(start, CtrKind::All128, body),
+            Scheme::CtrHmac { aes, .. } => aes.ctr_xor(start, CtrKind::All128, body),
         }
     }
 
     // Writes the tag of IV, associated data and ciphertext.
-    fn write_tag(&self, iv: &[u8], ad: &[u8], text: &[u8], tag: &mut [u8])
+    fn write_tag(&self, start: &[u8; 16], iv: &[u8], ad: &[u8], text: &[u8], tag: &mut [u8])
         requires sound { IsSound self.now }
+        requires start { start.now ≡ start_under self.now iv.now }
         requires ad_bound { length ad.now ≤ 2 ^ 30 }
         requires tag_size { length tag.old ≡ tag_size_of self.now }
         ensures { tag.new ≡ tag_under self.now iv.now ad.now text.now }
     {
         match self {
-            Scheme::Eax { key } => tag.copy_from_slice(&eax::tag_of(key, iv, ad, text)),
+            Scheme::Eax { key } => tag.copy_from_slice(&eax::tag_of(key, start, ad, text)),
             Scheme::CtrHmac { hash, mac, .. } => {
                 ctr_hmac::write_tag(*hash, mac, iv, ad, text, tag);
             }
@@ -127,15 +148,16 @@ impl Scheme<'_> {
     }
 
     // Whether the tag is that of IV, associated data and ciphertext, computed anew.
-    fn is_tag(&self, iv: &[u8], ad: &[u8], text: &[u8], tag: &[u8]) -> bool
+    fn is_tag(&self, start: &[u8; 16], iv: &[u8], ad: &[u8], text: &[u8], tag: &[u8]) -> bool
         requires sound { IsSound self.now }
+        requires start { start.now ≡ start_under self.now iv.now }
         requires ad_bound { length ad.now ≤ 2 ^ 30 }
         requires tag_size { length tag.now ≡ tag_size_of self.now }
         ensures { IsTrue result ↔ (tag_under self.now iv.now ad.now text.now ≡ tag.now) }
     {
         let mut longest = [0; LONGEST_TAG];
         let anew = &mut longest[..tag.len()];
-        self.write_tag(iv, ad, text, anew);
+        self.write_tag(start, iv, ad, text, anew);
         same_bytes(anew, tag)
     }
 }

@@ -59,7 +59,7 @@ returns c =
     let body : c.as_mut_slice.result.now ≡ text = c.as_mut_slice.ensures.value ∙ copied in
     let new = c.crypt.new.body in
     let plain : new ≡ crypt_under scheme iv text
-    = c.crypt.ensures ∙ ap (λ b. crypt_under scheme iv b) body in
+    = c.crypt.ensures iv c.start-start.ensures ∙ ap (λ b. crypt_under scheme iv b) body in
     let size : length new ≡ c.in_ok-body.body.len
     = ap (λ l. length l) plain ∙ length-crypt_under scheme iv text ∙ sym (ap (λ l. length l) body)
     ∙ c.as_mut_slice.ensures.len in
