@@ -21,43 +21,45 @@ const IV: usize = 12;
 /// The bytes of a tag.
 const TAG: usize = 16;
 
-/// Seals `plain` (RFC 8452, 4): the IV, as many bytes of ciphertext as `plain` has, and the tag, joined.
+/// Seals `plain` (RFC 8452, 4): behind the bytes of `front` the IV, as many bytes of ciphertext as
+/// `plain` has, and the tag.
 ///
-/// The key has 16 or 32 bytes; `plain` and `ad` have at most 2^30 bytes each. An IV that serves twice
+/// `plain` and `ad` have at most 2^30 bytes each, and `front` 2^10. An IV that serves twice
 /// under one key tells whether plaintext and associated data were the same, and nothing else; still,
 /// each message should have its own. `NoMemory` comes for want of memory alone, here and in opening.
 pub fn gcm_siv_seal(
     alloc: Global,
-    key: &[u8],
+    key: &Aes,
+    front: &[u8],
     iv: &[u8; 12],
     plain: &[u8],
     ad: &[u8],
 ) -> Result<Vec<u8>, NoMemory>
-    requires key_size { (length key.now ≡ 16) ⊎ (length key.now ≡ 32) }
+    requires front_bound { length front.now ≤ 2 ^ 10 }
     requires plain_bound { length plain.now ≤ 2 ^ 30 }
     requires ad_bound { length ad.now ≤ 2 ^ 30 }
-    ensures sealed { IfOk result (λ v. v.items ≡ gcm_siv_seal key.now iv.now plain.now ad.now) }
+    ensures sealed { IfOk result (λ v.
+        v.items ≡ front.now ++ gcm_siv_seal key.now iv.now plain.now ad.now) }
 {
-    let mut sealed = Vec::with_capacity(alloc, IV + plain.len() + TAG)?;
+    let mut sealed = Vec::with_capacity(alloc, front.len() + IV + plain.len() + TAG)?;
+    sealed.extend_from_slice(front)?;
     sealed.extend_from_slice(iv)?;
     sealed.extend_from_slice(plain)?;
-    let tag = seal_behind(key, iv, ad, &mut sealed);
+    let tag = seal_behind(key, iv, ad, front.len() + IV, &mut sealed);
     sealed.extend_from_slice(&tag)?;
     Ok(sealed)
 }
 
 /// Opens IV, ciphertext and tag, joined (RFC 8452, 5).
 ///
-/// The key has 16 or 32 bytes, `bytes` have at most 2^30 + 96, and `ad` at most 2^30. The answer is
-/// `None` exactly where `bytes` are shorter than IV and tag, or the tag isn't the one that the plaintext
+/// `bytes` have at most 2^30 + 96, and `ad` at most 2^30. The answer is `None` exactly where `bytes` are shorter than IV and tag, or the tag isn't the one that the plaintext
 /// has. All bytes of the two are compared.
 pub fn gcm_siv_open(
     alloc: Global,
-    key: &[u8],
+    key: &Aes,
     bytes: &[u8],
     ad: &[u8],
 ) -> Result<Option<Vec<u8>>, NoMemory>
-    requires key_size { (length key.now ≡ 16) ⊎ (length key.now ≡ 32) }
     requires bytes_bound { length bytes.now ≤ 2 ^ 30 + 96 }
     requires ad_bound { length ad.now ≤ 2 ^ 30 }
     ensures opened { IfOk result (λ o.
@@ -77,46 +79,41 @@ pub fn gcm_siv_open(
     }
 }
 
-// Encrypts in place what stands behind the first 12 bytes, and answers the tag (4).
-fn seal_behind(key: &[u8], iv: &[u8; 12], ad: &[u8], bytes: &mut [u8]) -> [u8; 16]
-    requires key_size { (length key.now ≡ 16) ⊎ (length key.now ≡ 32) }
+// Encrypts in place what stands behind the first bytes, so many as `at` says, and answers the tag (4).
+fn seal_behind(key: &Aes, iv: &[u8; 12], ad: &[u8], at: usize, bytes: &mut [u8]) -> [u8; 16]
     requires ad_bound { length ad.now ≤ 2 ^ 30 }
-    requires room { 12 ≤ length bytes.old }
+    requires room { at ≤ length bytes.old }
     requires bytes_bound { length bytes.old ≤ 2 ^ 31 }
     ensures text { bytes.new
-        ≡ take 12 bytes.old ++ gcm_siv_text key.now iv.now result (drop 12 bytes.old) }
-    ensures tag { result ≡ gcm_siv_tag key.now iv.now ad.now (drop 12 bytes.old) }
+        ≡ take at bytes.old ++ gcm_siv_text key.now iv.now result (drop at bytes.old) }
+    ensures tag { result ≡ gcm_siv_tag key.now iv.now ad.now (drop at bytes.old) }
 {
-    seal_in_place(key, iv, ad, &mut bytes[IV..])
+    seal_in_place(key, iv, ad, &mut bytes[at..])
 }
 
 // Encrypts in place, and answers the tag (4).
-fn seal_in_place(key: &[u8], iv: &[u8; 12], ad: &[u8], body: &mut [u8]) -> [u8; 16]
-    requires key_size { (length key.now ≡ 16) ⊎ (length key.now ≡ 32) }
+fn seal_in_place(key: &Aes, iv: &[u8; 12], ad: &[u8], body: &mut [u8]) -> [u8; 16]
     requires ad_bound { length ad.now ≤ 2 ^ 30 }
     requires body_bound { length body.old ≤ 2 ^ 31 }
     ensures text { body.new ≡ gcm_siv_text key.now iv.now result body.old }
     ensures tag { result ≡ gcm_siv_tag key.now iv.now ad.now body.old }
 {
-    let main = expanded(key);
-    let encryption = encryption_aes(&main, key.len(), iv);
-    let tag = tag_of(&main, &encryption, iv, ad, body);
+    let encryption = encryption_aes(key, iv);
+    let tag = tag_of(key, &encryption, iv, ad, body);
     crypt(&encryption, &tag, body);
     tag
 }
 
 // Decrypts in place, and answers whether the tag is that of the plaintext (5).
-fn open_in_place(key: &[u8], iv: &[u8; 12], ad: &[u8], body: &mut [u8], tag: &[u8; 16]) -> bool
-    requires key_size { (length key.now ≡ 16) ⊎ (length key.now ≡ 32) }
+fn open_in_place(key: &Aes, iv: &[u8; 12], ad: &[u8], body: &mut [u8], tag: &[u8; 16]) -> bool
     requires ad_bound { length ad.now ≤ 2 ^ 30 }
     requires body_bound { length body.old ≤ 2 ^ 31 }
     ensures plain { body.new ≡ gcm_siv_text key.now iv.now tag.now body.old }
     ensures authentic { IsTrue result ↔ (tag.now ≡ gcm_siv_tag key.now iv.now ad.now body.new) }
 {
-    let main = expanded(key);
-    let encryption = encryption_aes(&main, key.len(), iv);
+    let encryption = encryption_aes(key, iv);
     crypt(&encryption, tag, body);
-    same_bytes(tag, &tag_of(&main, &encryption, iv, ad, body))
+    same_bytes(tag, &tag_of(key, &encryption, iv, ad, body))
 }
 
 // The expansion of a key that fits.
@@ -164,12 +161,11 @@ fn joined(front: &[u8; 16], back: &[u8; 16]) -> [u8; 32]
 }
 
 // The key for the text and the tag, expanded: it is as long as the main one (4).
-fn encryption_aes(main: &Aes, size: usize, iv: &[u8; 12]) -> Aes
-    requires size { size ≡ length main.now }
+fn encryption_aes(main: &Aes, iv: &[u8; 12]) -> Aes
     ensures { result ≡ encryption_key main.now iv.now }
 {
     let first = derived_pair(main, iv, 2);
-    if size == 32 {
+    if main.key_size() == 32 {
         expanded(&joined(&first, &derived_pair(main, iv, 4)))
     } else {
         expanded(&first)

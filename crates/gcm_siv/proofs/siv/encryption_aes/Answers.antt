@@ -4,15 +4,15 @@ use Rattle.std.proofs.lemmas.Bool.{cond-false, cond-true}
 use Rattle.gcm_siv.specs.GcmSiv.{encryption_key}
 use Rattle.gcm_siv.proofs.siv.encryption_aes.Goals as goal
 
-pub returns-then-size-eq32 : goal.returns-then-size-eq32
+pub returns-then-key_size-eq32 : goal.returns-then-key_size-eq32
 unfolding encryption_key
-returns-then-size-eq32 c =
+returns-then-key_size-eq32 c =
     c.expanded.ensures ∙ c.joined.ensures
     ∙ (λ i. c.derived_pair-first.ensures i ++ c.derived_pair.ensures i)
-    ∙ sym (cond-true _ _ _ (eq-eqb _ 32 (sym c.requires.size ∙ c.if-size-eq32.true)))
+    ∙ sym (cond-true _ _ _ (eq-eqb _ 32 (sym c.key_size.ensures.size ∙ c.if-key_size-eq32.true)))
 
-pub returns-else-size-eq32 : goal.returns-else-size-eq32
+pub returns-else-key_size-eq32 : goal.returns-else-key_size-eq32
 unfolding encryption_key
-returns-else-size-eq32 c =
-    c.expanded-else-size-eq32.ensures ∙ c.derived_pair-first.ensures
-    ∙ sym (cond-false _ _ _ (ne_eqb _ 32 (λ same. c.if-size-eq32.false (c.requires.size ∙ same))))
+returns-else-key_size-eq32 c =
+    c.expanded-else-key_size-eq32.ensures ∙ c.derived_pair-first.ensures
+    ∙ sym (cond-false _ _ _ (ne_eqb _ 32 (λ same. c.if-key_size-eq32.false (c.key_size.ensures.size ∙ same))))

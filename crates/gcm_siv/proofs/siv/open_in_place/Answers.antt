@@ -1,7 +1,7 @@
 use Rattle.std.proofs.Common.{List, ℕ, ap, ◌∙◌}
 use Rattle.aes_core.specs.Counter.{ctr}
 use Rattle.aes_core.specs.declared.counter.CtrKind.TheVariants.{First32}
-use Rattle.gcm_siv.specs.GcmSiv.{encryption_key, first_counter, gcm_siv_text}
+use Rattle.gcm_siv.specs.GcmSiv.{first_counter, gcm_siv_text}
 use Rattle.gcm_siv.proofs.siv.open_in_place.Goals as goal
 
 pub returns-clause-plain : goal.returns-clause-plain
@@ -9,5 +9,4 @@ unfolding gcm_siv_text
 returns-clause-plain c =
     c.crypt.ensures
     ∙ ap (λ (k : List ℕ). ctr k (first_counter c.args.tag.now) First32 c.args.body.now)
-    (c.encryption_aes-encryption.ensures
-    ∙ ap (λ (k : List ℕ). encryption_key k c.args.iv.now) c.expanded-main.ensures)
+    c.encryption_aes-encryption.ensures
