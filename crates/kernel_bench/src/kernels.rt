@@ -41,8 +41,8 @@ pub enum Kernel {
     Ghash(Ghash),
     /// Sealing by AES-GCM, under one key.
     Gcm(Gcm),
-    /// Sealing by AES-GCM-SIV of a text that stays, the key included.
-    GcmSiv(Global),
+    /// Sealing by AES-GCM-SIV of a text that stays, under one key, of which each message has its own.
+    GcmSiv(Global, Aes),
     /// HMAC with SHA-256, the key included.
     Hmac,
 }
@@ -56,7 +56,7 @@ impl Kernel {
             "aes128-chain" => Some(Kernel::Chain(new_aes(&[0; 16]))),
             "ghash" => Some(Kernel::Ghash(new_ghash(SUBKEY))),
             "aes128-gcm" => Some(Kernel::Gcm(new_gcm(&[0; 16]))),
-            "aes128-gcm-siv" => Some(Kernel::GcmSiv(alloc)),
+            "aes128-gcm-siv" => Some(Kernel::GcmSiv(alloc, new_aes(&[0; 16]))),
             "hmac-sha256" => Some(Kernel::Hmac),
             _ => None,
         }
@@ -69,7 +69,7 @@ impl Kernel {
             Kernel::Chain(aes) => chain(aes, text),
             Kernel::Ghash(ghash) => hash(ghash, text),
             Kernel::Gcm(gcm) => seal(gcm, text),
-            Kernel::GcmSiv(alloc) => seal_anew(*alloc, text),
+            Kernel::GcmSiv(alloc, aes) => seal_anew(*alloc, aes, text),
             Kernel::Hmac => tag(text),
         }
     }
@@ -129,9 +129,9 @@ fn seal(gcm: &mut Gcm, text: &mut [u8]) -> u8 {
 
 // What is sealed is a new text each time; its last byte is answered, or 0 where memory is refused.
 #[inline(never)]
-fn seal_anew(alloc: Global, text: &[u8]) -> u8 {
+fn seal_anew(alloc: Global, aes: &Aes, text: &[u8]) -> u8 {
     let size = text.len().min(LONGEST_GCM_SIV);
-    match gcm_siv_seal(alloc, &[0; 16], &[0; 12], &text[..size], &[]) {
+    match gcm_siv_seal(alloc, aes, &[], &[0; 12], &text[..size], &[]) {
         Ok(sealed) => sealed.last().copied().unwrap_or(0),
         Err(_) => 0,
     }

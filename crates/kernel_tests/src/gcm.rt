@@ -78,17 +78,17 @@ fn seals_a_long_text_in_place(rt: HostRuntime) -> Result<(), Fail> {
 
 // Lengths on both sides of the two that are taken, and that of AES-192.
 #[test]
-fn takes_keys_of_two_sizes(rt: HostRuntime) {
+fn takes_keys_of_two_sizes(rt: HostRuntime) -> Result<(), Fail> {
     for size in [0, 15, 17, 24, 31, 33] {
         let key = &[0; 33][..size];
-        assert!(rt; !AeadKey::Gcm { key }.fits(), "{size} bytes");
+        assert_eq!(rt; Aes::new(key).err(), Some(KeySize), "{size} bytes");
         assert_eq!(rt; Gcm::new(key).err(), Some(KeySize), "{size} bytes");
     }
     for size in [16, 32] {
-        let under = AeadKey::Gcm {
-            key: &[0; 32][..size],
-        };
-        assert!(rt; under.fits(), "{size} bytes");
-        assert_eq!(rt; under.iv_size(), 12);
+        let key = &Aes::new(&[0; 32][..size])?;
+        assert_eq!(rt; key.key_size(), size);
+        assert!(rt; AeadKey::Gcm { key }.fits(), "{size} bytes");
+        assert_eq!(rt; AeadKey::Gcm { key }.iv_size(), 12);
     }
+    Ok(())
 }

@@ -1,6 +1,7 @@
 //! AES-GCM-SIV against printed and independent sealings, and altered ones refused.
 
-use crate::rows::{bytes_in, refused};
+use crate::rows::{FRONT, behind_front, bytes_in, refused};
+use aes_core::Aes;
 use gcm_siv::{gcm_siv_open, gcm_siv_seal};
 use std::alloc::Global;
 use std::test::Fail;
@@ -68,17 +69,25 @@ fn changed(alloc: Global, bytes: &[u8], at: usize) -> Result<Vec<u8>, Fail> {
     Ok(other)
 }
 
-fn sealed(alloc: Global, key: &[u8], iv: &[u8], plain: &[u8], ad: &[u8]) -> Result<Vec<u8>, Fail> {
+// Behind these bytes.
+fn sealed(
+    alloc: Global,
+    key: &Aes,
+    front: &[u8],
+    iv: &[u8],
+    plain: &[u8],
+    ad: &[u8],
+) -> Result<Vec<u8>, Fail> {
     let iv = iv.first_chunk::<12>().ok_or("an IV of 12 bytes")?;
-    if key.len() != 16 && key.len() != 32 || plain.len() > 5000 || ad.len() > 5000 {
-        return Err("a key of 16 or 32 bytes, and 5,000 bytes at most".into());
+    if front.len() > 5 || plain.len() > 5000 || ad.len() > 5000 {
+        return Err("a prefix, and 5,000 bytes at most".into());
     }
-    Ok(gcm_siv_seal(alloc, key, iv, plain, ad)?)
+    Ok(gcm_siv_seal(alloc, key, front, iv, plain, ad)?)
 }
 
-fn opened(alloc: Global, key: &[u8], bytes: &[u8], ad: &[u8]) -> Result<Option<Vec<u8>>, Fail> {
-    if key.len() != 16 && key.len() != 32 || bytes.len() > 6000 || ad.len() > 5000 {
-        return Err("a key of 16 or 32 bytes, and 6,000 bytes at most".into());
+fn opened(alloc: Global, key: &Aes, bytes: &[u8], ad: &[u8]) -> Result<Option<Vec<u8>>, Fail> {
+    if bytes.len() > 6000 || ad.len() > 5000 {
+        return Err("6,000 bytes at most".into());
     }
     Ok(gcm_siv_open(alloc, key, bytes, ad)?)
 }
@@ -87,7 +96,7 @@ fn opened(alloc: Global, key: &[u8], bytes: &[u8], ad: &[u8]) -> Result<Option<V
 fn assert_altered_refused(
     alloc: Global,
     shows: &str,
-    key: &[u8],
+    key: &Aes,
     bytes: &[u8],
     ad: &[u8],
 ) -> Result<(), Fail> {
@@ -113,7 +122,7 @@ fn assert_altered_refused(
 fn assert_other_data_refused(
     alloc: Global,
     shows: &str,
-    key: &[u8],
+    key: &Aes,
     bytes: &[u8],
     ad: &[u8],
 ) -> Result<(), Fail> {
@@ -128,7 +137,7 @@ fn assert_other_data_refused(
 
 fn assert_row(alloc: Global, row: &str) -> Result<(), Fail> {
     let shows = cell(row, 0)?;
-    let key = bytes_in(alloc, row, 1)?;
+    let key = Aes::new(&bytes_in(alloc, row, 1)?)?;
     let iv = bytes_in(alloc, row, 2)?;
     let ad = bytes_in(alloc, row, 3)?;
     let plain = bytes_in(alloc, row, 4)?;
@@ -137,13 +146,11 @@ fn assert_row(alloc: Global, row: &str) -> Result<(), Fail> {
     if want.len() < 28 {
         return Err("an IV and a tag at least".into());
     }
-    same_bytes(
-        alloc,
-        shows,
-        "the sealing",
-        &want,
-        &sealed(alloc, &key, &iv, &plain, &ad)?,
-    )?;
+    let found = sealed(alloc, &key, &[], &iv, &plain, &ad)?;
+    same_bytes(alloc, shows, "the sealing", &want, &found)?;
+    let found = sealed(alloc, &key, &FRONT, &iv, &plain, &ad)?;
+    let behind = behind_front(alloc, &want)?;
+    same_bytes(alloc, shows, "the sealing behind a prefix", &behind, &found)?;
     let back = opened(alloc, &key, &want, &ad)?.ok_or("it opens")?;
     same_bytes(alloc, shows, "the plaintext", &plain, &back)?;
     assert_altered_refused(alloc, shows, &key, &want, &ad)?;
@@ -177,11 +184,12 @@ fn seals_and_opens_a_long_text(rt: HostRuntime) -> Result<(), Fail> {
         25, 26, 27, 28, 29, 30, 31,
     ];
     let alloc = rt.alloc();
-    let found = sealed(alloc, &counting, &counting[..12], &[0; 5000], &[7; 700])?;
+    let key = Aes::new(&counting)?;
+    let found = sealed(alloc, &key, &[], &counting[..12], &[0; 5000], &[7; 700])?;
     let (_, tag) = found.split_last_chunk::<16>().ok_or("a tag")?;
     assert_eq!(rt; *tag, 0xE73F27F30646A5DED95DC16FA2178898_u128.to_be_bytes());
-    assert!(rt; opened(alloc, &counting, &found, &[7; 699])?.is_none());
-    let back = opened(alloc, &counting, &found, &[7; 700])?.ok_or("it opens")?;
+    assert!(rt; opened(alloc, &key, &found, &[7; 699])?.is_none());
+    let back = opened(alloc, &key, &found, &[7; 700])?.ok_or("it opens")?;
     assert!(rt; back.as_slice() == [0; 5000].as_slice());
     Ok(())
 }

@@ -4,6 +4,16 @@ use std::alloc::Global;
 use std::test::Fail;
 use test_words::{bytes_of, cell, digits_of, unlike};
 
+/// Bytes in front of a sealing: the prefix of a TINK key whose id is 7.
+pub(crate) const FRONT: [u8; 5] = [1, 0, 0, 0, 7];
+
+/// The bytes behind those of `FRONT`.
+pub(crate) fn behind_front(alloc: Global, bytes: &[u8]) -> Result<Vec<u8>, Fail> {
+    let mut all = FRONT.to_vec(alloc)?;
+    all.extend_from_slice(bytes)?;
+    Ok(all)
+}
+
 /// The bytes of a cell of hexadecimal digits.
 pub(crate) fn bytes_in(alloc: Global, row: &str, place: usize) -> Result<Vec<u8>, Fail> {
     bytes_of(alloc, cell(row, place)?)

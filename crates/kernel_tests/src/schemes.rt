@@ -1,8 +1,9 @@
 //! The kinds of AEAD against published and independent answers, by the calls that other crates
 //! make. What AES-GCM does in place stands in `gcm`.
 
-use crate::rows::{bytes_in, refused, title};
+use crate::rows::{FRONT, behind_front, bytes_in, refused, title};
 use aead_kinds::{AeadKey, open, seal};
+use aes_core::Aes;
 use std::alloc::Global;
 use std::test::Fail;
 use test_words::{cell, hash_named, longer, number_in, same_bytes, turned};
@@ -120,8 +121,11 @@ fn assert_accepted(
     if !key.fits() || plain.len() > MOST || ad.len() > MOST {
         return Err("a key that fits, and no more than 1,000 bytes".into());
     }
-    let sealed = seal(alloc, key, iv, plain, ad)?;
-    same_bytes(alloc, shows, "the sealing", bytes, &sealed)
+    let sealed = seal(alloc, key, &[], iv, plain, ad)?;
+    same_bytes(alloc, shows, "the sealing", bytes, &sealed)?;
+    let want = behind_front(alloc, bytes)?;
+    let sealed = seal(alloc, key, &FRONT, iv, plain, ad)?;
+    same_bytes(alloc, shows, "the sealing behind a prefix", &want, &sealed)
 }
 
 // Each part of accepted bytes altered, and their length.
@@ -182,8 +186,8 @@ fn assert_other_data_refused(
     )
 }
 
-// The key of a row, over the bytes of its two cells.
-fn key_of<'a>(row: &str, aes: &'a [u8], mac: &'a [u8]) -> Result<AeadKey<'a>, Fail> {
+// The key of a row, over those of its two cells.
+fn key_of<'a>(row: &str, aes: &'a Aes, mac: &'a [u8]) -> Result<AeadKey<'a>, Fail> {
     let kind = cell(row, 1)?;
     let iv_size = number_in(row, 4)?;
     let tag_size = number_in(row, 5)?;
@@ -204,7 +208,7 @@ fn key_of<'a>(row: &str, aes: &'a [u8], mac: &'a [u8]) -> Result<AeadKey<'a>, Fa
 
 fn assert_row(alloc: Global, row: &str) -> Result<(), Fail> {
     let shows = &title(alloc, row)?;
-    let aes = bytes_in(alloc, row, 2)?;
+    let aes = Aes::new(&bytes_in(alloc, row, 2)?)?;
     let mac = bytes_in(alloc, row, 3)?;
     let key = key_of(row, &aes, &mac)?;
     let ad = bytes_in(alloc, row, 6)?;

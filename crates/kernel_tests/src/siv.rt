@@ -1,7 +1,8 @@
 //! AES-SIV against printed and independent sealings, and altered ones refused.
 
-use crate::rows::{bytes_in, refused};
-use siv_daead::{siv_open, siv_seal};
+use crate::rows::{FRONT, behind_front, bytes_in, refused};
+use aes_core::KeySize;
+use siv_daead::{SivKey, siv_open, siv_seal};
 use std::alloc::Global;
 use std::test::Fail;
 use test_words::{cell, longer, same_bytes};
@@ -38,16 +39,27 @@ fn changed(alloc: Global, bytes: &[u8], at: usize) -> Result<Vec<u8>, Fail> {
     Ok(other)
 }
 
-fn sealed(alloc: Global, key: &[u8], plain: &[u8], ad: &[u8]) -> Result<Vec<u8>, Fail> {
-    if key.len() != 32 && key.len() != 64 || plain.len() > 1000 || ad.len() > 1000 {
-        return Err("a key of 32 or 64 bytes, and 1,000 bytes at most".into());
+fn assert_sealed(
+    alloc: Global,
+    shows: &str,
+    key: &SivKey,
+    plain: &[u8],
+    ad: &[u8],
+    want: &[u8],
+) -> Result<(), Fail> {
+    if plain.len() > 1000 || ad.len() > 1000 {
+        return Err("1,000 bytes at most".into());
     }
-    Ok(siv_seal(alloc, key, plain, ad)?)
+    let sealed = siv_seal(alloc, key, &[], plain, ad)?;
+    same_bytes(alloc, shows, "the sealing", want, &sealed)?;
+    let want = behind_front(alloc, want)?;
+    let sealed = siv_seal(alloc, key, &FRONT, plain, ad)?;
+    same_bytes(alloc, shows, "the sealing behind a prefix", &want, &sealed)
 }
 
-fn opened(alloc: Global, key: &[u8], bytes: &[u8], ad: &[u8]) -> Result<Option<Vec<u8>>, Fail> {
-    if key.len() != 32 && key.len() != 64 || bytes.len() > 1000 || ad.len() > 1000 {
-        return Err("a key of 32 or 64 bytes, and 1,000 bytes at most".into());
+fn opened(alloc: Global, key: &SivKey, bytes: &[u8], ad: &[u8]) -> Result<Option<Vec<u8>>, Fail> {
+    if bytes.len() > 1000 || ad.len() > 1000 {
+        return Err("1,000 bytes at most".into());
     }
     Ok(siv_open(alloc, key, bytes, ad)?)
 }
@@ -56,7 +68,7 @@ fn opened(alloc: Global, key: &[u8], bytes: &[u8], ad: &[u8]) -> Result<Option<V
 fn assert_altered_refused(
     alloc: Global,
     shows: &str,
-    key: &[u8],
+    key: &SivKey,
     bytes: &[u8],
     ad: &[u8],
 ) -> Result<(), Fail> {
@@ -80,7 +92,7 @@ fn assert_altered_refused(
 fn assert_other_datum_refused(
     alloc: Global,
     shows: &str,
-    key: &[u8],
+    key: &SivKey,
     bytes: &[u8],
     ad: &[u8],
 ) -> Result<(), Fail> {
@@ -95,17 +107,11 @@ fn assert_other_datum_refused(
 
 fn assert_row(alloc: Global, row: &str) -> Result<(), Fail> {
     let shows = cell(row, 0)?;
-    let key = bytes_in(alloc, row, 1)?;
+    let key = SivKey::new(&bytes_in(alloc, row, 1)?)?;
     let ad = bytes_in(alloc, row, 2)?;
     let plain = bytes_in(alloc, row, 3)?;
     let want = bytes_in(alloc, row, 4)?;
-    same_bytes(
-        alloc,
-        shows,
-        "the sealing",
-        &want,
-        &sealed(alloc, &key, &plain, &ad)?,
-    )?;
+    assert_sealed(alloc, shows, &key, &plain, &ad, &want)?;
     let back = opened(alloc, &key, &want, &ad)?.ok_or("it opens")?;
     same_bytes(alloc, shows, "the plaintext", &plain, &back)?;
     assert_altered_refused(alloc, shows, &key, &want, &ad)?;
@@ -132,4 +138,16 @@ fn seals_and_opens_what_another_tink_does(rt: HostRuntime) -> Result<(), Fail> {
 #[test]
 fn seals_and_opens_what_openssl_does(rt: HostRuntime) -> Result<(), Fail> {
     assert_rows(rt.alloc(), OF_OPENSSL)
+}
+
+// Lengths on both sides of the two that are taken, and that of two keys of AES-192.
+#[test]
+fn takes_keys_of_two_sizes(rt: HostRuntime) {
+    for size in [0, 16, 31, 33, 48, 63, 65] {
+        let key = SivKey::new(&[0; 65][..size]);
+        assert_eq!(rt; key.err(), Some(KeySize), "{size} bytes");
+    }
+    for size in [32, 64] {
+        assert!(rt; SivKey::new(&[0; 64][..size]).is_ok(), "{size} bytes");
+    }
 }

@@ -1,6 +1,7 @@
 //! CMAC against printed and independent tags, of messages that come in pieces.
 
 use crate::rows::bytes_in;
+use aes_core::Aes;
 use mac_prf::Cmac;
 use std::alloc::Global;
 use std::test::Fail;
@@ -31,16 +32,16 @@ const CUTS: [(usize, &str); 5] = [
 ];
 
 // The tag of a message that comes in pieces of `cut` bytes.
-fn tag_in_pieces(key: &[u8], message: &[u8], cut: usize) -> Result<[u8; 16], Fail> {
-    let mut cmac = Cmac::new(key)?;
+fn tag_in_pieces(key: &Aes, message: &[u8], cut: usize) -> [u8; 16] {
+    let mut cmac = Cmac::under(key);
     for piece in message.chunks(cut.max(1)) {
         cmac.update(piece);
     }
-    Ok(cmac.finish())
+    cmac.finish()
 }
 
 fn assert_row(alloc: Global, row: &str) -> Result<(), Fail> {
-    let key = bytes_in(alloc, row, 1)?;
+    let key = Aes::new(&bytes_in(alloc, row, 1)?)?;
     let message = bytes_in(alloc, row, 2)?;
     let want = bytes_in(alloc, row, 3)?;
     for (cut, part) in CUTS {
@@ -49,7 +50,7 @@ fn assert_row(alloc: Global, row: &str) -> Result<(), Fail> {
             cell(row, 0)?,
             part,
             &want,
-            &tag_in_pieces(&key, &message, cut)?,
+            &tag_in_pieces(&key, &message, cut),
         )?;
     }
     Ok(())
