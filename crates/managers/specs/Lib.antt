@@ -1,4 +1,5 @@
 pub mod Laws
+pub mod Made
 pub mod Schemes
 pub mod Standard
 pub mod Table

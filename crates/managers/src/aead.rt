@@ -1,13 +1,14 @@
 //! The manager of authenticated encryption: AES-GCM, EAX, AES-CTR-HMAC and AES-GCM-SIV.
 
-ghost use Rattle.std.specs.Prelude.{◌≡◌, ◌+◌, ◌^◌, ◌≤◌, length, string_bytes, IfOk};
+ghost use Rattle.std.specs.Prelude.{◌≡◌, ◌+◌, ◌^◌, ◌≤◌, ◌++◌, length, string_bytes, IfOk};
 ghost use Rattle.std.specs.Option.{option_map};
 ghost use Rattle.key_msgs.specs.Keys.{IsValid};
 ghost use Rattle.managers.specs.Schemes.{aead_scheme, type_under};
 ghost use Rattle.managers.specs.Uses.{iv_size, open_key, seal_of};
 
+use crate::firsts::copied;
 use crate::reading::read_as;
-use crate::{AeadManager, CheckFault, KeyManager};
+use crate::{AeadManager, CheckFault, KeyManager, Prepared};
 use aead_kinds::{AeadKey, open, seal};
 use gcm_siv::{gcm_siv_open, gcm_siv_seal};
 use key_msgs::{KeyKind, KeyType};
@@ -28,58 +29,63 @@ fn iv_size_under(key: &KeyKind) -> usize
     }
 }
 
-/// Seals under a valid key of any kind: to no bytes where it isn't one of an AEAD.
+/// Seals under a valid key of any kind, behind `front`: to no bytes where it isn't one of an AEAD.
 fn seal_under(
     alloc: Global,
-    key: &KeyKind,
+    key: &Prepared,
+    front: &[u8],
     iv: &[u8],
     plain: &[u8],
     ad: &[u8],
 ) -> Result<Vec<u8>, NoMemory>
     requires valid { IsValid key.now }
+    requires front_bound { length front.now ≤ 2 ^ 10 }
     requires whole_iv { length iv.now ≡ iv_size key.now }
     requires plain_bound { length plain.now ≤ 2 ^ 30 }
     requires ad_bound { length ad.now ≤ 2 ^ 30 }
-    ensures { IfOk result (λ sealed. sealed.items ≡ seal_of key.now iv.now plain.now ad.now) }
+    ensures { IfOk result (λ sealed.
+        sealed.items ≡ front.now ++ seal_of key.now iv.now plain.now ad.now) }
 {
-    match key {
-        KeyKind::AesGcm { key } => {
-            let key = key.as_slice();
-            seal(alloc, &AeadKey::Gcm { key }, iv, plain, ad)
+    match key.kind() {
+        KeyKind::AesGcm { .. } => {
+            let under = AeadKey::Gcm { key: key.aes() };
+            seal(alloc, &under, front, iv, plain, ad)
         }
-        KeyKind::AesEax { key, iv_size } => {
-            let key = key.as_slice();
-            let iv_size = *iv_size as usize;
-            seal(alloc, &AeadKey::Eax { key, iv_size }, iv, plain, ad)
+        KeyKind::AesEax { iv_size, .. } => {
+            let under = AeadKey::Eax {
+                key: key.aes(),
+                iv_size: *iv_size as usize,
+            };
+            seal(alloc, &under, front, iv, plain, ad)
         }
         KeyKind::AesCtrHmac {
-            aes,
             iv_size,
             hash,
             mac,
             tag_size,
+            ..
         } => {
             let under = AeadKey::CtrHmac {
-                aes: aes.as_slice(),
+                aes: key.aes(),
                 iv_size: *iv_size as usize,
                 hash: *hash,
                 mac: mac.as_slice(),
                 tag_size: *tag_size as usize,
             };
-            seal(alloc, &under, iv, plain, ad)
+            seal(alloc, &under, front, iv, plain, ad)
         }
-        KeyKind::AesGcmSiv { key } => match iv.first_chunk::<GCM_IV>() {
-            Some(iv) => gcm_siv_seal(alloc, key.as_slice(), iv, plain, ad),
+        KeyKind::AesGcmSiv { .. } => match iv.first_chunk::<GCM_IV>() {
+            Some(iv) => gcm_siv_seal(alloc, key.aes(), front, iv, plain, ad),
             None => unreachable!(),
         },
-        _ => Ok(Vec::new(alloc)),
+        _ => copied(alloc, front),
     }
 }
 
 /// Opens under a valid key of any kind: nothing where it isn't one of an AEAD.
 fn open_under(
     alloc: Global,
-    key: &KeyKind,
+    key: &Prepared,
     bytes: &[u8],
     ad: &[u8],
 ) -> Result<Option<Vec<u8>>, NoMemory>
@@ -89,25 +95,24 @@ fn open_under(
     ensures { IfOk result (λ plain.
         option_map (λ text. text.items) plain ≡ open_key key.now bytes.now ad.now) }
 {
-    match key {
-        KeyKind::AesGcm { key } => {
-            let key = key.as_slice();
-            open(alloc, &AeadKey::Gcm { key }, bytes, ad)
-        }
-        KeyKind::AesEax { key, iv_size } => {
-            let key = key.as_slice();
-            let iv_size = *iv_size as usize;
-            open(alloc, &AeadKey::Eax { key, iv_size }, bytes, ad)
+    match key.kind() {
+        KeyKind::AesGcm { .. } => open(alloc, &AeadKey::Gcm { key: key.aes() }, bytes, ad),
+        KeyKind::AesEax { iv_size, .. } => {
+            let under = AeadKey::Eax {
+                key: key.aes(),
+                iv_size: *iv_size as usize,
+            };
+            open(alloc, &under, bytes, ad)
         }
         KeyKind::AesCtrHmac {
-            aes,
             iv_size,
             hash,
             mac,
             tag_size,
+            ..
         } => {
             let under = AeadKey::CtrHmac {
-                aes: aes.as_slice(),
+                aes: key.aes(),
                 iv_size: *iv_size as usize,
                 hash: *hash,
                 mac: mac.as_slice(),
@@ -115,7 +120,7 @@ fn open_under(
             };
             open(alloc, &under, bytes, ad)
         }
-        KeyKind::AesGcmSiv { key } => gcm_siv_open(alloc, key.as_slice(), bytes, ad),
+        KeyKind::AesGcmSiv { .. } => gcm_siv_open(alloc, key.aes(), bytes, ad),
         _ => Ok(None),
     }
 }
@@ -173,31 +178,32 @@ impl KeyManager for StandardAead {
         self.url.as_str()
     }
 
-    fn check(&self, alloc: Global, value: &[u8]) -> Result<KeyKind, CheckFault> {
+    fn check(&self, alloc: Global, value: &[u8]) -> Result<Prepared, CheckFault> {
         read_as(alloc, self.scheme.key_type(), value)
     }
 }
 
 impl AeadManager for StandardAead {
-    fn iv_size(&self, key: &KeyKind) -> usize {
-        iv_size_under(key)
+    fn iv_size(&self, key: &Prepared) -> usize {
+        iv_size_under(key.kind())
     }
 
     fn seal(
         &self,
         alloc: Global,
-        key: &KeyKind,
+        key: &Prepared,
+        front: &[u8],
         iv: &[u8],
         plain: &[u8],
         ad: &[u8],
     ) -> Result<Vec<u8>, NoMemory> {
-        seal_under(alloc, key, iv, plain, ad)
+        seal_under(alloc, key, front, iv, plain, ad)
     }
 
     fn open(
         &self,
         alloc: Global,
-        key: &KeyKind,
+        key: &Prepared,
         bytes: &[u8],
         ad: &[u8],
         trials: &mut Trials,

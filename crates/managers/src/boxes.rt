@@ -1,7 +1,6 @@
 //! A box of a manager is a manager, with the URL and the scheme of what is in it.
 
-use crate::{AeadManager, CheckFault, DaeadManager, KeyManager, MacManager, PrfManager};
-use key_msgs::KeyKind;
+use crate::{AeadManager, CheckFault, DaeadManager, KeyManager, MacManager, Prepared, PrfManager};
 use std::alloc::Global;
 
 impl KeyManager for Box<dyn AeadManager> {
@@ -13,7 +12,7 @@ impl KeyManager for Box<dyn AeadManager> {
         (**self).type_url()
     }
 
-    fn check(&self, alloc: Global, value: &[u8]) -> Result<KeyKind, CheckFault> {
+    fn check(&self, alloc: Global, value: &[u8]) -> Result<Prepared, CheckFault> {
         (**self).check(alloc, value)
     }
 }
@@ -27,7 +26,7 @@ impl KeyManager for Box<dyn DaeadManager> {
         (**self).type_url()
     }
 
-    fn check(&self, alloc: Global, value: &[u8]) -> Result<KeyKind, CheckFault> {
+    fn check(&self, alloc: Global, value: &[u8]) -> Result<Prepared, CheckFault> {
         (**self).check(alloc, value)
     }
 }
@@ -41,7 +40,7 @@ impl KeyManager for Box<dyn MacManager> {
         (**self).type_url()
     }
 
-    fn check(&self, alloc: Global, value: &[u8]) -> Result<KeyKind, CheckFault> {
+    fn check(&self, alloc: Global, value: &[u8]) -> Result<Prepared, CheckFault> {
         (**self).check(alloc, value)
     }
 }
@@ -55,7 +54,7 @@ impl KeyManager for Box<dyn PrfManager> {
         (**self).type_url()
     }
 
-    fn check(&self, alloc: Global, value: &[u8]) -> Result<KeyKind, CheckFault> {
+    fn check(&self, alloc: Global, value: &[u8]) -> Result<Prepared, CheckFault> {
         (**self).check(alloc, value)
     }
 }

@@ -1,35 +1,45 @@
 //! The manager of AES-SIV.
 
-ghost use Rattle.std.specs.Prelude.{◌≡◌, ◌+◌, ◌^◌, ◌≤◌, length, string_bytes, IfOk};
+ghost use Rattle.std.specs.Prelude.{◌≡◌, ◌+◌, ◌^◌, ◌≤◌, ◌++◌, length, string_bytes, IfOk};
 ghost use Rattle.std.specs.Option.{option_map};
 ghost use Rattle.key_msgs.specs.Keys.{IsValid};
 ghost use Rattle.managers.specs.Schemes as schemes;
 ghost use Rattle.managers.specs.Uses.{dopen_key, dseal_of};
 
+use crate::firsts::copied;
 use crate::reading::read_as;
-use crate::{CheckFault, DaeadManager, KeyManager};
+use crate::{CheckFault, DaeadManager, KeyManager, Prepared};
 use key_msgs::{KeyKind, KeyType};
 use siv_daead::{siv_open, siv_seal};
 use std::alloc::Global;
 use tink_base::{NoMemory, Trials};
 
-/// Seals under a valid key of any kind: to no bytes where it isn't one of a deterministic AEAD.
-fn dseal_under(alloc: Global, key: &KeyKind, plain: &[u8], ad: &[u8]) -> Result<Vec<u8>, NoMemory>
+/// Seals under a valid key of any kind, behind `front`: to no bytes where it isn't one of a
+/// deterministic AEAD.
+fn dseal_under(
+    alloc: Global,
+    key: &Prepared,
+    front: &[u8],
+    plain: &[u8],
+    ad: &[u8],
+) -> Result<Vec<u8>, NoMemory>
     requires valid { IsValid key.now }
+    requires front_bound { length front.now ≤ 2 ^ 10 }
     requires plain_bound { length plain.now ≤ 2 ^ 30 }
     requires ad_bound { length ad.now ≤ 2 ^ 30 }
-    ensures { IfOk result (λ sealed. sealed.items ≡ dseal_of key.now plain.now ad.now) }
+    ensures { IfOk result (λ sealed.
+        sealed.items ≡ front.now ++ dseal_of key.now plain.now ad.now) }
 {
-    match key {
-        KeyKind::AesSiv { key } => siv_seal(alloc, key.as_slice(), plain, ad),
-        _ => Ok(Vec::new(alloc)),
+    match key.kind() {
+        KeyKind::AesSiv { .. } => siv_seal(alloc, key.siv(), front, plain, ad),
+        _ => copied(alloc, front),
     }
 }
 
 /// Opens under a valid key of any kind: nothing where it isn't one of a deterministic AEAD.
 fn dopen_under(
     alloc: Global,
-    key: &KeyKind,
+    key: &Prepared,
     bytes: &[u8],
     ad: &[u8],
 ) -> Result<Option<Vec<u8>>, NoMemory>
@@ -39,8 +49,8 @@ fn dopen_under(
     ensures { IfOk result (λ plain.
         option_map (λ text. text.items) plain ≡ dopen_key key.now bytes.now ad.now) }
 {
-    match key {
-        KeyKind::AesSiv { key } => siv_open(alloc, key.as_slice(), bytes, ad),
+    match key.kind() {
+        KeyKind::AesSiv { .. } => siv_open(alloc, key.siv(), bytes, ad),
         _ => Ok(None),
     }
 }
@@ -70,7 +80,7 @@ impl KeyManager for StandardDaead {
         self.url.as_str()
     }
 
-    fn check(&self, alloc: Global, value: &[u8]) -> Result<KeyKind, CheckFault> {
+    fn check(&self, alloc: Global, value: &[u8]) -> Result<Prepared, CheckFault> {
         read_as(alloc, KeyType::AesSiv, value)
     }
 }
@@ -79,17 +89,18 @@ impl DaeadManager for StandardDaead {
     fn seal(
         &self,
         alloc: Global,
-        key: &KeyKind,
+        key: &Prepared,
+        front: &[u8],
         plain: &[u8],
         ad: &[u8],
     ) -> Result<Vec<u8>, NoMemory> {
-        dseal_under(alloc, key, plain, ad)
+        dseal_under(alloc, key, front, plain, ad)
     }
 
     fn open(
         &self,
         alloc: Global,
-        key: &KeyKind,
+        key: &Prepared,
         bytes: &[u8],
         ad: &[u8],
         trials: &mut Trials,

@@ -1,13 +1,16 @@
-//! The first bytes of HMAC and of CMAC, which tags and pseudo-random functions give.
+//! The first bytes of HMAC and of CMAC, which tags and pseudo-random functions give; and a copy of
+//! bytes.
 
-ghost use Rattle.std.specs.Prelude.{◌≡◌, ◌⊎◌, ◌≤◌, length, take};
+ghost use Rattle.std.specs.Prelude.{◌≡◌, ◌≤◌, length, take, IfOk};
 ghost use Rattle.mac_prf.specs.Cmac.{cmac};
 ghost use Rattle.mac_prf.specs.Hmac.{hmac};
 ghost use Rattle.tink_base.specs.Hash.{hash_size};
 ghost use Rattle.managers.specs.Uses.{tagged};
 
+use aes_core::Aes;
 use mac_prf::{Cmac, Hmac};
-use tink_base::Hash;
+use std::alloc::Global;
+use tink_base::{Hash, NoMemory};
 
 /// Writes the first bytes of HMAC, as many as `out` has, of the body and of one byte 0 behind it
 /// where `zero` says so.
@@ -24,24 +27,30 @@ pub(crate) fn write_hmac(hash: Hash, key: &[u8], body: &[u8], zero: bool, out: &
 }
 
 /// The same of CMAC.
-pub(crate) fn write_cmac(key: &[u8], body: &[u8], zero: bool, out: &mut [u8])
-    requires key_size { (length key.now ≡ 16) ⊎ (length key.now ≡ 32) }
+pub(crate) fn write_cmac(aes: &Aes, body: &[u8], zero: bool, out: &mut [u8])
     requires room { length out.old ≤ 16 }
-    ensures { out.new ≡ take (length out.old) (cmac key.now (tagged zero body.now)) }
+    ensures { out.new ≡ take (length out.old) (cmac aes.now (tagged zero body.now)) }
 {
-    let whole = whole_cmac(key, body, zero);
+    let whole = whole_cmac(aes, body, zero);
     out.copy_from_slice(&whole[..out.len()]);
 }
 
 /// The whole CMAC.
-fn whole_cmac(key: &[u8], body: &[u8], zero: bool) -> [u8; 16]
-    requires key_size { (length key.now ≡ 16) ⊎ (length key.now ≡ 32) }
-    ensures { result ≡ cmac key.now (tagged zero body.now) }
+fn whole_cmac(aes: &Aes, body: &[u8], zero: bool) -> [u8; 16]
+    ensures { result ≡ cmac aes.now (tagged zero body.now) }
 {
-    let mut state = Cmac::new(key).unwrap();
+    let mut state = Cmac::under(aes);
     state.update(body);
     if zero {
         state.update(&[0]);
     }
     state.finish()
+}
+
+/// A copy of these bytes.
+pub(crate) fn copied(alloc: Global, bytes: &[u8]) -> Result<Vec<u8>, NoMemory>
+    ensures { IfOk result (λ copy. copy.items ≡ bytes.now) }
+{
+    let copy = Vec::from_slice(alloc, bytes)?;
+    Ok(copy)
 }

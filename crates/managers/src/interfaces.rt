@@ -1,18 +1,20 @@
 //! The interfaces of managers of keys. What contracts see of a manager is its type URL and its
 //! scheme, which is a kind of keys; nothing ties an interface to the schemes of its primitive.
 //!
-//! A call takes a key that the manager admits: a valid key of its scheme, as `check` gives one.
-//! Plaintexts, associated data, bodies and inputs have at most 2^30 bytes, and what is opened
-//! at most 2^30 + 96. `NoMemory` comes for want of memory alone.
+//! A call takes a key that the manager admits: a valid key of its scheme, as `check` gives one, with
+//! what is made of it once. Plaintexts, associated data, bodies and inputs have at most 2^30 bytes,
+//! what is opened at most 2^30 + 96, and what stands before a sealing at most 2^10. `NoMemory` comes
+//! for want of memory alone.
 
-ghost use Rattle.std.specs.Prelude.{◌≡◌, ◌+◌, ◌^◌, ◌≤◌, ℕ, List, length, IfOk};
+ghost use Rattle.std.specs.Prelude.{◌≡◌, ◌+◌, ◌^◌, ◌≤◌, ◌++◌, ℕ, List, length, IfOk};
 ghost use Rattle.std.specs.Option.{option_map};
 ghost use Rattle.std.specs.Str.{bytes_eq};
 ghost use Rattle.tink_spec.specs.Outside.{next};
 ghost use Rattle.managers.specs.Schemes.{Scheme, key_under, IsAdmitted, IsReading};
 ghost use Rattle.managers.specs.Uses.{dopen_key, dseal_of, greatest, iv_size, open_key, prf_of, seal_of, tag_of, tagged};
 
-use key_msgs::{KeyKind, Rule};
+use crate::Prepared;
+use key_msgs::Rule;
 use std::alloc::Global;
 use tink_base::{NoMemory, Trials};
 
@@ -39,7 +41,7 @@ pub trait KeyManager: Drop {
     ///
     /// `Bad` comes exactly where the message breaks a rule of the scheme's key type, and names the
     /// first one. A key that is given is what the message reads as, and the manager admits it.
-    fn check(&self, alloc: Global, value: &[u8]) -> Result<KeyKind, CheckFault>
+    fn check(&self, alloc: Global, value: &[u8]) -> Result<Prepared, CheckFault>
         ensures reading { IsReading (key_under (scheme self.now) value.now) result }
         ensures admitted { IfOk result (IsAdmitted (scheme self.now)) };
 }
@@ -47,26 +49,29 @@ pub trait KeyManager: Drop {
 /// A manager that seals and opens: authenticated encryption with associated data.
 pub trait AeadManager: KeyManager {
     /// How many bytes an IV has under the key.
-    fn iv_size(&self, key: &KeyKind) -> usize
+    fn iv_size(&self, key: &Prepared) -> usize
         requires admitted { IsAdmitted (Self.scheme self.now) key.now }
         ensures { result ≡ iv_size key.now };
 
-    /// Seals `plain` with `iv`, of `iv_size` bytes: IV, ciphertext and tag, joined.
+    /// Seals `plain` with `iv`, of `iv_size` bytes: `front`, IV, ciphertext and tag, joined.
     ///
     /// No IV may serve twice under one key: this is for the caller to see to.
     fn seal(
         &self,
         alloc: Global,
-        key: &KeyKind,
+        key: &Prepared,
+        front: &[u8],
         iv: &[u8],
         plain: &[u8],
         ad: &[u8],
     ) -> Result<Vec<u8>, NoMemory>
         requires admitted { IsAdmitted (Self.scheme self.now) key.now }
+        requires front_bound { length front.now ≤ 2 ^ 10 }
         requires whole_iv { length iv.now ≡ iv_size key.now }
         requires plain_bound { length plain.now ≤ 2 ^ 30 }
         requires ad_bound { length ad.now ≤ 2 ^ 30 }
-        ensures { IfOk result (λ sealed. sealed.items ≡ seal_of key.now iv.now plain.now ad.now) };
+        ensures { IfOk result (λ sealed.
+            sealed.items ≡ front.now ++ seal_of key.now iv.now plain.now ad.now) };
 
     /// Opens IV, ciphertext and tag, joined, and counts one trial.
     ///
@@ -75,7 +80,7 @@ pub trait AeadManager: KeyManager {
     fn open(
         &self,
         alloc: Global,
-        key: &KeyKind,
+        key: &Prepared,
         bytes: &[u8],
         ad: &[u8],
         trials: &mut Trials,
@@ -91,18 +96,21 @@ pub trait AeadManager: KeyManager {
 /// A manager that seals and opens, deterministic: the same key, plaintext and associated data give
 /// the same bytes.
 pub trait DaeadManager: KeyManager {
-    /// Seals `plain`.
+    /// Seals `plain`: `front` and what it is sealed to, joined.
     fn seal(
         &self,
         alloc: Global,
-        key: &KeyKind,
+        key: &Prepared,
+        front: &[u8],
         plain: &[u8],
         ad: &[u8],
     ) -> Result<Vec<u8>, NoMemory>
         requires admitted { IsAdmitted (Self.scheme self.now) key.now }
+        requires front_bound { length front.now ≤ 2 ^ 10 }
         requires plain_bound { length plain.now ≤ 2 ^ 30 }
         requires ad_bound { length ad.now ≤ 2 ^ 30 }
-        ensures { IfOk result (λ sealed. sealed.items ≡ dseal_of key.now plain.now ad.now) };
+        ensures { IfOk result (λ sealed.
+            sealed.items ≡ front.now ++ dseal_of key.now plain.now ad.now) };
 
     /// Opens sealed bytes, and counts one trial.
     ///
@@ -111,7 +119,7 @@ pub trait DaeadManager: KeyManager {
     fn open(
         &self,
         alloc: Global,
-        key: &KeyKind,
+        key: &Prepared,
         bytes: &[u8],
         ad: &[u8],
         trials: &mut Trials,
@@ -130,7 +138,7 @@ pub trait MacManager: KeyManager {
     fn tag(
         &self,
         alloc: Global,
-        key: &KeyKind,
+        key: &Prepared,
         body: &[u8],
         zero: bool,
     ) -> Result<Vec<u8>, NoMemory>
@@ -141,7 +149,7 @@ pub trait MacManager: KeyManager {
     /// Whether `tag` is that tag, whole, and counts one trial. No memory is taken.
     fn verify(
         &self,
-        key: &KeyKind,
+        key: &Prepared,
         tag: &[u8],
         body: &[u8],
         zero: bool,
@@ -156,7 +164,7 @@ pub trait MacManager: KeyManager {
 /// A manager that derives bytes: pseudo-random functions.
 pub trait PrfManager: KeyManager {
     /// How many bytes can be derived under the key.
-    fn greatest(&self, key: &KeyKind) -> usize
+    fn greatest(&self, key: &Prepared) -> usize
         requires admitted { IsAdmitted (Self.scheme self.now) key.now }
         ensures { result ≡ greatest key.now };
 
@@ -164,7 +172,7 @@ pub trait PrfManager: KeyManager {
     fn derive(
         &self,
         alloc: Global,
-        key: &KeyKind,
+        key: &Prepared,
         input: &[u8],
         size: usize,
     ) -> Result<Vec<u8>, NoMemory>

@@ -8,7 +8,7 @@ ghost use Rattle.managers.specs.Uses.{tag_of, tag_size_of, tagged};
 
 use crate::firsts::{write_cmac, write_hmac};
 use crate::reading::read_as;
-use crate::{CheckFault, KeyManager, MacManager};
+use crate::{CheckFault, KeyManager, MacManager, Prepared};
 use key_msgs::{KeyKind, KeyType};
 use mac_prf::blocks::same_bytes;
 use std::alloc::Global;
@@ -30,35 +30,35 @@ fn tag_size(key: &KeyKind) -> usize
 }
 
 /// Writes the tag of the body under a valid key of any kind: no byte where it isn't one for tags.
-fn write_tag(key: &KeyKind, body: &[u8], zero: bool, out: &mut [u8])
+fn write_tag(key: &Prepared, body: &[u8], zero: bool, out: &mut [u8])
     requires valid { IsValid key.now }
     requires whole { length out.old ≡ tag_size_of key.now }
     ensures { out.new ≡ tag_of key.now (tagged zero body.now) }
 {
-    match key {
+    match key.kind() {
         KeyKind::Hmac { key, hash, .. } => write_hmac(*hash, key.as_slice(), body, zero, out),
-        KeyKind::AesCmac { key, .. } => write_cmac(key.as_slice(), body, zero, out),
+        KeyKind::AesCmac { .. } => write_cmac(key.aes(), body, zero, out),
         _ => {}
     }
 }
 
 /// The tag of the body under a valid key of any kind.
-fn tag_under(alloc: Global, key: &KeyKind, body: &[u8], zero: bool) -> Result<Vec<u8>, NoMemory>
+fn tag_under(alloc: Global, key: &Prepared, body: &[u8], zero: bool) -> Result<Vec<u8>, NoMemory>
     requires valid { IsValid key.now }
     ensures { IfOk result (λ tag. tag.items ≡ tag_of key.now (tagged zero body.now)) }
 {
-    let mut tag = vec![in alloc; 0; tag_size(key)]?;
+    let mut tag = vec![in alloc; 0; tag_size(key.kind())]?;
     write_tag(key, body, zero, &mut tag);
     Ok(tag)
 }
 
 /// Whether this is the tag of the body under a valid key of any kind.
-fn verify_under(key: &KeyKind, tag: &[u8], body: &[u8], zero: bool) -> bool
+fn verify_under(key: &Prepared, tag: &[u8], body: &[u8], zero: bool) -> bool
     requires valid { IsValid key.now }
     ensures { result ≡ bytes_eq tag.now (tag_of key.now (tagged zero body.now)) }
 {
     let mut longest = [0; LONGEST_TAG];
-    let anew = &mut longest[..tag_size(key)];
+    let anew = &mut longest[..tag_size(key.kind())];
     write_tag(key, body, zero, anew);
     are_same(tag, anew)
 }
@@ -118,7 +118,7 @@ impl KeyManager for StandardMac {
         self.url.as_str()
     }
 
-    fn check(&self, alloc: Global, value: &[u8]) -> Result<KeyKind, CheckFault> {
+    fn check(&self, alloc: Global, value: &[u8]) -> Result<Prepared, CheckFault> {
         read_as(alloc, self.scheme.key_type(), value)
     }
 }
@@ -127,7 +127,7 @@ impl MacManager for StandardMac {
     fn tag(
         &self,
         alloc: Global,
-        key: &KeyKind,
+        key: &Prepared,
         body: &[u8],
         zero: bool,
     ) -> Result<Vec<u8>, NoMemory> {
@@ -136,7 +136,7 @@ impl MacManager for StandardMac {
 
     fn verify(
         &self,
-        key: &KeyKind,
+        key: &Prepared,
         tag: &[u8],
         body: &[u8],
         zero: bool,

@@ -9,7 +9,7 @@ ghost use Rattle.managers.specs.Uses.{greatest, prf_of};
 
 use crate::firsts::{write_cmac, write_hmac};
 use crate::reading::read_as;
-use crate::{CheckFault, KeyManager, PrfManager};
+use crate::{CheckFault, KeyManager, Prepared, PrfManager};
 use key_msgs::{KeyKind, KeyType};
 use mac_prf::hkdf;
 use std::alloc::Global;
@@ -29,19 +29,19 @@ fn greatest_under(key: &KeyKind) -> usize
 
 /// Derives under a valid key of any kind as many bytes as `out` has, which are none where the key
 /// isn't one of a pseudo-random function.
-fn write_derived(key: &KeyKind, input: &[u8], out: &mut [u8])
+fn write_derived(key: &Prepared, input: &[u8], out: &mut [u8])
     requires valid { IsValid key.now }
     requires within { length out.old ≤ greatest key.now }
     ensures { out.new ≡ prf_of key.now input.now (length out.old) }
 {
-    match key {
+    match key.kind() {
         KeyKind::HkdfPrf { key, hash, salt } => {
             if hkdf(*hash, key.as_slice(), salt.as_slice(), input, out).is_err() {
                 unreachable!()
             }
         }
         KeyKind::HmacPrf { key, hash } => write_hmac(*hash, key.as_slice(), input, false, out),
-        KeyKind::CmacPrf { key } => write_cmac(key.as_slice(), input, false, out),
+        KeyKind::CmacPrf { .. } => write_cmac(key.aes(), input, false, out),
         _ => {}
     }
 }
@@ -49,7 +49,7 @@ fn write_derived(key: &KeyKind, input: &[u8], out: &mut [u8])
 /// Derives bytes under a valid key of any kind.
 fn derive_under(
     alloc: Global,
-    key: &KeyKind,
+    key: &Prepared,
     input: &[u8],
     size: usize,
 ) -> Result<Vec<u8>, NoMemory>
@@ -112,20 +112,20 @@ impl KeyManager for StandardPrf {
         self.url.as_str()
     }
 
-    fn check(&self, alloc: Global, value: &[u8]) -> Result<KeyKind, CheckFault> {
+    fn check(&self, alloc: Global, value: &[u8]) -> Result<Prepared, CheckFault> {
         read_as(alloc, self.scheme.key_type(), value)
     }
 }
 
 impl PrfManager for StandardPrf {
-    fn greatest(&self, key: &KeyKind) -> usize {
-        greatest_under(key)
+    fn greatest(&self, key: &Prepared) -> usize {
+        greatest_under(key.kind())
     }
 
     fn derive(
         &self,
         alloc: Global,
-        key: &KeyKind,
+        key: &Prepared,
         input: &[u8],
         size: usize,
     ) -> Result<Vec<u8>, NoMemory> {

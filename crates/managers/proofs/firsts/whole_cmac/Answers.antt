@@ -1,4 +1,4 @@
-use Rattle.std.proofs.Common.{[], rules}
+use Rattle.std.proofs.Common.{[]}
 use Rattle.mac_prf.specs.CmacState.{Holds}
 use Rattle.managers.specs.Uses.{tagged}
 use Rattle.managers.proofs.firsts.whole_cmac.Goals as goal
@@ -6,8 +6,8 @@ use Rattle.managers.proofs.firsts.whole_cmac.Goals.{then-zero, else-zero}
 
 pub returns : goal.returns
 returns c =
-    let key = c.args.key.now in
-    let empty : Holds c.unwrap-state.result key [] = search rules in
+    let key = c.args.aes.now in
+    let empty : Holds c.under-state.result key [] = c.under-state.ensures in
     let body : Holds c.update.new.self key c.args.body.now = c.update.ensures key [] empty in
     c.finish.ensures key (tagged c.args.zero c.args.body.now)
     (elim c.if-zero.branch [
