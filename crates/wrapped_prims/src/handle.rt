@@ -12,10 +12,11 @@ ghost use Rattle.wrapped_prims.specs.Prefixes.{prefix_index};
 use crate::held::{Held, Kept, prefix};
 use crate::places::Places;
 use indexmap::IndexMap;
-use key_msgs::{KeyKind, Primitive, Rule};
+use key_msgs::{Primitive, Rule};
 use keyset_model::{Keyset, Record};
 use managers::{
-    AeadManager, CheckFault, DaeadManager, KeyManager, KeyTable, MacManager, Managers, PrfManager,
+    AeadManager, CheckFault, DaeadManager, KeyManager, KeyTable, MacManager, Managers, Prepared,
+    PrfManager,
 };
 use std::alloc::Global;
 use tink_base::{ENABLED, LEGACY, NoMemory, RAW};
@@ -44,7 +45,7 @@ impl From<NoMemory> for HandleFault {
     }
 }
 
-/// The keys of a keyset, each of which its manager has checked, for one primitive.
+/// The keys of a keyset, each of which its manager has checked and expanded once, for one primitive.
 #[derive(Drop)]
 pub struct Handle<'m> {
     pub(crate) managers: &'m Managers,
@@ -59,7 +60,7 @@ fn check_at(
     primitive: Primitive,
     at: usize,
     value: &[u8],
-) -> Result<KeyKind, CheckFault>
+) -> Result<Prepared, CheckFault>
     requires { at < length (entries_of (⟦<Managers as KeyTable>⟧.table managers.now) primitive) }
     ensures reading { IsCheckedBy
         (slice_get (entries_of (⟦<Managers as KeyTable>⟧.table managers.now) primitive) at)

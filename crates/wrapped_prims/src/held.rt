@@ -1,28 +1,28 @@
 //! What a handle keeps of a keyset.
 
-ghost use Rattle.std.specs.Prelude.{◌≡◌, ◌<◌, ◌^◌, [], ◌∷◌, None, OnOk, take, drop};
+ghost use Rattle.std.specs.Prelude.{◌≡◌, ◌<◌, ◌≤◌, ◌^◌, [], ◌∷◌, None, OnOk, length, take, drop};
 ghost use Rattle.std.specs.HashMap.{IsUnique};
 ghost use Rattle.std.specs.Int.{to_be_bytes, w32};
 ghost use Rattle.std.specs.Str.{bytes_eq};
 ghost use Rattle.wrapped_prims.specs.Adding.{IsAdded, IsOfNone, noted};
-ghost use Rattle.wrapped_prims.specs.Candidates.{prefix_of};
+ghost use Rattle.wrapped_prims.specs.Candidates.{prefix_bytes, prefix_of};
 ghost use Rattle.wrapped_prims.specs.Held.{places_at};
 ghost use Rattle.wrapped_prims.specs.Making.{HasWordId};
 
 use crate::places::Places;
 use indexmap::IndexMap;
-use key_msgs::KeyKind;
 use keyset_model::Record;
+use managers::Prepared;
 use std::alloc::Global;
 use tink_base::{NoMemory, RAW, TINK};
 
-/// The key of an ENABLED record, with the place of its manager.
+/// The key of an ENABLED record, expanded once, with the place of its manager.
 #[derive(Drop)]
 pub(crate) struct Kept {
     pub(crate) place: usize,
     pub(crate) prefix: Option<[u8; 5]>,
     pub(crate) is_legacy: bool,
-    pub(crate) key: KeyKind,
+    pub(crate) key: Prepared,
 }
 
 /// What is kept of each record of a keyset, at the record's own place. Nothing is kept of a record that
@@ -122,6 +122,17 @@ pub(crate) fn prefix(from: &Record) -> Option<[u8; 5]>
     let first = if from.prefix == TINK { 1 } else { 0 };
     let five = five_bytes(first, from.id);
     if from.prefix == RAW { None } else { Some(five) }
+}
+
+/// The bytes of a prefix, of which there are none where there is no prefix.
+pub(crate) fn front(prefix: &Option<[u8; 5]>) -> &[u8]
+    ensures bytes { result.now ≡ prefix_bytes prefix.now }
+    ensures bound { length result.now ≤ 5 }
+{
+    match prefix {
+        Some(own) => own,
+        None => &[],
+    }
 }
 
 /// The first five bytes, or all of fewer, and the rest.

@@ -11,7 +11,7 @@ ghost use Rattle.wrapped_prims.specs.Held.{IsPrimary, IsServedBy};
 ghost use Rattle.wrapped_prims.specs.Making.{IsOver};
 
 use crate::Handle;
-use crate::held::{Held, Kept};
+use crate::held::{Held, Kept, front};
 use key_msgs::Primitive;
 use managers::{DaeadManager, KeyTable, MacManager, Managers, PrfManager};
 use std::alloc::Global;
@@ -54,17 +54,11 @@ pub(crate) fn primary<'h>(_managers: &Managers, _primitive: Primitive, held: &'h
 }
 
 /// The bytes behind a prefix.
-pub(crate) fn behind_prefix(
-    alloc: Global,
-    prefix: &Option<[u8; 5]>,
-    bytes: &[u8],
-) -> Result<Vec<u8>, NoMemory>
+fn behind_prefix(alloc: Global, prefix: &Option<[u8; 5]>, bytes: &[u8]) -> Result<Vec<u8>, NoMemory>
     ensures { IfOk result (λ out. out.items ≡ prefix_bytes prefix.now ++ bytes.now) }
 {
     let mut out = Vec::new(alloc);
-    if let Some(own) = prefix {
-        out.extend_from_slice(own)?;
-    }
+    out.extend_from_slice(front(prefix))?;
     out.extend_from_slice(bytes)?;
     Ok(out)
 }
@@ -104,9 +98,8 @@ impl Handle<'_> {
     {
         let kept = primary(self.managers, Primitive::Daead, &self.held);
         let manager = self.managers.daead_at(kept.place);
-        let sealed = manager.seal(alloc, &kept.key, plain, ad)?;
-        let out = behind_prefix(alloc, &kept.prefix, &sealed)?;
-        Ok(out)
+        let sealed = manager.seal(alloc, &kept.key, front(&kept.prefix), plain, ad)?;
+        Ok(sealed)
     }
 
     /// So many bytes of the pseudo-random function of the primary key at an input of at most 2^30

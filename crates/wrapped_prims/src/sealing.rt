@@ -1,9 +1,8 @@
 //! Sealing with an IV.
 
-ghost use Rattle.std.specs.Prelude.{◌≡◌, ◌⊎◌, ◌++◌, ◌^◌, ◌<◌, ◌≤◌, [], length, Err, IfOk, IfErr, OnOk, OnErr, slice_get};
+ghost use Rattle.std.specs.Prelude.{◌≡◌, ◌⊎◌, ◌^◌, ◌<◌, ◌≤◌, [], length, Err, IfOk, IfErr, OnOk, OnErr, slice_get};
 ghost use Rattle.key_msgs.specs.declared.primitive.Primitive.TheVariants.{Aead};
 ghost use Rattle.keyset_model.specs.Keyset.{Keys};
-ghost use Rattle.managers.specs.Uses.{iv_size, seal_of};
 ghost use Rattle.tink_spec.specs.Outside.{Drew, RanShort, Stood};
 ghost use Rattle.wrapped_prims.specs.Candidates.{prefix_bytes};
 ghost use Rattle.wrapped_prims.specs.Held.{IsServedBy};
@@ -11,12 +10,12 @@ ghost use Rattle.wrapped_prims.specs.Making.{IsOver};
 ghost use Rattle.wrapped_prims.specs.Sealing.{IsKeyFault, IsKeySealing, IsSealFault, IsSealing};
 
 use crate::Handle;
-use crate::held::Kept;
-use crate::making::{behind_prefix, primary};
+use crate::held::{Kept, front};
+use crate::making::primary;
 use key_msgs::Primitive;
 use managers::{AeadManager, KeyTable, Managers};
 use std::alloc::Global;
-use tink_base::{Entropy, Failed, NoMemory};
+use tink_base::{Entropy, Failed};
 
 /// Why nothing was sealed.
 #[derive(Clone, Copy, Debug, PartialEq, Eq)]
@@ -70,34 +69,10 @@ fn seal_kept<E: Entropy>(
     if draw_iv(entropy, &mut iv).is_err() {
         return Err(SealFault::EntropyFault);
     }
-    match sealed_behind(managers, alloc, kept, &iv, plain, ad) {
+    match manager.seal(alloc, &kept.key, front(&kept.prefix), &iv, plain, ad) {
         Ok(out) => Ok(out),
         Err(_) => Err(SealFault::NoMemory),
     }
-}
-
-// Seals with an IV under a kept key, behind its prefix.
-fn sealed_behind(
-    managers: &Managers,
-    alloc: Global,
-    kept: &Kept,
-    iv: &[u8],
-    plain: &[u8],
-    ad: &[u8],
-) -> Result<Vec<u8>, NoMemory>
-    requires served { IsServedBy
-        (slice_get (⟦<Managers as KeyTable>⟧.table managers.now).aead kept.now.place) kept.now.key }
-    requires whole_iv { length iv.now ≡ iv_size kept.now.key }
-    requires plain_bound { length plain.now ≤ 2 ^ 30 }
-    requires ad_bound { length ad.now ≤ 2 ^ 30 }
-    ensures { IfOk result (λ out. out.items
-        ≡ prefix_bytes kept.now.prefix ++ seal_of kept.now.key iv.now plain.now ad.now) }
-{
-    let sealed = managers
-        .aead_at(kept.place)
-        .seal(alloc, &kept.key, iv, plain, ad)?;
-    let out = behind_prefix(alloc, &kept.prefix, &sealed)?;
-    Ok(out)
 }
 
 impl Handle<'_> {
