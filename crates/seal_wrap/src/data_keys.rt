@@ -10,8 +10,8 @@ ghost use Rattle.seal_wrap.specs.EnvelopeSteps.{DrewWhole, IsDrawFault, IsMaking
 ghost use Rattle.seal_wrap.specs.Enveloping.{IsAead, IsDataKeyFault, url_made};
 
 use crate::envelope::EnvelopeFault;
-use key_msgs::{KeyKind, Primitive, Template, make_key, write_key};
-use managers::{AeadManager, CheckFault, KeyManager, KeyTable, Managers};
+use key_msgs::{Primitive, Template, make_key, write_key};
+use managers::{AeadManager, CheckFault, KeyManager, KeyTable, Managers, Prepared};
 use std::alloc::Global;
 use tink_base::{Entropy, NoMemory};
 
@@ -51,11 +51,11 @@ pub fn data_key<'m>(
     }
 }
 
-/// A data key: its message, and the key that its manager reads in it.
+/// A data key: its message, and the key that its manager reads in it, expanded once.
 #[derive(Drop)]
 pub(crate) struct DataKey {
     pub(crate) value: Vec<u8>,
-    pub(crate) key: KeyKind,
+    pub(crate) key: Prepared,
 }
 
 /// Draws so many random bytes, in one fill; of no bytes nothing is asked for.

@@ -18,8 +18,8 @@ ghost use Rattle.seal_wrap.specs.EnvelopeSteps.{IsPayloadFault, Makes};
 ghost use Rattle.seal_wrap.specs.Enveloping.{IsAead, IsEnvelopeFault, IsEnveloping, url_made};
 
 use crate::data_keys::{DataKey, draw, make};
-use key_msgs::{KeyKind, Rule, Template};
-use managers::{AeadManager, CheckFault, KeyManager, KeyTable, Managers};
+use key_msgs::{Rule, Template};
+use managers::{AeadManager, CheckFault, KeyManager, KeyTable, Managers, Prepared};
 use std::alloc::Global;
 use tink_base::{Entropy, NoMemory, Trials};
 use wrapped_prims::{Handle, SealFault};
@@ -40,7 +40,7 @@ pub enum EnvelopeFault {
 fn seal_payload<E: Entropy>(
     alloc: Global,
     manager: &dyn AeadManager,
-    key: &KeyKind,
+    key: &Prepared,
     plain: &[u8],
     ad: &[u8],
     entropy: &mut E,
@@ -56,7 +56,7 @@ fn seal_payload<E: Entropy>(
         (IsPayloadFault key.now (E.state entropy.old) (E.state entropy.new)) }
 {
     let iv = draw(alloc, manager.iv_size(key), entropy)?;
-    match manager.seal(alloc, key, &iv, plain, ad) {
+    match manager.seal(alloc, key, &[], &iv, plain, ad) {
         Ok(payload) => Ok(payload),
         Err(_) => Err(EnvelopeFault::NoMemory),
     }
