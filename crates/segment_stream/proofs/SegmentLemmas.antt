@@ -8,7 +8,8 @@ use Rattle.aead_kinds.specs.Gcm.{gcm_tag, gcm_text}
 use Rattle.aead_kinds.specs.Segment.{body_of, opened_with, sealed_with, segment_open, segment_seal, segment_tag, segment_text, tag_of}
 use borrow.Rule.Slice.PartMut.{put_mid}
 use Rattle.segment_stream.specs.Segments.{FitsHash, HasTag, IsSound, cipher_of, header_size, keys_of, keys_under, nonce, nonce_prefix, opens_under, salt_of, seals_under, start_of, tag_size_of, tag_size_under}
-use Rattle.segment_stream.specs.Streams.{IsUnder}
+use Rattle.segment_stream.specs.Streams.{IsUnder, StreamState}
+use Rattle.segment_stream.specs.Cipher.{SegmentCipher}
 use Rattle.segment_stream.specs.declared.key.StreamKey.{StreamKey}
 use Rattle.segment_stream.specs.declared.key.SegmentScheme.{SegmentScheme}
 use Rattle.segment_stream.specs.declared.key.SegmentScheme.TheVariants as schemes
@@ -28,13 +29,13 @@ gcm_under key ad salt out aes n a o e =
 pub ctr_hmac_under : (key : StreamKey) (hash : Hash) (tag_size : ℕ) (ad salt out aes mac : List ℕ)
     (n : ℕ) → aes ≡ take key.derived out → mac ≡ drop key.derived out
     → out ≡ hkdf key.hash key.value salt ad n → n ≡ key.derived + 32
-    → keys_for.CtrHmac aes hash mac tag_size ≡ keys_under (schemes.CtrHmac hash tag_size) key ad salt
+    → keys_for.CtrHmac (record { aes = aes; hash = hash; mac = mac; tag_size = tag_size }) ≡ keys_under (schemes.CtrHmac hash tag_size) key ad salt
 unfolding keys_under
 ctr_hmac_under key hash tag_size ad salt out aes mac n a m o e =
     let all : out ≡ hkdf key.hash key.value salt ad (key.derived + 32)
     = o ∙ ap (hkdf key.hash key.value salt ad) e in
-    ap (λ (l : List ℕ). keys_for.CtrHmac l hash mac tag_size) (a ∙ ap (take key.derived) all)
-    ∙ ap (λ (l : List ℕ). keys_for.CtrHmac (take key.derived (hkdf key.hash key.value salt ad (key.derived + 32))) hash l tag_size)
+    ap (λ (l : List ℕ). keys_for.CtrHmac (record { aes = l; hash = hash; mac = mac; tag_size = tag_size })) (a ∙ ap (take key.derived) all)
+    ∙ ap (λ (l : List ℕ). keys_for.CtrHmac (record { aes = take key.derived (hkdf key.hash key.value salt ad (key.derived + 32)); hash = hash; mac = l; tag_size = tag_size }))
     (m ∙ ap (drop key.derived) all)
 
 pub at_most : (n : ℕ) → (n ≡ 16) ⊎ (n ≡ 32) → n ≤ 32
@@ -71,6 +72,11 @@ derived_under key ad header prefix keys sound whole k p = record {
       ap (λ (x : SegmentKeys). opens_under x prefix number last segment) k
       ∙ ap (λ (l : List ℕ). opens_under (keys_of key ad header) l number last segment) p;
 }
+
+-- the stream is left as it was
+pub still_under : (was now : StreamState) (key : SegmentCipher) (header : List ℕ) → now ≡ was
+    → IsUnder was key header → IsUnder now key header
+still_under was now key header e u = subst (λ (s : StreamState). IsUnder s key header) (sym e) u
 
 -- ---- a nonce, written part by part
 
@@ -129,7 +135,7 @@ gcm-seals keys aes prefix plain body made number last iv k e b m =
 
 pub ctr_hmac-seals : (keys : SegmentKeys) (aes : List ℕ) (hash : Hash) (mac : List ℕ) (t : ℕ)
     (prefix plain body made : List ℕ) (number : ℕ) (last : Bool) (iv start : List ℕ) (n : ℕ)
-    → keys ≡ keys_for.CtrHmac aes hash mac t → iv ≡ nonce prefix number last
+    → keys ≡ keys_for.CtrHmac (record { aes = aes; hash = hash; mac = mac; tag_size = t }) → iv ≡ nonce prefix number last
     → start ≡ iv ++ replicate 4 0 → n ≡ tag_size_under keys → body ≡ segment_text aes start plain
     → made ≡ segment_tag hash mac n start body
     → body ++ made ≡ seals_under keys prefix number last plain
@@ -170,7 +176,7 @@ gcm-closed keys aes prefix body made number last iv k e size other =
 
 pub ctr_hmac-opens : (keys : SegmentKeys) (aes : List ℕ) (hash : Hash) (mac : List ℕ) (t : ℕ)
     (prefix body made plain : List ℕ) (number : ℕ) (last : Bool) (iv start : List ℕ)
-    → keys ≡ keys_for.CtrHmac aes hash mac t → iv ≡ nonce prefix number last
+    → keys ≡ keys_for.CtrHmac (record { aes = aes; hash = hash; mac = mac; tag_size = t }) → iv ≡ nonce prefix number last
     → start ≡ iv ++ replicate 4 0 → length made ≡ tag_size_under keys
     → segment_tag hash mac (length made) start body ≡ made → plain ≡ segment_text aes start body
     → opens_under keys prefix number last (body ++ made) ≡ Some plain
@@ -187,7 +193,7 @@ ctr_hmac-opens keys aes hash mac t prefix body made plain number last iv start k
 
 pub ctr_hmac-closed : (keys : SegmentKeys) (aes : List ℕ) (hash : Hash) (mac : List ℕ) (t : ℕ)
     (prefix body made : List ℕ) (number : ℕ) (last : Bool) (iv start : List ℕ)
-    → keys ≡ keys_for.CtrHmac aes hash mac t → iv ≡ nonce prefix number last
+    → keys ≡ keys_for.CtrHmac (record { aes = aes; hash = hash; mac = mac; tag_size = t }) → iv ≡ nonce prefix number last
     → start ≡ iv ++ replicate 4 0 → length made ≡ tag_size_under keys
     → (segment_tag hash mac (length made) start body ≡ made → ⊥)
     → opens_under keys prefix number last (body ++ made) ≡ None
@@ -208,5 +214,5 @@ pub short-opens_none : (keys : SegmentKeys) (prefix : List ℕ) (number : ℕ) (
 unfolding opens_under segment_open
 short-opens_none (keys_for.Gcm aes) prefix number last segment short =
     short-closed _ _ 16 segment short
-short-opens_none (keys_for.CtrHmac aes hash mac t) prefix number last segment short =
-    short-closed _ _ t segment short
+short-opens_none (keys_for.CtrHmac keys) prefix number last segment short =
+    short-closed _ _ keys.tag_size segment short

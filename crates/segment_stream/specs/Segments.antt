@@ -50,8 +50,12 @@ material key ad salt size = hkdf key.hash key.value salt ad size
 unfoldable pub keys_under : SegmentScheme → StreamKey → (ad salt : List ℕ) → SegmentKeys
 keys_under schemes.Gcm key ad salt = keys_for.Gcm (material key ad salt key.derived)
 keys_under (schemes.CtrHmac hash tag_size) key ad salt =
-    keys_for.CtrHmac (take key.derived (material key ad salt (key.derived + 32))) hash
-    (drop key.derived (material key ad salt (key.derived + 32))) tag_size
+    keys_for.CtrHmac (record {
+      aes = take key.derived (material key ad salt (key.derived + 32));
+      hash = hash;
+      mac = drop key.derived (material key ad salt (key.derived + 32));
+      tag_size = tag_size;
+    })
 
 -- the keys of a stream's segments, by its header
 abbrev pub keys_of : StreamKey → (ad header : List ℕ) → SegmentKeys
@@ -68,28 +72,28 @@ start_of prefix number last = nonce prefix number last ++ replicate 4 0
 
 -- ciphertext and tag, without the nonce; of AES-GCM with no associated data
 unfoldable pub seals_under : SegmentKeys → (prefix : List ℕ) → ℕ → Bool → List ℕ → List ℕ
-seals_under (keys_for.Gcm aes) prefix number last plain =
-    sealed_with (gcm_text aes (nonce prefix number last))
-    (gcm_tag aes (nonce prefix number last) []) plain
-seals_under (keys_for.CtrHmac aes hash mac tag_size) prefix number last plain =
-    segment_seal aes hash mac tag_size (start_of prefix number last) plain
+seals_under (keys_for.Gcm key) prefix number last plain =
+    sealed_with (gcm_text key (nonce prefix number last))
+    (gcm_tag key (nonce prefix number last) []) plain
+seals_under (keys_for.CtrHmac keys) prefix number last plain =
+    segment_seal keys.aes keys.hash keys.mac keys.tag_size (start_of prefix number last) plain
 
 unfoldable pub opens_under : SegmentKeys → (prefix : List ℕ) → ℕ → Bool → List ℕ → Option (List ℕ)
-opens_under (keys_for.Gcm aes) prefix number last segment =
-    opened_with (gcm_text aes (nonce prefix number last))
-    (gcm_tag aes (nonce prefix number last) []) 16 segment
-opens_under (keys_for.CtrHmac aes hash mac tag_size) prefix number last segment =
-    segment_open aes hash mac tag_size (start_of prefix number last) segment
+opens_under (keys_for.Gcm key) prefix number last segment =
+    opened_with (gcm_text key (nonce prefix number last))
+    (gcm_tag key (nonce prefix number last) []) 16 segment
+opens_under (keys_for.CtrHmac keys) prefix number last segment =
+    segment_open keys.aes keys.hash keys.mac keys.tag_size (start_of prefix number last) segment
 
 -- the bytes of a tag under these keys; for AES-CTR-HMAC no more than a digest has
 abbrev pub tag_size_under : SegmentKeys → ℕ
-tag_size_under (keys_for.Gcm aes) = 16
-tag_size_under (keys_for.CtrHmac aes hash mac tag_size) = tag_size
+tag_size_under (keys_for.Gcm key) = 16
+tag_size_under (keys_for.CtrHmac keys) = keys.tag_size
 
 -- a tag is no longer than the digest it is cut from
 abbrev pub FitsHash : SegmentKeys → Type 0
-FitsHash (keys_for.Gcm aes) = Unit {0}
-FitsHash (keys_for.CtrHmac aes hash mac tag_size) = tag_size ≤ hash_size hash
+FitsHash (keys_for.Gcm key) = Unit {0}
+FitsHash (keys_for.CtrHmac keys) = keys.tag_size ≤ hash_size keys.hash
 
 -- the cipher of segments of a key, with associated data
 abbrev pub cipher_of : (ad : List ℕ) → StreamKey → SegmentCipher

@@ -7,7 +7,8 @@ ghost use Rattle.segment_stream.specs.Streams.{IsUnder};
 ghost use Rattle.segment_stream.specs.declared.key.SegmentScheme.TheVariants as schemes;
 
 use crate::key::{SegmentScheme, StreamKey};
-use crate::segments::{PREFIX, SegmentKeys, Stream};
+use crate::segments::{CtrHmacKeys, PREFIX, SegmentKeys, Stream};
+use aead_kinds::Gcm;
 use aes_core::Aes;
 use mac_prf::hkdf;
 use tink_base::Hash;
@@ -76,9 +77,12 @@ fn gcm_keys(key: &StreamKey, ad: &[u8], salt: &[u8]) -> SegmentKeys
     ensures { result ≡ under schemes.Gcm key.now ad.now salt.now }
 {
     let mut material = [0; 32];
-    let aes = &mut material[..key.derived as usize];
-    derive(key, ad, salt, aes);
-    SegmentKeys::Gcm { aes: expanded(aes) }
+    let own = &mut material[..key.derived as usize];
+    derive(key, ad, salt, own);
+    match Gcm::new(own) {
+        Ok(gcm) => SegmentKeys::Gcm(gcm),
+        Err(_) => unreachable!(),
+    }
 }
 
 // The keys of a stream of AES-CTR-HMAC.
@@ -92,10 +96,10 @@ fn ctr_hmac_keys(key: &StreamKey, ad: &[u8], salt: &[u8], hash: Hash, tag_size: 
     derive(key, ad, salt, both);
     let mut mac = [0; MAC_KEY];
     mac.copy_from_slice(&both[size..]);
-    SegmentKeys::CtrHmac {
+    SegmentKeys::CtrHmac(CtrHmacKeys {
         aes: expanded(&both[..size]),
         hash,
         mac,
         tag_size,
-    }
+    })
 }

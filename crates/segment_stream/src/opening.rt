@@ -27,7 +27,7 @@ pub(crate) enum SegmentEnd {
 
 /// Opens a segment in its place, and writes its plaintext. One that doesn't open stays as it was.
 pub(crate) fn write_segment<K: Sink>(
-    stream: &Stream,
+    stream: &mut Stream,
     number: u64,
     last: bool,
     segment: &mut [u8],
@@ -36,9 +36,10 @@ pub(crate) fn write_segment<K: Sink>(
     requires number { number < 2 ^ 32 }
     requires bound { length segment.old ≤ 2 ^ 31 }
     ensures ends { EndsSegment
-        (opens_under stream.now.keys stream.now.prefix number last segment.old) result
+        (opens_under stream.old.keys stream.old.prefix number last segment.old) result
         (K.state sink.old) (K.state sink.new) }
     ensures kept { result ≡ SegmentEnd.Refused → segment.new ≡ segment.old }
+    ensures stream { stream.new ≡ stream.old }
 {
     match stream.open(number, last, segment) {
         Some(n) => match write_all(sink, &segment[..n]) {
@@ -65,19 +66,19 @@ fn refused(number: u64) -> OpenPumpFault
 /// buffer are what was taken behind it, up to the end or not. Where the end wasn't seen, the buffer
 /// has room for one byte more than a segment.
 pub(crate) fn open_rest<S: Source, K: Sink>(
-    stream: &Stream,
+    stream: &mut Stream,
     buffer: &mut [u8],
     held: usize,
     whole: bool,
     source: &mut S,
     sink: &mut K,
 ) -> Result<(), OpenPumpFault>
-    requires some { 0 < stream.now.size }
-    requires fits { whole ≡ false → stream.now.size + 1 ≤ length buffer.old }
+    requires some { 0 < stream.old.size }
+    requires fits { whole ≡ false → stream.old.size + 1 ≤ length buffer.old }
     requires within { held ≤ length buffer.old }
     requires end { whole ≡ true → IsAtEnd (S.state source.old) }
     ensures pumps { (cipher : SegmentCipher) (header taken written : List ℕ)
-        → IsUnder stream.now cipher header
+        → IsUnder stream.old cipher header
         → Standing cipher header taken 1 (take held buffer.old) written
         → Pumps (opening_under cipher) taken written whole result (S.state source.old)
         (S.state source.new) (K.state sink.old) (K.state sink.new) }

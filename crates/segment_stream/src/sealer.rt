@@ -110,9 +110,10 @@ impl Sealer {
         ensures shown { ShowsFaults (pump_result result) (S.state source.old) (S.state source.new)
             (K.state sink.old) (K.state sink.new) }
     {
+        let mut stream = self.stream;
         let mut buffer = self.buffer;
         match write_all(sink, &buffer.as_slice()[..self.header]) {
-            Ok(()) => seal_behind(&self.stream, self.header, &mut buffer, source, sink),
+            Ok(()) => seal_behind(&mut stream, self.header, &mut buffer, source, sink),
             Err(_) => Err(SealPumpFault::WriteFault),
         }
     }
@@ -140,7 +141,7 @@ fn draw_header<E: Entropy>(buffer: &mut [u8], header: usize, entropy: &mut E) ->
 
 /// Seals a segment in its place, and writes it with its tag.
 fn write_sealed<K: Sink>(
-    stream: &Stream,
+    stream: &mut Stream,
     number: u64,
     last: bool,
     segment: &mut [u8],
@@ -148,13 +149,14 @@ fn write_sealed<K: Sink>(
 ) -> Result<(), Failed>
     requires number { number < 2 ^ 32 }
     requires bound { length segment.old ≤ 2 ^ 31 }
+    ensures stream { stream.new ≡ stream.old }
     ensures all { OnOk result (Took (K.state sink.old) (K.state sink.new)
-        (seals_under stream.now.keys stream.now.prefix number last segment.old)) }
+        (seals_under stream.old.keys stream.old.prefix number last segment.old)) }
     ensures no_fault { OnOk result (Stood (K.state sink.old).faults (K.state sink.new).faults) }
     ensures failed { OnErr result (Rose (K.state sink.old).faults (K.state sink.new).faults) }
     ensures once { OnErr result (RoseOnce (K.state sink.old).faults (K.state sink.new).faults) }
     ensures prefix { OnErr result (TookPrefix (K.state sink.old) (K.state sink.new)
-        (seals_under stream.now.keys stream.now.prefix number last segment.old)) }
+        (seals_under stream.old.keys stream.old.prefix number last segment.old)) }
 {
     let mut longest = [0; 64];
     let size = stream.tag_size();
@@ -181,16 +183,16 @@ fn plain_from(number: u64, header: usize) -> usize
 /// Seals a stream whose header was written, and stands in front of the buffer. No memory is taken:
 /// the buffer's block stays.
 fn seal_behind<S: Source, K: Sink>(
-    stream: &Stream,
+    stream: &mut Stream,
     header: usize,
     buffer: &mut Buffer,
     source: &mut S,
     sink: &mut K,
 ) -> Result<(), SealPumpFault>
-    requires room { HasRoom stream.now header (vec_capacity buffer.old.bytes) }
+    requires room { HasRoom stream.old header (vec_capacity buffer.old.bytes) }
     requires within { header ≤ vec_len buffer.old.bytes }
     ensures pumps { (cipher : SegmentCipher) (old : SinkState)
-        → IsUnder stream.now cipher (take header buffer.old.bytes.items)
+        → IsUnder stream.old cipher (take header buffer.old.bytes.items)
         → Took old (K.state sink.old) (take header buffer.old.bytes.items)
         → Pumps (sealing cipher (take header buffer.old.bytes.items)) [] [] false (pump_result result)
         (S.state source.old) (S.state source.new) old (K.state sink.new) }
@@ -218,7 +220,7 @@ fn seal_behind<S: Source, K: Sink>(
 /// and what was taken, up to the end or not. Where the end wasn't seen, the buffer has room for one
 /// byte more than the plaintext of a segment.
 fn seal_rest<S: Source, K: Sink>(
-    stream: &Stream,
+    stream: &mut Stream,
     header: usize,
     buffer: &mut [u8],
     held: usize,
@@ -226,14 +228,14 @@ fn seal_rest<S: Source, K: Sink>(
     source: &mut S,
     sink: &mut K,
 ) -> Result<(), SealPumpFault>
-    requires segment { header + tag_size_under stream.now.keys < stream.now.size }
+    requires segment { header + tag_size_under stream.old.keys < stream.old.size }
     requires fits { whole ≡ false
-        → stream.now.size - tag_size_under stream.now.keys + 1 ≤ length buffer.old }
+        → stream.old.size - tag_size_under stream.old.keys + 1 ≤ length buffer.old }
     requires front { header ≤ held }
     requires within { held ≤ length buffer.old }
     requires end { whole ≡ true → IsAtEnd (S.state source.old) }
     ensures pumps { (cipher : SegmentCipher) (was : SourceState) (old : SinkState)
-        → IsUnder stream.now cipher (take header buffer.old)
+        → IsUnder stream.old cipher (take header buffer.old)
         → Took old (K.state sink.old) (take header buffer.old)
         → ReadOn was (S.state source.old) (take header buffer.old) (take held buffer.old)
         → Pumps (sealing cipher (take header buffer.old)) [] [] false (pump_result result)

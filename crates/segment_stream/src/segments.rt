@@ -5,9 +5,7 @@ ghost use Rattle.std.specs.Bool.{OnTrue, OnFalse};
 ghost use Rattle.segment_stream.specs.Segments.{nonce, opens_under, seals_under, tag_size_under};
 
 use crate::key::GCM_TAG;
-use aead_kinds::{
-    ctr_hmac_open_in_place, ctr_hmac_seal_in_place, gcm_open_in_place, gcm_seal_in_place,
-};
+use aead_kinds::{Gcm, ctr_hmac_open_in_place, ctr_hmac_seal_in_place};
 use aes_core::Aes;
 use std::marker::Model;
 use tink_base::Hash;
@@ -18,18 +16,22 @@ pub(crate) const PREFIX: usize = 7;
 /// The number of the last segment that a stream may have.
 pub(crate) const LAST_NUMBER: u64 = 4294967295;
 
+/// The keys of the segments of one stream of AES-CTR-HMAC.
+#[derive(Drop)]
+pub(crate) struct CtrHmacKeys {
+    pub(crate) aes: Aes,
+    /// The hash function of HMAC, and its key.
+    pub(crate) hash: Hash,
+    pub(crate) mac: [u8; 32],
+    pub(crate) tag_size: u32,
+}
+
 /// The keys of one stream, derived from its key, its associated data and its header.
 #[derive(Drop)]
 pub(crate) enum SegmentKeys {
-    Gcm {
-        aes: Aes,
-    },
-    CtrHmac {
-        aes: Aes,
-        hash: Hash,
-        mac: [u8; 32],
-        tag_size: u32,
-    },
+    /// With what GHASH makes of the key, for all segments.
+    Gcm(Gcm),
+    CtrHmac(CtrHmacKeys),
 }
 
 /// What seals and opens the segments of one stream.
@@ -69,26 +71,28 @@ impl Stream {
         ensures bound { result ≤ 64 }
     {
         match &self.keys {
-            SegmentKeys::Gcm { .. } => GCM_TAG,
-            SegmentKeys::CtrHmac { tag_size, .. } => *tag_size as usize,
+            SegmentKeys::Gcm(_) => GCM_TAG,
+            SegmentKeys::CtrHmac(keys) => keys.tag_size as usize,
         }
     }
 
     /// Seals a segment in its place, and writes its tag beside it.
-    pub(crate) fn seal(&self, number: u64, last: bool, segment: &mut [u8], tag: &mut [u8])
+    pub(crate) fn seal(&mut self, number: u64, last: bool, segment: &mut [u8], tag: &mut [u8])
         requires number { number < 2 ^ 32 }
         requires bound { length segment.old ≤ 2 ^ 31 }
-        requires tag { length tag.old ≡ tag_size_under self.now.keys }
-        ensures { segment.new ++ tag.new
-            ≡ seals_under self.now.keys self.now.prefix number last segment.old }
+        requires tag { length tag.old ≡ tag_size_under self.old.keys }
+        ensures sealed { segment.new ++ tag.new
+            ≡ seals_under self.old.keys self.old.prefix number last segment.old }
+        ensures stream { self.new ≡ self.old }
     {
         let nonce = nonce(&self.prefix, number, last);
-        match &self.keys {
-            SegmentKeys::Gcm { aes } => {
-                tag.copy_from_slice(&gcm_seal_in_place(aes, &nonce, &[], segment));
+        match &mut self.keys {
+            SegmentKeys::Gcm(gcm) => {
+                tag.copy_from_slice(&gcm.seal_in_place(&nonce, &[], segment));
             }
-            SegmentKeys::CtrHmac { aes, hash, mac, .. } => {
-                ctr_hmac_seal_in_place(aes, *hash, mac, &start(&nonce), segment, tag);
+            SegmentKeys::CtrHmac(keys) => {
+                let start = start(&nonce);
+                ctr_hmac_seal_in_place(&keys.aes, keys.hash, &keys.mac, &start, segment, tag);
             }
         }
     }
@@ -96,16 +100,18 @@ impl Stream {
     /// Opens a segment in its place, and answers how many bytes its plaintext has, which stand in
     /// front then. `number` counts from 0, is below 2^32, and `last` is whether the stream ends with this
     /// segment; the first segment is passed without the header. `None` comes exactly where the segment
-    /// doesn't authenticate in that place: it stays as it was then. No memory is taken.
-    pub fn open(&self, number: u64, last: bool, segment: &mut [u8]) -> Option<usize>
+    /// doesn't authenticate in that place: it stays as it was then. The stream opens as it did before. No
+    /// memory is taken.
+    pub fn open(&mut self, number: u64, last: bool, segment: &mut [u8]) -> Option<usize>
         requires number { number < 2 ^ 32 }
         requires bound { length segment.old ≤ 2 ^ 31 }
-        ensures { MatchOption result
-            ((opens_under self.now.keys self.now.prefix number last segment.old ≡ None)
+        ensures opened { MatchOption result
+            ((opens_under self.old.keys self.old.prefix number last segment.old ≡ None)
             × (segment.new ≡ segment.old))
             (λ n. (n ≤ length segment.old)
-            × (opens_under self.now.keys self.now.prefix number last segment.old
+            × (opens_under self.old.keys self.old.prefix number last segment.old
             ≡ Some (take n segment.new))) }
+        ensures stream { self.new ≡ self.old }
     {
         let size = self.tag_size();
         if segment.len() < size {
@@ -121,26 +127,28 @@ impl Stream {
     }
 
     // Decrypts the ciphertext of a segment in its place, where the tag is the right one.
-    fn open_body(&self, number: u64, last: bool, body: &mut [u8], tag: &[u8]) -> bool
+    fn open_body(&mut self, number: u64, last: bool, body: &mut [u8], tag: &[u8]) -> bool
         requires number { number < 2 ^ 32 }
         requires bound { length body.old ≤ 2 ^ 31 }
-        requires tag { length tag.now ≡ tag_size_under self.now.keys }
+        requires tag { length tag.now ≡ tag_size_under self.old.keys }
         ensures opened { OnTrue result
-            (opens_under self.now.keys self.now.prefix number last (body.old ++ tag.now)
+            (opens_under self.old.keys self.old.prefix number last (body.old ++ tag.now)
             ≡ Some body.new) }
         ensures refused { OnFalse result
-            (opens_under self.now.keys self.now.prefix number last (body.old ++ tag.now) ≡ None) }
+            (opens_under self.old.keys self.old.prefix number last (body.old ++ tag.now) ≡ None) }
         ensures kept { OnFalse result (body.new ≡ body.old) }
+        ensures stream { self.new ≡ self.old }
     {
         let nonce = nonce(&self.prefix, number, last);
-        match &self.keys {
-            SegmentKeys::Gcm { aes } => {
+        match &mut self.keys {
+            SegmentKeys::Gcm(gcm) => {
                 let mut whole = [0; GCM_TAG];
                 whole.copy_from_slice(tag);
-                gcm_open_in_place(aes, &nonce, &[], body, &whole)
+                gcm.open_in_place(&nonce, &[], body, &whole)
             }
-            SegmentKeys::CtrHmac { aes, hash, mac, .. } => {
-                ctr_hmac_open_in_place(aes, *hash, mac, &start(&nonce), body, tag)
+            SegmentKeys::CtrHmac(keys) => {
+                let start = start(&nonce);
+                ctr_hmac_open_in_place(&keys.aes, keys.hash, &keys.mac, &start, body, tag)
             }
         }
     }

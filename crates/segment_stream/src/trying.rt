@@ -93,10 +93,10 @@ fn open_first<K: Sink>(
     }
     let from = key.header_size();
     // the keys of the stream come from the header, so they are derived before anything is opened
-    let stream = Stream::new(key, ad, &buffer[..from]);
+    let mut stream = Stream::new(key, ad, &buffer[..from]);
     let size = stream.size();
     let end = len.min(size);
-    match write_segment(&stream, 0, len <= size, &mut buffer[from..end], sink) {
+    match write_segment(&mut stream, 0, len <= size, &mut buffer[from..end], sink) {
         SegmentEnd::Written => Trial::Written(stream),
         SegmentEnd::Unwritten => Trial::Unwritten,
         SegmentEnd::Refused => Trial::Refused,
@@ -136,12 +136,12 @@ pub(crate) fn open_any<S: Source, K: Sink>(
         match open_first(key, ad, bytes, len, sink) {
             Trial::Refused => {}
             Trial::Unwritten => return Err(OpenPumpFault::WriteFault),
-            Trial::Written(stream) => {
+            Trial::Written(mut stream) => {
                 if len <= size {
                     return Ok(());
                 }
                 turn(bytes, size, len);
-                return open_rest(&stream, bytes, len - size, ended, source, sink);
+                return open_rest(&mut stream, bytes, len - size, ended, source, sink);
             }
         }
     }

@@ -45,7 +45,7 @@ fn add(plain: &mut Vec<u8>, bytes: &[u8], skip: u64, most: usize) -> u64
 /// without the first `skip` bytes and at most `most` of them. No memory is taken.
 pub(crate) fn open_run<V: Device>(
     device: &mut V,
-    begun: &Begun,
+    begun: &mut Begun,
     first: u64,
     count: u64,
     skip: u64,
@@ -54,21 +54,21 @@ pub(crate) fn open_run<V: Device>(
     plain: &mut Vec<u8>,
 ) -> Result<(), PieceFault>
     requires numbers { (i : ℕ) → i < count
-        → first + i ≤ ((V.state device.old).size - 1) / begun.now.sizes.segment }
+        → first + i ≤ ((V.state device.old).size - 1) / begun.old.sizes.segment }
     requires bound { first + count < 2 ^ 64 }
-    requires header { begun.now.sizes.header ≤ (V.state device.old).size }
-    requires fits { min begun.now.sizes.segment (V.state device.old).size ≤ length buffer.old }
+    requires header { begun.old.sizes.header ≤ (V.state device.old).size }
+    requires fits { min begun.old.sizes.segment (V.state device.old).size ≤ length buffer.old }
     requires empty { plain.old.items ≡ [] }
     requires room { most ≤ vec_capacity plain.old }
     ensures opens { (key : SegmentCipher) (bytes : List ℕ)
-        → (V.state device.old).bytes ≡ Some bytes → Begins begun.now key bytes
+        → (V.state device.old).bytes ≡ Some bytes → Begins begun.old key bytes
         → IsRun result plain.new.items skip most first count
         (leading (opens_at key bytes) first count) }
     ensures kept { KeptDevice (V.state device.old) (V.state device.new) }
     ensures lent { V.lent device.new ≡ V.lent device.old }
     ensures capacity { vec_capacity plain.new ≡ vec_capacity plain.old }
     ensures given { (V.state device.new).given
-        ≤ (V.state device.old).given + count * begun.now.sizes.segment }
+        ≤ (V.state device.old).given + count * begun.old.sizes.segment }
     ensures no_fault { (IsErrOf result PieceFault.ReadFault → ⊥) →
         Stood (V.state device.old).faults (V.state device.new).faults }
     ensures failed { IsErrOf result PieceFault.ReadFault →

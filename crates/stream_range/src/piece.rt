@@ -80,19 +80,20 @@ pub(crate) fn read_all<V: Device>(device: &mut V, at: u64, out: &mut [u8]) -> Re
 /// Opens the bytes of the piece of this number in their place, and answers how far behind their front
 /// the plaintext stands, and how many bytes it has.
 fn open_bytes(
-    begun: &Begun,
+    begun: &mut Begun,
     number: u64,
     last: bool,
     bytes: &mut [u8],
 ) -> Result<(usize, usize), PieceFault>
     requires number { number < 2 ^ 32 }
-    requires header { skipped begun.now.sizes.header number ≤ length bytes.old }
+    requires header { skipped begun.old.sizes.header number ≤ length bytes.old }
     requires bound { length bytes.old ≤ 2 ^ 31 }
     ensures within { IfOk result (λ place. place.0 + place.1 ≤ length bytes.old) }
     ensures opens { IsPiece result bytes.new number
-        (opens_under begun.now.stream.keys begun.now.stream.prefix number last
-        (drop (skipped begun.now.sizes.header number) bytes.old)) }
+        (opens_under begun.old.stream.keys begun.old.stream.prefix number last
+        (drop (skipped begun.old.sizes.header number) bytes.old)) }
     ensures read { IsErrOf result PieceFault.ReadFault → ⊥ }
+    ensures begun { begun.new ≡ begun.old }
 {
     let from = begun.sizes.skipped(number) as usize;
     match begun.stream.open(number, last, &mut bytes[from..]) {
@@ -106,21 +107,22 @@ fn open_bytes(
 /// from 2^32 on isn't read, and doesn't open.
 pub(crate) fn open_piece<V: Device>(
     device: &mut V,
-    begun: &Begun,
+    begun: &mut Begun,
     number: u64,
     buffer: &mut [u8],
 ) -> Result<(usize, usize), PieceFault>
-    requires number { number ≤ ((V.state device.old).size - 1) / begun.now.sizes.segment }
-    requires header { begun.now.sizes.header ≤ (V.state device.old).size }
-    requires room { min begun.now.sizes.segment (V.state device.old).size ≤ length buffer.old }
+    requires number { number ≤ ((V.state device.old).size - 1) / begun.old.sizes.segment }
+    requires header { begun.old.sizes.header ≤ (V.state device.old).size }
+    requires room { min begun.old.sizes.segment (V.state device.old).size ≤ length buffer.old }
     ensures within { IfOk result (λ place. place.0 + place.1 ≤ length buffer.old) }
     ensures opens { (key : SegmentCipher) (bytes : List ℕ)
-        → (V.state device.old).bytes ≡ Some bytes → Begins begun.now key bytes
+        → (V.state device.old).bytes ≡ Some bytes → Begins begun.old key bytes
         → IsPiece result buffer.new number (opens_at key bytes number) }
+    ensures begun { begun.new ≡ begun.old }
     ensures kept { KeptDevice (V.state device.old) (V.state device.new) }
     ensures lent { V.lent device.new ≡ V.lent device.old }
     ensures given { (V.state device.new).given
-        ≤ (V.state device.old).given + begun.now.sizes.segment }
+        ≤ (V.state device.old).given + begun.old.sizes.segment }
     ensures no_fault { (IsErrOf result PieceFault.ReadFault → ⊥) →
         Stood (V.state device.old).faults (V.state device.new).faults }
     ensures failed { IsErrOf result PieceFault.ReadFault →

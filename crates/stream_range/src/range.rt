@@ -60,27 +60,27 @@ fn zeros(alloc: Global, size: usize) -> Result<Vec<u8>, NoMemory>
 /// has room for it. The buffer has room for a segment. No memory is taken.
 fn open_begun<V: Device>(
     device: &mut V,
-    begun: &Begun,
+    begun: &mut Begun,
     from: u64,
     to: u64,
     buffer: &mut [u8],
     plain: &mut Vec<u8>,
 ) -> Result<(), RangeFault>
     requires order { from ≤ to }
-    requires header { begun.now.sizes.header ≤ (V.state device.old).size }
-    requires fits { min begun.now.sizes.segment (V.state device.old).size ≤ length buffer.old }
+    requires header { begun.old.sizes.header ≤ (V.state device.old).size }
+    requires fits { min begun.old.sizes.segment (V.state device.old).size ≤ length buffer.old }
     requires empty { plain.old.items ≡ [] }
     requires room { to - from ≤ vec_capacity plain.old }
     ensures range { (key : SegmentCipher) (bytes : List ℕ)
-        → (V.state device.old).bytes ≡ Some bytes → Begins begun.now key bytes
+        → (V.state device.old).bytes ≡ Some bytes → Begins begun.old key bytes
         → IsAnswer result plain.new.items (range_under key bytes from to) }
     ensures kept { KeptDevice (V.state device.old) (V.state device.new) }
     ensures lent { V.lent device.new ≡ V.lent device.old }
-    ensures given { (key : SegmentCipher) → HasSizes begun.now.sizes key
+    ensures given { (key : SegmentCipher) → HasSizes begun.old.sizes key
         → (V.state device.new).given
         ≤ (V.state device.old).given + (covering key from to + 1) * key.size }
     ensures given_past { IsErrOf result RangeFault.PastEnd →
-        (V.state device.new).given ≤ (V.state device.old).given + begun.now.sizes.segment }
+        (V.state device.new).given ≤ (V.state device.old).given + begun.old.sizes.segment }
     ensures no_fault { (IsErrOf result RangeFault.ReadFault → ⊥) →
         Stood (V.state device.old).faults (V.state device.new).faults }
     ensures failed { IsErrOf result RangeFault.ReadFault →
@@ -159,7 +159,7 @@ fn open_into<V: Device>(
         Err(_) => return Err(RangeFault::ReadFault),
     }
     match choose_key(keys.keys(), ad, size, buffer) {
-        Some(begun) => open_begun(device, &begun, from, to, buffer, plain),
+        Some(mut begun) => open_begun(device, &mut begun, from, to, buffer, plain),
         None => Err(RangeFault::StreamFailed(0)),
     }
 }

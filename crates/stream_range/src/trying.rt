@@ -41,7 +41,7 @@ fn try_key(key: &StreamKey, ad: &[u8], size: u64, front: &mut [u8]) -> Option<Be
 {
     let segment = key.segment_size();
     let end = segment.min(front.len());
-    let begun = match begin(key, ad, &front[..end]) {
+    let mut begun = match begin(key, ad, &front[..end]) {
         Some(begun) => begun,
         None => return None,
     };

@@ -12,6 +12,7 @@ use Rattle.segment_stream.proofs.opening.open_rest.Given as goal
 
 abbrev pub invariant-loop-len : goal.invariant-loop-len
 invariant-loop-len g l = record {
+  stream : l.stream ≡ l.fn.stream;
   same : length l.buffer ≡ length l.fn.buffer;
   len : l.len ≤ length l.buffer;
   start : l.start ≤ l.len;

@@ -4,6 +4,7 @@ use Rattle.std.proofs.lemmas.Bool.{cases_lt}
 use Rattle.std.proofs.lemmas.List.{length-take-le, length-drop}
 use Rattle.tink_spec.specs.Outside.{Took, TookPrefix}
 use Rattle.segment_stream.specs.Cipher.{SegmentCipher}
+use Rattle.segment_stream.proofs.SegmentLemmas.{still_under}
 use Rattle.segment_stream.proofs.Slices.{rest_is}
 use Rattle.segment_stream.proofs.SealPass.{SealGoing, plain_under, seals_full, seals_last, sgo_begins, sgo_read, sgo_next, sgo_many, sgo_unread, sgo_ends, sgo_unwritten, sgo_ends_unwritten}
 use Rattle.tink_spec.proofs.Moves.{goes_on_stops}
@@ -16,6 +17,7 @@ header_is key header buffer fits e = sym (length-take-le header buffer fits) ∙
 
 pub loop-len-init : goal.loop-len-init
 loop-len-init g c = record {
+  stream = refl;
   size = ap (λ n. n - c.tag_size.result) c.size.ensures.size ∙ ap (λ n. c.args.stream.now.size - n) c.tag_size.ensures.size;
   same = refl;
   len = c.requires.within;
@@ -35,7 +37,7 @@ returns-in-Err-clause-pumps g c = λ cipher was old u took r.
     let header = take c.args.header c.args.buffer.now in
     let e = plain_under c.args.stream.now cipher header (c.size.result - c.tag_size.result) u c.loop-len.invariant.size in
     let is = header_is cipher c.args.header c.args.buffer.now (omega (arith, c.requires.front, c.requires.within)) u.whole in
-    let sealed = seals_full c.args.stream.now cipher header c.loop-len.number c.plain_from-from.result (c.size.result - c.tag_size.result) c.loop-len.len c.loop-len.buffer u e (omega arith) (λ n. c.plain_from-from.ensures.first n ∙ is) c.plain_from-from.ensures.later in
+    let sealed = seals_full c.loop-len.stream cipher header c.loop-len.number c.plain_from-from.result (c.size.result - c.tag_size.result) c.loop-len.len c.loop-len.buffer (still_under _ _ cipher header c.loop-len.invariant.stream u) e (omega arith) (λ n. c.plain_from-from.ensures.first n ∙ is) c.plain_from-from.ensures.later in
     sgo_unwritten cipher header c.loop-len.ended _ _ old _ _ (take c.loop-len.len c.loop-len.buffer) c.loop-len.number u.is (omega arith) (omega (arith, length-take-le c.loop-len.len c.loop-len.buffer c.loop-len.invariant.len, e, c.if-len-size.true)) (c.loop-len.invariant.goes cipher was old u took r) c.in-Err.ensures.failed
     (subst (λ (l : List ℕ). TookPrefix (g.K.Sink.state c.loop-len.sink) (g.K.Sink.state c.write_sealed.new.sink) l) sealed c.in-Err.ensures.prefix)
 
@@ -44,7 +46,7 @@ returns-then-number-gt-LAST_NUMBER-clause-pumps g c = λ cipher was old u took r
     let header = take c.args.header c.args.buffer.now in
     let e = plain_under c.args.stream.now cipher header (c.size.result - c.tag_size.result) u c.loop-len.invariant.size in
     let is = header_is cipher c.args.header c.args.buffer.now (omega (arith, c.requires.front, c.requires.within)) u.whole in
-    let sealed = seals_full c.args.stream.now cipher header c.loop-len.number c.plain_from-from.result (c.size.result - c.tag_size.result) c.loop-len.len c.loop-len.buffer u e (omega arith) (λ n. c.plain_from-from.ensures.first n ∙ is) c.plain_from-from.ensures.later in
+    let sealed = seals_full c.loop-len.stream cipher header c.loop-len.number c.plain_from-from.result (c.size.result - c.tag_size.result) c.loop-len.len c.loop-len.buffer (still_under _ _ cipher header c.loop-len.invariant.stream u) e (omega arith) (λ n. c.plain_from-from.ensures.first n ∙ is) c.plain_from-from.ensures.later in
     sgo_many cipher header c.loop-len.ended _ _ old _ _ _ (omega arith)
     (sgo_next cipher header c.loop-len.ended _ _ old _ _ (take c.loop-len.len c.loop-len.buffer) c.loop-len.number u.is (omega arith) (omega (arith, length-take-le c.loop-len.len c.loop-len.buffer c.loop-len.invariant.len, e, c.if-len-size.true)) (c.loop-len.invariant.goes cipher was old u took r)
     (subst (λ (l : List ℕ). Took (g.K.Sink.state c.loop-len.sink) (g.K.Sink.state c.write_sealed.new.sink) l) sealed c.in-Ok.ensures.all))
@@ -61,6 +63,7 @@ loop-len-preserved-then-len-size g c =
     let front : take (c.loop-len.len - (c.size.result - c.tag_size.result)) c.turn.new.buffer ≡ drop (c.size.result - c.tag_size.result) (take c.loop-len.len c.loop-len.buffer)
     = c.turn.ensures ∙ rest_is (c.size.result - c.tag_size.result) c.loop-len.len c.plain_from-from.result (c.size.result - c.tag_size.result) c.loop-len.buffer c.write_sealed.new.segment from (omega arith) (omega arith) c.loop-len.invariant.len part in
     record {
+      stream = c.write_sealed.ensures.stream ∙ c.loop-len.invariant.stream;
       size = c.loop-len.invariant.size;
       same = omega arith;
       len = omega arith;
@@ -74,7 +77,7 @@ loop-len-preserved-then-len-size g c =
           let header = take c.args.header c.args.buffer.now in
           let e = plain_under c.args.stream.now cipher header (c.size.result - c.tag_size.result) u c.loop-len.invariant.size in
           let is = header_is cipher c.args.header c.args.buffer.now (omega (arith, c.requires.front, c.requires.within)) u.whole in
-          let sealed = seals_full c.args.stream.now cipher header c.loop-len.number c.plain_from-from.result (c.size.result - c.tag_size.result) c.loop-len.len c.loop-len.buffer u e (omega arith) (λ n. c.plain_from-from.ensures.first n ∙ is) c.plain_from-from.ensures.later in
+          let sealed = seals_full c.loop-len.stream cipher header c.loop-len.number c.plain_from-from.result (c.size.result - c.tag_size.result) c.loop-len.len c.loop-len.buffer (still_under _ _ cipher header c.loop-len.invariant.stream u) e (omega arith) (λ n. c.plain_from-from.ensures.first n ∙ is) c.plain_from-from.ensures.later in
           subst (λ (l : List ℕ). SealGoing cipher header c.loop-len.ended was (g.S.Source.state c.loop-len.source) old (g.K.Sink.state c.write_sealed.new.sink) l (c.loop-len.number + 1)) (sym (front ∙ ap (λ n. drop n (take c.loop-len.len c.loop-len.buffer)) e))
           (sgo_next cipher header c.loop-len.ended _ _ old _ _ (take c.loop-len.len c.loop-len.buffer) c.loop-len.number u.is (omega arith) (omega (arith, length-take-le c.loop-len.len c.loop-len.buffer c.loop-len.invariant.len, e, c.if-len-size.true)) (c.loop-len.invariant.goes cipher was old u took r)
           (subst (λ (l : List ℕ). Took (g.K.Sink.state c.loop-len.sink) (g.K.Sink.state c.write_sealed.new.sink) l) sealed c.in-Ok.ensures.all));
@@ -85,7 +88,7 @@ returns-in-Ok-write_sealed-clause-pumps g c = λ cipher was old u took r.
     let header = take c.args.header c.args.buffer.now in
     let e = plain_under c.args.stream.now cipher header (c.size.result - c.tag_size.result) u c.loop-len.invariant.size in
     let is = header_is cipher c.args.header c.args.buffer.now (omega (arith, c.requires.front, c.requires.within)) u.whole in
-    let sealed = seals_last c.args.stream.now cipher header c.loop-len.number c.plain_from-from.result c.loop-len.len c.loop-len.buffer u (λ n. c.plain_from-from.ensures.first n ∙ is) c.plain_from-from.ensures.later (λ n. omega (arith, c.loop-len.invariant.head n, is)) in
+    let sealed = seals_last c.loop-len.stream cipher header c.loop-len.number c.plain_from-from.result c.loop-len.len c.loop-len.buffer (still_under _ _ cipher header c.loop-len.invariant.stream u) (λ n. c.plain_from-from.ensures.first n ∙ is) c.plain_from-from.ensures.later (λ n. omega (arith, c.loop-len.invariant.head n, is)) in
     sgo_ends cipher header c.loop-len.ended _ _ old _ _ (take c.loop-len.len c.loop-len.buffer) c.loop-len.number u.is (omega arith) (omega (arith, length-take-le c.loop-len.len c.loop-len.buffer c.loop-len.invariant.len, e, c.if-len-size.false)) (c.loop-len.invariant.goes cipher was old u took r) c.if-ended.true
     (subst (λ (l : List ℕ). Took (g.K.Sink.state c.loop-len.sink) (g.K.Sink.state c.write_sealed-then-ended.new.sink) l) sealed c.in-Ok-write_sealed.ensures.all)
 
@@ -94,7 +97,7 @@ returns-in-Err-write_sealed-clause-pumps g c = λ cipher was old u took r.
     let header = take c.args.header c.args.buffer.now in
     let e = plain_under c.args.stream.now cipher header (c.size.result - c.tag_size.result) u c.loop-len.invariant.size in
     let is = header_is cipher c.args.header c.args.buffer.now (omega (arith, c.requires.front, c.requires.within)) u.whole in
-    let sealed = seals_last c.args.stream.now cipher header c.loop-len.number c.plain_from-from.result c.loop-len.len c.loop-len.buffer u (λ n. c.plain_from-from.ensures.first n ∙ is) c.plain_from-from.ensures.later (λ n. omega (arith, c.loop-len.invariant.head n, is)) in
+    let sealed = seals_last c.loop-len.stream cipher header c.loop-len.number c.plain_from-from.result c.loop-len.len c.loop-len.buffer (still_under _ _ cipher header c.loop-len.invariant.stream u) (λ n. c.plain_from-from.ensures.first n ∙ is) c.plain_from-from.ensures.later (λ n. omega (arith, c.loop-len.invariant.head n, is)) in
     sgo_ends_unwritten cipher header c.loop-len.ended _ _ old _ _ (take c.loop-len.len c.loop-len.buffer) c.loop-len.number u.is (omega arith) (omega (arith, length-take-le c.loop-len.len c.loop-len.buffer c.loop-len.invariant.len, e, c.if-len-size.false)) (c.loop-len.invariant.goes cipher was old u took r) c.if-ended.true c.in-Err-write_sealed.ensures.failed
     (subst (λ (l : List ℕ). TookPrefix (g.K.Sink.state c.loop-len.sink) (g.K.Sink.state c.write_sealed-then-ended.new.sink) l) sealed c.in-Err-write_sealed.ensures.prefix)
 
@@ -106,6 +109,7 @@ returns-in-Err-fill-clause-pumps g c = λ cipher was old u took r.
 
 pub loop-len-preserved : goal.loop-len-preserved
 loop-len-preserved g c = record {
+  stream = c.loop-len.invariant.stream;
   size = c.loop-len.invariant.size;
   same = omega arith;
   len = omega (arith, c.in-Ok-fill.ensures.bound, room_left c.args.whole c.loop-len.ended (λ e. (c.loop-len.invariant.still e).0) c.if-ended.false c.requires.fits, c.loop-len.invariant.size, c.loop-len.invariant.same, c.fill.auto.buffer);

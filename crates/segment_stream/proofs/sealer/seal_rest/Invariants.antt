@@ -12,6 +12,7 @@ use Rattle.segment_stream.proofs.sealer.seal_rest.Given as goal
 
 abbrev pub invariant-loop-len : goal.invariant-loop-len
 invariant-loop-len g l = record {
+  stream : l.stream ≡ l.fn.stream;
   size : l.size ≡ l.fn.stream.size - tag_size_under l.fn.stream.keys;
   same : length l.buffer ≡ length l.fn.buffer;
   len : l.len ≤ length l.buffer;

@@ -9,5 +9,5 @@ returns-in-Err-write_all-clause-prefix g c =
     (ap (λ (l : List ℕ). c.seal.new.segment ++ l)
     (take_at c.seal.new.tag _ c.tag_size-size.result
     (c.seal.auto.tag ∙ length-take-le c.tag_size-size.result _ (omega (arith, c.tag_size-size.ensures.bound))))
-    ∙ c.seal.ensures)
+    ∙ c.seal.ensures.sealed)
     c.in-Ok.ensures.all c.in-Err-write_all.ensures.prefix

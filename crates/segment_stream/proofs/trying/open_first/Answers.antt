@@ -1,6 +1,7 @@
 use Rattle.std.proofs.Common.{◌∙◌, sym, refl, take}
 use Rattle.segment_stream.specs.Segments.{cipher_of}
 use Rattle.segment_stream.proofs.First.{AtFirst, first_opens, first_rest, first_under}
+use Rattle.segment_stream.proofs.SegmentLemmas.{still_under}
 use Rattle.segment_stream.proofs.Trials.{no_piece}
 use Rattle.segment_stream.proofs.trying.open_first.Goals as goal
 
@@ -22,8 +23,13 @@ returns-in-Written-clause-ends g c =
       fits = c.requires.within;
       has = sym c.begins.ensures ∙ c.if-not-begins.false;
       ends = c.min-end.ensures;
-    } in
-    (h.0, first_opens _ key c.args.buffer.now _ _ _ _ a ∙ h.1, h.2, h.3, first_under _ key c.args.buffer.now _ _ _ _ a)
+    } in (
+      h.0,
+      first_opens _ key c.args.buffer.now _ _ _ _ a ∙ h.1,
+      h.2,
+      h.3,
+      still_under _ _ key (take key.header (take c.args.len c.args.buffer.now)) c.write_segment.ensures.stream (first_under _ key c.args.buffer.now _ _ _ _ a),
+    )
 
 pub returns-in-Written-clause-rest : goal.returns-in-Written-clause-rest
 returns-in-Written-clause-rest g c =
