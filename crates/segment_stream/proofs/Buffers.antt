@@ -1,6 +1,6 @@
 -- A buffer that is filled from behind and emptied from the front.
-use Rattle.std.proofs.Common.{◌≡◌, ℕ, ◌+◌, ◌-◌, ◌<◌, ◌≤◌, List, [], ◌∷◌, ◌++◌, length, set, take, drop, refl, sym, ◌∙◌, ap, arith}
-use Rattle.std.proofs.lemmas.List.{length-set, length-append, take_all, length-take-le, take-take, drop-take, length-drop, take_at}
+use Rattle.std.proofs.Common.{◌≡◌, ℕ, ◌+◌, ◌-◌, ◌<◌, ◌≤◌, List, [], ◌∷◌, ◌++◌, length, set, get_or, take, drop, refl, sym, ◌∙◌, ap, arith, append_assoc}
+use Rattle.std.proofs.lemmas.List.{length-set, length-append, take_all, length-take-le, take-take, drop-take, length-drop, take_at, at_drop_more}
 use Rattle.std.proofs.lemmas.Slice.{take-put_mid}
 use Rattle.std.proofs.Math.Seq.{take-append-add}
 use borrow.Rule.Slice.PartMut.{put_mid}
@@ -39,10 +39,27 @@ still_front held len before after piece fits there e =
     sym (take-take held len after (holds_more held len before after piece fits there e)) ∙ ap (take held) e
     ∙ take_at (take held before) piece held (length-take-le held before fits)
 
+-- what was held is in front of a longer buffer
+pub kept_front : (n len : ℕ) (longer before : List ℕ) → n ≤ len → take len longer ≡ before → take n longer ≡ take n before
+kept_front n len longer before le kept = sym (take-take n len longer le) ∙ ap (take n) kept
+
 -- a byte in front, and bytes behind it
 first_set : (buffer : List ℕ) (byte : ℕ) → 0 < length buffer → take 1 (set buffer 0 byte) ≡ byte ∷ []
 first_set [] byte some = absurd (omega arith)
 first_set (x ∷ xs) byte some = refl
+
+-- a segment and its tag are the front
+pub tag_behind : (plain size : ℕ) (segment tag rest : List ℕ) → length segment ≡ plain → length tag ≡ size → take (plain + size) (segment ++ (tag ++ rest)) ≡ segment ++ tag
+tag_behind plain size segment tag rest e f =
+    ap (take (plain + size)) (sym (append_assoc segment tag rest))
+    ∙ take_at (segment ++ tag) rest (plain + size) (omega (arith, e, f, length-append segment tag))
+
+-- the byte behind the first ones goes to the front
+pub carried : (size len : ℕ) (buffer after : List ℕ) → len ≡ size + 1 → len ≤ length buffer → 0 < length after → take 1 (set after 0 (get_or buffer size 0)) ≡ drop size (take len buffer)
+carried size len buffer after e fits some =
+    first_set after (get_or buffer size 0) some
+    ∙ sym (at_drop_more (take 1) buffer size 0 (omega (arith, e, fits)))
+    ∙ sym (ap (λ n. drop size (take n buffer)) e ∙ drop-take size 1 buffer)
 
 pub header_there : (size : ℕ) (buffer random : List ℕ) → 0 < size → size ≤ length buffer → length random ≡ size - 1 → take size (put_mid 1 (size - 1) (set buffer 0 size) random) ≡ size ∷ random
 header_there size buffer random some fits e =

@@ -25,9 +25,6 @@ pub record SealGoing (key : SegmentCipher) (header : List ℕ) (seen : Bool) (wa
   pub stands : SealStanding key header more number held out
   pub end : seen ≡ true → IsAtEnd now
 
-pub prefix_second : (old mid new : SinkState) (a b whole : List ℕ) → a ++ b ≡ whole → Took old mid a → TookPrefix mid new b → TookPrefix old new whole
-prefix_second old mid new a b whole e took t = record { front = a ++ t.front; rest = t.rest; some = t.some; whole = append_assoc a t.front t.rest ∙ ap (λ (l : List ℕ). a ++ l) t.whole ∙ e; took = took_more _ _ _ _ _ took t.took }
-
 -- what lies behind the header, or all
 pub plain_is : (header number from end : ℕ) (buffer : List ℕ) → (number ≡ 0 → from ≡ header) → (0 < number → from ≡ 0) → (number ≡ 0 → header ≤ end) → take (end - from) (drop from buffer) ≡ behind_header header number (take end buffer)
 plain_is header zero from end buffer first later le =
@@ -52,17 +49,17 @@ pub plain_under : (stream : StreamState) (key : SegmentCipher) (header : List �
 plain_under stream key header size u e = e ∙ ap (λ n. n - tag_size_under stream.keys) u.size ∙ ap (λ n. key.size - n) u.tag
 
 -- what is sealed in the buffer is the segment of the cipher
-pub seals_full : (stream : StreamState) (key : SegmentCipher) (header : List ℕ) (number from size len : ℕ) (buffer : List ℕ) → IsUnder stream key header → size ≡ plain_size key → size ≤ len → (number ≡ 0 → from ≡ key.header) → (0 < number → from ≡ 0)
-    → seals_under stream.keys stream.prefix number false (take (size - from) (drop from buffer)) ≡ key.seals header number false (behind_header key.header number (take (plain_size key) (take len buffer)))
-seals_full stream key header number from size len buffer u e le first later =
-    u.seals number false (take (size - from) (drop from buffer))
-    ∙ ap (λ (l : List ℕ). key.seals header number false l) (plain_full key.header number from size (plain_size key) len buffer e le (omega (arith, u.is.room, e)) first later)
+pub seals_full : (stream : StreamState) (key : SegmentCipher) (header : List ℕ) (number from size len : ℕ) (buffer : List ℕ) → IsUnder stream key header → size ≡ plain_size key → size ≤ len → len ≤ length buffer → (number ≡ 0 → from ≡ key.header) → (0 < number → from ≡ 0)
+    → seals_under stream.keys stream.prefix number false (take (size - from) (take (length buffer - from) (drop from buffer))) ≡ key.seals header number false (behind_header key.header number (take (plain_size key) (take len buffer)))
+seals_full stream key header number from size len buffer u e le fits first later =
+    u.seals number false (take (size - from) (take (length buffer - from) (drop from buffer)))
+    ∙ ap (λ (l : List ℕ). key.seals header number false l) (take-take (size - from) (length buffer - from) (drop from buffer) (omega (arith, le, fits)) ∙ plain_full key.header number from size (plain_size key) len buffer e le (omega (arith, u.is.room, e)) first later)
 
-pub seals_last : (stream : StreamState) (key : SegmentCipher) (header : List ℕ) (number from len : ℕ) (buffer : List ℕ) → IsUnder stream key header → (number ≡ 0 → from ≡ key.header) → (0 < number → from ≡ 0) → (number ≡ 0 → key.header ≤ len)
-    → seals_under stream.keys stream.prefix number true (take (len - from) (drop from buffer)) ≡ key.seals header number true (behind_header key.header number (take len buffer))
-seals_last stream key header number from len buffer u first later le =
-    u.seals number true (take (len - from) (drop from buffer))
-    ∙ ap (λ (l : List ℕ). key.seals header number true l) (plain_is key.header number from len buffer first later le)
+pub seals_last : (stream : StreamState) (key : SegmentCipher) (header : List ℕ) (number from len : ℕ) (buffer : List ℕ) → IsUnder stream key header → len ≤ length buffer → (number ≡ 0 → from ≡ key.header) → (0 < number → from ≡ 0) → (number ≡ 0 → key.header ≤ len)
+    → seals_under stream.keys stream.prefix number true (take (len - from) (take (length buffer - from) (drop from buffer))) ≡ key.seals header number true (behind_header key.header number (take len buffer))
+seals_last stream key header number from len buffer u fits first later le =
+    u.seals number true (take (len - from) (take (length buffer - from) (drop from buffer)))
+    ∙ ap (λ (l : List ℕ). key.seals header number true l) (take-take (len - from) (length buffer - from) (drop from buffer) (omega (arith, fits)) ∙ plain_is key.header number from len buffer first later le)
 
 pub sgo_begins : (key : SegmentCipher) (header : List ℕ) (source : SourceState) (old new : SinkState) (held : List ℕ) → held ≡ header → Took old new header → SealGoing key header false source source old new held 0
 sgo_begins key header source old new held e took = record { more = []; out = header; gave = gave_nothing source; took = took; stands = subst (λ (l : List ℕ). SealStanding key header [] 0 l header) (sym e) (sealing_begins key header); end = λ n. absurd cc }

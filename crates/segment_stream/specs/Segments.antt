@@ -1,9 +1,7 @@
 -- The two ciphers of segments of Tink's streaming AEAD, AES-GCM-HKDF and AES-CTR-HMAC. A stream
--- begins
--- with its header: a byte with the header's length, the salt, and the nonce prefix of 7 bytes.
+-- begins with its header: a byte with the header's length, the salt, and the nonce prefix of 7 bytes.
 --
---   material        what HKDF derives from the key value, under the salt and for the associated
--- data
+--   material        what HKDF derives from the key value, under the salt and for the associated data
 --   keys_of         the keys of the stream with that header
 --   nonce           nonce prefix, number and last, which each segment has its own of
 --   seals_under     a segment under the keys of its stream
@@ -23,8 +21,7 @@ use Rattle.segment_stream.specs.declared.key.SegmentScheme.TheVariants as scheme
 use Rattle.segment_stream.specs.declared.segments.SegmentKeys.{SegmentKeys}
 use Rattle.segment_stream.specs.declared.segments.SegmentKeys.TheVariants as keys_for
 
--- the bytes of the header: its length byte, the salt, which is as long as a derived AES key, and
--- the
+-- the bytes of the header: its length byte, the salt, which is as long as a derived AES key, and the
 -- nonce prefix
 abbrev pub header_size : StreamKey → ℕ
 header_size key = key.derived + 8
@@ -78,6 +75,7 @@ seals_under (keys_for.Gcm key) prefix number last plain =
 seals_under (keys_for.CtrHmac keys) prefix number last plain =
     segment_seal keys.aes keys.hash keys.mac keys.tag_size (start_of prefix number last) plain
 
+-- the plaintext of a segment, or none where it has fewer bytes than a tag or another tag
 unfoldable pub opens_under : SegmentKeys → (prefix : List ℕ) → ℕ → Bool → List ℕ → Option (List ℕ)
 opens_under (keys_for.Gcm key) prefix number last segment =
     opened_with (gcm_text key (nonce prefix number last))

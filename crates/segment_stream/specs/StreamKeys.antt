@@ -88,9 +88,11 @@ unfit_records place records =
     filter_map (λ x. option_map (λ why. (x.0, why)) (unfit_record x.1))
     (enumerate_from place records)
 
+-- the first ENABLED record that gives no key of streams, by its place, and why; none where each gives one
 unfoldable pub stream_unfit : Keys → Option (ℕ × StreamUnfit)
 stream_unfit keys = slice_get (unfit_records 0 keys.records) 0
 
+-- the keys of streams of the ENABLED records, in their order
 unfoldable pub stream_keys : Keys → List StreamKey
 stream_keys keys = filter_map key_in keys.records
 
@@ -99,6 +101,7 @@ abbrev pub given_by : Option Record → Option StreamKey
 given_by None = None
 given_by (Some r) = given (stream_key_of r)
 
+-- the key of streams of the primary record, where it gives one
 unfoldable pub primary_key : Keys → Option StreamKey
 primary_key keys = given_by (primary_of keys)
 

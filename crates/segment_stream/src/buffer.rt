@@ -93,6 +93,21 @@ pub(crate) fn lengthen(buffer: &mut Buffer, count: usize)
     }
 }
 
+/// Adds zero bytes until the buffer has so many, if it hasn't. No memory is taken: its block has room
+/// for them, and stays.
+pub(crate) fn lengthen_to(buffer: &mut Buffer, end: usize)
+    requires room { end ≤ vec_capacity buffer.old.bytes }
+    ensures len { end ≤ vec_len buffer.new.bytes }
+    ensures longer { vec_len buffer.old.bytes ≤ vec_len buffer.new.bytes }
+    ensures kept { take (vec_len buffer.old.bytes) buffer.new.bytes.items ≡ buffer.old.bytes.items }
+    ensures in_place { IsInPlace buffer.old.bytes buffer.new.bytes }
+{
+    let there = buffer.bytes.len();
+    if there < end {
+        lengthen(buffer, end - there);
+    }
+}
+
 /// Reads once behind the first `len` bytes, up to `end`, as `fill` does. A buffer of no more than
 /// `len` bytes is lengthened first, by at most `STEP`. No memory is taken: its block stays.
 fn fill_reserved<S: Source>(

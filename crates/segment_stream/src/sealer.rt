@@ -11,7 +11,7 @@ ghost use Rattle.segment_stream.specs.Segments.{seals_under, tag_size_under};
 ghost use Rattle.segment_stream.specs.StreamKeys.{largest_of};
 ghost use Rattle.segment_stream.specs.Streams.{IsUnder};
 
-use crate::buffer::{Buffer, fill, fill_until, lengthen, turn};
+use crate::buffer::{Buffer, fill, fill_until, lengthen, lengthen_to};
 use crate::segments::{LAST_NUMBER, Stream};
 use crate::{SealPumpFault, StreamKeys};
 use std::alloc::Global;
@@ -101,7 +101,8 @@ impl Sealer {
     /// taken. `ReadFault` comes only where the source failed, and `WriteFault` only where the sink
     /// failed: then a front of what the bytes taken seal was written, and with every other answer
     /// exactly that. Nothing is read after the end was seen, and nothing that failed is tried
-    /// again. No memory is taken.
+    /// again. No memory is taken. A segment and its tag are handed to the sink together, which no
+    /// clause says.
     pub fn pump<S: Source, K: Sink>(self, source: &mut S, sink: &mut K) -> Result<(), SealPumpFault>
         ensures pumps { (cipher : SegmentCipher) → SealsUnder self cipher
             → Pumps (sealing cipher self.header) [] [] false (pump_result result)
@@ -139,34 +140,32 @@ fn draw_header<E: Entropy>(buffer: &mut [u8], header: usize, entropy: &mut E) ->
     }
 }
 
-/// Seals a segment in its place, and writes it with its tag.
+/// Seals the first `plain` bytes as a segment in their place, puts its tag behind them, over what stood
+/// there, and writes both at once.
 fn write_sealed<K: Sink>(
     stream: &mut Stream,
     number: u64,
     last: bool,
-    segment: &mut [u8],
+    bytes: &mut [u8],
+    plain: usize,
     sink: &mut K,
 ) -> Result<(), Failed>
     requires number { number < 2 ^ 32 }
-    requires bound { length segment.old ≤ 2 ^ 31 }
+    requires bound { plain ≤ 2 ^ 31 }
+    requires room { plain + tag_size_under stream.old.keys ≤ length bytes.old }
     ensures stream { stream.new ≡ stream.old }
     ensures all { OnOk result (Took (K.state sink.old) (K.state sink.new)
-        (seals_under stream.old.keys stream.old.prefix number last segment.old)) }
+        (seals_under stream.old.keys stream.old.prefix number last (take plain bytes.old))) }
     ensures no_fault { OnOk result (Stood (K.state sink.old).faults (K.state sink.new).faults) }
     ensures failed { OnErr result (Rose (K.state sink.old).faults (K.state sink.new).faults) }
     ensures once { OnErr result (RoseOnce (K.state sink.old).faults (K.state sink.new).faults) }
     ensures prefix { OnErr result (TookPrefix (K.state sink.old) (K.state sink.new)
-        (seals_under stream.old.keys stream.old.prefix number last segment.old)) }
+        (seals_under stream.old.keys stream.old.prefix number last (take plain bytes.old))) }
 {
-    let mut longest = [0; 64];
-    let size = stream.tag_size();
-    stream.seal(number, last, segment, &mut longest[..size]);
-    // in two calls, since the byte that follows the segment lies where its tag would go
-    match write_all(sink, segment) {
-        Ok(()) => {}
-        Err(_) => return Err(Failed),
-    }
-    match write_all(sink, &longest[..size]) {
+    let end = plain + stream.tag_size();
+    let (segment, behind) = bytes.split_at_mut(plain);
+    stream.seal(number, last, segment, &mut behind[..end - plain]);
+    match write_all(sink, &bytes[..end]) {
         Ok(()) => Ok(()),
         Err(_) => Err(Failed),
     }
@@ -201,24 +200,21 @@ fn seal_behind<S: Source, K: Sink>(
     ensures shown { ShowsFaults (pump_result result) (S.state source.old) (S.state source.new)
         (K.state sink.old) (K.state sink.new) }
 {
-    let size = stream.size() - stream.tag_size();
+    let tag = stream.tag_size();
+    let size = stream.size() - tag;
     match fill_until(source, buffer, header, size + 1) {
-        Ok(len) => seal_rest(
-            stream,
-            header,
-            buffer.as_mut_slice(),
-            len,
-            len <= size,
-            source,
-            sink,
-        ),
+        Ok(len) => {
+            lengthen_to(buffer, len + tag);
+            let bytes = buffer.as_mut_slice();
+            seal_rest(stream, header, bytes, len, len <= size, source, sink)
+        }
         Err(_) => Err(SealPumpFault::ReadFault),
     }
 }
 
 /// Seals a stream whose header was written, when the first `held` bytes of the buffer are the header
-/// and what was taken, up to the end or not. Where the end wasn't seen, the buffer has room for one
-/// byte more than the plaintext of a segment.
+/// and what was taken, up to the end or not, and at most one byte more than the plaintext of a segment.
+/// The buffer has room for them and a tag, and where the end wasn't seen for one byte more than a segment.
 fn seal_rest<S: Source, K: Sink>(
     stream: &mut Stream,
     header: usize,
@@ -229,10 +225,10 @@ fn seal_rest<S: Source, K: Sink>(
     sink: &mut K,
 ) -> Result<(), SealPumpFault>
     requires segment { header + tag_size_under stream.old.keys < stream.old.size }
-    requires fits { whole ≡ false
-        → stream.old.size - tag_size_under stream.old.keys + 1 ≤ length buffer.old }
+    requires fits { whole ≡ false → stream.old.size + 1 ≤ length buffer.old }
     requires front { header ≤ held }
-    requires within { held ≤ length buffer.old }
+    requires short { held ≤ stream.old.size - tag_size_under stream.old.keys + 1 }
+    requires within { held + tag_size_under stream.old.keys ≤ length buffer.old }
     requires end { whole ≡ true → IsAtEnd (S.state source.old) }
     ensures pumps { (cipher : SegmentCipher) (was : SourceState) (old : SinkState)
         → IsUnder stream.old cipher (take header buffer.old)
@@ -252,7 +248,16 @@ fn seal_rest<S: Source, K: Sink>(
     loop {
         let from = plain_from(number, header);
         if len > size {
-            match write_sealed(stream, number, false, &mut buffer[from..size], sink) {
+            // the tag takes the place of the byte that follows, which then goes to the front
+            let next = buffer[size];
+            match write_sealed(
+                stream,
+                number,
+                false,
+                &mut buffer[from..],
+                size - from,
+                sink,
+            ) {
                 Ok(()) => {}
                 Err(_) => return Err(SealPumpFault::WriteFault),
             }
@@ -260,10 +265,10 @@ fn seal_rest<S: Source, K: Sink>(
             if number > LAST_NUMBER {
                 return Err(SealPumpFault::TooManySegments);
             }
-            turn(buffer, size, len);
-            len -= size;
+            buffer[0] = next;
+            len = 1;
         } else if ended {
-            return match write_sealed(stream, number, true, &mut buffer[from..len], sink) {
+            return match write_sealed(stream, number, true, &mut buffer[from..], len - from, sink) {
                 Ok(()) => Ok(()),
                 Err(_) => Err(SealPumpFault::WriteFault),
             };

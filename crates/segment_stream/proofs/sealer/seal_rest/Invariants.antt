@@ -16,6 +16,8 @@ invariant-loop-len g l = record {
   size : l.size ≡ l.fn.stream.size - tag_size_under l.fn.stream.keys;
   same : length l.buffer ≡ length l.fn.buffer;
   len : l.len ≤ length l.buffer;
+  room : l.len + tag_size_under l.fn.stream.keys ≤ length l.buffer;
+  short : l.len ≤ l.size + 1;
   head : l.number ≡ 0 → l.fn.header ≤ l.len;
   most : l.number ≤ 4294967295;
   still : l.fn.whole ≡ true → (l.ended ≡ true) × (g.S.Source.state l.source ≡ g.S.Source.state l.fn.source);
