@@ -42,6 +42,15 @@ impl Calls {
         }
     }
 
+    /// As many bytes at a time as are asked for, and the write of this number fails, from 1.
+    pub(crate) fn whole_up_to(number: u64) -> Calls {
+        Calls {
+            piece: ROOM,
+            read: 0,
+            write: number,
+        }
+    }
+
     /// A byte at a time, and the write behind so many bytes fails.
     pub(crate) fn full_behind(size: usize) -> Calls {
         Calls {

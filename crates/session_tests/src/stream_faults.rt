@@ -89,6 +89,37 @@ fn fails_at_each_write_in_turn(rt: HostRuntime) -> Result<(), Fail> {
     Ok(())
 }
 
+// The same stream over a sink that takes all it is handed: the write that fails, from 1, how many bytes are
+// written before, and how the pass ends. Sealing, the header of 24 bytes is one write, and each of the five
+// segments one with its tag, up to 42, 84, 126, 168 and 189 bytes; opening, each plaintext is one write, of 2,
+// 26, 26, 26 and 5 bytes.
+#[test]
+fn writes_each_segment_at_once(rt: HostRuntime) -> Result<(), Fail> {
+    let case = first_case(rt.alloc())?;
+    for (number, size, end) in [
+        (1, 0, "WriteFault"),
+        (2, 24, "WriteFault"),
+        (3, 42, "WriteFault"),
+        (4, 84, "WriteFault"),
+        (5, 126, "WriteFault"),
+        (6, 168, "WriteFault"),
+        (7, 189, "done"),
+    ] {
+        run_sealing(rt.alloc(), &case, Calls::whole_up_to(number), size, end)?;
+    }
+    for (number, size, end) in [
+        (1, 0, "WriteFault"),
+        (2, 2, "WriteFault"),
+        (3, 28, "WriteFault"),
+        (4, 54, "WriteFault"),
+        (5, 80, "WriteFault"),
+        (6, 85, "done"),
+    ] {
+        run_opening(rt.alloc(), &case, Calls::whole_up_to(number), size, end)?;
+    }
+    Ok(())
+}
+
 // Draws the header over so many random bytes: how many are left, and whether they sufficed.
 fn run_draws(alloc: Global, size: usize, left: usize, suffices: bool) -> Result<(), Fail> {
     let keys = keys_named(alloc, "GCM")?;
