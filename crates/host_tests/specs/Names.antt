@@ -5,6 +5,7 @@ use Rattle.real_objects.specs.Naming as stage
 use Rattle.host_tests.specs.declared.came.Came.{Came}
 use Rattle.host_tests.specs.declared.came.Came.TheVariants as came
 
+-- the stage that a test's mark stands for
 abbrev pub stage_of : Came → Stage
 stage_of came.Free = stage.Free
 stage_of came.Taken = stage.Taken

@@ -2,6 +2,8 @@
 //! that a signal interrupts, and exit codes. There is no code here but tests, and a type of one.
 #![tactic(auto)]
 
+#[cfg(test)]
+mod ahead;
 pub mod came;
 #[cfg(test)]
 mod codes;

@@ -1,8 +1,8 @@
 -- A slice that is filled from a stream, part by part.
-use Rattle.std.proofs.Common.{◌≡◌, ℕ, ◌+◌, ◌-◌, ◌≤◌, List, ◌++◌, Option, arith, length, take, slice_range, sym, ap, ◌∙◌, subst, le_refl, drop_at, length-take-le}
+use Rattle.std.proofs.Common.{◌≡◌, ℕ, ◌+◌, ◌-◌, ◌≤◌, List, ◌++◌, Option, arith, length, take, slice_range, sym, ap, ◌∙◌, subst, le_refl, drop_at, length-take-le, Some, None, append_assoc, Result, Ok, Err, OnErr}
 use Rattle.std.proofs.lemmas.List.{length-take, length-append}
 use Rattle.std.proofs.lemmas.Slice.{take-put_mid_below}
-use Rattle.std.specs.Io.KnownBytes.{Consumes, Keeps}
+use Rattle.std.specs.Io.KnownBytes.{Consumes, Keeps, prepend_known}
 use Rattle.std.proofs.KnownBytes.{Consumes-trans, Consumes-kept}
 use borrow.Rule.Slice.PartMut.{put_mid, post_of}
 use lib.Seq.{take-add, take-append-le}
@@ -39,4 +39,18 @@ gone_at_the_end a b c at n out part none before read = record {
   skipped = take at out ++ take n part;
   within = omega (arith, none, length-append (take at out) (take n part), length-take at out, length-take n part);
   gone = Consumes-trans a b c (take at out) (take n part) before read;
+}
+
+-- what was held and handed out is gone from what is left
+held_first : (a : Option (List ℕ)) (old new front : List ℕ) → old ≡ front ++ new → Consumes (prepend_known old a) (prepend_known new a) front
+held_first None old new front is = tt
+held_first (Some x) old new front is = ap (λ l. l ++ x) is ∙ append_assoc front new x
+
+-- what is gone where the front of a slice was held, and its rest wasn't filled
+pub gone_behind : {T E : Type 0} (result : Result T E) (a c : Option (List ℕ)) (old new : List ℕ) (n most : ℕ) (out : List ℕ) → n ≤ length out → n + most ≤ length out → old ≡ take n out ++ new → OnErr result (Skips (prepend_known new a) c most) → OnErr result (Skips (prepend_known old a) c (length out))
+gone_behind (Ok _) a c old new n most out within room is gone = tt
+gone_behind (Err _) a c old new n most out within room is gone = record {
+  skipped = take n out ++ gone.skipped;
+  within = omega (arith, room, length-append (take n out) gone.skipped, length-take-le n out within, gone.within);
+  gone = Consumes-trans _ _ _ _ _ (held_first a old new (take n out) is) gone.gone;
 }

@@ -1,4 +1,5 @@
 pub mod KnownBytes
 pub mod ListedWords
 pub mod FillingSlices
+pub mod DrawnAhead
 pub mod KeptNames

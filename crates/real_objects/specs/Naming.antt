@@ -11,6 +11,7 @@ use Rattle.tink_base.specs.declared.store.Created.TheVariants as created
 use Rattle.tink_base.specs.declared.store.StoreError.{StoreError}
 use Rattle.tink_base.specs.declared.store.StoreError.TheVariants as error
 
+-- how far a name has come, by what the calls on it have answered
 pub data Stage : Type 0 where
   -- no file of ours has the name, and no call has said that another one has it
   Free : Stage

@@ -1,15 +1,16 @@
-//! The random bytes of a device, which is opened at the first fill and kept.
+//! The random bytes of a device, which is opened at the first fill and kept. Small draws are served from
+//! bytes that were drawn ahead (`ahead`).
 //!
 //! The entropy tells no bytes of its own and isn't steady; the clauses of what fills a slice speak of the
 //! bytes of the device, where it knows them.
 
-ghost use Rattle.std.specs.Prelude.{◌≡◌, ◌≤◌, ℕ, List, [], Option, None, length, IfOk, OnOk, OnErr};
+ghost use Rattle.std.specs.Prelude.{◌≡◌, ◌≤◌, ℕ, List, [], Option, None, length, IfOk, IfSome, IsOk, OnOk, OnErr};
 ghost use Rattle.std.specs.Io.KnownBytes.{Consumes, Keeps};
 ghost use Rattle.tink_spec.specs.Outside.{Drew, RanShort, RoseOnce, Stood};
 ghost use Rattle.real_objects.specs.Streams.{untold_entropy};
-ghost use Rattle.real_objects.specs.Device.{device_left, Skips};
+ghost use Rattle.real_objects.specs.Device.{device_left, drawn_ahead, Skips};
 
-use crate::streams::read_through_signals;
+use crate::ahead::Ahead;
 use std::fs::{self, File, Metadata};
 use std::io::{self, ErrorKind, Read};
 use std::os::unix::fs::{FileTypeExt, MetadataExt};
@@ -75,11 +76,16 @@ fn is_random(found: &Metadata) -> bool {
     found.file_type().is_char_device() && found.rdev() == NUMBER
 }
 
-/// The random bytes of a device.
+/// The random bytes of a device, each of which is drawn once and in order. Up to 1,024 of them are drawn ahead
+/// for draws of at most 64 bytes, so that a read of the device serves many of these.
+///
+/// So bytes of IVs, key ids and keys that are still to be made lie in this value from one draw to the next.
+/// Those that a draw gave are overwritten here with zeros. Those that no draw took aren't, and are gone with
+/// the value.
 #[derive(Drop)]
 pub struct FileEntropy<O: Opens> {
     opener: O,
-    device: Option<O::Device>,
+    device: Option<Ahead<O::Device>>,
     faults: u64,
 }
 
@@ -95,7 +101,8 @@ impl<O: Opens> FileEntropy<O> {
         }
     }
 
-    /// Fills `out` with the next bytes. The device is opened where it isn't yet, and kept.
+    /// Fills `out` with the next bytes. The device is opened where it isn't yet, and kept, with what was drawn
+    /// ahead.
     fn draw(&mut self, out: &mut [u8]) -> io::Result<()>
         ensures filled { OnOk result
             (Consumes (device_left O.given O.Device.remaining self.old)
@@ -103,15 +110,14 @@ impl<O: Opens> FileEntropy<O> {
         ensures goes_on { OnErr result
             (Skips (device_left O.given O.Device.remaining self.old)
             (device_left O.given O.Device.remaining self.new) (length out.old)) }
+        ensures enough { IfSome (drawn_ahead self.old)
+            (λ held. length out.old ≤ length held → IsOk result) }
         ensures faults { self.new.faults ≡ self.old.faults }
     {
-        let mut device = match self.device.take() {
-            Some(device) => device,
-            None => self.opener.open()?,
-        };
-        let filled = fill_from(&mut device, out);
-        self.device = Some(device);
-        filled
+        match &mut self.device {
+            Some(device) => device.fill(out),
+            none => none.insert(Ahead::new(self.opener.open()?)).fill(out),
+        }
     }
 }
 
@@ -136,6 +142,10 @@ impl<O: Opens> Entropy for FileEntropy<O> {
         ensures goes_on { OnErr result
             (Skips (device_left O.given O.Device.remaining self.old)
             (device_left O.given O.Device.remaining self.new) (length out.old)) }
+
+        // What was drawn ahead is given, whatever becomes of the device.
+        ensures enough { IfSome (drawn_ahead self.old)
+            (λ held. length out.old ≤ length held → IsOk result) }
     {
         match self.draw(out) {
             Ok(()) => Ok(()),
@@ -145,22 +155,4 @@ impl<O: Opens> Entropy for FileEntropy<O> {
             }
         }
     }
-}
-
-/// Fills `out` with the next bytes of a device. Where it fails some of these bytes may be gone.
-fn fill_from<R: Read>(device: &mut R, out: &mut [u8]) -> io::Result<()>
-    ensures filled { OnOk result
-        (Consumes (R.remaining device.old) (R.remaining device.new) out.new) }
-    ensures goes_on { OnErr result
-        (Skips (R.remaining device.old) (R.remaining device.new) (length out.old)) }
-{
-    let mut at = 0;
-    while at < out.len() {
-        match read_through_signals(device, &mut out[at..]) {
-            Ok(0) => return Err(io::Error::from(ErrorKind::UnexpectedEof)),
-            Ok(n) => at += n,
-            Err(error) => return Err(error),
-        }
-    }
-    Ok(())
 }

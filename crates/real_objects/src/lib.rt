@@ -5,6 +5,7 @@
 //! alone is one call each.
 #![tactic(auto)]
 
+mod ahead;
 mod args;
 mod entropy;
 mod folder;

@@ -1,6 +1,6 @@
 use Rattle.std.proofs.Common.{arith, rules}
 use Rattle.real_objects.proofs.FillingSlices.{filled_on, gone_so_far, gone_at_the_end}
-use Rattle.real_objects.proofs.entropy.fill_from.Goals as goal
+use Rattle.real_objects.proofs.ahead.fill_from.Goals as goal
 
 pub returns-in-Ok-eq0-clause-goes_on : goal.returns-in-Ok-eq0-clause-goes_on
 returns-in-Ok-eq0-clause-goes_on g c =

@@ -1,6 +1,6 @@
 use Rattle.std.proofs.Common.{◌≤◌, ◌-◌, length, take}
 use Rattle.std.specs.Io.KnownBytes.{Consumes}
-use Rattle.real_objects.proofs.entropy.fill_from.Given as goal
+use Rattle.real_objects.proofs.ahead.fill_from.Given as goal
 
 abbrev pub decreases-loop-at : goal.decreases-loop-at
 decreases-loop-at g l = length l.out - l.at

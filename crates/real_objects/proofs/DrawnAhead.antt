@@ -1,0 +1,25 @@
+-- Bytes that are held in a part of an array, and handed out from its front.
+use Rattle.std.proofs.Common.{◌≡◌, ℕ, ◌+◌, ◌-◌, ◌≤◌, List, ◌++◌, arith, length, take, drop, replicate, slice_range, sym, ap, ◌∙◌}
+use Rattle.std.proofs.lemmas.List.{replicate-append-replicate, take_at, drop-drop}
+use Rattle.std.proofs.lemmas.Slice.{take-put_mid, drop-put_mid}
+use borrow.Rule.Slice.PartMut.{put_mid}
+use lib.Seq.{take-add}
+
+-- what was handed out is zeros, those before it and those that were put over it
+pub zeros_on : (a k n : ℕ) (bytes over : List ℕ) → a ≤ length bytes → length over ≡ n → over ≡ replicate n 0 → take a bytes ≡ replicate a 0 → take (a + n) (put_mid a k bytes over) ≡ replicate (a + n) 0
+zeros_on a k n bytes over within size zeros before =
+    take-put_mid a k bytes over (a + n) (omega (arith, size)) within
+    ∙ ap (λ l. l ++ over) before
+    ∙ ap (λ l. replicate a 0 ++ l) zeros
+    ∙ replicate-append-replicate a n 0
+
+-- what was held is what was handed out, and then what is held
+pub handed_out : (a k n to : ℕ) (bytes over given rest : List ℕ) → a ≤ length bytes → k ≡ n → length over ≡ n → a + n ≤ to → length given ≡ n → given ≡ take n (drop a bytes) → slice_range bytes a to ≡ take n (given ++ rest) ++ slice_range (put_mid a k bytes over) (a + n) to
+handed_out a k n to bytes over given rest within room size fits long is =
+    let whole : n + (to - (a + n)) ≡ to - a = omega (arith, fits) in
+    let behind : drop (a + n) (put_mid a k bytes over) ≡ drop n (drop a bytes) = drop-put_mid a k bytes over (a + n) (omega (arith, room)) within (omega (arith, room, size)) ∙ sym (drop-drop n a bytes) in
+    let front : take n (given ++ rest) ≡ take n (drop a bytes) = take_at given rest n long ∙ is in
+    ap (λ m. take m (drop a bytes)) (sym whole)
+    ∙ take-add n (to - (a + n)) (drop a bytes)
+    ∙ ap (λ l. take n (drop a bytes) ++ take (to - (a + n)) l) (sym behind)
+    ∙ ap (λ l. l ++ slice_range (put_mid a k bytes over) (a + n) to) (sym front)
