@@ -113,7 +113,7 @@ impl<R: Read> Ahead<R> {
             (ahead_left R.remaining self.new) out.new) }
         ensures goes_on { OnErr result (Skips (ahead_left R.remaining self.old)
             (ahead_left R.remaining self.new) (length out.old)) }
-        ensures enough { length out.old ≤ length (self.old).held → IsOk result }
+        ensures enough { length out.old ≤ length self.old.held → IsOk result }
     {
         let n = self.held.hand_out(out);
         fill_from(self, &mut out[n..])

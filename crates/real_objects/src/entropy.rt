@@ -76,8 +76,8 @@ fn is_random(found: &Metadata) -> bool {
     found.file_type().is_char_device() && found.rdev() == NUMBER
 }
 
-/// The random bytes of a device, each of which is drawn once and in order. Up to 1,024 of them are drawn ahead
-/// for draws of at most 64 bytes, so that a read of the device serves many of these.
+/// The random bytes of a device, each of which is drawn once and in order. Where at most 64 are wanted and none
+/// are held, one read of the device draws up to 1,024 ahead, which serve the next draws.
 ///
 /// So bytes of IVs, key ids and keys that are still to be made lie in this value from one draw to the next.
 /// Those that a draw gave are overwritten here with zeros. Those that no draw took aren't, and are gone with
