@@ -1,17 +1,18 @@
 -- The options of a run fit their command, and options that fit are a run; so words are accepted exactly
 -- where they spell a command and options that fit it, or ask for help or for the version.
 use Rattle.std.proofs.Common.{◌≡◌, ◌⊎◌, ◌∙◌, sym, refl, ap, subst, inl, inr, ℕ, ◌+◌, Bool, true, false, List, [], ◌∷◌, ◌++◌, length, Option, Some, None, Ok, Err, Result}
-use Rattle.std.specs.Prelude.{◌&&◌, ◌||◌, is_some, if◌then◌else◌}
-use Rattle.std.specs.List.{AllByRecursion, flat_map, list_all}
+use Rattle.std.specs.Prelude.{◌||◌, is_some, not, if◌then◌else◌}
+use Rattle.std.specs.List.{AllByRecursion, flat_map}
 use Rattle.std.proofs.Math.Path.{fun_ext}
-use Rattle.tink_spec.specs.Messages.{◌>>=◌}
 use Rattle.tinkey_words.specs.declared.words.help.First.{First}
 use Rattle.tinkey_words.specs.declared.words.help.First.TheVariants as firsts
 use Rattle.tinkey_words.specs.declared.words.help.Topic.TheVariants as topics
+use Rattle.tinkey_words.specs.declared.words.misuse.Misfit.TheVariants as misfits
+use Rattle.tinkey_words.specs.declared.words.misuse.Misuse.{Misuse}
 use Rattle.tinkey_words.specs.declared.words.rows.CommandName.{CommandName}
 use Rattle.tinkey_words.specs.declared.words.rows.OptionName.{OptionName}
 use Rattle.tinkey_words.specs.Rows.{row_of, form_for, rival, same, is_one_of}
-use Rattle.tinkey_words.specs.Words.{Asked, Values, asked_with, Options, is_given, is_excluded, is_barred, put, options_of, no_options, given_in, has_required, complete, with_options, is_help_flag, help, version, first_of, by_itself, command_words, asked_of, words_of}
+use Rattle.tinkey_words.specs.Words.{◌>>=◌, Asked, Values, asked_with, Options, is_given, is_excluded, is_barred, put, options_of, no_options, given_in, lacking, lacking_none, misuse_at, complete, with_options, is_help_flag, help, version, first_of, by_itself, command_words, asked_of, words_of}
 use Rattle.tinkey_words.specs.Grammar.{IsValue, Spelling, spelled, IsGiven, IsOnce, AreApart, IsOneOf, Fits, values_of, Spells, Helps, the_list, its_help, the_version, WordsAreSpelled}
 use Rattle.tinkey_words.proofs.HelpLemmas.{first_found, first_is, flag_is, options_behind, alone_accepted, help_asked, helps_accepted}
 use Rattle.tinkey_words.proofs.RowLemmas.{same_self, same_is, are_rivals}
@@ -117,7 +118,7 @@ given_there name given [] there = absurd there
 given_there name given (s ∷ run) (inl same) = given_stays name (put s.name s.value given) run (subst (λ (n : OptionName). is_given n (put s.name s.value given) ≡ true) same (put_there s.name s.value given))
 given_there name given (s ∷ run) (inr later) = given_there name (put s.name s.value given) run later
 
-all_there : (names : List OptionName) (run : List Spelling) → AllByRecursion (λ name. IsGiven name run) names → list_all (λ name. is_given name (all_put no_options run)) names ≡ true
+all_there : (names : List OptionName) (run : List Spelling) → AllByRecursion (λ name. IsGiven name run) names → lacking names (all_put no_options run) ≡ None
 all_there [] run there = refl
 all_there (name ∷ names) run there = rw (given_there name no_options run there.0) (all_there names run there.1)
 
@@ -166,7 +167,7 @@ spelled_accepted words asked spells =
     ap words_of spells.are
     ∙ ap (λ (first : Option First). asked_of first (flat_map spelled spells.given)) (first_found command)
     ∙ options_behind command spells.given
-    ∙ ap (λ (r : Result Options ℕ). r >>= complete command (1 + length (flat_map spelled spells.given))) taken
+    ∙ ap (λ (r : Result Options Misuse). r >>= complete command (1 + length (flat_map spelled spells.given))) taken
     ∙ done
 
 -- From a run to options that fit.
@@ -213,25 +214,24 @@ there_of : (name : OptionName) (given : Options) (run : List Spelling) → is_gi
 there_of name given [] was is = let clash : false ≡ true = sym was ∙ is in absurd (cc)
 there_of name given (s ∷ run) was is = there_at name given s run _ refl was (λ now. there_of name (put s.name s.value given) run now is)
 
-both : (a b : Bool) → (a && b) ≡ true → (a ≡ true) × (b ≡ true)
-both true true is = (refl, refl)
-both true false is = absurd (cc)
-both false b is = absurd (cc)
+lack_none : (b : Bool) (name : OptionName) (later : Option OptionName) → (if not b then Some name else later) ≡ None → (b ≡ true) × (later ≡ None)
+lack_none true name later is = (refl, is)
+lack_none false name later is = let clash : Some name ≡ None = is in absurd (cc)
 
-all_of : (names : List OptionName) (run : List Spelling) → list_all (λ name. is_given name (all_put no_options run)) names ≡ true → AllByRecursion (λ name. IsGiven name run) names
+all_of : (names : List OptionName) (run : List Spelling) → lacking names (all_put no_options run) ≡ None → AllByRecursion (λ name. IsGiven name run) names
 all_of [] run is = tt
 all_of (name ∷ names) run is =
-    let here = both (is_given name (all_put no_options run)) (list_all (λ name. is_given name (all_put no_options run)) names) is in
+    let here = lack_none (is_given name (all_put no_options run)) name (lacking names (all_put no_options run)) is in
     (there_of name no_options run refl here.0, all_of names run here.1)
 
-complete_test : (b : Bool) (asks asked : Asked) (count : ℕ) → (if b then Ok asks else Err count) ≡ Ok asked → (b ≡ true) × (asked ≡ asks)
-complete_test true asks asked count is = (refl, let same : Ok asks ≡ Ok asked = is in cc)
-complete_test false asks asked count is = let clash : Err count ≡ Ok asked = is in absurd (cc)
+complete_test : (lack : Option OptionName) (command : CommandName) (count : ℕ) (given : Options) (asked : Asked) → lacking_none lack command count given ≡ Ok asked → (lack ≡ None) × (asked ≡ asked_with command given.values)
+complete_test None command count given asked is = (refl, let same : Ok (asked_with command given.values) ≡ Ok asked = is in cc)
+complete_test (Some name) command count given asked is = let clash : Err (misuse_at count (misfits.Lacks command name)) ≡ Ok asked = is in absurd (cc)
 
 -- a run of a complete command fits
 fits_of : (command : CommandName) (count : ℕ) (run : List Spelling) (asked : Asked) → Runs command no_options run → complete command count (all_put no_options run) ≡ Ok asked → Fits command run × (asked ≡ asked_with command (values_of run))
 fits_of command count run asked runs is =
-    let done = complete_test (has_required command (all_put no_options run)) (asked_with command (all_put no_options run).values) asked count is in (
+    let done = complete_test (lacking (row_of command).required (all_put no_options run)) command count (all_put no_options run) asked is in (
       record {
         once = once_of command no_options run runs;
         apart = apart_of command no_options run runs;
@@ -242,7 +242,7 @@ fits_of command count run asked runs is =
       done.1 ∙ ap (asked_with command) (values_run command run runs),
     )
 
-accepted_options : (command : CommandName) (words : List (List ℕ)) (asked : Asked) (r : Result Options ℕ) → options_of command 1 no_options words ≡ r → (r >>= complete command (1 + length words)) ≡ Ok asked → (run : List Spelling) × (words ≡ flat_map spelled run) × Fits command run × (asked ≡ asked_with command (values_of run))
+accepted_options : (command : CommandName) (words : List (List ℕ)) (asked : Asked) (r : Result Options Misuse) → options_of command 1 no_options words ≡ r → (r >>= complete command (1 + length words)) ≡ Ok asked → (run : List Spelling) × (words ≡ flat_map spelled run) × Fits command run × (asked ≡ asked_with command (values_of run))
 accepted_options command words asked (Err at) taken is = let clash : Err at ≡ Ok asked = is in absurd (cc)
 accepted_options command words asked (Ok last) taken is =
     let found = run_read command 1 no_options words last taken in
@@ -273,7 +273,7 @@ accepted_behind command name (word ∷ words) asked named is = by (is_help_flag 
     by false flag is = inl (accepted_named command name (word ∷ words) asked named is)
 
 accepted_first : (first : Option First) (name : List ℕ) (words : List (List ℕ)) (asked : Asked) → first_of name ≡ first → asked_of first words ≡ Ok asked → Spells (name ∷ words) asked ⊎ Helps (name ∷ words) asked
-accepted_first None name words asked named is = let clash : Err 0 ≡ Ok asked = is in absurd (cc)
+accepted_first None name words asked named is = let clash : Err (misuse_at 0 misfits.NoCommand) ≡ Ok asked = is in absurd (cc)
 accepted_first (Some firsts.Help) name words asked named is = inr (help_asked name words asked (first_is name firsts.Help named) is)
 accepted_first (Some firsts.HelpFlag) name words asked named is =
     let done = alone_accepted 1 (help topics.Commands) asked words is in
@@ -285,7 +285,7 @@ accepted_first (Some (firsts.Command command)) name words asked named is = accep
 
 accepted_spelled : (words : List (List ℕ)) (asked : Asked) → words_of words ≡ Ok asked → Spells words asked ⊎ Helps words asked
 unfolding words_of
-accepted_spelled [] asked is = let clash : Err 0 ≡ Ok asked = is in absurd (cc)
+accepted_spelled [] asked is = let clash : Err (misuse_at 0 misfits.NoCommand) ≡ Ok asked = is in absurd (cc)
 accepted_spelled (name ∷ words) asked is = accepted_first (first_of name) name words asked refl is
 
 both_accepted : (words : List (List ℕ)) (asked : Asked) → Spells words asked ⊎ Helps words asked → words_of words ≡ Ok asked

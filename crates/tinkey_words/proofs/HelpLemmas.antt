@@ -7,10 +7,11 @@ use Rattle.tinkey_words.specs.declared.words.help.First.{First}
 use Rattle.tinkey_words.specs.declared.words.help.First.TheVariants as firsts
 use Rattle.tinkey_words.specs.declared.words.help.Topic.{Topic}
 use Rattle.tinkey_words.specs.declared.words.help.Topic.TheVariants as topics
+use Rattle.tinkey_words.specs.declared.words.misuse.Misfit.TheVariants as misfits
 use Rattle.tinkey_words.specs.declared.words.rows.CommandName.{CommandName}
 use Rattle.tinkey_words.specs.declared.words.rows.OptionName.{OptionName}
 use Rattle.tinkey_words.specs.Rows.{row_of, command_of, option_row, option_of, is_flag}
-use Rattle.tinkey_words.specs.Words.{Asked, help, version, own_value, with_options, is_help_flag, is_version_word, topic_of, first_of, by_itself, topic_words, help_words, command_words, asked_of, words_of}
+use Rattle.tinkey_words.specs.Words.{Asked, help, version, own_value, with_options, is_help_flag, is_version_word, misuse_at, topic_of, first_of, by_itself, topic_words, help_words, command_words, asked_of, words_of}
 use Rattle.tinkey_words.specs.Grammar.{Spelling, spelled_as, spelled, IsHelpFlag, IsHelpWord, IsVersionWord, IsNameOf, Helps, the_list, a_topic, its_help, the_version}
 use Rattle.tinkey_words.proofs.RowLemmas.{same_text, command_found, command_named, option_found, own_joined}
 
@@ -194,10 +195,10 @@ helps_accepted words asked (the_version word is are asks) = ap words_of are ∙ 
 
 pub alone_accepted : (at : ℕ) (a asked : Asked) (words : List (List ℕ)) → by_itself at a words ≡ Ok asked → (words ≡ []) × (asked ≡ a)
 alone_accepted at a asked [] is = (refl, let same : Ok a ≡ Ok asked = is in cc)
-alone_accepted at a asked (word ∷ words) is = let clash : Err at ≡ Ok asked = is in absurd (cc)
+alone_accepted at a asked (word ∷ words) is = let clash : Err (misuse_at at misfits.TooMany) ≡ Ok asked = is in absurd (cc)
 
 topic_asked : (found : Option Topic) (first name : List ℕ) (words : List (List ℕ)) (asked : Asked) → first ≡ codes "help" → topic_of name ≡ found → topic_words found words ≡ Ok asked → Helps (first ∷ name ∷ words) asked
-topic_asked None first name words asked named found is = let clash : Err 1 ≡ Ok asked = is in absurd (cc)
+topic_asked None first name words asked named found is = let clash : Err (misuse_at 1 misfits.NoTopic) ≡ Ok asked = is in absurd (cc)
 topic_asked (Some topic) first name words asked named found is =
     let done = alone_accepted 2 (help topic) asked words is in
     a_topic topic name (topic_is name topic found) (ap (λ (w : List ℕ). w ∷ name ∷ words) named ∙ ap (λ (ws : List (List ℕ)). codes "help" ∷ name ∷ ws) done.0) done.1

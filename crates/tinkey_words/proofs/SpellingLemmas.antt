@@ -5,11 +5,12 @@ use Rattle.std.specs.List.{flat_map, position_or_len, before_first, after_first}
 use Rattle.std.proofs.lemmas.Bool.Decides.{nat_tests}
 use Rattle.std.proofs.lemmas.List.{take-append-drop}
 use Rattle.std.proofs.lemmas.List.Sums.{passes_at_first}
-use Rattle.tink_spec.specs.Messages.{◌>>=◌}
+use Rattle.tinkey_words.specs.declared.words.misuse.Misfit.TheVariants as misfits
+use Rattle.tinkey_words.specs.declared.words.misuse.Misuse.{Misuse}
 use Rattle.tinkey_words.specs.declared.words.rows.CommandName.{CommandName}
 use Rattle.tinkey_words.specs.declared.words.rows.OptionName.{OptionName}
-use Rattle.tinkey_words.specs.Rows.{option_row, option_of, form_for, takes, is_value, is_flag}
-use Rattle.tinkey_words.specs.Words.{Options, is_equals, own_value, is_barred, new_option, put, with_value, option_word, word_after, next_word, ended, options_of, alone}
+use Rattle.tinkey_words.specs.Rows.{option_row, option_of, form_for, rival, takes, is_value, is_flag}
+use Rattle.tinkey_words.specs.Words.{◌>>=◌, Options, is_equals, own_value, misuse_at, is_barred, bar, new_option, put, with_value, option_word, word_after, next_word, ended, options_of, alone}
 use Rattle.tinkey_words.specs.Grammar.{IsValue, Spelling, spelled_as, spelled}
 use Rattle.tinkey_words.proofs.FlagLemmas.{flag_form}
 use Rattle.tinkey_words.proofs.RowLemmas.{flag_empty, flag_formed, option_found, option_named, own_plain, own_joined, value_taken, value_formed, value_other}
@@ -41,21 +42,21 @@ own_cut word own is = own_test word own _ refl is
 with_taken : (command : CommandName) (name : OptionName) (value : List ℕ) (place : ℕ) (given : Options) → is_flag (option_row name).form ≡ false → IsValue (form_for name command) value → with_value command name value place given ≡ Ok (put name value given)
 with_taken command name value place given other formed = rw (value_taken (form_for name command) value (flag_form name command ∙ other) formed) refl
 
-form_test : (command : CommandName) (name : OptionName) (value : List ℕ) (b : Bool) (place : ℕ) (given more : Options) → is_value (form_for name command) value ≡ b → (if b then Ok (put name value given) else Err place) ≡ Ok more → IsValue (form_for name command) value × (more ≡ put name value given) × (is_flag (option_row name).form ≡ false)
-form_test command name value true place given more formed is = (value_formed (form_for name command) value formed, (let ok : Ok (put name value given) ≡ Ok more = is in cc), sym (flag_form name command) ∙ value_other (form_for name command) value formed)
-form_test command name value false place given more formed is = let clash : Err place ≡ Ok more = is in absurd (cc)
+form_test : (command : CommandName) (name : OptionName) (value : List ℕ) (b : Bool) (misuse : Misuse) (given more : Options) → is_value (form_for name command) value ≡ b → (if b then Ok (put name value given) else Err misuse) ≡ Ok more → IsValue (form_for name command) value × (more ≡ put name value given) × (is_flag (option_row name).form ≡ false)
+form_test command name value true misuse given more formed is = (value_formed (form_for name command) value formed, (let ok : Ok (put name value given) ≡ Ok more = is in cc), sym (flag_form name command) ∙ value_other (form_for name command) value formed)
+form_test command name value false misuse given more formed is = let clash : Err misuse ≡ Ok more = is in absurd (cc)
 
 with_formed : (command : CommandName) (name : OptionName) (value : List ℕ) (place : ℕ) (given more : Options) → with_value command name value place given ≡ Ok more → IsValue (form_for name command) value × (more ≡ put name value given) × (is_flag (option_row name).form ≡ false)
-with_formed command name value place given more is = form_test command name value _ place given more refl is
+with_formed command name value place given more is = form_test command name value _ (misuse_at place (misfits.BadValue command name)) given more refl is
 
 -- an option that is new and the command's is taken, and no other
 option_taken : (command : CommandName) (name : OptionName) (place : ℕ) (given : Options) → takes command name ≡ true → is_barred name given ≡ false → new_option command (Some name) place given ≡ Ok name
 option_taken command name place given taken new = rw (taken, new) refl
 
-option_test : (a b : Bool) (found name : OptionName) (place : ℕ) → (if a then (if b then Err place else Ok found) else Err place) ≡ Ok name → (a ≡ true) × (b ≡ false) × (found ≡ name)
-option_test true true found name place is = let clash : Err place ≡ Ok name = is in absurd (cc)
-option_test true false found name place is = (refl, refl, let ok : Ok found ≡ Ok name = is in cc)
-option_test false b found name place is = let clash : Err place ≡ Ok name = is in absurd (cc)
+option_test : (a b : Bool) (found name : OptionName) (untaken barred : Misuse) → (if a then (if b then Err barred else Ok found) else Err untaken) ≡ Ok name → (a ≡ true) × (b ≡ false) × (found ≡ name)
+option_test true true found name untaken barred is = let clash : Err barred ≡ Ok name = is in absurd (cc)
+option_test true false found name untaken barred is = (refl, refl, let ok : Ok found ≡ Ok name = is in cc)
+option_test false b found name untaken barred is = let clash : Err untaken ≡ Ok name = is in absurd (cc)
 
 -- what stands of an option that was taken: its text is its name, and it is the command's and new
 record Taken (command : CommandName) (text : List ℕ) (name : OptionName) (given : Options) : Type 0 where
@@ -64,9 +65,9 @@ record Taken (command : CommandName) (text : List ℕ) (name : OptionName) (give
   new : is_barred name given ≡ false
 
 option_is : (command : CommandName) (text : List ℕ) (found : Option OptionName) (place : ℕ) (given : Options) (name : OptionName) → option_of text ≡ found → new_option command found place given ≡ Ok name → Taken command text name given
-option_is command text None place given name named is = let clash : Err place ≡ Ok name = is in absurd (cc)
+option_is command text None place given name named is = let clash : Err (misuse_at place (misfits.NoOption command)) ≡ Ok name = is in absurd (cc)
 option_is command text (Some other) place given name named is =
-    let test = option_test (takes command other) (is_barred other given) other name place is in
+    let test = option_test (takes command other) (is_barred other given) other name (misuse_at place (misfits.NoOption command)) (misuse_at place (bar command other (rival other) given)) is in
     record {
       named = option_named text name (named ∙ ap (λ (n : OptionName). Some n) test.2);
       takes = subst (λ (n : OptionName). takes command n ≡ true) test.2 test.0;
@@ -95,7 +96,7 @@ joined_taken command first given name value rest waits taken new other formed =
     ap (λ (w : Option OptionName). word_after w command word first given) waits
     ∙ ap (λ (o : Option (List ℕ × List ℕ)). option_word command o word first given) (own_joined name value)
     ∙ joined_word command word first given name value taken new other formed in
-    ap (λ (r : Result Options ℕ). r >>= (λ more. options_of command (first + 1) more rest)) next
+    ap (λ (r : Result Options Misuse). r >>= (λ more. options_of command (first + 1) more rest)) next
 
 name_word : (command : CommandName) (first : ℕ) (given : Options) (name : OptionName) → takes command name ≡ true → is_barred name given ≡ false → option_word command None ((option_row name).word) first given ≡ Ok (alone (is_flag (option_row name).form) name given)
 name_word command first given name taken new = rw (option_found name, taken, new) refl
@@ -111,8 +112,8 @@ apart_taken command first given name value rest waits taken new other formed =
     ∙ ap (λ (b : Bool). Ok (alone b name given)) other in
     let then_value : with_value command name value (first + 1) mid ≡ Ok (put name value given) =
     with_taken command name value (first + 1) mid other formed in
-    ap (λ (r : Result Options ℕ). r >>= (λ more. options_of command (first + 1) more (value ∷ rest))) next
-    ∙ ap (λ (r : Result Options ℕ). r >>= (λ more. options_of command (first + 1 + 1) more rest)) then_value
+    ap (λ (r : Result Options Misuse). r >>= (λ more. options_of command (first + 1) more (value ∷ rest))) next
+    ∙ ap (λ (r : Result Options Misuse). r >>= (λ more. options_of command (first + 1 + 1) more rest)) then_value
 
 -- a flag is taken by its word
 flag_taken : (command : CommandName) (first : ℕ) (given : Options) (name : OptionName) (rest : List (List ℕ)) → given.waiting ≡ None → takes command name ≡ true → is_barred name given ≡ false → is_flag (option_row name).form ≡ true → options_of command first given ((option_row name).word ∷ rest) ≡ options_of command (first + 1) (put name [] given) rest
@@ -123,7 +124,7 @@ flag_taken command first given name rest waits taken new flag =
     ∙ ap (λ (o : Option (List ℕ × List ℕ)). option_word command o word first given) (own_plain name)
     ∙ name_word command first given name taken new
     ∙ ap (λ (b : Bool). Ok (alone b name given)) flag in
-    ap (λ (r : Result Options ℕ). r >>= (λ more. options_of command (first + 1) more rest)) next
+    ap (λ (r : Result Options Misuse). r >>= (λ more. options_of command (first + 1) more rest)) next
 
 one_taken : (command : CommandName) (first : ℕ) (given : Options) (name : OptionName) (value : List ℕ) (flag joined : Bool) (more : List Spelling) → is_flag (option_row name).form ≡ flag → given.waiting ≡ None → takes command name ≡ true → is_barred name given ≡ false → IsValue (form_for name command) value → ((place : ℕ) → options_of command place (put name value given) (flat_map spelled more) ≡ Ok (all_put (put name value given) more)) → options_of command first given (spelled_as flag joined ((option_row name).word) value ++ flat_map spelled more) ≡ Ok (all_put (put name value given) more)
 one_taken command first given name value true joined more is waits taken new formed later =
@@ -144,9 +145,9 @@ abbrev pub Read : Option OptionName → CommandName → Options → List (List �
 Read None command given words last = (run : List Spelling) × (words ≡ flat_map spelled run) × Runs command given run × (last ≡ all_put given run)
 Read (Some name) command given words last = (value : List ℕ) × (run : List Spelling) × (words ≡ value ∷ flat_map spelled run) × IsValue (form_for name command) value × Runs command (put name value given) run × (last ≡ all_put (put name value given) run)
 
-ended_read : (waiting : Option OptionName) (command : CommandName) (first : ℕ) (given last : Options) → ended waiting first given ≡ Ok last → Read waiting command given [] last
+ended_read : (waiting : Option OptionName) (command : CommandName) (first : ℕ) (given last : Options) → ended waiting command first given ≡ Ok last → Read waiting command given [] last
 ended_read None command first given last is = ([], refl, tt, let ok : Ok given ≡ Ok last = is in cc)
-ended_read (Some name) command first given last is = let clash : Err first ≡ Ok last = is in absurd (cc)
+ended_read (Some name) command first given last is = let clash : Err (misuse_at first (misfits.NoValue command name)) ≡ Ok last = is in absurd (cc)
 
 -- what was read behind a value, of the options with it
 behind_value : (name : OptionName) (value : List ℕ) (command : CommandName) (given more : Options) (words : List (List ℕ)) (last : Options) → more ≡ put name value given → Read more.waiting command more words last → Read None command (put name value given) words last
@@ -163,7 +164,7 @@ value_read name value command place given more words last is later =
 spelled_front : (name : OptionName) (value : List ℕ) (flag joined : Bool) (run : List Spelling) → is_flag (option_row name).form ≡ flag → spelled_as flag joined (option_row name).word value ++ flat_map spelled run ≡ flat_map spelled (record { name = name; value = value; joined = joined } ∷ run)
 spelled_front name value flag joined run is = ap (λ (b : Bool). spelled_as b joined (option_row name).word value ++ flat_map spelled run) (sym is)
 
-own_read : (command : CommandName) (own : List ℕ × List ℕ) (word : List ℕ) (place : ℕ) (given more : Options) (words : List (List ℕ)) (last : Options) (found : Result OptionName ℕ) → word ≡ own.0 ++ (61 ∷ own.1) → new_option command (option_of own.0) place given ≡ found → (found >>= (λ name. with_value command name own.1 place given)) ≡ Ok more → Read more.waiting command more words last → Read None command given (word ∷ words) last
+own_read : (command : CommandName) (own : List ℕ × List ℕ) (word : List ℕ) (place : ℕ) (given more : Options) (words : List (List ℕ)) (last : Options) (found : Result OptionName Misuse) → word ≡ own.0 ++ (61 ∷ own.1) → new_option command (option_of own.0) place given ≡ found → (found >>= (λ name. with_value command name own.1 place given)) ≡ Ok more → Read more.waiting command more words last → Read None command given (word ∷ words) last
 own_read command own word place given more words last (Err at) cut_is test is later = let clash : Err at ≡ Ok more = is in absurd (cc)
 own_read command own word place given more words last (Ok name) cut_is test is later =
     let taken = option_is command own.0 (option_of own.0) place given name refl test in
@@ -176,7 +177,7 @@ own_read command own word place given more words last (Ok name) cut_is test is l
       run.3,
     )
 
-name_read : (command : CommandName) (word : List ℕ) (place : ℕ) (given more : Options) (words : List (List ℕ)) (last : Options) (found : Result OptionName ℕ) → new_option command (option_of word) place given ≡ found → (found >>= (λ name. Ok (alone (is_flag (option_row name).form) name given))) ≡ Ok more → Read more.waiting command more words last → Read None command given (word ∷ words) last
+name_read : (command : CommandName) (word : List ℕ) (place : ℕ) (given more : Options) (words : List (List ℕ)) (last : Options) (found : Result OptionName Misuse) → new_option command (option_of word) place given ≡ found → (found >>= (λ name. Ok (alone (is_flag (option_row name).form) name given))) ≡ Ok more → Read more.waiting command more words last → Read None command given (word ∷ words) last
 name_read command word place given more words last (Err at) test is later = let clash : Err at ≡ Ok more = is in absurd (cc)
 name_read command word place given more words last (Ok name) test is later =
     let taken = option_is command word (option_of word) place given name refl test in
@@ -205,7 +206,7 @@ after_read : (waiting : Option OptionName) (command : CommandName) (word : List 
 after_read (Some name) command word place given more words last is later = value_read name word command place given more words last is later
 after_read None command word place given more words last is later = word_read (own_value word) command word place given more words last refl is later
 
-step_read : (r : Result Options ℕ) (waiting : Option OptionName) (command : CommandName) (word : List ℕ) (place : ℕ) (given : Options) (words : List (List ℕ)) (last : Options) → word_after waiting command word place given ≡ r → (r >>= (λ more. options_of command (place + 1) more words)) ≡ Ok last → ((more : Options) → options_of command (place + 1) more words ≡ Ok last → Read more.waiting command more words last) → Read waiting command given (word ∷ words) last
+step_read : (r : Result Options Misuse) (waiting : Option OptionName) (command : CommandName) (word : List ℕ) (place : ℕ) (given : Options) (words : List (List ℕ)) (last : Options) → word_after waiting command word place given ≡ r → (r >>= (λ more. options_of command (place + 1) more words)) ≡ Ok last → ((more : Options) → options_of command (place + 1) more words ≡ Ok last → Read more.waiting command more words last) → Read waiting command given (word ∷ words) last
 step_read (Err at) waiting command word place given words last step is later = let clash : Err at ≡ Ok last = is in absurd (cc)
 step_read (Ok more) waiting command word place given words last step is later = after_read waiting command word place given more words last step (later more is)
 

@@ -7,6 +7,7 @@ use Rattle.std.proofs.Math.Path.{fun_ext}
 use Rattle.std.proofs.lemmas.Bool.Decides.{nat_tests}
 use Rattle.std.proofs.lemmas.Grind.{get_or-set_at}
 use Rattle.std.proofs.lemmas.List.{get_or-set_other}
+use Rattle.tinkey_words.specs.declared.words.misuse.Misuse.{Misuse}
 use Rattle.tinkey_words.specs.declared.words.rows.CommandName.{CommandName}
 use Rattle.tinkey_words.specs.declared.words.rows.OptionName.{OptionName}
 use Rattle.tinkey_words.specs.Rows.{option_row, form_for, same, is_value}
@@ -17,13 +18,13 @@ pub rest_of_words : {A : Type 0} (words : List A) (i : ℕ) (word : A) → i < l
 rest_of_words {A} words i word lt is = rw add-one (drop-cons words i word lt ∙ ap (λ (w : A). w ∷ drop (suc i) words) (sym is))
 
 -- a word at fault is where the options are at fault
-pub fails_at : {A : Type 0} (view : A → List ℕ) (command : CommandName) (words : List A) (i : ℕ) (word : A) (given : Options) (place : ℕ) (whole : Result Options ℕ) → i < length words → word ≡ get_or words i word → options_of command (i + 1) given (map view (drop i words)) ≡ whole → next_word command (view word) (i + 1) given ≡ Err place → whole ≡ Err place
-fails_at view command words i word given place whole lt is all fault =
+pub fails_at : {A : Type 0} (view : A → List ℕ) (command : CommandName) (words : List A) (i : ℕ) (word : A) (given : Options) (misuse : Misuse) (whole : Result Options Misuse) → i < length words → word ≡ get_or words i word → options_of command (i + 1) given (map view (drop i words)) ≡ whole → next_word command (view word) (i + 1) given ≡ Err misuse → whole ≡ Err misuse
+fails_at view command words i word given misuse whole lt is all fault =
     let front = rw (rest_of_words words i word lt is) at all in
     sym (rw fault at front)
 
 -- behind a word, the options of the rest are still those of all
-pub goes_on : {A : Type 0} (view : A → List ℕ) (command : CommandName) (words : List A) (i : ℕ) (word : A) (given more : Options) (whole : Result Options ℕ) → i < length words → word ≡ get_or words i word → options_of command (i + 1) given (map view (drop i words)) ≡ whole → next_word command (view word) (i + 1) given ≡ Ok more → options_of command (i + 1 + 1) more (map view (drop (i + 1) words)) ≡ whole
+pub goes_on : {A : Type 0} (view : A → List ℕ) (command : CommandName) (words : List A) (i : ℕ) (word : A) (given more : Options) (whole : Result Options Misuse) → i < length words → word ≡ get_or words i word → options_of command (i + 1) given (map view (drop i words)) ≡ whole → next_word command (view word) (i + 1) given ≡ Ok more → options_of command (i + 1 + 1) more (map view (drop (i + 1) words)) ≡ whole
 goes_on view command words i word given more whole lt is all step =
     let front = rw (rest_of_words words i word lt is) at all in
     rw step at front
@@ -43,7 +44,7 @@ value_set false name other values value test within =
     let at : (option_row other).place ≢ (option_row name).place = grind (arith, nat_tests) in
     rw (get_or-set_other values (option_row name).place (option_row other).place (Some value) None at) refl
 
-abbrev with_values : Values → Result Options ℕ
+abbrev with_values : Values → Result Options Misuse
 with_values values = Ok (record { values = values; waiting = None })
 
 -- an option that is written at its place is put

@@ -1,6 +1,6 @@
 -- What the grammar of the command's words comes to, said of the words as a whole.
 --
---   PlacesAreDecided   the place of a word at fault depends on the words up to it alone
+--   PlacesAreDecided   a word at fault, and why it is so, depends on the words up to it alone
 --   WordsAreSpelled    words are accepted exactly where they spell a command's word and then
 --                      options that fit its row, in any order, or ask for help or for the version
 --
@@ -11,6 +11,7 @@ use Rattle.std.specs.Str.{all_ascii_digits, str_to_ascii_lowercase}
 use Rattle.std.specs.Str.Parse.{digits_value}
 use Rattle.tinkey_words.specs.declared.words.help.Topic.{Topic}
 use Rattle.tinkey_words.specs.declared.words.help.Topic.TheVariants as topics
+use Rattle.tinkey_words.specs.declared.words.misuse.Misuse.{Misuse}
 use Rattle.tinkey_words.specs.declared.words.rows.CommandName.{CommandName}
 use Rattle.tinkey_words.specs.declared.words.rows.Form.{Form}
 use Rattle.tinkey_words.specs.declared.words.rows.Form.TheVariants as forms
@@ -19,11 +20,11 @@ use Rattle.hex.specs.Hex.{is_hex_digit}
 use Rattle.tinkey_words.specs.Rows.{row_of, option_row, form_for, rival, same, datum_limit, most_lines, most_range, is_flag}
 use Rattle.tinkey_words.specs.Words.{Asked, Values, asked_with, help, version, words_of}
 
--- where the word of a place is at fault, it is so whatever words stand behind it
+-- where the word of a place is at fault, it is so, and for the same reason, whatever words stand behind it
 abbrev pub PlacesAreDecided : Type 0
-PlacesAreDecided = (front rest others : List (List ℕ)) (place : ℕ) →
-    length front ≡ place + 1 → words_of (front ++ rest) ≡ Err place →
-    words_of (front ++ others) ≡ Err place
+PlacesAreDecided = (front rest others : List (List ℕ)) (misuse : Misuse) →
+    length front ≡ misuse.place + 1 → words_of (front ++ rest) ≡ Err misuse →
+    words_of (front ++ others) ≡ Err misuse
 
 -- a text of 1 to 10 decimal digits, of a number up to 4,294,967,295
 pub record IsNumber (text : List ℕ) : Type 0 where

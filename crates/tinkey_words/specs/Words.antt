@@ -2,20 +2,19 @@
 -- as `--name value` in two words or `--name=value` in one, and a flag as `--name` alone; or a few words that
 -- ask for help or for the version. Rows has the tables of commands and options.
 --
--- The answer is a command, or the place of the first word at fault: an unknown command or option,
--- one that the command doesn't have, a repeat, the second of two that exclude each other, or one that
--- holds a value that isn't of its form; of help, a topic that isn't known, or a word too many.
--- Where a value or a required option is missing at the end, the place is the number of words.
+-- The answer is a command, or the first word at fault, by its place and by why it is so: an unknown
+-- command or option, one that the command doesn't have, a repeat, the second of two that exclude each
+-- other, or one that holds a value that isn't of its form; of help, a topic that isn't known, or a word
+-- too many. Where a value or a required option is missing at the end, the place is the number of words.
 -- Places count from 0.
-use Rattle.std.specs.Prelude.{◌≡◌, ℕ, ◌+◌, ◌*◌, List, [], ◌∷◌, length, Bool, false, ◌||◌, Option, Some, None, is_some, option_map, Result, Ok, Err, ◌==◌, nat_lt, nat_le, if◌then◌else◌, slice_index_or, codes, true}
-use Rattle.std.specs.List.{list_all, position_or_len, before_first, after_first}
+use Rattle.std.specs.Prelude.{◌≡◌, ℕ, ◌+◌, ◌*◌, List, [], ◌∷◌, length, Bool, false, ◌||◌, Option, Some, None, is_some, option_map, not, Result, Ok, Err, ◌==◌, nat_lt, nat_le, if◌then◌else◌, slice_index_or, codes, true}
+use Rattle.std.specs.List.{find, position_or_len, before_first, after_first}
 use Rattle.std.specs.Borrow.{Bor}
 use Rattle.std.specs.Str.{bytes_eq}
 use Rattle.hex.specs.Hex.{decode_of}
 use Rattle.hex.specs.declared.error.FromHexError.{FromHexError}
 use Rattle.key_msgs.specs.declared.primitive.Primitive.{Primitive}
 use Rattle.key_msgs.specs.declared.primitive.Primitive.TheVariants.{Aead, Daead, Mac, Prf}
-use Rattle.tink_spec.specs.Messages.{◌>>=◌}
 use Rattle.tinkey_cmds.specs.Edits.{EditOf, seen_by}
 use Rattle.tinkey_cmds.specs.Edits as edits
 use Rattle.tinkey_cmds.specs.declared.command.Command.{Command}
@@ -35,6 +34,9 @@ use Rattle.tinkey_words.specs.declared.words.help.First.{First}
 use Rattle.tinkey_words.specs.declared.words.help.First.TheVariants as firsts
 use Rattle.tinkey_words.specs.declared.words.help.Topic.{Topic}
 use Rattle.tinkey_words.specs.declared.words.help.Topic.TheVariants as topics
+use Rattle.tinkey_words.specs.declared.words.misuse.Misfit.{Misfit}
+use Rattle.tinkey_words.specs.declared.words.misuse.Misfit.TheVariants as misfits
+use Rattle.tinkey_words.specs.declared.words.misuse.Misuse.{Misuse}
 use Rattle.tinkey_words.specs.declared.words.rows.Format.{Format}
 use Rattle.tinkey_words.specs.declared.words.rows.Format.TheVariants as formats
 use Rattle.tinkey_words.specs.declared.words.rows.CommandName.{CommandName}
@@ -285,6 +287,16 @@ asked_with commands.Srange values =
 
 -- The words, one after another.
 
+infixl 10 ◌>>=◌
+-- what comes next, where no word is at fault before it
+abbrev pub ◌>>=◌ : {A B : Type 0} → Result A Misuse → (A → Result B Misuse) → Result B Misuse
+(Ok value) >>= next = next value
+(Err misuse) >>= next = Err misuse
+
+-- the word of this place is at fault, for this reason
+abbrev pub misuse_at : ℕ → Misfit → Misuse
+misuse_at place why = record { place = place; why = why }
+
 -- the options that were given, and the one whose value is the next word
 pub record Options : Type 0 where
   pub values : Values
@@ -313,11 +325,23 @@ is_excluded (Some other) given = is_given other given
 abbrev pub is_barred : OptionName → Options → Bool
 is_barred name given = is_given name given || is_excluded (rival name) given
 
+-- why an option that has this rival is barred: it was given before, or else its rival was
+abbrev pub bar : CommandName → OptionName → Option OptionName → Options → Misfit
+bar command name None given = misfits.Twice command name
+bar command name (Some other) given =
+    if is_given name given then misfits.Twice command name else misfits.Beside command name other
+
+-- the option, where nothing bars it; its word has this place
+abbrev pub unbarred : CommandName → OptionName → ℕ → Options → Result OptionName Misuse
+unbarred command name place given =
+    if is_barred name given then Err (misuse_at place (bar command name (rival name) given)) else Ok name
+
 -- an option of the command that isn't given yet; its word has this place
-abbrev pub new_option : CommandName → Option OptionName → ℕ → Options → Result OptionName ℕ
-new_option command None place given = Err place
+abbrev pub new_option : CommandName → Option OptionName → ℕ → Options → Result OptionName Misuse
+new_option command None place given = Err (misuse_at place (misfits.NoOption command))
 new_option command (Some name) place given =
-    if takes command name then (if is_barred name given then Err place else Ok name) else Err place
+    if takes command name then unbarred command name place given
+    else Err (misuse_at place (misfits.NoOption command))
 
 -- these options and this one with its value
 abbrev pub put : OptionName → List ℕ → Options → Options
@@ -327,9 +351,10 @@ put name value given = record {
 }
 
 -- the option with its value, which stands in the word of this place and is of its form
-abbrev pub with_value : CommandName → OptionName → List ℕ → ℕ → Options → Result Options ℕ
+abbrev pub with_value : CommandName → OptionName → List ℕ → ℕ → Options → Result Options Misuse
 with_value command name value place given =
-    if is_value (form_for name command) value then Ok (put name value given) else Err place
+    if is_value (form_for name command) value then Ok (put name value given)
+    else Err (misuse_at place (misfits.BadValue command name))
 
 -- an option whose word has no value of its own: a flag is given by it, with the empty value, and any
 -- other option waits for its value
@@ -339,7 +364,7 @@ alone false name given = record given { waiting = Some name }
 
 -- an option's word of this place: its value is its own, or is the next word
 abbrev pub option_word : CommandName → Option (List ℕ × List ℕ) → List ℕ → ℕ → Options →
-    Result Options ℕ
+    Result Options Misuse
 option_word command None word place given =
     new_option command (option_of word) place given
     >>= (λ name. Ok (alone (is_flag (option_row name).form) name given))
@@ -348,22 +373,22 @@ option_word command (Some own) word place given =
     >>= (λ name. with_value command name own.1 place given)
 
 -- one more word, of this place: the value of the option that waits, or an option's word
-abbrev pub word_after : Option OptionName → CommandName → List ℕ → ℕ → Options → Result Options ℕ
+abbrev pub word_after : Option OptionName → CommandName → List ℕ → ℕ → Options → Result Options Misuse
 word_after (Some name) command word place given = with_value command name word place given
 word_after None command word place given = option_word command (own_value word) word place given
 
 -- one more word, of this place, behind the options so far
-abbrev pub next_word : CommandName → List ℕ → ℕ → Options → Result Options ℕ
+abbrev pub next_word : CommandName → List ℕ → ℕ → Options → Result Options Misuse
 next_word command word place given = word_after given.waiting command word place given
 
 -- the options at the end; where one waits for its value, that is missing at this place
-abbrev pub ended : Option OptionName → ℕ → Options → Result Options ℕ
-ended (Some name) place given = Err place
-ended None place given = Ok given
+abbrev pub ended : Option OptionName → CommandName → ℕ → Options → Result Options Misuse
+ended (Some name) command place given = Err (misuse_at place (misfits.NoValue command name))
+ended None command place given = Ok given
 
 -- the options of these words, the first of which has this place, behind those so far
-abbrev pub options_of : CommandName → ℕ → Options → List (List ℕ) → Result Options ℕ
-options_of command place given [] = ended given.waiting place given
+abbrev pub options_of : CommandName → ℕ → Options → List (List ℕ) → Result Options Misuse
+options_of command place given [] = ended given.waiting command place given
 options_of command place given (word ∷ words) =
     next_word command word place given >>= (λ more. options_of command (place + 1) more words)
 
@@ -372,20 +397,25 @@ abbrev pub no_options : Options
 no_options = record { values = (λ name. None); waiting = None }
 
 -- the options of the command, whose own word has the place 0
-unfoldable pub given_in : CommandName → List (List ℕ) → Result Options ℕ
+unfoldable pub given_in : CommandName → List (List ℕ) → Result Options Misuse
 given_in command words = options_of command 1 no_options words
 
--- all that the command requires is there
-abbrev pub has_required : CommandName → Options → Bool
-has_required command given = list_all (λ name. is_given name given) (row_of command).required
+-- the first of these options that isn't given
+abbrev pub lacking : List OptionName → Options → Option OptionName
+lacking names given = find (λ name. not (is_given name given)) names
+
+-- the command with its options, where it lacks none that it requires; the number of words is behind them
+abbrev pub lacking_none : Option OptionName → CommandName → ℕ → Options → Result Asked Misuse
+lacking_none None command count given = Ok (asked_with command given.values)
+lacking_none (Some name) command count given = Err (misuse_at count (misfits.Lacks command name))
 
 -- the command with its options, among so many words
-abbrev pub complete : CommandName → ℕ → Options → Result Asked ℕ
+abbrev pub complete : CommandName → ℕ → Options → Result Asked Misuse
 complete command count given =
-    if has_required command given then Ok (asked_with command given.values) else Err count
+    lacking_none (lacking (row_of command).required given) command count given
 
 -- the command with its options
-abbrev pub with_options : CommandName → List (List ℕ) → Result Asked ℕ
+abbrev pub with_options : CommandName → List (List ℕ) → Result Asked Misuse
 with_options command words = given_in command words >>= complete command (1 + length words)
 
 -- Words that ask for help.
@@ -413,22 +443,22 @@ first_of name =
     else option_map firsts.Command (command_of name)))
 
 -- what is asked, where no word stands behind; the first of them has this place
-abbrev pub by_itself : ℕ → Asked → List (List ℕ) → Result Asked ℕ
+abbrev pub by_itself : ℕ → Asked → List (List ℕ) → Result Asked Misuse
 by_itself place asked [] = Ok asked
-by_itself place asked (word ∷ words) = Err place
+by_itself place asked (word ∷ words) = Err (misuse_at place misfits.TooMany)
 
 -- help on a topic, where its name is known
-abbrev pub topic_words : Option Topic → List (List ℕ) → Result Asked ℕ
-topic_words None words = Err 1
+abbrev pub topic_words : Option Topic → List (List ℕ) → Result Asked Misuse
+topic_words None words = Err (misuse_at 1 misfits.NoTopic)
 topic_words (Some topic) words = by_itself 2 (help topic) words
 
 -- what the words behind `help` ask: the list of commands, or a topic
-abbrev pub help_words : List (List ℕ) → Result Asked ℕ
+abbrev pub help_words : List (List ℕ) → Result Asked Misuse
 help_words [] = Ok (help topics.Commands)
 help_words (name ∷ words) = topic_words (topic_of name) words
 
 -- what a command's word and those behind it ask: help on the command, or what it does with its options
-abbrev pub command_words : CommandName → List (List ℕ) → Result Asked ℕ
+abbrev pub command_words : CommandName → List (List ℕ) → Result Asked Misuse
 command_words command [] = with_options command []
 command_words command (word ∷ words) =
     if is_help_flag word then by_itself 2 (help (topics.Command command)) words
@@ -437,16 +467,16 @@ command_words command (word ∷ words) =
 -- All words.
 
 -- what the first word, where it is known, and those behind it ask
-abbrev pub asked_of : Option First → List (List ℕ) → Result Asked ℕ
-asked_of None words = Err 0
+abbrev pub asked_of : Option First → List (List ℕ) → Result Asked Misuse
+asked_of None words = Err (misuse_at 0 misfits.NoCommand)
 asked_of (Some firsts.Help) words = help_words words
 asked_of (Some firsts.HelpFlag) words = by_itself 1 (help topics.Commands) words
 asked_of (Some firsts.Version) words = by_itself 1 version words
 asked_of (Some (firsts.Command command)) words = command_words command words
 
--- what the words ask for, or the place of the word at fault
-unfoldable pub words_of : List (List ℕ) → Result Asked ℕ
-words_of [] = Err 0
+-- what the words ask for, or the first one at fault
+unfoldable pub words_of : List (List ℕ) → Result Asked Misuse
+words_of [] = Err (misuse_at 0 misfits.NoCommand)
 words_of (name ∷ words) = asked_of (first_of name) words
 
 -- What the code's commands and options stand for.
@@ -525,7 +555,7 @@ seen_values values name = seen_name (slice_index_or values (option_row name).pla
 abbrev pub seen_options : CodeOptions → Options
 seen_options given = record { values = seen_values given.values; waiting = given.waiting }
 
--- what the code answers is what the definition gives, seen so, or the same place
-abbrev pub Reads : {A B : Type 0} → (A → B) → Result A ℕ → Result B ℕ → Type 0
+-- what the code answers is what the definition gives, seen so, or the same word at fault for the same reason
+abbrev pub Reads : {A B : Type 0} → (A → B) → Result A Misuse → Result B Misuse → Type 0
 Reads view (Ok value) read = read ≡ Ok (view value)
-Reads view (Err place) read = read ≡ Err place
+Reads view (Err misuse) read = read ≡ Err misuse

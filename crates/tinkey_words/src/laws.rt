@@ -2,7 +2,7 @@
 
 ghost use Rattle.tinkey_words.specs.Grammar.{PlacesAreDecided, WordsAreSpelled};
 
-/// The place of a word at fault depends on the words up to it alone.
+/// A word at fault, and why it is so, depends on the words up to it alone.
 pub fn places_are_decided()
     ensures { PlacesAreDecided }
 {}

@@ -1,4 +1,4 @@
-//! The words of a command: what they ask, or the first one at fault.
+//! The words of a command: what they ask, or the first one at fault and why it is so.
 //!
 //! What they mean is defined word by word, as the parser goes (`specs/Words.antt`, over the tables of
 //! `specs/Rows.antt`), and said again as a whole (`specs/Grammar.antt`).
@@ -8,6 +8,6 @@ pub mod laws;
 mod words;
 
 pub use words::{
-    CommandName, DATUM_LIMIT, Datum, Envelope, Format, Output, Place, Range, Request, Topic, Work,
-    parse,
+    CommandName, DATUM_LIMIT, Datum, Envelope, Form, Format, Misfit, Misuse, OptionName, Output,
+    Place, Range, Request, Topic, Work, parse,
 };

@@ -3,19 +3,21 @@
 ghost use Rattle.std.specs.Prelude.{◌≡◌, ◌<◌, ◌≤◌, ◌^◌, Some, length, map, option_map, slice_set, string_bytes};
 ghost use Rattle.tinkey_words.specs.Rows.{option_of, is_flag, option_row};
 ghost use Rattle.tinkey_words.specs.declared.words.rows.OptionName.TheVariants.{Lines};
-ghost use Rattle.tinkey_words.specs.Words.{words_of, by_itself, command_words, help_words, topic_words, with_options, topic_of, given_in, lines_in, next_word, option_word, own_value, is_barred, new_option, with_value, no_options, has_required, complete, asked_with, text, number, id, template, ad, edited, enveloped, worked, seen_command, seen_datum, seen_edit, seen_envelope, seen_name, seen_options, seen_range, seen_work, offset, range, range_length, Reads, form_in, taken_from, put_to, seen_place, alone, output_in, seen_output};
+ghost use Rattle.tinkey_words.specs.Words.{words_of, by_itself, command_words, help_words, topic_words, with_options, topic_of, given_in, lines_in, next_word, option_word, own_value, is_barred, bar, unbarred, new_option, with_value, no_options, lacking, complete, asked_with, text, number, id, template, ad, edited, enveloped, worked, seen_command, seen_datum, seen_edit, seen_envelope, seen_name, seen_options, seen_range, seen_work, offset, range, range_length, Reads, form_in, taken_from, put_to, seen_place, alone, output_in, seen_output};
 
 mod help;
+mod misuse;
 mod range;
 mod rows;
 
 pub use help::Topic;
 use help::{First, first_named, is_help_flag, topic_named};
+use misuse::misuse_at;
+pub use misuse::{Misfit, Misuse};
 pub use range::Range;
-pub use rows::{CommandName, DATUM_LIMIT, Format};
+pub use rows::{CommandName, DATUM_LIMIT, Form, Format, OptionName};
 use rows::{
-    MOST_RANGE, OPTION_COUNT, OptionName, format_named, is_flag, is_value, offset_in, option_named,
-    takes,
+    MOST_RANGE, OPTION_COUNT, format_named, is_flag, is_value, offset_in, option_named, takes,
 };
 use tink_base::number_in;
 use tinkey_cmds::Command as Edit;
@@ -222,16 +224,15 @@ pub struct Options<'a> {
     pub waiting: Option<OptionName>,
 }
 
-/// The command that the words ask for, or the place of the word at fault, as `Status::Usage` tells
-/// it.
+/// The command that the words ask for, or the first word at fault, as `Status::Usage` tells it.
 #[tactic(auto, unfolding(crate::specs::Words::words_of))]
-pub fn parse(words: &[String]) -> Result<Request<'_>, usize>
+pub fn parse(words: &[String]) -> Result<Request<'_>, Misuse>
     ensures { Reads seen_command result (words_of (map string_bytes words.now)) }
 {
     match words.split_first() {
-        None => Err(0),
+        None => Err(misuse_at(0, Misfit::NoCommand)),
         Some((name, behind)) => match first_named(name.as_str()) {
-            None => Err(0),
+            None => Err(misuse_at(0, Misfit::NoCommand)),
             Some(first) => match first {
                 First::Help => help_words(behind),
                 First::HelpFlag => by_itself(
@@ -249,19 +250,19 @@ pub fn parse(words: &[String]) -> Result<Request<'_>, usize>
 }
 
 /// What is asked, where no word stands behind; the first of them would have this place.
-fn by_itself<'a>(place: usize, asked: Request<'a>, words: &[String]) -> Result<Request<'a>, usize>
+fn by_itself<'a>(place: usize, asked: Request<'a>, words: &[String]) -> Result<Request<'a>, Misuse>
     ensures { Reads seen_command result
         (by_itself place (seen_command asked.entry) (map string_bytes words.now)) }
 {
     if words.is_empty() {
         Ok(asked)
     } else {
-        Err(place)
+        Err(misuse_at(place, Misfit::TooMany))
     }
 }
 
 /// What the words behind `help` ask for.
-fn help_words(words: &[String]) -> Result<Request<'_>, usize>
+fn help_words(words: &[String]) -> Result<Request<'_>, Misuse>
     ensures { Reads seen_command result (help_words (map string_bytes words.now)) }
 {
     match words.split_first() {
@@ -269,7 +270,7 @@ fn help_words(words: &[String]) -> Result<Request<'_>, usize>
             topic: Topic::Commands,
         }),
         Some((name, behind)) => match topic_named(name.as_str()) {
-            None => Err(1),
+            None => Err(misuse_at(1, Misfit::NoTopic)),
             Some(topic) => by_itself(2, Request::Help { topic }, behind),
         },
     }
@@ -277,7 +278,7 @@ fn help_words(words: &[String]) -> Result<Request<'_>, usize>
 
 /// What a command's word and those behind it ask for: help on the command, or what it does with its
 /// options.
-fn command_words(command: CommandName, words: &[String]) -> Result<Request<'_>, usize>
+fn command_words(command: CommandName, words: &[String]) -> Result<Request<'_>, Misuse>
     ensures { Reads seen_command result (command_words command (map string_bytes words.now)) }
 {
     match words.split_first() {
@@ -299,35 +300,33 @@ fn command_words(command: CommandName, words: &[String]) -> Result<Request<'_>, 
 }
 
 /// What a command asks with the options of these words, which stand behind its own.
-fn with_options(command: CommandName, words: &[String]) -> Result<Request<'_>, usize>
+fn with_options(command: CommandName, words: &[String]) -> Result<Request<'_>, Misuse>
     ensures { Reads seen_command result (with_options command (map string_bytes words.now)) }
 {
     match given_options(command, words) {
         Ok(given) => complete(command, 1 + words.len(), given),
-        Err(place) => Err(place),
+        Err(misuse) => Err(misuse),
     }
 }
 
 /// The command with its options, among so many words.
-fn complete(command: CommandName, count: usize, given: Options<'_>) -> Result<Request<'_>, usize>
+fn complete(command: CommandName, count: usize, given: Options<'_>) -> Result<Request<'_>, Misuse>
     ensures { Reads seen_command result (complete command count (seen_options given.entry)) }
 {
-    if has_required(command, &given) {
-        Ok(command_with(command, &given))
-    } else {
-        Err(count)
+    match lacking(command.row().required, &given) {
+        None => Ok(command_with(command, &given)),
+        Some(name) => Err(misuse_at(count, Misfit::Lacks(command, name))),
     }
 }
 
-/// All that the command requires is there.
-fn has_required(command: CommandName, given: &Options<'_>) -> bool
-    ensures { result ≡ has_required command (seen_options given.now) }
+/// The first of these options that isn't given.
+fn lacking(names: &[OptionName], given: &Options<'_>) -> Option<OptionName>
+    ensures { result ≡ lacking names.now (seen_options given.now) }
 {
-    command
-        .row()
-        .required
+    names
         .iter()
-        .all(|name| given.value(*name).is_some())
+        .copied()
+        .find(|name| given.value(*name).is_none())
 }
 
 /// What the command asks with these options.
@@ -573,6 +572,16 @@ impl<'a> Options<'a> {
         }
     }
 
+    /// Why an option that has this rival is barred.
+    fn bar(&self, command: CommandName, name: OptionName, rival: Option<OptionName>) -> Misfit
+        ensures { result ≡ bar command name rival (seen_options self.now) }
+    {
+        match rival {
+            Some(other) if self.value(name).is_none() => Misfit::Beside(command, name, other),
+            _ => Misfit::Twice(command, name),
+        }
+    }
+
     /// A keyset that is changed so.
     fn edited(&self, edit: Edit<&'a str>) -> Request<'a>
         ensures { seen_command result
@@ -596,17 +605,17 @@ fn range_length(length: u32) -> u32
 
 /// The options of these words, which stand behind the command.
 #[tactic(auto, unfolding(crate::specs::Words::given_in))]
-fn given_options(command: CommandName, words: &[String]) -> Result<Options<'_>, usize>
+fn given_options(command: CommandName, words: &[String]) -> Result<Options<'_>, Misuse>
     ensures { Reads seen_options result (given_in command (map string_bytes words.now)) }
 {
     let mut so_far = no_options();
     for (i, word) in words.iter().enumerate() {
-        if let Err(place) = next_word(command, word.as_str(), i + 1, &mut so_far) {
-            return Err(place);
+        if let Err(misuse) = next_word(command, word.as_str(), i + 1, &mut so_far) {
+            return Err(misuse);
         }
     }
     match so_far.waiting {
-        Some(_) => Err(words.len() + 1),
+        Some(name) => Err(misuse_at(words.len() + 1, Misfit::NoValue(command, name))),
         None => Ok(so_far),
     }
 }
@@ -627,7 +636,7 @@ fn next_word<'a>(
     word: &'a str,
     place: usize,
     so_far: &mut Options<'a>,
-) -> Result<(), usize>
+) -> Result<(), Misuse>
     ensures { Reads (λ done. seen_options so_far.new) result
         (next_word command word.now place (seen_options so_far.old)) }
 {
@@ -643,21 +652,21 @@ fn option_word<'a>(
     word: &'a str,
     place: usize,
     so_far: &mut Options<'a>,
-) -> Result<(), usize>
+) -> Result<(), Misuse>
     ensures { Reads (λ done. seen_options so_far.new) result
         (option_word command (own_value word.now) word.now place (seen_options so_far.old)) }
 {
     match own_value(word) {
         Some((name, value)) => match new_option(command, name, place, so_far) {
             Ok(name) => with_value(command, name, value, place, so_far),
-            Err(place) => Err(place),
+            Err(misuse) => Err(misuse),
         },
         None => match new_option(command, word, place, so_far) {
             Ok(name) => {
                 alone(name, so_far);
                 Ok(())
             }
-            Err(place) => Err(place),
+            Err(misuse) => Err(misuse),
         },
     }
 }
@@ -690,18 +699,28 @@ fn new_option(
     name: &str,
     place: usize,
     so_far: &Options<'_>,
-) -> Result<OptionName, usize>
+) -> Result<OptionName, Misuse>
     ensures { result ≡ new_option command (option_of name.now) place (seen_options so_far.now) }
 {
     match option_named(name) {
-        Some(name) => {
-            if takes(command, name) && !so_far.is_barred(name) {
-                Ok(name)
-            } else {
-                Err(place)
-            }
-        }
-        None => Err(place),
+        Some(name) if takes(command, name) => unbarred(command, name, place, so_far),
+        _ => Err(misuse_at(place, Misfit::NoOption(command))),
+    }
+}
+
+/// The option, where it isn't given yet, and none that excludes it.
+fn unbarred(
+    command: CommandName,
+    name: OptionName,
+    place: usize,
+    so_far: &Options<'_>,
+) -> Result<OptionName, Misuse>
+    ensures { result ≡ unbarred command name place (seen_options so_far.now) }
+{
+    if so_far.is_barred(name) {
+        Err(misuse_at(place, so_far.bar(command, name, name.rival())))
+    } else {
+        Ok(name)
     }
 }
 
@@ -712,12 +731,12 @@ fn with_value<'a>(
     value: &'a str,
     place: usize,
     so_far: &mut Options<'a>,
-) -> Result<(), usize>
+) -> Result<(), Misuse>
     ensures { Reads (λ done. seen_options so_far.new) result
         (with_value command name value.now place (seen_options so_far.old)) }
 {
     if !is_value(name.form_for(command), value) {
-        return Err(place);
+        return Err(misuse_at(place, Misfit::BadValue(command, name)));
     }
     write(&mut so_far.values, name.place(), value);
     so_far.waiting = None;

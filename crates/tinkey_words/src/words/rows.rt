@@ -9,7 +9,7 @@ ghost use Rattle.tinkey_words.specs.Rows.{row, row_of, command_of, option_row, o
 use tink_base::number_in;
 
 /// A command by its name.
-#[derive(Clone, Copy)]
+#[derive(Clone, Copy, Debug, PartialEq, Eq)]
 pub enum CommandName {
     /// `create-keyset`
     CreateKeyset,
@@ -68,7 +68,7 @@ pub enum CommandName {
 }
 
 /// An option by its name.
-#[derive(Clone, Copy)]
+#[derive(Clone, Copy, Debug, PartialEq, Eq)]
 pub enum OptionName {
     /// `--key-template`, the name of the template of a new key.
     KeyTemplate,
@@ -180,6 +180,13 @@ pub struct OptionRow {
 }
 
 impl CommandName {
+    /// The command's word.
+    pub fn word(self) -> &'static str
+        ensures { result.now ≡ (row_of self).word }
+    {
+        self.row().word
+    }
+
     /// The row of the command.
     pub fn row(self) -> CommandRow
         ensures { seen_row result ≡ row_of self }
@@ -302,6 +309,13 @@ fn row(
 }
 
 impl OptionName {
+    /// The option's word, with its two hyphens.
+    pub fn word(self) -> &'static str
+        ensures { result.now ≡ (option_row self).word }
+    {
+        self.row().word
+    }
+
     /// The row of the option.
     pub fn row(self) -> OptionRow
         ensures word { result.word.now ≡ (option_row self).word }

@@ -1,0 +1,45 @@
+//! Why words are refused, by `specs/Words.antt`.
+
+ghost use Rattle.std.specs.Prelude.{◌≡◌};
+ghost use Rattle.tinkey_words.specs.Words.{misuse_at};
+
+use super::rows::{CommandName, OptionName};
+
+/// The first word at fault, and why it is so.
+#[derive(Clone, Copy, Debug, PartialEq, Eq)]
+pub struct Misuse {
+    /// The word's place, counted from 0; where a word is missing at the end, the number of words.
+    pub place: usize,
+    /// Why it is at fault.
+    pub why: Misfit,
+}
+
+/// Why a word is at fault, with the command that it stands behind.
+#[derive(Clone, Copy, Debug, PartialEq, Eq)]
+pub enum Misfit {
+    /// The first word is no command, or there is no word.
+    NoCommand,
+    /// Help has no topic of this name.
+    NoTopic,
+    /// The word stands behind words that ask for help or for the version.
+    TooMany,
+    /// The word is no option of the command.
+    NoOption(CommandName),
+    /// The option was given before.
+    Twice(CommandName, OptionName),
+    /// The first option excludes the second one, which was given before.
+    Beside(CommandName, OptionName, OptionName),
+    /// The value isn't of the option's form.
+    BadValue(CommandName, OptionName),
+    /// The words end where the option's value is to stand.
+    NoValue(CommandName, OptionName),
+    /// The words end without this option, the first one that the command requires and that isn't given.
+    Lacks(CommandName, OptionName),
+}
+
+/// The word of this place is at fault, for this reason.
+pub fn misuse_at(place: usize, why: Misfit) -> Misuse
+    ensures { result ≡ misuse_at place why }
+{
+    Misuse { place, why }
+}
