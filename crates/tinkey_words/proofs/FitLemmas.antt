@@ -46,7 +46,7 @@ put_same false name other value given test was is = let now = rw test at is in l
 
 -- One of these options.
 
-one_is : (name : OptionName) (names : List OptionName) → IsOneOf name names → is_one_of name names ≡ true
+pub one_is : (name : OptionName) (names : List OptionName) → IsOneOf name names → is_one_of name names ≡ true
 one_is name [] one = absurd one
 one_is name (other ∷ names) (inl here) = rw (← here, same_self name) refl
 one_is name (other ∷ names) (inr later) = rw (one_is name names later) (or_true (same name other))
@@ -55,7 +55,7 @@ one_at : (b : Bool) (name other : OptionName) (names : List OptionName) → same
 one_at true name other names test is later = inl (same_is name other test)
 one_at false name other names test is later = inr (later is)
 
-is_one : (name : OptionName) (names : List OptionName) → is_one_of name names ≡ true → IsOneOf name names
+pub is_one : (name : OptionName) (names : List OptionName) → is_one_of name names ≡ true → IsOneOf name names
 is_one name [] is = absurd (cc)
 is_one name (other ∷ names) is = one_at (same name other) name other names refl is (is_one name names)
 
@@ -113,7 +113,7 @@ given_stays : (name : OptionName) (given : Options) (run : List Spelling) → is
 given_stays name given [] is = is
 given_stays name given (s ∷ run) is = given_stays name (put s.name s.value given) run (put_keeps name s.name s.value given is)
 
-given_there : (name : OptionName) (given : Options) (run : List Spelling) → IsGiven name run → is_given name (all_put given run) ≡ true
+pub given_there : (name : OptionName) (given : Options) (run : List Spelling) → IsGiven name run → is_given name (all_put given run) ≡ true
 given_there name given [] there = absurd there
 given_there name given (s ∷ run) (inl same) = given_stays name (put s.name s.value given) run (subst (λ (n : OptionName). is_given n (put s.name s.value given) ≡ true) same (put_there s.name s.value given))
 given_there name given (s ∷ run) (inr later) = given_there name (put s.name s.value given) run later
@@ -177,7 +177,7 @@ not_again command name given [] runs is again = again
 not_again command name given (s ∷ run) runs is (inl same) = let clash : true ≡ false = sym is ∙ subst (λ (n : OptionName). is_given n given ≡ false) same (not_barred s.name given runs.1).0 in cc
 not_again command name given (s ∷ run) runs is (inr later) = not_again command name (put s.name s.value given) run runs.3 (put_keeps name s.name s.value given is) later
 
-once_of : (command : CommandName) (given : Options) (run : List Spelling) → Runs command given run → IsOnce run
+pub once_of : (command : CommandName) (given : Options) (run : List Spelling) → Runs command given run → IsOnce run
 once_of command given [] runs = tt
 once_of command given (s ∷ run) runs = (not_again command s.name (put s.name s.value given) run runs.3 (put_there s.name s.value given), once_of command (put s.name s.value given) run runs.3)
 
@@ -190,18 +190,18 @@ not_beside command name other given (s ∷ run) runs is excludes (inl same) =
     let clash : true ≡ false = sym is ∙ new in cc
 not_beside command name other given (s ∷ run) runs is excludes (inr later) = not_beside command name other (put s.name s.value given) run runs.3 (put_keeps name s.name s.value given is) excludes later
 
-apart_of : (command : CommandName) (given : Options) (run : List Spelling) → Runs command given run → AreApart run
+pub apart_of : (command : CommandName) (given : Options) (run : List Spelling) → Runs command given run → AreApart run
 apart_of command given [] runs a b excludes first second = first
 apart_of command given (s ∷ run) runs a b excludes (inl here) (inl there) = (are_rivals a b excludes).1 (sym here ∙ there)
 apart_of command given (s ∷ run) runs a b excludes (inl here) (inr there) = not_beside command a b (put s.name s.value given) run runs.3 (subst (λ (n : OptionName). is_given n (put s.name s.value given) ≡ true) here (put_there s.name s.value given)) (are_rivals a b excludes).0 there
 apart_of command given (s ∷ run) runs a b excludes (inr here) (inl there) = not_beside command b a (put s.name s.value given) run runs.3 (subst (λ (n : OptionName). is_given n (put s.name s.value given) ≡ true) there (put_there s.name s.value given)) excludes here
 apart_of command given (s ∷ run) runs a b excludes (inr here) (inr there) = apart_of command (put s.name s.value given) run runs.3 a b excludes here there
 
-taken_of : (command : CommandName) (given : Options) (run : List Spelling) → Runs command given run → AllByRecursion (λ s. IsOneOf s.name ((row_of command).required ++ (row_of command).optional)) run
+pub taken_of : (command : CommandName) (given : Options) (run : List Spelling) → Runs command given run → AllByRecursion (λ s. IsOneOf s.name ((row_of command).required ++ (row_of command).optional)) run
 taken_of command given [] runs = tt
 taken_of command given (s ∷ run) runs = (is_one s.name ((row_of command).required ++ (row_of command).optional) runs.0, taken_of command (put s.name s.value given) run runs.3)
 
-formed_of : (command : CommandName) (given : Options) (run : List Spelling) → Runs command given run → AllByRecursion (λ s. IsValue (form_for s.name command) s.value) run
+pub formed_of : (command : CommandName) (given : Options) (run : List Spelling) → Runs command given run → AllByRecursion (λ s. IsValue (form_for s.name command) s.value) run
 formed_of command given [] runs = tt
 formed_of command given (s ∷ run) runs = (runs.2, formed_of command (put s.name s.value given) run runs.3)
 
@@ -210,7 +210,7 @@ there_at : (name : OptionName) (given : Options) (s : Spelling) (run : List Spel
 there_at name given s run true now was later = inl (put_same (same s.name name) name s.name s.value given refl was now)
 there_at name given s run false now was later = inr (later refl)
 
-there_of : (name : OptionName) (given : Options) (run : List Spelling) → is_given name given ≡ false → is_given name (all_put given run) ≡ true → IsGiven name run
+pub there_of : (name : OptionName) (given : Options) (run : List Spelling) → is_given name given ≡ false → is_given name (all_put given run) ≡ true → IsGiven name run
 there_of name given [] was is = let clash : false ≡ true = sym was ∙ is in absurd (cc)
 there_of name given (s ∷ run) was is = there_at name given s run _ refl was (λ now. there_of name (put s.name s.value given) run now is)
 

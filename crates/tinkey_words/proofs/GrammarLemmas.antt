@@ -1,5 +1,5 @@
 -- A word at fault, and why it is so, depends on the words up to it alone.
-use Rattle.std.proofs.Common.{◌≡◌, refl, sym, ap, ℕ, ◌+◌, ◌<◌, ◌≤◌, Bool, true, false, List, [], ◌∷◌, ◌++◌, length, arith, length-append, Option, Some, None, Ok, Err, Result}
+use Rattle.std.proofs.Common.{◌≡◌, refl, ap, ℕ, ◌+◌, ◌<◌, ◌≤◌, Bool, true, false, List, [], ◌∷◌, ◌++◌, length, arith, length-append, Option, Some, None, Ok, Err, Result}
 use Rattle.std.specs.Prelude.{if◌then◌else◌}
 use Rattle.tinkey_words.specs.declared.words.help.First.{First}
 use Rattle.tinkey_words.specs.declared.words.help.First.TheVariants as firsts

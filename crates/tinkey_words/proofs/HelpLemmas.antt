@@ -102,7 +102,7 @@ first_is name first is = first_test _ _ _ _ name first refl refl refl refl is
 
 -- The topics.
 
-topic_found : (topic : Topic) (name : List ℕ) → IsNameOf topic name → topic_of name ≡ Some topic
+pub topic_found : (topic : Topic) (name : List ℕ) → IsNameOf topic name → topic_of name ≡ Some topic
 unfolding topic_of
 topic_found topics.Commands name named = absurd named
 topic_found topics.Exit name named = ap topic_of named
@@ -114,7 +114,7 @@ topic_test true o name topic one two is = subst (λ (t : Topic). IsNameOf t name
 topic_test false (Some command) name topic one two is = subst (λ (t : Topic). IsNameOf t name) (let ok : Some (topics.Command command) ≡ Some topic = is in let same : topics.Command command ≡ topic = cc in same) (command_named name command two)
 topic_test false None name topic one two is = absurd (cc)
 
-topic_is : (name : List ℕ) (topic : Topic) → topic_of name ≡ Some topic → IsNameOf topic name
+pub topic_is : (name : List ℕ) (topic : Topic) → topic_of name ≡ Some topic → IsNameOf topic name
 unfolding topic_of
 topic_is name topic is = topic_test _ _ name topic refl refl is
 

@@ -2,6 +2,7 @@ pub mod FitLemmas
 pub mod FlagLemmas
 pub mod GrammarLemmas
 pub mod HelpLemmas
+pub mod MisuseLemmas
 pub mod OffsetLemmas
 pub mod RowLemmas
 pub mod SpellingLemmas

@@ -1,6 +1,6 @@
 -- What is parsed of decimal digits is the offset that they write.
-use Rattle.std.proofs.Common.{◌≡◌, refl, sym, ◌∙◌, ap, ℕ, ◌^◌, ◌<◌, ◌≤◌, Bool, true, false, ◌&&◌, List, length, Some, None, Option, Result, Ok, Err, nat_le, nat_lt, arith, if◌then◌else◌}
-use Rattle.std.specs.Result.{OkIff, result_ok}
+use Rattle.std.proofs.Common.{◌≡◌, refl, sym, ◌∙◌, ap, ℕ, ◌^◌, ◌<◌, ◌≤◌, Bool, true, false, ◌&&◌, List, length, Some, None, Result, Ok, Err, nat_le, nat_lt, arith, if◌then◌else◌}
+use Rattle.std.specs.Result.{OkIff}
 use Rattle.std.specs.Str.{all_ascii_digits}
 use Rattle.std.specs.Str.Parse.{ParsesUnsigned, digits_value}
 use Rattle.std.proofs.lemmas.Bool.{le-leb, leb-true, lt-ltb, ltb-true, true≢false}

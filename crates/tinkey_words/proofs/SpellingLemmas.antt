@@ -46,7 +46,7 @@ form_test : (command : CommandName) (name : OptionName) (value : List ℕ) (b : 
 form_test command name value true misuse given more formed is = (value_formed (form_for name command) value formed, (let ok : Ok (put name value given) ≡ Ok more = is in cc), sym (flag_form name command) ∙ value_other (form_for name command) value formed)
 form_test command name value false misuse given more formed is = let clash : Err misuse ≡ Ok more = is in absurd (cc)
 
-with_formed : (command : CommandName) (name : OptionName) (value : List ℕ) (place : ℕ) (given more : Options) → with_value command name value place given ≡ Ok more → IsValue (form_for name command) value × (more ≡ put name value given) × (is_flag (option_row name).form ≡ false)
+pub with_formed : (command : CommandName) (name : OptionName) (value : List ℕ) (place : ℕ) (given more : Options) → with_value command name value place given ≡ Ok more → IsValue (form_for name command) value × (more ≡ put name value given) × (is_flag (option_row name).form ≡ false)
 with_formed command name value place given more is = form_test command name value _ (misuse_at place (misfits.BadValue command name)) given more refl is
 
 -- an option that is new and the command's is taken, and no other
@@ -59,12 +59,12 @@ option_test true false found name untaken barred is = (refl, refl, let ok : Ok f
 option_test false b found name untaken barred is = let clash : Err untaken ≡ Ok name = is in absurd (cc)
 
 -- what stands of an option that was taken: its text is its name, and it is the command's and new
-record Taken (command : CommandName) (text : List ℕ) (name : OptionName) (given : Options) : Type 0 where
-  named : text ≡ (option_row name).word
-  takes : takes command name ≡ true
-  new : is_barred name given ≡ false
+pub record Taken (command : CommandName) (text : List ℕ) (name : OptionName) (given : Options) : Type 0 where
+  pub named : text ≡ (option_row name).word
+  pub takes : takes command name ≡ true
+  pub new : is_barred name given ≡ false
 
-option_is : (command : CommandName) (text : List ℕ) (found : Option OptionName) (place : ℕ) (given : Options) (name : OptionName) → option_of text ≡ found → new_option command found place given ≡ Ok name → Taken command text name given
+pub option_is : (command : CommandName) (text : List ℕ) (found : Option OptionName) (place : ℕ) (given : Options) (name : OptionName) → option_of text ≡ found → new_option command found place given ≡ Ok name → Taken command text name given
 option_is command text None place given name named is = let clash : Err (misuse_at place (misfits.NoOption command)) ≡ Ok name = is in absurd (cc)
 option_is command text (Some other) place given name named is =
     let test = option_test (takes command other) (is_barred other given) other name (misuse_at place (misfits.NoOption command)) (misuse_at place (bar command other (rival other) given)) is in

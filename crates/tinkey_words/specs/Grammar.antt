@@ -3,6 +3,7 @@
 --   PlacesAreDecided   a word at fault, and why it is so, depends on the words up to it alone
 --   WordsAreSpelled    words are accepted exactly where they spell a command's word and then
 --                      options that fit its row, in any order, or ask for help or for the version
+--   MisusesAreTrue     what is told of a word at fault is so
 --
 -- The commands and options are those of the tables of Rows.
 use Rattle.std.specs.Prelude.{◌≡◌, ◌≢◌, ◌⊎◌, ◌↔◌, ℕ, ◌+◌, ◌*◌, ◌%◌, ◌^◌, ◌<◌, ◌≤◌, List, [], ◌∷◌, ◌++◌, length, Bool, true, None, Some, if◌then◌else◌, Ok, Err, codes, false}
@@ -11,6 +12,7 @@ use Rattle.std.specs.Str.{all_ascii_digits, str_to_ascii_lowercase}
 use Rattle.std.specs.Str.Parse.{digits_value}
 use Rattle.tinkey_words.specs.declared.words.help.Topic.{Topic}
 use Rattle.tinkey_words.specs.declared.words.help.Topic.TheVariants as topics
+use Rattle.tinkey_words.specs.declared.words.misuse.Misfit.TheVariants as misfits
 use Rattle.tinkey_words.specs.declared.words.misuse.Misuse.{Misuse}
 use Rattle.tinkey_words.specs.declared.words.rows.CommandName.{CommandName}
 use Rattle.tinkey_words.specs.declared.words.rows.Form.{Form}
@@ -18,7 +20,7 @@ use Rattle.tinkey_words.specs.declared.words.rows.Form.TheVariants as forms
 use Rattle.tinkey_words.specs.declared.words.rows.OptionName.{OptionName}
 use Rattle.hex.specs.Hex.{is_hex_digit}
 use Rattle.tinkey_words.specs.Rows.{row_of, option_row, form_for, rival, same, datum_limit, most_lines, most_range, is_flag}
-use Rattle.tinkey_words.specs.Words.{Asked, Values, asked_with, help, version, words_of}
+use Rattle.tinkey_words.specs.Words.{Asked, Values, asked_with, help, version, misuse_at, words_of}
 
 -- where the word of a place is at fault, it is so, and for the same reason, whatever words stand behind it
 abbrev pub PlacesAreDecided : Type 0
@@ -171,3 +173,76 @@ abbrev pub WordsAreSpelled : Type 0
 WordsAreSpelled =
     (words : List (List ℕ)) (asked : Asked) →
     (words_of words ≡ Ok asked) ↔ (Spells words asked ⊎ Helps words asked)
+
+-- Words at fault.
+
+-- the word is this option's, with or without a value of its own
+abbrev pub IsWordOf : OptionName → List ℕ → Type 0
+IsWordOf name word =
+    (word ≡ (option_row name).word)
+    ⊎ ((value : List ℕ) × (word ≡ (option_row name).word ++ (61 ∷ value)))
+
+-- the command has the option
+abbrev pub IsOptionOf : CommandName → OptionName → Type 0
+IsOptionOf command name = IsOneOf name ((row_of command).required ++ (row_of command).optional)
+
+-- behind a command and these options, what is at fault with the rest, whose first word has this place
+pub data IsFault (command : CommandName) (given : List Spelling) (place : ℕ) (rest : List (List ℕ))
+    (misuse : Misuse) : Type 0 where
+  -- the word is that of no option of the command
+  no_option : (word : List ℕ) (more : List (List ℕ)) → rest ≡ word ∷ more →
+      ((name : OptionName) → IsOptionOf command name → IsWordOf name word → ⊥) →
+      misuse ≡ misuse_at place (misfits.NoOption command) → IsFault command given place rest misuse
+  -- the option is given in front of it
+  twice : (name : OptionName) (word : List ℕ) (more : List (List ℕ)) → rest ≡ word ∷ more →
+      IsOptionOf command name → IsWordOf name word → IsGiven name given →
+      misuse ≡ misuse_at place (misfits.Twice command name) → IsFault command given place rest misuse
+  -- another one is, which it excludes
+  beside : (name other : OptionName) (word : List ℕ) (more : List (List ℕ)) → rest ≡ word ∷ more →
+      IsOptionOf command name → IsWordOf name word → rival name ≡ Some other → IsGiven other given →
+      misuse ≡ misuse_at place (misfits.Beside command name other) → IsFault command given place rest misuse
+  -- its own value isn't of its form, or it is a flag
+  own_value_bad : (name : OptionName) (value : List ℕ) (more : List (List ℕ)) →
+      rest ≡ ((option_row name).word ++ (61 ∷ value)) ∷ more →
+      (is_flag (form_for name command) ≡ true) ⊎ (IsValue (form_for name command) value → ⊥) →
+      misuse ≡ misuse_at place (misfits.BadValue command name) → IsFault command given place rest misuse
+  -- the value behind it isn't of its form
+  next_value_bad : (name : OptionName) (value : List ℕ) (more : List (List ℕ)) →
+      rest ≡ (option_row name).word ∷ value ∷ more → (IsValue (form_for name command) value → ⊥) →
+      misuse ≡ misuse_at (place + 1) (misfits.BadValue command name) → IsFault command given place rest misuse
+  -- no value is behind it
+  value_missing : (name : OptionName) → rest ≡ (option_row name).word ∷ [] →
+      misuse ≡ misuse_at (place + 1) (misfits.NoValue command name) → IsFault command given place rest misuse
+  -- nothing is behind the options, and of those that the command requires this is the first that isn't given
+  lacks : (name : OptionName) (before behind : List OptionName) → rest ≡ [] →
+      (row_of command).required ≡ before ++ (name ∷ behind) →
+      AllByRecursion (λ other. IsGiven other given) before → (IsGiven name given → ⊥) →
+      misuse ≡ misuse_at place (misfits.Lacks command name) → IsFault command given place rest misuse
+
+-- what is at fault with the words
+pub data IsMisused (words : List (List ℕ)) (misuse : Misuse) : Type 0 where
+  -- there is no word
+  no_word : words ≡ [] → misuse ≡ misuse_at 0 misfits.NoCommand → IsMisused words misuse
+  -- the first one is no command's, and asks neither for help nor for the version
+  no_command : (name : List ℕ) (more : List (List ℕ)) → words ≡ name ∷ more →
+      ((command : CommandName) → name ≡ (row_of command).word → ⊥) → (IsHelpWord name → ⊥) →
+      (IsVersionWord name → ⊥) → misuse ≡ misuse_at 0 misfits.NoCommand → IsMisused words misuse
+  -- behind `help` stands the name of no topic
+  no_topic : (name : List ℕ) (more : List (List ℕ)) → words ≡ codes "help" ∷ name ∷ more →
+      ((topic : Topic) → IsNameOf topic name → ⊥) → misuse ≡ misuse_at 1 misfits.NoTopic →
+      IsMisused words misuse
+  -- a word stands behind those that ask for help or for the version
+  too_many : (asked : Asked) (front : List (List ℕ)) (word : List ℕ) (more : List (List ℕ)) →
+      Helps front asked → words ≡ front ++ (word ∷ more) →
+      misuse ≡ misuse_at (length front) misfits.TooMany → IsMisused words misuse
+  -- behind a command and options that fit so far, the rest is at fault
+  behind_options : (command : CommandName) (given : List Spelling) (rest : List (List ℕ)) →
+      words ≡ (row_of command).word ∷ (flat_map spelled given ++ rest) → IsOnce given → AreApart given →
+      AllByRecursion (λ s. IsOptionOf command s.name) given →
+      AllByRecursion (λ s. IsValue (form_for s.name command) s.value) given →
+      IsFault command given (1 + length (flat_map spelled given)) rest misuse → IsMisused words misuse
+
+-- what is told of words that are refused is so
+abbrev pub MisusesAreTrue : Type 0
+MisusesAreTrue =
+    (words : List (List ℕ)) (misuse : Misuse) → words_of words ≡ Err misuse → IsMisused words misuse
