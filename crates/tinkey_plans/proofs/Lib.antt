@@ -3,6 +3,7 @@ pub mod CountLemmas
 pub mod FaultLemmas
 pub mod RangeLemmas
 pub mod GivenLemmas
+pub mod MisfitLemmas
 pub mod PromiseLemmas
 pub mod ReportLemmas
 pub mod StepLemmas

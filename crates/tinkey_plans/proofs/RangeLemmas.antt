@@ -22,6 +22,7 @@ use Rattle.tinkey_plans.specs.Steps.{keyset_in, keyset_limit, puts, with_json, w
 use Rattle.tinkey_plans.specs.Streaming.{keys_for, unless_unfit, with_keys}
 use Rattle.tinkey_plans.specs.Stretch.{Opened, Stretch, GivesAtMost, IsShortPast}
 use Rattle.tinkey_plans.proofs.GivenLemmas.{none_given}
+use Rattle.tinkey_words.specs.declared.words.misuse.Misuse.{Misuse}
 use Rattle.tinkey_words.specs.Words.{Asked, AskedRange, open_range, words_of}
 
 -- ---- the output
@@ -165,4 +166,4 @@ range_gave name form ad range out old s new (loaded bytes store kept stood given
 
 pub ranges_read_little : RangesReadLittle
 ranges_read_little table words name form ad range out old s new is run =
-    range_gave name form ad range out old s new (subst (λ (r : Result Asked ℕ). Ends (asked_plan table r words) old s new) is run)
+    range_gave name form ad range out old s new (subst (λ (r : Result Asked Misuse). Ends (asked_plan table r words) old s new) is run)

@@ -19,6 +19,7 @@ use Rattle.tinkey_plans.specs.Steps.{takes_keyset, loads_keyset, works_out, find
 use Rattle.tinkey_plans.specs.Streaming.{loads_stream_keys, seals_stream, opens_stream}
 use Rattle.tinkey_plans.specs.Using.{puts_output, use_output}
 use Rattle.tinkey_plans.specs.Wrapping.{wrap_output, unwrap_output}
+use Rattle.tinkey_words.specs.declared.words.misuse.Misuse.{Misuse}
 use Rattle.tinkey_words.specs.Words.{Place, AskedEdit, Asked, create_keyset, edit_keyset, list_keyset, convert_keyset, list_key_templates, use_keyset, use_envelope, seal_stream, open_stream, open_range, self_test, session, wrap_keyset, unwrap_keyset, help, version, words_of}
 
 -- create-keyset: a keyset of one new key
@@ -65,12 +66,12 @@ command_plan table (unwrap_keyset master form in' out) =
 command_plan table (help topic) = writes (help_text topic)
 command_plan table version = writes version_text
 
--- the command's plan, or the word at fault is the answer; where there is no word, that is told by a status
+-- the command's plan, or the word at fault is the answer, with why it is so; where there is no word, that is told by a status
 -- of its own
-abbrev pub asked_plan : Table → Result Asked ℕ → List (List ℕ) → Plan
+abbrev pub asked_plan : Table → Result Asked Misuse → List (List ℕ) → Plan
 asked_plan table (Ok asked) words = command_plan table asked
-asked_plan table (Err word) [] = ends status.NoWords tt
-asked_plan table (Err word) (name ∷ words) = ends (status.Usage word) tt
+asked_plan table (Err misuse) [] = ends status.NoWords tt
+asked_plan table (Err misuse) (name ∷ words) = ends (status.Usage misuse) tt
 
 -- the plan of the command that the words ask for
 abbrev pub plan_of : Table → List (List ℕ) → Plan

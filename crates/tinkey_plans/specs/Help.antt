@@ -60,8 +60,8 @@ list_text =
 -- the diagnostic lines
 unfoldable pub exit_text : List ℕ
 exit_text =
-    codes "A command that can't be done tells so by one line on standard error, and by its exit code.\n"
-    ++ codes "The line is \"tinkey: \" and one of these; the code stands in front.\n"
+    codes "A command that can't be done tells so by a line on standard error, and by its exit code. The\n"
+    ++ codes "line is \"tinkey: \" and one of these; the code stands in front.\n"
     ++ codes "\n"
     ++ codes "0  done, and no line\n"
     ++ codes "\n"
@@ -86,9 +86,10 @@ exit_text =
     ++ codes "     This word is at fault: no command, no option of this command, one that was given before\n"
     ++ codes "     or can't stand beside another, or a value that isn't of its form. Words count from 0,\n"
     ++ codes "     which is the command. Where the number is that of the words, one is missing behind\n"
-    ++ codes "     them: a value, or an option that the command requires. Look at the word before, too:\n"
-    ++ codes "     where its value was left out, the next word was taken for it. tinkey help lists the\n"
-    ++ codes "     commands, and tinkey help COMMAND tells a command's options.\n"
+    ++ codes "     them: a value, or an option that the command requires. A second line tells which of\n"
+    ++ codes "     these it is. Look at the word before, too: where its value was left out, the next word\n"
+    ++ codes "     was taken for it. tinkey help lists the commands, and tinkey help COMMAND tells a\n"
+    ++ codes "     command's options.\n"
     ++ codes "\n"
     ++ codes "2  unknown key template\n"
     ++ codes "     list-key-templates lists the names. The AEADs over Poly1305 are left out.\n"

@@ -3,6 +3,7 @@ pub mod Ends
 pub mod Envelopes
 pub mod Help
 pub mod Laws
+pub mod Misfits
 pub mod Plan
 pub mod Promises
 pub mod SelfTesting

@@ -9,6 +9,7 @@ use Rattle.tinkey_cmds.specs.declared.command.CmdFault.TheVariants as edits
 use Rattle.tinkey_session.specs.declared.reply.Refusal.TheVariants as refused
 use Rattle.tinkey_session.specs.Texts.{refusal_text}
 use Rattle.tinkey_plans.specs.Help.{help_text}
+use Rattle.tinkey_plans.specs.Misfits.{misfit_line}
 use Rattle.tinkey_plans.specs.declared.status.Status.{Status}
 use Rattle.tinkey_plans.specs.declared.status.Status.TheVariants as status
 use Rattle.tinkey_words.specs.declared.words.help.Topic.TheVariants as topics
@@ -20,7 +21,7 @@ code_of status.OpenFailed = 1
 code_of status.VerifyFailed = 1
 code_of (status.StreamFailed number) = 1
 code_of status.NoWords = 2
-code_of (status.Usage word) = 2
+code_of (status.Usage misuse) = 2
 code_of status.UnknownTemplate = 2
 code_of status.AsymmetricTemplate = 2
 code_of status.DekTemplate = 2
@@ -78,7 +79,7 @@ text_of status.OpenFailed = refusal_text refused.OpenFailed
 text_of status.VerifyFailed = refusal_text refused.VerifyFailed
 text_of (status.StreamFailed number) = codes "stream failed at segment " ++ decimal number
 text_of status.NoWords = codes "usage: word 0"
-text_of (status.Usage word) = codes "usage: word " ++ decimal word
+text_of (status.Usage misuse) = codes "usage: word " ++ decimal misuse.place
 text_of (status.BadProto at) = codes "bad protobuf at byte " ++ decimal at
 text_of status.NotJson = codes "not JSON"
 text_of (status.Shape path) = codes "bad JSON member " ++ name_of path.member ++ key_text path.key
@@ -115,9 +116,11 @@ unfoldable pub line_of : Status → List ℕ
 line_of status.Done = []
 line_of other = codes "tinkey: " ++ text_of other ++ codes "\n"
 
--- what stands behind the line: where there was no word, the list of the commands
+-- what stands behind the line: where there was no word, the list of the commands, and where one was at
+-- fault, a second line that tells why
 unfoldable pub behind_line : Status → List ℕ
 behind_line status.NoWords = help_text topics.Commands
+behind_line (status.Usage misuse) = misfit_line misuse.why
 behind_line other = []
 
 -- these bytes were written, or the first of them where the count of faults rose

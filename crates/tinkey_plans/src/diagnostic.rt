@@ -7,6 +7,7 @@ ghost use Rattle.tinkey_plans.specs.Status.{key_text, line_of, behind_line, text
 ghost use Rattle.tinkey_cmds.specs.declared.command.CmdFault.TheVariants as edits;
 ghost use Rattle.tinkey_session.specs.declared.reply.Refusal.TheVariants as refused;
 
+use crate::misfit::misfit_line;
 use crate::{Status, help_text};
 use key_msgs::Rule;
 use keyset_json::{Member, Path};
@@ -16,35 +17,36 @@ use tinkey_cmds::CmdFault;
 use tinkey_session::{Refusal, ShortText, refusal_text};
 use tinkey_words::Topic;
 
-/// Writes the line of a status, and behind that of no words the list of the commands. A fault of `diag`
-/// changes no status.
+/// Writes the line of a status, and what stands behind it: the list of the commands where there was no
+/// word, and why the word is at fault where one is. A fault of `diag` changes no status.
 pub fn report<G: Sink>(diag: &mut G, status: Status)
     ensures { Reports status (G.state diag.old) (G.state diag.new) }
 {
     match write_all(diag, line(status).as_slice()) {
-        Ok(()) => write_text(diag, behind(status)),
+        Ok(()) => write_behind(diag, status),
         Err(_) => {}
+    }
+}
+
+/// Writes what stands behind the line of a status.
+#[tactic(auto, unfolding(crate::specs::Status::behind_line))]
+fn write_behind<G: Sink>(diag: &mut G, status: Status)
+    ensures { Wrote (behind_line status) (G.state diag.old) (G.state diag.new) }
+{
+    match status {
+        Status::NoWords => write_text(diag, help_text(Topic::Commands).as_bytes()),
+        Status::Usage(misuse) => write_text(diag, misfit_line(misuse.why).as_slice()),
+        _ => write_text(diag, &[]),
     }
 }
 
 /// Writes a text.
-fn write_text<G: Sink>(diag: &mut G, text: &str)
+fn write_text<G: Sink>(diag: &mut G, text: &[u8])
     ensures { Wrote text.now (G.state diag.old) (G.state diag.new) }
 {
-    match write_all(diag, text.as_bytes()) {
+    match write_all(diag, text) {
         Ok(()) => {}
         Err(_) => {}
-    }
-}
-
-/// What stands behind the line of a status.
-#[tactic(auto, unfolding(crate::specs::Status::behind_line))]
-fn behind(status: Status) -> &'static str
-    ensures { result.now ≡ behind_line status }
-{
-    match status {
-        Status::NoWords => help_text(Topic::Commands),
-        _ => "",
     }
 }
 
@@ -84,9 +86,9 @@ fn push_text(line: &mut ShortText, status: Status)
         Status::VerifyFailed => push_refusal(line, Refusal::VerifyFailed),
         Status::StreamFailed(number) => push_segment(line, number),
         Status::NoWords => line.push("usage: word 0"),
-        Status::Usage(word) => {
+        Status::Usage(misuse) => {
             line.push("usage: word ");
-            line.push_number(word);
+            line.push_number(misuse.place);
         }
         Status::BadProto(at) => {
             line.push("bad protobuf at byte ");

@@ -87,8 +87,8 @@ fn exit_text() -> &'static str
     ensures { result.now ≡ exit_text }
 {
     "\
-A command that can't be done tells so by one line on standard error, and by its exit code.
-The line is \"tinkey: \" and one of these; the code stands in front.
+A command that can't be done tells so by a line on standard error, and by its exit code. The
+line is \"tinkey: \" and one of these; the code stands in front.
 
 0  done, and no line
 
@@ -113,9 +113,10 @@ The line is \"tinkey: \" and one of these; the code stands in front.
      This word is at fault: no command, no option of this command, one that was given before
      or can't stand beside another, or a value that isn't of its form. Words count from 0,
      which is the command. Where the number is that of the words, one is missing behind
-     them: a value, or an option that the command requires. Look at the word before, too:
-     where its value was left out, the next word was taken for it. tinkey help lists the
-     commands, and tinkey help COMMAND tells a command's options.
+     them: a value, or an option that the command requires. A second line tells which of
+     these it is. Look at the word before, too: where its value was left out, the next word
+     was taken for it. tinkey help lists the commands, and tinkey help COMMAND tells a
+     command's options.
 
 2  unknown key template
      list-key-templates lists the names. The AEADs over Poly1305 are left out.

@@ -11,6 +11,7 @@
 mod diagnostic;
 mod help;
 pub mod laws;
+mod misfit;
 mod status;
 
 pub use diagnostic::{report, starve};

@@ -7,6 +7,7 @@ use keyset_json::Path;
 use keyset_model::KeysetFault;
 use tink_base::NoMemory;
 use tinkey_cmds::CmdFault;
+use tinkey_words::Misuse;
 
 /// How a run ends, with the place where it was refused.
 ///
@@ -24,8 +25,8 @@ pub enum Status {
     StreamFailed(u64),
     /// There is no word.
     NoWords,
-    /// The word of this place is at fault, or missing where it is the number of words.
-    Usage(usize),
+    /// A word is at fault, or missing where its place is the number of words.
+    Usage(Misuse),
     /// The field whose tag has this place can't be cut or read.
     BadProto(usize),
     /// The keyset isn't JSON.

@@ -5,8 +5,8 @@ use Rattle.tinkey_plans.proofs.diagnostic.report.Goals as goal
 pub returns-in-Ok : goal.returns-in-Ok
 returns-in-Ok g c =
     let took = rw (c.as_slice.ensures, c.line.ensures) at c.in-Ok.ensures.all in
-    let behind = rw c.behind.ensures at c.write_text.ensures in
-    wrote_both (g.G.Sink.state c.args.diag.now) (g.G.Sink.state c.write_all.new.sink) (g.G.Sink.state c.write_text.new.diag) (line_of c.args.status) (behind_line c.args.status) took behind
+    let behind = c.write_behind.ensures in
+    wrote_both (g.G.Sink.state c.args.diag.now) (g.G.Sink.state c.write_all.new.sink) (g.G.Sink.state c.write_behind.new.diag) (line_of c.args.status) (behind_line c.args.status) took behind
 
 pub returns-in-Err : goal.returns-in-Err
 returns-in-Err g c =

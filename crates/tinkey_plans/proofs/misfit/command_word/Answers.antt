@@ -1,0 +1,6 @@
+use Rattle.std.proofs.Common.{◌≤◌, List, ℕ, length, subst, sym}
+use Rattle.tinkey_plans.proofs.MisfitLemmas.{command_short}
+use Rattle.tinkey_plans.proofs.misfit.command_word.Goals as goal
+
+pub returns-clause-short : goal.returns-clause-short
+returns-clause-short c = subst (λ (word : List ℕ). length word ≤ 18) (sym c.word.ensures) (command_short c.args.command)

@@ -1,0 +1,122 @@
+//! The second line of words that are refused, told without memory.
+
+ghost use Rattle.std.specs.Prelude.{◌≡◌, ◌+◌, ◌≤◌, ◌++◌, length};
+ghost use Rattle.tinkey_words.specs.Rows.{form_for, option_row, row_of};
+ghost use Rattle.tinkey_plans.specs.Misfits.{form_text, misfit_line, misfit_text, told_of};
+
+use tinkey_session::ShortText;
+use tinkey_words::{CommandName, Form, Misfit, OptionName};
+
+/// The line that tells why a word is at fault.
+#[tactic(auto, unfolding(crate::specs::Misfits::misfit_line))]
+pub fn misfit_line(why: Misfit) -> ShortText
+    ensures { result ≡ misfit_line why }
+{
+    let mut line = ShortText::new();
+    line.push("tinkey: ");
+    push_misfit(&mut line, why);
+    line.push("\n");
+    line
+}
+
+/// Adds why a word is at fault, for which there is room.
+#[tactic(auto, unfolding(crate::specs::Misfits::misfit_text))]
+fn push_misfit(line: &mut ShortText, why: Misfit)
+    requires room { length line.old ≤ 8 }
+    ensures text { line.new ≡ line.old ++ misfit_text why }
+    ensures short { length line.new ≤ 127 }
+{
+    match why {
+        Misfit::NoCommand => line.push("no such command: see tinkey help"),
+        Misfit::NoTopic => line.push("no such topic: see tinkey help"),
+        Misfit::TooMany => line.push("a word too many"),
+        Misfit::NoOption(command) => {
+            push_told(line, "no option", " of ", command_word(command), command);
+        }
+        Misfit::Twice(command, name) => {
+            push_told(line, option_word(name), " stands twice", "", command);
+        }
+        Misfit::Beside(command, name, other) => {
+            push_told(
+                line,
+                option_word(name),
+                " stands beside ",
+                option_word(other),
+                command,
+            );
+        }
+        Misfit::BadValue(command, name) => push_form(line, name, " takes ", command),
+        Misfit::NoValue(command, name) => push_form(line, name, " lacks its value, ", command),
+        Misfit::Lacks(command, name) => {
+            push_told(
+                line,
+                command_word(command),
+                " lacks ",
+                option_word(name),
+                command,
+            );
+        }
+    }
+}
+
+/// Adds what is said of an option's value, with its form.
+fn push_form(line: &mut ShortText, name: OptionName, says: &str, command: CommandName)
+    requires room { length line.old ≤ 8 }
+    requires says_bound { length says.now ≤ 18 }
+    ensures text { line.new ≡ line.old ++ told_of
+        (option_row name).word says.now (form_text (form_for name command)) command }
+    ensures short { length line.new ≤ 127 }
+{
+    let form = form_text(name.form_for(command));
+    push_told(line, option_word(name), says, form, command);
+}
+
+/// Adds three pieces of text, and the command whose help tells more.
+fn push_told(line: &mut ShortText, a: &str, b: &str, c: &str, command: CommandName)
+    requires room { length line.old ≤ 8 }
+    requires told_bound { length a.now + length b.now + length c.now ≤ 80 }
+    ensures text { line.new ≡ line.old ++ told_of a.now b.now c.now command }
+    ensures short { length line.new ≤ 127 }
+{
+    line.push(a);
+    line.push(b);
+    line.push(c);
+    line.push(": see tinkey help ");
+    line.push(command_word(command));
+}
+
+/// A command's word.
+fn command_word(command: CommandName) -> &'static str
+    ensures word { result.now ≡ (row_of command).word }
+    ensures short { length result.now ≤ 18 }
+{
+    command.word()
+}
+
+/// An option's word.
+fn option_word(name: OptionName) -> &'static str
+    ensures word { result.now ≡ (option_row name).word }
+    ensures short { length result.now ≤ 15 }
+{
+    name.word()
+}
+
+/// What a value of this form is.
+#[tactic(auto, unfolding(crate::specs::Misfits::form_text))]
+fn form_text(form: Form) -> &'static str
+    ensures text { result.now ≡ form_text form }
+    ensures short { length result.now ≤ 38 }
+{
+    match form {
+        Form::Text => "a name",
+        Form::FileName => "the name of a file",
+        Form::Number => "a number from 0 to 4294967295",
+        Form::LineCount => "a number from 1 to 100000",
+        Form::RangeLength => "a number from 0 to 16777216",
+        Form::Offset => "a number from 0 to 9223372036854775807",
+        Form::Format => "json or binary",
+        Form::Datum => "at most 1048576 bytes",
+        Form::Hex => "at most 1048576 bytes in hexadecimal",
+        Form::Flag => "no value",
+    }
+}
