@@ -26,7 +26,7 @@ use std::alloc::Global;
 use tink_base::{Entropy, Sink, Source, Store};
 use tinkey_plans::{Status, help_text, report, version_text};
 use tinkey_readable::laws::sessions_are_readable;
-use tinkey_words::{Request, parse};
+use tinkey_words::{Misuse, Request, parse};
 
 /// Does what the words after the program's name ask for, and tells on `diag` what went wrong. Keys
 /// are used through the managers handed in.
@@ -84,19 +84,19 @@ fn obey<S: Source, K: Sink, E: Entropy, D: Store>(
 {
     match parse(words) {
         Ok(command) => dispatch(alloc, command, managers, source, sink, entropy, store),
-        Err(word) => unasked(words, word),
+        Err(misuse) => unasked(words, misuse),
     }
 }
 
-/// The status of words that ask for nothing, of which this one is at fault, or which are none.
-fn unasked(words: &[String], word: usize) -> Status
+/// The status of words that ask for nothing, of which one is at fault so, or which are none.
+fn unasked(words: &[String], misuse: Misuse) -> Status
     ensures { (table : Table) (w : World) →
-        Ends (asked_plan table (Err word) (map string_bytes words.now)) w result w }
+        Ends (asked_plan table (Err misuse) (map string_bytes words.now)) w result w }
 {
     if words.is_empty() {
         Status::NoWords
     } else {
-        Status::Usage(word)
+        Status::Usage(misuse)
     }
 }
 
