@@ -69,7 +69,7 @@ key_info {
 const RUNS: [&str; 9] = [
     "a listing | list-keyset --in-format binary | keyset | 0 | | listing",
     "a tag of another length | verify --keyset k --keyset-format binary --tag-hex 00 | 61 | 1 | tinkey: verify failed |",
-    "no such command | no-command | | 2 | tinkey: usage: word 0 |",
+    "no such command | no-command | | 2 | tinkey: usage: word 0\ntinkey: no such command: see tinkey help |",
     "no protobuf | list-keyset --in-format binary | ff | 3 | tinkey: bad protobuf at byte 0 |",
     "no such file | tag --keyset n --keyset-format binary | 61 | 4 | tinkey: input file missing |",
     "a read that fails | list-keyset --in-format binary | fails | 5 | tinkey: read fault |",
@@ -175,7 +175,7 @@ fn tells_the_exit_code_of_a_run(rt: HostRuntime) -> Result<(), Fail> {
     words.push(String::from_str(rt.alloc(), "no-command")?)?;
     let mut source = MemSource::new(Vec::new(rt.alloc()), 1, Vec::new(rt.alloc()));
     let mut sink = MemSink::new(rt.alloc(), 64, 64, Vec::new(rt.alloc()))?;
-    let mut diag = MemSink::new(rt.alloc(), 64, 64, Vec::new(rt.alloc()))?;
+    let mut diag = MemSink::new(rt.alloc(), 128, 64, Vec::new(rt.alloc()))?;
     let mut entropy = FileEntropy::new(RandomDevice::new(&rt));
     let mut store = DirStore::new(&rt);
     let code = obey(
@@ -189,6 +189,7 @@ fn tells_the_exit_code_of_a_run(rt: HostRuntime) -> Result<(), Fail> {
     );
     assert!(rt; code == ExitCode::from(2));
     assert_eq!(rt; sink.written(), b"".as_slice());
-    assert_eq!(rt; diag.written(), b"tinkey: usage: word 0\n".as_slice());
+    let told = "tinkey: usage: word 0\ntinkey: no such command: see tinkey help\n";
+    assert_eq!(rt; diag.written(), told.as_bytes());
     Ok(())
 }

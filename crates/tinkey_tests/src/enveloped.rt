@@ -78,12 +78,12 @@ fn names_what_refuses_a_data_key(rt: HostRuntime) -> Result<(), Fail> {
 const WORDS: &str = "file: GCM
 
 shows | words | status | line
-no template | eseal --keyset k | 2 Usage(3) | tinkey: usage: word 3
-no keyset | eopen --dek-template AES128_GCM | 2 Usage(3) | tinkey: usage: word 3
-a template twice | eseal --dek-template AES128_GCM --dek-template AES128_GCM | 2 Usage(3) | tinkey: usage: word 3
-the option of another command | seal --dek-template AES128_GCM | 2 Usage(1) | tinkey: usage: word 1
-associated data twice | eseal --keyset k --dek-template AES128_GCM --ad x --ad-hex 78 | 2 Usage(7) | tinkey: usage: word 7
-an option of edits | eopen --keyset k --key-template AES128_GCM | 2 Usage(3) | tinkey: usage: word 3
+no template | eseal --keyset k | 2 Usage(3) | tinkey: usage: word 3 / tinkey: eseal lacks --dek-template: see tinkey help eseal
+no keyset | eopen --dek-template AES128_GCM | 2 Usage(3) | tinkey: usage: word 3 / tinkey: eopen lacks --keyset: see tinkey help eopen
+a template twice | eseal --dek-template AES128_GCM --dek-template AES128_GCM | 2 Usage(3) | tinkey: usage: word 3 / tinkey: --dek-template stands twice: see tinkey help eseal
+the option of another command | seal --dek-template AES128_GCM | 2 Usage(1) | tinkey: usage: word 1 / tinkey: no option of seal: see tinkey help seal
+associated data twice | eseal --keyset k --dek-template AES128_GCM --ad x --ad-hex 78 | 2 Usage(7) | tinkey: usage: word 7 / tinkey: --ad-hex stands beside --ad: see tinkey help eseal
+an option of edits | eopen --keyset k --key-template AES128_GCM | 2 Usage(3) | tinkey: usage: word 3 / tinkey: no option of eopen: see tinkey help eopen
 ";
 
 #[test]

@@ -70,9 +70,26 @@ fn run_until_whole(
     Err("a run that meets no fault".into())
 }
 
+/// The size of the front of these lines that so many calls write, which move a piece each: no call moves
+/// bytes of two lines.
+fn front_size(lines: &str, piece: usize, calls: usize) -> usize {
+    if piece == 0 {
+        return 0;
+    }
+    let mut size: usize = 0;
+    let mut left = calls;
+    for line in lines.lines() {
+        let length = line.len().saturating_add(1);
+        let taken = left.min(length.div_ceil(piece));
+        size = size.saturating_add(length.min(taken.saturating_mul(piece)));
+        left = left.saturating_sub(taken);
+    }
+    size
+}
+
 /// Compares how a run ended in which one call failed, behind so many of its name, with what may stand
 /// then: the status is that of what failed, there is no new file, and no more was written or drawn than in
-/// the whole run. Where the line failed, its front alone is missing.
+/// the whole run. Where the line failed, its front alone is there.
 fn compare_fault(
     alloc: Global,
     row: &Row<'_>,
@@ -85,8 +102,8 @@ fn compare_fault(
     let moved = before.saturating_mul(piece);
     hold_count(alloc, row, got, "count of faults", "1", got.faults as usize)?;
     if end.1.is_empty() {
-        let line = row.cell(Column::Line).as_bytes();
-        let front = from_utf8(line.get(..moved).ok_or("a line so long")?)?;
+        let size = front_size(from_utf8(&whole.line)?, piece, before);
+        let front = from_utf8(whole.line.get(..size).ok_or("a line so long")?)?;
         let line = format!(in alloc; "{front}..")?;
         return compare(alloc, &row.with(Column::Line, &line), got);
     }

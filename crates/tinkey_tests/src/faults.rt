@@ -98,7 +98,7 @@ a tag over a file that is there | tag --hex --out k --keyset k --keyset-format b
 a self-test | selftest --seed 0 --lines 4 | 64 | none | | | 0 Done | | `lines^4^seals^3^opened^0^refused^0^edits^1^declined^0^lost^0` 0a | none | 0 | 0 1 0 0 0
 a line in pieces | list-keyset --in-format binary | 7 | none | 08 | | 3 BadProto(0) | tinkey: bad protobuf at byte 0 | | none | 0 | 2 0 5 0 0
 a missing file | tag --keyset k --keyset-format binary | 7 | none | | | 4 InMissing | tinkey: input file missing | | none | 0 | 0 0 4 1 0
-words at fault | verify | 7 | none | | | 2 Usage(1) | tinkey: usage: word 1 | | none | 0 | 0 0 4 0 0
+words at fault | verify | 7 | none | | | 2 Usage(1) | tinkey: usage: word 1 / tinkey: verify lacks --keyset: see tinkey help verify | | none | 0 | 0 0 12 0 0
 ";
 
 #[test]

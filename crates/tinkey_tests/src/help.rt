@@ -14,7 +14,7 @@ shows | words | status | line | output
 the list of the commands | help | 0 Done | | `tinkey^makes^and^changes^keysets^of^Google^Tink,^and^uses^their^symmetric^keys.` ~2299 `tinkey^version^^^^^^^^the^version` 0a
 by a flag | --help | 0 Done | | `tinkey^makes^and^changes^keysets^of^Google^Tink,^and^uses^their^symmetric^keys.` ~2299 `tinkey^version^^^^^^^^the^version` 0a
 by the short one | -h | 0 Done | | `tinkey^makes^and^changes^keysets^of^Google^Tink,^and^uses^their^symmetric^keys.` ~2299 `tinkey^version^^^^^^^^the^version` 0a
-the lines of refusals | help exit | 0 Done | | `A^command^that^can` ~8023 `t^text,^and^no^line` 0a
+the lines of refusals | help exit | 0 Done | | `A^command^that^can` ~8068 `t^text,^and^no^line` 0a
 a command | help tag | 0 Done | | `tinkey^tag:^tags^standard^input^under^the^primary^key` ~1235 `tinkey^tag^--keyset^mac.json^--hex^<^letter.txt^>^letter.tag` 0a
 the same behind its word | tag --help | 0 Done | | `tinkey^tag:^tags^standard^input^under^the^primary^key` ~1235 `tinkey^tag^--keyset^mac.json^--hex^<^letter.txt^>^letter.tag` 0a
 by the short flag | tag -h | 0 Done | | `tinkey^tag:^tags^standard^input^under^the^primary^key` ~1235 `tinkey^tag^--keyset^mac.json^--hex^<^letter.txt^>^letter.tag` 0a
@@ -32,30 +32,30 @@ fn prints_what_is_asked(rt: HostRuntime) -> Result<(), Fail> {
 const AT_FAULT: &str = "input: GCM
 
 shows | words | status | line
-a topic that isn't known | help sealing | 2 Usage(1) | tinkey: usage: word 1
-help is no topic | help help | 2 Usage(1) | tinkey: usage: word 1
-nor is the version | help version | 2 Usage(1) | tinkey: usage: word 1
-nor a flag | help --help | 2 Usage(1) | tinkey: usage: word 1
-nor the empty word | help '' | 2 Usage(1) | tinkey: usage: word 1
-nor a command in capitals | help Seal | 2 Usage(1) | tinkey: usage: word 1
-two topics | help seal open | 2 Usage(2) | tinkey: usage: word 2
-a word behind exit | help exit 5 | 2 Usage(2) | tinkey: usage: word 2
-a word behind a topic that isn't known | help sealing open | 2 Usage(1) | tinkey: usage: word 1
-a flag with a topic | --help seal | 2 Usage(1) | tinkey: usage: word 1
-the short one with a topic | -h exit | 2 Usage(1) | tinkey: usage: word 1
-a flag twice | --help --help | 2 Usage(1) | tinkey: usage: word 1
-a word behind the version | version 2 | 2 Usage(1) | tinkey: usage: word 1
-behind its flag | --version --help | 2 Usage(1) | tinkey: usage: word 1
-a word behind a command's flag | seal --help open | 2 Usage(2) | tinkey: usage: word 2
-options behind it | seal -h --keyset k | 2 Usage(2) | tinkey: usage: word 2
-a command's flag twice | seal --help -h | 2 Usage(2) | tinkey: usage: word 2
-the flag behind options | seal --keyset k --help | 2 Usage(3) | tinkey: usage: word 3
-the flag with a value | seal --help= | 2 Usage(1) | tinkey: usage: word 1
-another flag | seal -H | 2 Usage(1) | tinkey: usage: word 1
-the flag in the place of a command | -H | 2 Usage(0) | tinkey: usage: word 0
-the version in capitals | Version | 2 Usage(0) | tinkey: usage: word 0
-a command that isn't known | sealing --help | 2 Usage(0) | tinkey: usage: word 0
-a command has no version | seal --version | 2 Usage(1) | tinkey: usage: word 1
+a topic that isn't known | help sealing | 2 Usage(1) | tinkey: usage: word 1 / tinkey: no such topic: see tinkey help
+help is no topic | help help | 2 Usage(1) | tinkey: usage: word 1 / tinkey: no such topic: see tinkey help
+nor is the version | help version | 2 Usage(1) | tinkey: usage: word 1 / tinkey: no such topic: see tinkey help
+nor a flag | help --help | 2 Usage(1) | tinkey: usage: word 1 / tinkey: no such topic: see tinkey help
+nor the empty word | help '' | 2 Usage(1) | tinkey: usage: word 1 / tinkey: no such topic: see tinkey help
+nor a command in capitals | help Seal | 2 Usage(1) | tinkey: usage: word 1 / tinkey: no such topic: see tinkey help
+two topics | help seal open | 2 Usage(2) | tinkey: usage: word 2 / tinkey: a word too many
+a word behind exit | help exit 5 | 2 Usage(2) | tinkey: usage: word 2 / tinkey: a word too many
+a word behind a topic that isn't known | help sealing open | 2 Usage(1) | tinkey: usage: word 1 / tinkey: no such topic: see tinkey help
+a flag with a topic | --help seal | 2 Usage(1) | tinkey: usage: word 1 / tinkey: a word too many
+the short one with a topic | -h exit | 2 Usage(1) | tinkey: usage: word 1 / tinkey: a word too many
+a flag twice | --help --help | 2 Usage(1) | tinkey: usage: word 1 / tinkey: a word too many
+a word behind the version | version 2 | 2 Usage(1) | tinkey: usage: word 1 / tinkey: a word too many
+behind its flag | --version --help | 2 Usage(1) | tinkey: usage: word 1 / tinkey: a word too many
+a word behind a command's flag | seal --help open | 2 Usage(2) | tinkey: usage: word 2 / tinkey: a word too many
+options behind it | seal -h --keyset k | 2 Usage(2) | tinkey: usage: word 2 / tinkey: a word too many
+a command's flag twice | seal --help -h | 2 Usage(2) | tinkey: usage: word 2 / tinkey: a word too many
+the flag behind options | seal --keyset k --help | 2 Usage(3) | tinkey: usage: word 3 / tinkey: no option of seal: see tinkey help seal
+the flag with a value | seal --help= | 2 Usage(1) | tinkey: usage: word 1 / tinkey: no option of seal: see tinkey help seal
+another flag | seal -H | 2 Usage(1) | tinkey: usage: word 1 / tinkey: no option of seal: see tinkey help seal
+the flag in the place of a command | -H | 2 Usage(0) | tinkey: usage: word 0 / tinkey: no such command: see tinkey help
+the version in capitals | Version | 2 Usage(0) | tinkey: usage: word 0 / tinkey: no such command: see tinkey help
+a command that isn't known | sealing --help | 2 Usage(0) | tinkey: usage: word 0 / tinkey: no such command: see tinkey help
+a command has no version | seal --version | 2 Usage(1) | tinkey: usage: word 1 / tinkey: no option of seal: see tinkey help seal
 the flag as a value | seal --keyset --help | 4 InMissing | tinkey: input file missing
 the short one as a value | list-keyset --in -h | 4 InMissing | tinkey: input file missing
 ";
@@ -77,7 +77,7 @@ a command's, in one write | tag --help | 4096 | write 1 | 5 WriteFault | tinkey:
 nothing is read | help tag | 4096 | read 1 | 0 Done | | `tinkey^tag:^tags^standard^input^under^the^primary^key` ~1235 `tinkey^tag^--keyset^mac.json^--hex^<^letter.txt^>^letter.tag` 0a
 no file is looked up | tag -h | 4096 | store 1 | 0 Done | | `tinkey^tag:^tags^standard^input^under^the^primary^key` ~1235 `tinkey^tag^--keyset^mac.json^--hex^<^letter.txt^>^letter.tag` 0a
 no word, and the line fails | | 4096 | line 1 | 2 NoWords | .. |
-nothing is drawn | help exit | 4096 | fill 1 | 0 Done | | `A^command^that^can` ~8023 `t^text,^and^no^line` 0a
+nothing is drawn | help exit | 4096 | fill 1 | 0 Done | | `A^command^that^can` ~8068 `t^text,^and^no^line` 0a
 ";
 
 #[test]

@@ -37,6 +37,8 @@ mod limits;
 #[cfg(test)]
 mod list_keyset;
 #[cfg(test)]
+mod misfits;
+#[cfg(test)]
 mod objects;
 #[cfg(test)]
 mod outputs;

@@ -56,10 +56,10 @@ const LONGEST: &str = "random: 12x00
 
 shows | words | file | input | status | line | output | drawn
 --ad of 1,048,576 bytes | seal --ad *1048576 | GCM | | 0 Done | | 0101020304 12x00 8222a94721f554c53721e05293e9565d | 12
-one byte more | seal --ad=*1048577 | GCM | | 2 Usage(1) | tinkey: usage: word 1 | | 0
---ad-hex of 2,097,154 digits | dopen --ad-hex *2097154 | GCM | | 2 Usage(2) | tinkey: usage: word 2 | | 0
+one byte more | seal --ad=*1048577 | GCM | | 2 Usage(1) | tinkey: usage: word 1 / tinkey: --ad takes at most 1048576 bytes: see tinkey help seal | | 0
+--ad-hex of 2,097,154 digits | dopen --ad-hex *2097154 | GCM | | 2 Usage(2) | tinkey: usage: word 2 / tinkey: --ad-hex takes at most 1048576 bytes in hexadecimal: see tinkey help dopen | | 0
 --tag-hex of 2,097,152 digits | verify --tag-hex *2097152 | HMAC | | 1 VerifyFailed | tinkey: verify failed | | 0
-two digits more | verify --tag-hex *2097154 | HMAC | | 2 Usage(2) | tinkey: usage: word 2 | | 0
+two digits more | verify --tag-hex *2097154 | HMAC | | 2 Usage(2) | tinkey: usage: word 2 / tinkey: --tag-hex takes at most 1048576 bytes in hexadecimal: see tinkey help verify | | 0
 ";
 
 #[test]

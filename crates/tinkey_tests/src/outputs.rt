@@ -75,20 +75,20 @@ fn shows_a_tag_in_hexadecimal(rt: HostRuntime) -> Result<(), Fail> {
 const WORDS: &str = "input: GCM
 
 shows | words | status | line
-a flag twice | tag --hex --hex | 2 Usage(2) | tinkey: usage: word 2
-a flag with a value | tag --hex=1 | 2 Usage(1) | tinkey: usage: word 1
-with an empty one | derive --length 1 --hex= | 2 Usage(3) | tinkey: usage: word 3
-a value behind a flag | tag --hex 1 | 2 Usage(2) | tinkey: usage: word 2
-nothing but a flag | tag --hex | 2 Usage(2) | tinkey: usage: word 2
-a verified tag goes nowhere | verify --out n | 2 Usage(1) | tinkey: usage: word 1
-nor is it shown | verify --hex | 2 Usage(1) | tinkey: usage: word 1
-no flag of a sealing | seal --hex | 2 Usage(1) | tinkey: usage: word 1
-nor of an envelope | eopen --hex | 2 Usage(1) | tinkey: usage: word 1
-a stream becomes no file | sseal --out n | 2 Usage(1) | tinkey: usage: word 1
-nor what it opens to | sopen --out n | 2 Usage(1) | tinkey: usage: word 1
-a tag has no form | tag --out-format json | 2 Usage(1) | tinkey: usage: word 1
-an empty name | seal --out= | 2 Usage(1) | tinkey: usage: word 1
-two names | dopen --out n --out n | 2 Usage(3) | tinkey: usage: word 3
+a flag twice | tag --hex --hex | 2 Usage(2) | tinkey: usage: word 2 / tinkey: --hex stands twice: see tinkey help tag
+a flag with a value | tag --hex=1 | 2 Usage(1) | tinkey: usage: word 1 / tinkey: --hex takes no value: see tinkey help tag
+with an empty one | derive --length 1 --hex= | 2 Usage(3) | tinkey: usage: word 3 / tinkey: --hex takes no value: see tinkey help derive
+a value behind a flag | tag --hex 1 | 2 Usage(2) | tinkey: usage: word 2 / tinkey: no option of tag: see tinkey help tag
+nothing but a flag | tag --hex | 2 Usage(2) | tinkey: usage: word 2 / tinkey: tag lacks --keyset: see tinkey help tag
+a verified tag goes nowhere | verify --out n | 2 Usage(1) | tinkey: usage: word 1 / tinkey: no option of verify: see tinkey help verify
+nor is it shown | verify --hex | 2 Usage(1) | tinkey: usage: word 1 / tinkey: no option of verify: see tinkey help verify
+no flag of a sealing | seal --hex | 2 Usage(1) | tinkey: usage: word 1 / tinkey: no option of seal: see tinkey help seal
+nor of an envelope | eopen --hex | 2 Usage(1) | tinkey: usage: word 1 / tinkey: no option of eopen: see tinkey help eopen
+a stream becomes no file | sseal --out n | 2 Usage(1) | tinkey: usage: word 1 / tinkey: no option of sseal: see tinkey help sseal
+nor what it opens to | sopen --out n | 2 Usage(1) | tinkey: usage: word 1 / tinkey: no option of sopen: see tinkey help sopen
+a tag has no form | tag --out-format json | 2 Usage(1) | tinkey: usage: word 1 / tinkey: no option of tag: see tinkey help tag
+an empty name | seal --out= | 2 Usage(1) | tinkey: usage: word 1 / tinkey: --out takes the name of a file: see tinkey help seal
+two names | dopen --out n --out n | 2 Usage(3) | tinkey: usage: word 3 / tinkey: --out stands twice: see tinkey help dopen
 a flag's word where a value is missing | tag --keyset --hex | 4 InMissing | tinkey: input file missing
 ";
 

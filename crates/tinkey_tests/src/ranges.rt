@@ -81,25 +81,25 @@ fn makes_a_file_of_a_range(rt: HostRuntime) -> Result<(), Fail> {
 const WORDS: &str = "file: GCM
 
 shows | words | status | line
-no file | srange --keyset k --from 0 --length 1 | 2 Usage(7) | tinkey: usage: word 7
-no offset | srange --keyset k --file s --length 1 | 2 Usage(7) | tinkey: usage: word 7
-no length | srange --keyset k --file s --from 0 | 2 Usage(7) | tinkey: usage: word 7
-no keyset | srange --file s --from 0 --length 1 | 2 Usage(7) | tinkey: usage: word 7
-an empty name | srange --file= --from 0 --length 1 | 2 Usage(1) | tinkey: usage: word 1
-a length of a byte more | srange --length 16777217 | 2 Usage(2) | tinkey: usage: word 2
-the same in one word | srange --length=16777217 | 2 Usage(1) | tinkey: usage: word 1
-the greatest length | srange --length 16777216 | 2 Usage(3) | tinkey: usage: word 3
-a length that derive may have | derive --length 16777217 | 2 Usage(3) | tinkey: usage: word 3
-an offset of a byte more | srange --from 9223372036854775808 | 2 Usage(2) | tinkey: usage: word 2
-the greatest offset | srange --from 9223372036854775807 | 2 Usage(3) | tinkey: usage: word 3
-an offset of 20 digits | srange --from 00000000000000000001 | 2 Usage(2) | tinkey: usage: word 2
-one of 19 | srange --from 0000000000000000001 | 2 Usage(3) | tinkey: usage: word 3
-an offset with a sign | srange --from +1 | 2 Usage(2) | tinkey: usage: word 2
-one below 0 | srange --from -1 | 2 Usage(2) | tinkey: usage: word 2
-no digit | srange --from= | 2 Usage(1) | tinkey: usage: word 1
-an offset twice | srange --from 1 --from 1 | 2 Usage(3) | tinkey: usage: word 3
-an option of another command | sopen --file s | 2 Usage(1) | tinkey: usage: word 1
-a format for the output | srange --out-format json | 2 Usage(1) | tinkey: usage: word 1
+no file | srange --keyset k --from 0 --length 1 | 2 Usage(7) | tinkey: usage: word 7 / tinkey: srange lacks --file: see tinkey help srange
+no offset | srange --keyset k --file s --length 1 | 2 Usage(7) | tinkey: usage: word 7 / tinkey: srange lacks --from: see tinkey help srange
+no length | srange --keyset k --file s --from 0 | 2 Usage(7) | tinkey: usage: word 7 / tinkey: srange lacks --length: see tinkey help srange
+no keyset | srange --file s --from 0 --length 1 | 2 Usage(7) | tinkey: usage: word 7 / tinkey: srange lacks --keyset: see tinkey help srange
+an empty name | srange --file= --from 0 --length 1 | 2 Usage(1) | tinkey: usage: word 1 / tinkey: --file takes the name of a file: see tinkey help srange
+a length of a byte more | srange --length 16777217 | 2 Usage(2) | tinkey: usage: word 2 / tinkey: --length takes a number from 0 to 16777216: see tinkey help srange
+the same in one word | srange --length=16777217 | 2 Usage(1) | tinkey: usage: word 1 / tinkey: --length takes a number from 0 to 16777216: see tinkey help srange
+the greatest length | srange --length 16777216 | 2 Usage(3) | tinkey: usage: word 3 / tinkey: srange lacks --keyset: see tinkey help srange
+a length that derive may have | derive --length 16777217 | 2 Usage(3) | tinkey: usage: word 3 / tinkey: derive lacks --keyset: see tinkey help derive
+an offset of a byte more | srange --from 9223372036854775808 | 2 Usage(2) | tinkey: usage: word 2 / tinkey: --from takes a number from 0 to 9223372036854775807: see tinkey help srange
+the greatest offset | srange --from 9223372036854775807 | 2 Usage(3) | tinkey: usage: word 3 / tinkey: srange lacks --keyset: see tinkey help srange
+an offset of 20 digits | srange --from 00000000000000000001 | 2 Usage(2) | tinkey: usage: word 2 / tinkey: --from takes a number from 0 to 9223372036854775807: see tinkey help srange
+one of 19 | srange --from 0000000000000000001 | 2 Usage(3) | tinkey: usage: word 3 / tinkey: srange lacks --keyset: see tinkey help srange
+an offset with a sign | srange --from +1 | 2 Usage(2) | tinkey: usage: word 2 / tinkey: --from takes a number from 0 to 9223372036854775807: see tinkey help srange
+one below 0 | srange --from -1 | 2 Usage(2) | tinkey: usage: word 2 / tinkey: --from takes a number from 0 to 9223372036854775807: see tinkey help srange
+no digit | srange --from= | 2 Usage(1) | tinkey: usage: word 1 / tinkey: --from takes a number from 0 to 9223372036854775807: see tinkey help srange
+an offset twice | srange --from 1 --from 1 | 2 Usage(3) | tinkey: usage: word 3 / tinkey: --from stands twice: see tinkey help srange
+an option of another command | sopen --file s | 2 Usage(1) | tinkey: usage: word 1 / tinkey: no option of sopen: see tinkey help sopen
+a format for the output | srange --out-format json | 2 Usage(1) | tinkey: usage: word 1 / tinkey: no option of srange: see tinkey help srange
 ";
 
 #[test]

@@ -33,7 +33,8 @@ pub(crate) enum Column {
     Fails,
     /// The exit code and the status, as `2 Usage(0)`.
     Status,
-    /// The diagnostic line without its newline; with `..` at the end, the front of it that is there.
+    /// The diagnostic line without its newline, and behind ` / ` a second one; with `..` at the end, the
+    /// front of it that is there.
     Line,
     /// The bytes of the output; of a long one the first, behind `~` their count, and the last.
     Output,
@@ -335,13 +336,14 @@ fn failing(cell: &str) -> Result<(&str, u64), Fail> {
     }
 }
 
-/// The bytes of the diagnostic line that a cell tells.
+/// The bytes of the diagnostic lines that a cell tells.
 fn line_of(alloc: Global, cell: &str) -> Result<String, Fail> {
     if cell.is_empty() {
         Ok(String::new(alloc))
     } else if let Some(front) = cell.strip_suffix("..") {
-        Ok(String::from_str(alloc, front)?)
+        Ok(front.replace(alloc, " / ", "\n")?)
     } else {
-        Ok(format!(in alloc; "{cell}\n")?)
+        let lines = cell.replace(alloc, " / ", "\n")?;
+        Ok(format!(in alloc; "{lines}\n")?)
     }
 }

@@ -11,10 +11,10 @@ const ROWS: &str = "piece: 7
 shows | words | managers | status | line | output
 four lines | selftest --seed 0 --lines 4 | program | 0 Done | | `lines^4^seals^3^opened^0^refused^0^edits^1^declined^0^lost^0` 0a
 no managers | selftest --lines=4 --seed=0 | none | 0 Done | | `lines^4^seals^0^opened^0^refused^0^edits^1^declined^3^lost^0` 0a
-no seed | selftest --lines 4 | program | 2 Usage(3) | tinkey: usage: word 3 |
-no line | selftest --seed 1 --lines 0 | program | 2 Usage(4) | tinkey: usage: word 4 |
-a line too many | selftest --lines 100001 --seed 1 | program | 2 Usage(2) | tinkey: usage: word 2 |
-a seed too great | selftest --seed=4294967296 | program | 2 Usage(1) | tinkey: usage: word 1 |
+no seed | selftest --lines 4 | program | 2 Usage(3) | tinkey: usage: word 3 / tinkey: selftest lacks --seed: see tinkey help selftest |
+no line | selftest --seed 1 --lines 0 | program | 2 Usage(4) | tinkey: usage: word 4 / tinkey: --lines takes a number from 1 to 100000: see tinkey help selftest |
+a line too many | selftest --lines 100001 --seed 1 | program | 2 Usage(2) | tinkey: usage: word 2 / tinkey: --lines takes a number from 1 to 100000: see tinkey help selftest |
+a seed too great | selftest --seed=4294967296 | program | 2 Usage(1) | tinkey: usage: word 1 / tinkey: --seed takes a number from 0 to 4294967295: see tinkey help selftest |
 ";
 
 #[test]

@@ -30,10 +30,10 @@ const REFUSALS: &str = "input: 4869205468657265
 fails: read 1
 
 shows | words | file | status | line
-no option | tag | none | 2 Usage(1) | tinkey: usage: word 1
+no option | tag | none | 2 Usage(1) | tinkey: usage: word 1 / tinkey: tag lacks --keyset: see tinkey help tag
 the form is JSON where none is given | tag --keyset k | HMAC | 3 NotJson | tinkey: not JSON
-an empty name | tag --keyset= --keyset-format=binary | none | 2 Usage(1) | tinkey: usage: word 1
-an option of another command | tag --in-format binary | none | 2 Usage(1) | tinkey: usage: word 1
+an empty name | tag --keyset= --keyset-format=binary | none | 2 Usage(1) | tinkey: usage: word 1 / tinkey: --keyset takes the name of a file: see tinkey help tag
+an option of another command | tag --in-format binary | none | 2 Usage(1) | tinkey: usage: word 1 / tinkey: no option of tag: see tinkey help tag
 the file is missing | tag --keyset k --keyset-format binary | none | 4 InMissing | tinkey: input file missing
 a file that is no message | tag --keyset k --keyset-format binary | 08 | 3 BadProto(0) | tinkey: bad protobuf at byte 0
 an empty keyset | tag --keyset k --keyset-format binary | | 3 Keyset(Empty) | tinkey: keyset has no key

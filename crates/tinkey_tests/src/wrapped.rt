@@ -89,14 +89,14 @@ fn unwraps_what_the_master_opens(rt: HostRuntime) -> Result<(), Fail> {
 const WORDS: &str = "file: GCM
 
 shows | words | status | line
-no master | wrap-keyset --in k | 2 Usage(3) | tinkey: usage: word 3
-no option | unwrap-keyset | 2 Usage(1) | tinkey: usage: word 1
-a keyset that is used | unwrap-keyset --keyset k | 2 Usage(1) | tinkey: usage: word 1
-a master twice | wrap-keyset --master k --master k | 2 Usage(3) | tinkey: usage: word 3
-an empty name | wrap-keyset --master= | 2 Usage(1) | tinkey: usage: word 1
-an unknown form | unwrap-keyset --master k --master-format pem | 2 Usage(4) | tinkey: usage: word 4
-a template | wrap-keyset --master k --key-template AES128_GCM | 2 Usage(3) | tinkey: usage: word 3
-another command has no master | convert-keyset --master k | 2 Usage(1) | tinkey: usage: word 1
+no master | wrap-keyset --in k | 2 Usage(3) | tinkey: usage: word 3 / tinkey: wrap-keyset lacks --master: see tinkey help wrap-keyset
+no option | unwrap-keyset | 2 Usage(1) | tinkey: usage: word 1 / tinkey: unwrap-keyset lacks --master: see tinkey help unwrap-keyset
+a keyset that is used | unwrap-keyset --keyset k | 2 Usage(1) | tinkey: usage: word 1 / tinkey: no option of unwrap-keyset: see tinkey help unwrap-keyset
+a master twice | wrap-keyset --master k --master k | 2 Usage(3) | tinkey: usage: word 3 / tinkey: --master stands twice: see tinkey help wrap-keyset
+an empty name | wrap-keyset --master= | 2 Usage(1) | tinkey: usage: word 1 / tinkey: --master takes the name of a file: see tinkey help wrap-keyset
+an unknown form | unwrap-keyset --master k --master-format pem | 2 Usage(4) | tinkey: usage: word 4 / tinkey: --master-format takes json or binary: see tinkey help unwrap-keyset
+a template | wrap-keyset --master k --key-template AES128_GCM | 2 Usage(3) | tinkey: usage: word 3 / tinkey: no option of wrap-keyset: see tinkey help wrap-keyset
+another command has no master | convert-keyset --master k | 2 Usage(1) | tinkey: usage: word 1 / tinkey: no option of convert-keyset: see tinkey help convert-keyset
 ";
 
 #[test]
