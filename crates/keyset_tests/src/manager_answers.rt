@@ -95,12 +95,31 @@ fn holds_opened(alloc: Global, row: &str, found: &str) -> Result<(), Fail> {
     holds_text(cell(row, 0)?, "what opens", expected.as_str(), found)
 }
 
-fn aead_seals(alloc: Global, manager: &dyn AeadManager, cells: &Cells) -> Result<Vec<u8>, Fail> {
+// What stands before a sealing.
+const FRONT: [u8; 5] = [1, 2, 3, 4, 5];
+
+// What stands behind that.
+fn behind_front(alloc: Global, sealed: &[u8]) -> Result<Vec<u8>, Fail> {
+    let (front, rest) = sealed.split_first_chunk::<5>().ok_or("a front")?;
+    if *front != FRONT {
+        return Err("the front".into());
+    }
+    Ok(Vec::from_slice(alloc, rest)?)
+}
+
+fn aead_seals(
+    alloc: Global,
+    manager: &dyn AeadManager,
+    cells: &Cells,
+    front: &[u8],
+) -> Result<Vec<u8>, Fail>
+    requires few { length front.now ≤ 1000 }
+{
     let Ok(key) = manager.check(alloc, &cells.value) else {
         return Err("no key".into());
     };
     let iv = cells.made.get(..manager.iv_size(&key)).ok_or("an IV")?;
-    Ok(manager.seal(alloc, &key, iv, &cells.last, &cells.given)?)
+    Ok(manager.seal(alloc, &key, front, iv, &cells.last, &cells.given)?)
 }
 
 fn aead_opens(
@@ -126,8 +145,10 @@ fn assert_aead(alloc: Global, manager: &dyn AeadManager, row: &str) -> Result<()
         row,
         4,
         "the sealing",
-        &aead_seals(alloc, manager, &cells)?,
+        &aead_seals(alloc, manager, &cells, b"")?,
     )?;
+    let behind = behind_front(alloc, &aead_seals(alloc, manager, &cells, &FRONT)?)?;
+    holds_bytes(alloc, row, 4, "the sealing behind a front", &behind)?;
     let opened = aead_opens(alloc, manager, &cells, &cells.made)?;
     holds_opened(alloc, row, opened.as_str())?;
     let other = few(altered(alloc, &cells.made)?)?;
@@ -140,11 +161,18 @@ fn assert_aead(alloc: Global, manager: &dyn AeadManager, row: &str) -> Result<()
     )
 }
 
-fn daead_seals(alloc: Global, manager: &dyn DaeadManager, cells: &Cells) -> Result<Vec<u8>, Fail> {
+fn daead_seals(
+    alloc: Global,
+    manager: &dyn DaeadManager,
+    cells: &Cells,
+    front: &[u8],
+) -> Result<Vec<u8>, Fail>
+    requires few { length front.now ≤ 1000 }
+{
     let Ok(key) = manager.check(alloc, &cells.value) else {
         return Err("no key".into());
     };
-    Ok(manager.seal(alloc, &key, &cells.last, &cells.given)?)
+    Ok(manager.seal(alloc, &key, front, &cells.last, &cells.given)?)
 }
 
 fn daead_opens(
@@ -170,8 +198,10 @@ fn assert_daead(alloc: Global, manager: &dyn DaeadManager, row: &str) -> Result<
         row,
         4,
         "the sealing",
-        &daead_seals(alloc, manager, &cells)?,
+        &daead_seals(alloc, manager, &cells, b"")?,
     )?;
+    let behind = behind_front(alloc, &daead_seals(alloc, manager, &cells, &FRONT)?)?;
+    holds_bytes(alloc, row, 4, "the sealing behind a front", &behind)?;
     let opened = daead_opens(alloc, manager, &cells, &cells.made)?;
     holds_opened(alloc, row, opened.as_str())?;
     let other = few(altered(alloc, &cells.made)?)?;
