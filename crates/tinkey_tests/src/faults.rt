@@ -44,9 +44,9 @@ fn names_the_object_that_failed_a_creation(rt: HostRuntime) -> Result<(), Fail> 
 
 // Of each command a run, and some that are refused. The stated counts of calls are those of pieces of 64
 // bytes, of 4 or of 7, where the last read finds the end; each name of a template and each newline behind
-// it is one write, and so is each reply, of which two have 102 bytes. A stream's header, the ciphertext of a
-// segment and its tag are written one after another. Streams in segments of 4,096 bytes are by Python's
-// cryptography; other values are those of this crate's tables.
+// it is one write, and so is each reply, of which two have 102 bytes. A stream's header is written by itself,
+// and then each segment with its tag. Streams in segments of 4,096 bytes are by Python's cryptography; other
+// values are those of this crate's tables.
 const COMMANDS: &str = "piece: 64
 
 shows | words | piece | file | input | random | status | line | output | made | drawn | calls
@@ -78,8 +78,8 @@ a tag verified | verify --tag-hex b0344c61d8db38535ca8afceaf0bf12b --keyset k --
 a tag of another text | verify --tag-hex b0344c61d8db38535ca8afceaf0bf12b --keyset k --keyset-format binary | 64 | HMAC | 4869207468657265 | | 1 VerifyFailed | tinkey: verify failed | | none | 0 | 2 0 1 1 0
 bytes derived | derive --length 32 --keyset k --keyset-format binary | 64 | 07; ENABLED RAW 07 @HmacPrfKey 12020803 1a14 20x0b | 4869205468657265 | | 0 Done | | b0344c61d8db38535ca8afceaf0bf12b881dc200c9833da726e9376c2e32cff7 | none | 0 | 2 1 0 1 0
 a stream of no plaintext | sseal --keyset k --keyset-format binary | 64 | 07; ENABLED RAW 07 @AesGcmHkdfStreamingKey 12( 088020 1010 1803 ) 1a( 000102030405060708090a0b0c0d0e0f ) | | 404142434445464748494a4b4c4d4e4f50515253545556 | 0 Done | | 18404142434445464748494a4b4c4d4e4f50515253545556 c56f23e560c85b5fdd15eb26ac311e46 | none | 23 | 1 2 0 1 1
-a stream of one segment | sseal --keyset k --keyset-format binary | 64 | 07; ENABLED RAW 07 @AesGcmHkdfStreamingKey 12( 088020 1010 1803 ) 1a( 000102030405060708090a0b0c0d0e0f ) | 4056x00 | 404142434445464748494a4b4c4d4e4f50515253545556 | 0 Done | | 18404142434445464748494a4b4c4d4e4f50515253545556 ~4096 6159a7ee4cf579bd3d3417ac1ee6cdd9 | none | 23 | 65 66 0 1 1
-a stream of a byte more | sseal --keyset k --keyset-format binary | 64 | 07; ENABLED RAW 07 @AesGcmHkdfStreamingKey 12( 088020 1010 1803 ) 1a( 000102030405060708090a0b0c0d0e0f ) | 4057x00 | 404142434445464748494a4b4c4d4e4f50515253545556 | 0 Done | | 18404142434445464748494a4b4c4d4e4f50515253545556 ~4113 e202dae0337d1b7895b8f5c5b2c2496b17 | none | 23 | 65 68 0 1 1
+a stream of one segment | sseal --keyset k --keyset-format binary | 64 | 07; ENABLED RAW 07 @AesGcmHkdfStreamingKey 12( 088020 1010 1803 ) 1a( 000102030405060708090a0b0c0d0e0f ) | 4056x00 | 404142434445464748494a4b4c4d4e4f50515253545556 | 0 Done | | 18404142434445464748494a4b4c4d4e4f50515253545556 ~4096 6159a7ee4cf579bd3d3417ac1ee6cdd9 | none | 23 | 65 65 0 1 1
+a stream of a byte more | sseal --keyset k --keyset-format binary | 64 | 07; ENABLED RAW 07 @AesGcmHkdfStreamingKey 12( 088020 1010 1803 ) 1a( 000102030405060708090a0b0c0d0e0f ) | 4057x00 | 404142434445464748494a4b4c4d4e4f50515253545556 | 0 Done | | 18404142434445464748494a4b4c4d4e4f50515253545556 ~4113 e202dae0337d1b7895b8f5c5b2c2496b17 | none | 23 | 65 66 0 1 1
 an empty stream opened | sopen --keyset k --keyset-format binary | 64 | 07; ENABLED RAW 07 @AesGcmHkdfStreamingKey 12( 088020 1010 1803 ) 1a( 000102030405060708090a0b0c0d0e0f ) | | | 1 StreamFailed(0) | tinkey: stream failed at segment 0 | | none | 0 | 1 0 1 1 0
 a session | session --keyset k --keyset-format binary --out n --out-format binary | 64 | GCM | STORY | 12x00 0a0b0c0d 16x00 12x00 | 0 Done | | REPLIES | 088d98ac50 GCM[5..83] 188d98ac50 2001 | 44 | 11 15 0 3 4
 a session whose new file is there | session --keyset k --keyset-format binary --out k --out-format binary | 64 | GCM | STORY | 12x00 0a0b0c0d 16x00 12x00 | 4 OutExists | tinkey: output file exists | | none | 0 | 0 0 1 2 0
