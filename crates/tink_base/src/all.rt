@@ -1,6 +1,6 @@
 //! Whole inputs and whole outputs, over any source and any sink.
 
-ghost use Rattle.std.specs.Prelude.{◌≡◌, ◌+◌, ◌≤◌, ◌^◌, length, IfOk, OnOk, OnErr, IsErrOf};
+ghost use Rattle.std.specs.Prelude.{◌≡◌, ◌+◌, ◌≤◌, ◌^◌, length, drop, IfOk, OnOk, OnErr, IsErrOf};
 ghost use Rattle.tink_spec.specs.Outside.{Rose, RoseOnce, Stood, Gave, GaveUpTo, GaveCount, Took, TookPrefix, IsAtEnd, StopsAtEnd};
 
 use crate::{Failed, Sink, Source};
@@ -49,23 +49,59 @@ pub fn read_all<S: Source>(
     ensures no_memory { IsErrOf result ReadAllFault.NoMemory →
         GaveUpTo (S.state source.old) (S.state source.new) limit }
 {
-    let mut all = Vec::new(alloc);
+    read_behind(alloc, 0, source, limit)
+}
+
+/// Reads as `read_all` does, into a list that begins with `room` bytes for the caller to fill, at most
+/// 2^30: the bytes read stand behind them. What these bytes are isn't said.
+pub fn read_behind<S: Source>(
+    alloc: Global,
+    room: usize,
+    source: &mut S,
+    limit: usize,
+) -> Result<Vec<u8>, ReadAllFault>
+    requires limit_bound { limit ≤ 2 ^ 30 }
+    requires room_bound { room ≤ 2 ^ 30 }
+    ensures room { IfOk result (λ all. room ≤ length all.items) }
+    ensures all { IfOk result (λ all.
+        Gave (S.state source.old) (S.state source.new) (drop room all.items)) }
+    ensures within { IfOk result (λ all. length all.items ≤ room + limit) }
+    ensures end { OnOk result (IsAtEnd (S.state source.new)) }
+    ensures stops { StopsAtEnd (S.state source.old) (S.state source.new) }
+    ensures no_fault { (IsErrOf result ReadAllFault.Failed → ⊥) →
+        Stood (S.state source.old).faults (S.state source.new).faults }
+    ensures failed { IsErrOf result ReadAllFault.Failed →
+        Rose (S.state source.old).faults (S.state source.new).faults }
+    ensures once { IsErrOf result ReadAllFault.Failed →
+        RoseOnce (S.state source.old).faults (S.state source.new).faults }
+    ensures failed_within { IsErrOf result ReadAllFault.Failed →
+        GaveUpTo (S.state source.old) (S.state source.new) limit }
+    ensures too_long { IsErrOf result ReadAllFault.TooLong →
+        GaveCount (S.state source.old) (S.state source.new) (limit + 1) }
+    ensures no_memory { IsErrOf result ReadAllFault.NoMemory →
+        GaveUpTo (S.state source.old) (S.state source.new) limit }
+{
+    let mut all = match vec![in alloc; 0u8; room] {
+        Ok(all) => all,
+        Err(_) => return Err(ReadAllFault::NoMemory),
+    };
     // on the heap, since a call pays for its locals whether it reads much or little
     let mut buffer = match vec![in alloc; 0u8; PIECE.min(limit + 1)] {
         Ok(buffer) => buffer,
         Err(_) => return Err(ReadAllFault::NoMemory),
     };
     let piece = buffer.as_mut_slice();
+    let end = room + limit;
     loop {
-        let room = piece.len().min(limit + 1 - all.len());
-        let n = match source.read(&mut piece[..room]) {
+        let most = piece.len().min(end + 1 - all.len());
+        let n = match source.read(&mut piece[..most]) {
             Ok(n) => n,
             Err(Failed) => return Err(ReadAllFault::Failed),
         };
         if n == 0 {
             return Ok(all);
         }
-        if n > limit - all.len() {
+        if n > end - all.len() {
             return Err(ReadAllFault::TooLong);
         }
         match all.extend_from_slice(&piece[..n]) {

@@ -22,7 +22,7 @@ mod text;
 mod torn;
 mod trials;
 
-pub use all::{ReadAllFault, read_all, write_all};
+pub use all::{ReadAllFault, read_all, read_behind, write_all};
 pub use bytes::Bytes;
 pub use constants::{CRUNCHY, DESTROYED, DISABLED, ENABLED, LEGACY, RAW, TINK};
 pub use decimal::number_in;

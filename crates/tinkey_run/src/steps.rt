@@ -1,7 +1,7 @@
 //! The steps that commands share: a keyset, or the bytes of one, loaded or read, the whole input, and
 //! a template by its name.
 
-ghost use Rattle.std.specs.Prelude.{◌≡◌, ◌≤◌, ◌^◌, List, ℕ, length, IfOk};
+ghost use Rattle.std.specs.Prelude.{◌≡◌, ◌+◌, ◌≤◌, ◌^◌, List, ℕ, drop, length, IfOk};
 ghost use Rattle.std.specs.List.{AllByRecursion};
 ghost use Rattle.key_msgs.specs.Templates.{seen};
 ghost use Rattle.keyset_model.specs.Keyset.{IsShort};
@@ -13,7 +13,7 @@ use key_msgs::{Template, TemplateFault, template_named};
 use keyset_json::{JsonError, read_json};
 use keyset_model::{Keyset, ReadError, read_binary};
 use std::alloc::Global;
-use tink_base::{Bytes, Loaded, ReadAllFault, Source, Store, StoreError, read_all};
+use tink_base::{Bytes, Loaded, ReadAllFault, Source, Store, StoreError, read_all, read_behind};
 use tinkey_plans::Status;
 use tinkey_words::{Format, Place};
 
@@ -163,8 +163,29 @@ pub(crate) fn read_input<S: Source>(
         (record w { source = S.state source.new }) }
     ensures within { IfOk result (λ input. length input ≤ limit) }
 {
-    match read_all(alloc, source, limit) {
+    match read_input_behind(alloc, 0, limit, source) {
         Ok(data) => Ok(Bytes::own(data)),
+        Err(status) => Err(status),
+    }
+}
+
+/// The whole input, of at most `limit` bytes, behind `room` bytes for the caller to fill.
+pub(crate) fn read_input_behind<S: Source>(
+    alloc: Global,
+    room: usize,
+    limit: usize,
+    source: &mut S,
+) -> Result<Vec<u8>, Status>
+    requires limit_bound { limit ≤ 2 ^ 30 }
+    requires room_bound { room ≤ 2 ^ 30 }
+    ensures passes { (w : World) → PassesAs (λ data. drop room data.items) (reads_input limit)
+        (record w { source = S.state source.old }) result
+        (record w { source = S.state source.new }) }
+    ensures room { IfOk result (λ data. room ≤ length data.items) }
+    ensures within { IfOk result (λ data. length data.items ≤ room + limit) }
+{
+    match read_behind(alloc, room, source, limit) {
+        Ok(data) => Ok(data),
         Err(e) => match e {
             ReadAllFault::TooLong => Err(Status::InputTooLong),
             ReadAllFault::Failed => Err(Status::ReadFault),

@@ -1,14 +1,16 @@
 //! Work by the keys of a keyset: seal, open, dseal, dopen, tag, verify and derive.
 
-ghost use Rattle.std.specs.Prelude.{◌≡◌, ◌≢◌, ◌≤◌, ◌^◌, length, IfOk, option_map};
+ghost use Rattle.std.specs.Prelude.{◌≡◌, ◌≢◌, ◌+◌, ◌≤◌, ◌^◌, drop, length, IfOk, option_map};
 ghost use Rattle.key_msgs.specs.declared.primitive.Primitive.TheVariants.{Aead, Daead, Mac, Prf, Stream};
 ghost use Rattle.wrapped_prims.specs.Making.{IsOver};
+ghost use Rattle.wrapped_prims.specs.Rooms.{dseal_room, seal_room};
+ghost use Rattle.tinkey_run.specs.Rooms.{room_for};
 ghost use Rattle.tinkey_plans.specs.Ends.{World};
 ghost use Rattle.tinkey_plans.specs.Steps.{Passes, PassesAs};
 ghost use Rattle.tinkey_plans.specs.Using.{handles, handle_refusal, limit_for, use_output, with_opened, IsServing, Works};
 ghost use Rattle.tinkey_words.specs.Words.{primitive_for, datum_as, datum_of_hex, seen_datum, seen_work, to_seal, to_open, to_dseal, to_dopen, to_tag, to_verify, to_derive};
 
-use crate::steps::{load_keyset, read_input};
+use crate::steps::{load_keyset, read_input_behind};
 use hex::FromHexError;
 use key_msgs::Primitive;
 use keyset_model::Keyset;
@@ -53,8 +55,9 @@ pub(crate) fn use_keyset<S: Source, E: Entropy, D: Store>(
 {
     let keyset = load_keyset(alloc, name, form, store)?;
     let handle = handle_of(alloc, &keyset, managers, primitive_for(work))?;
-    let input = read_input(alloc, limit_for(work), source)?;
-    do_work(alloc, &handle, work, input.as_slice(), entropy)
+    let room = room_for(&handle, work);
+    let input = read_input_behind(alloc, room, limit_for(work), source)?;
+    do_work(alloc, &handle, work, input, entropy)
 }
 
 /// The primitive of the keys that do the work.
@@ -113,49 +116,67 @@ fn refusal(fault: HandleFault) -> Status
     }
 }
 
-/// What is put out for the input.
+/// How many bytes go before the ciphertext, where the work seals.
+fn room_for(handle: &Handle<'_>, work: Work<'_>) -> usize
+    requires serving { IsServing (⟦<Managers as KeyTable>⟧.table handle.now.managers.now)
+        (primitive_for (seen_work work)) handle.now.held }
+    ensures room { result ≡ room_for handle.now.held (seen_work work.entry) }
+    ensures bound { result ≤ 2 ^ 10 }
+{
+    match work {
+        Work::Seal(_) => handle.seal_room(),
+        Work::Dseal(_) => handle.dseal_room(),
+        _ => 0,
+    }
+}
+
+/// What is put out for the input, which stands behind room for what goes before a ciphertext.
 fn do_work<E: Entropy>(
     alloc: Global,
     handle: &Handle<'_>,
     work: Work<'_>,
-    input: &[u8],
+    input: Vec<u8>,
     entropy: &mut E,
 ) -> Result<Bytes, Status>
     requires serving { IsServing (⟦<Managers as KeyTable>⟧.table handle.now.managers.now)
         (primitive_for (seen_work work)) handle.now.held }
-    requires bound { length input.now ≤ 2 ^ 25 }
+    requires room { room_for handle.now.held (seen_work work) ≤ length input.items }
+    requires bound { length input.items ≤ room_for handle.now.held (seen_work work) + 2 ^ 25 }
     ensures { (w : World) → Works (⟦<Managers as KeyTable>⟧.table handle.now.managers.now)
-        handle.now.held (seen_work work.entry) input.now
+        handle.now.held (seen_work work.entry)
+        (drop (room_for handle.now.held (seen_work work.entry)) input.items)
         (record w { entropy = E.state entropy.old }) result (record w { entropy = E.state entropy.new }) }
 {
     match work {
         Work::Seal(ad) => seal(alloc, handle, ad, input, entropy),
-        Work::Open(ad) => open(alloc, handle, ad, input),
+        Work::Open(ad) => open(alloc, handle, ad, &input),
         Work::Dseal(ad) => dseal(alloc, handle, ad, input),
-        Work::Dopen(ad) => dopen(alloc, handle, ad, input),
-        Work::Tag => tag(alloc, handle, input),
-        Work::Verify(tag) => verify(alloc, handle, tag, input),
-        Work::Derive(size) => derive(alloc, handle, size, input),
+        Work::Dopen(ad) => dopen(alloc, handle, ad, &input),
+        Work::Tag => tag(alloc, handle, &input),
+        Work::Verify(tag) => verify(alloc, handle, tag, &input),
+        Work::Derive(size) => derive(alloc, handle, size, &input),
     }
 }
 
-/// seal: prefix, IV, ciphertext and tag.
+/// seal, in place: prefix, IV, ciphertext and tag.
 fn seal<E: Entropy>(
     alloc: Global,
     handle: &Handle<'_>,
     ad: Datum<'_>,
-    plain: &[u8],
+    input: Vec<u8>,
     entropy: &mut E,
 ) -> Result<Bytes, Status>
     requires serving { IsServing (⟦<Managers as KeyTable>⟧.table handle.now.managers.now) Aead
         handle.now.held }
-    requires bound { length plain.now ≤ 2 ^ 25 }
+    requires room { seal_room handle.now.held ≤ length input.items }
+    requires bound { length input.items ≤ seal_room handle.now.held + 2 ^ 25 }
     ensures { (w : World) → Works (⟦<Managers as KeyTable>⟧.table handle.now.managers.now)
-        handle.now.held (to_seal (seen_datum ad.entry)) plain.now
+        handle.now.held (to_seal (seen_datum ad.entry))
+        (drop (seal_room handle.now.held) input.items)
         (record w { entropy = E.state entropy.old }) result (record w { entropy = E.state entropy.new }) }
 {
     let ad = datum(alloc, ad)?;
-    match handle.seal(alloc, plain, ad.as_slice(), entropy) {
+    match handle.seal_in_place(alloc, input, ad.as_slice(), entropy) {
         Ok(sealed) => Ok(Bytes::own(sealed)),
         Err(SealFault::EntropyFault) => Err(Status::EntropyFault),
         Err(SealFault::NoMemory) => Err(Status::NoMemory),
@@ -178,17 +199,24 @@ fn open(alloc: Global, handle: &Handle<'_>, ad: Datum<'_>, sealed: &[u8]) -> Res
     }
 }
 
-/// dseal: prefix, tag and ciphertext.
-fn dseal(alloc: Global, handle: &Handle<'_>, ad: Datum<'_>, plain: &[u8]) -> Result<Bytes, Status>
+/// dseal, in place: prefix, tag and ciphertext.
+fn dseal(
+    alloc: Global,
+    handle: &Handle<'_>,
+    ad: Datum<'_>,
+    input: Vec<u8>,
+) -> Result<Bytes, Status>
     requires serving { IsServing (⟦<Managers as KeyTable>⟧.table handle.now.managers.now) Daead
         handle.now.held }
-    requires bound { length plain.now ≤ 2 ^ 25 }
+    requires room { dseal_room handle.now.held ≤ length input.items }
+    requires bound { length input.items ≤ dseal_room handle.now.held + 2 ^ 25 }
     ensures { (w : World) → Works (⟦<Managers as KeyTable>⟧.table handle.now.managers.now)
-        handle.now.held (to_dseal (seen_datum ad.entry)) plain.now
+        handle.now.held (to_dseal (seen_datum ad.entry))
+        (drop (dseal_room handle.now.held) input.items)
         w result w }
 {
     let ad = datum(alloc, ad)?;
-    match handle.dseal(alloc, plain, ad.as_slice()) {
+    match handle.dseal_in_place(input, ad.as_slice()) {
         Ok(sealed) => Ok(Bytes::own(sealed)),
         Err(_) => Err(Status::NoMemory),
     }

@@ -1,0 +1,15 @@
+-- Room in front of an input, which is sealed where it stands.
+use Rattle.std.specs.Prelude.{ℕ}
+use Rattle.tinkey_words.specs.Words.{AskedWork, to_seal, to_open, to_dseal, to_dopen, to_tag, to_verify, to_derive}
+use Rattle.wrapped_prims.specs.Rooms.{seal_room, dseal_room}
+use Rattle.wrapped_prims.specs.declared.held.Held.{Held}
+
+-- how many bytes go before the ciphertext, where the work seals, and else none
+abbrev pub room_for : Held → AskedWork → ℕ
+room_for held (to_seal ad) = seal_room held
+room_for held (to_open ad) = 0
+room_for held (to_dseal ad) = dseal_room held
+room_for held (to_dopen ad) = 0
+room_for held to_tag = 0
+room_for held (to_verify tag) = 0
+room_for held (to_derive size) = 0
