@@ -12,7 +12,7 @@ use Rattle.aead_kinds.specs.Gcm.{gcm_seal, gcm_tag, gcm_text}
 use Rattle.gcm_siv.specs.GcmSiv.{gcm_siv_seal, gcm_siv_tag, gcm_siv_text}
 use Rattle.std.specs.Prelude.{not, if◌then◌else◌}
 use Rattle.key_msgs.specs.Keys.{IsValid, contents_of, hash_number}
-use Rattle.key_msgs.specs.Rules.{hash_fits, key_fits, iv_fits, tag_fits, is_tag_of, is_within}
+use Rattle.key_msgs.specs.Rules.{hash_fits, key_fits, iv_fits, tag_fits, is_either, is_tag_of, is_within}
 use Rattle.key_msgs.specs.declared.key_type.KeyType.TheVariants as types
 use Rattle.key_msgs.specs.declared.rule.Rule.{Rule}
 use Rattle.key_msgs.specs.declared.rule.Rule.TheVariants as broken
@@ -46,6 +46,31 @@ ctr_hmac_tag-fits aes size hash mac tag_size valid =
     let from_key = (past (key_fits types.AesCtrHmac m) broken.KeySize _ from_hash).1 in
     let from_iv = (past (iv_fits types.AesCtrHmac m) broken.IvSize _ from_key).1 in
     tag_within hash tag_size (past (tag_fits types.AesCtrHmac m) broken.TagSize _ from_iv).0
+
+either_small : (n : ℕ) → is_either 12 16 n ≡ true → n ≤ 16
+either_small n is = grind (arith, common_steps)
+
+-- an IV has at most 16 bytes
+pub iv-short : (key : KeyKind) → IsValid key → iv_size key ≤ 16
+iv-short (kinds.AesGcm key) valid = omega arith
+iv-short (kinds.AesEax key size) valid =
+    let m = contents_of (kinds.AesEax key size) in
+    let from_key = (past (key_fits types.AesEax m) broken.KeySize _ valid).1 in
+    either_small size (past (iv_fits types.AesEax m) broken.IvSize _ from_key).0
+iv-short (kinds.AesCtrHmac aes size hash mac tag_size) valid =
+    let m = contents_of (kinds.AesCtrHmac aes size hash mac tag_size) in
+    let from_hash = (past (hash_fits types.AesCtrHmac m) broken.Hash _ valid).1 in
+    let from_key = (past (key_fits types.AesCtrHmac m) broken.KeySize _ from_hash).1 in
+    (within 12 16 size (past (iv_fits types.AesCtrHmac m) broken.IvSize _ from_key).0).1
+iv-short (kinds.AesSiv key) valid = omega arith
+iv-short (kinds.AesGcmSiv key) valid = omega arith
+iv-short (kinds.Hmac key hash tag_size) valid = omega arith
+iv-short (kinds.AesCmac key tag_size) valid = omega arith
+iv-short (kinds.HkdfPrf key hash salt) valid = omega arith
+iv-short (kinds.HmacPrf key hash) valid = omega arith
+iv-short (kinds.CmacPrf key) valid = omega arith
+iv-short (kinds.GcmStream key segment derived hash) valid = omega arith
+iv-short (kinds.CtrStream key segment derived hash mac_hash tag_size) valid = omega arith
 
 -- the first of three lists stands at the front
 take-front : (n : ℕ) (xs ys zs : List ℕ) → length xs ≡ n → take n (xs ++ ys ++ zs) ≡ xs

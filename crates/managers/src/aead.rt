@@ -1,15 +1,16 @@
 //! The manager of authenticated encryption: AES-GCM, EAX, AES-CTR-HMAC and AES-GCM-SIV.
 
-ghost use Rattle.std.specs.Prelude.{◌≡◌, ◌+◌, ◌^◌, ◌≤◌, ◌++◌, length, string_bytes, IfOk};
+ghost use Rattle.std.specs.Prelude.{◌≡◌, ◌+◌, ◌^◌, ◌≤◌, ◌++◌, drop, length, string_bytes, take, IfOk};
 ghost use Rattle.std.specs.Option.{option_map};
+ghost use Rattle.gcm_siv.specs.GcmSiv.{gcm_siv_seal};
 ghost use Rattle.key_msgs.specs.Keys.{IsValid};
 ghost use Rattle.managers.specs.Schemes.{aead_scheme, type_under};
 ghost use Rattle.managers.specs.Uses.{iv_size, open_key, seal_of};
 
-use crate::firsts::copied;
 use crate::reading::read_as;
 use crate::{AeadManager, CheckFault, KeyManager, Prepared};
 use aead_kinds::{AeadKey, open, seal};
+use aes_core::Aes;
 use gcm_siv::{gcm_siv_open, gcm_siv_seal};
 use key_msgs::{KeyKind, KeyType};
 use std::alloc::Global;
@@ -29,34 +30,31 @@ fn iv_size_under(key: &KeyKind) -> usize
     }
 }
 
-/// Seals under a valid key of any kind, behind `front`: to no bytes where it isn't one of an AEAD.
+/// Seals in place under a valid key of any kind, behind the first `at` bytes: to no bytes where it isn't
+/// one of an AEAD.
 fn seal_under(
-    alloc: Global,
     key: &Prepared,
-    front: &[u8],
+    at: usize,
+    mut bytes: Vec<u8>,
     iv: &[u8],
-    plain: &[u8],
     ad: &[u8],
 ) -> Result<Vec<u8>, NoMemory>
     requires valid { IsValid key.now }
-    requires front_bound { length front.now ≤ 2 ^ 10 }
     requires whole_iv { length iv.now ≡ iv_size key.now }
-    requires plain_bound { length plain.now ≤ 2 ^ 30 }
+    requires room { at + iv_size key.now ≤ length bytes.items }
+    requires plain_bound { length bytes.items ≤ at + iv_size key.now + 2 ^ 30 }
     requires ad_bound { length ad.now ≤ 2 ^ 30 }
-    ensures { IfOk result (λ sealed.
-        sealed.items ≡ front.now ++ seal_of key.now iv.now plain.now ad.now) }
+    ensures { IfOk result (λ sealed. sealed.items ≡ take at bytes.items
+        ++ seal_of key.now iv.now (drop (at + iv_size key.now) bytes.items) ad.now) }
 {
     match key.kind() {
-        KeyKind::AesGcm { .. } => {
-            let under = AeadKey::Gcm { key: key.aes() };
-            seal(alloc, &under, front, iv, plain, ad)
-        }
+        KeyKind::AesGcm { .. } => seal(&AeadKey::Gcm { key: key.aes() }, at, bytes, iv, ad),
         KeyKind::AesEax { iv_size, .. } => {
             let under = AeadKey::Eax {
                 key: key.aes(),
                 iv_size: *iv_size as usize,
             };
-            seal(alloc, &under, front, iv, plain, ad)
+            seal(&under, at, bytes, iv, ad)
         }
         KeyKind::AesCtrHmac {
             iv_size,
@@ -72,13 +70,34 @@ fn seal_under(
                 mac: mac.as_slice(),
                 tag_size: *tag_size as usize,
             };
-            seal(alloc, &under, front, iv, plain, ad)
+            seal(&under, at, bytes, iv, ad)
         }
-        KeyKind::AesGcmSiv { .. } => match iv.first_chunk::<GCM_IV>() {
-            Some(iv) => gcm_siv_seal(alloc, key.aes(), front, iv, plain, ad),
-            None => unreachable!(),
-        },
-        _ => copied(alloc, front),
+        KeyKind::AesGcmSiv { .. } => seal_by_gcm_siv(key.aes(), at, bytes, iv, ad),
+        _ => {
+            bytes.truncate(at);
+            Ok(bytes)
+        }
+    }
+}
+
+/// Seals in place by AES-GCM-SIV, behind the first `at` bytes.
+fn seal_by_gcm_siv(
+    key: &Aes,
+    at: usize,
+    bytes: Vec<u8>,
+    iv: &[u8],
+    ad: &[u8],
+) -> Result<Vec<u8>, NoMemory>
+    requires whole_iv { length iv.now ≡ 12 }
+    requires room { at + 12 ≤ length bytes.items }
+    requires plain_bound { length bytes.items ≤ at + 12 + 2 ^ 30 }
+    requires ad_bound { length ad.now ≤ 2 ^ 30 }
+    ensures { IfOk result (λ sealed. sealed.items ≡ take at bytes.items
+        ++ gcm_siv_seal key.now iv.now (drop (at + 12) bytes.items) ad.now) }
+{
+    match iv.first_chunk::<GCM_IV>() {
+        Some(iv) => gcm_siv_seal(key, at, bytes, iv, ad),
+        None => unreachable!(),
     }
 }
 
@@ -190,14 +209,13 @@ impl AeadManager for StandardAead {
 
     fn seal(
         &self,
-        alloc: Global,
         key: &Prepared,
-        front: &[u8],
+        at: usize,
+        bytes: Vec<u8>,
         iv: &[u8],
-        plain: &[u8],
         ad: &[u8],
     ) -> Result<Vec<u8>, NoMemory> {
-        seal_under(alloc, key, front, iv, plain, ad)
+        seal_under(key, at, bytes, iv, ad)
     }
 
     fn open(

@@ -1,12 +1,11 @@
 //! The manager of AES-SIV.
 
-ghost use Rattle.std.specs.Prelude.{◌≡◌, ◌+◌, ◌^◌, ◌≤◌, ◌++◌, length, string_bytes, IfOk};
+ghost use Rattle.std.specs.Prelude.{◌≡◌, ◌+◌, ◌^◌, ◌≤◌, ◌++◌, drop, length, string_bytes, take, IfOk};
 ghost use Rattle.std.specs.Option.{option_map};
 ghost use Rattle.key_msgs.specs.Keys.{IsValid};
 ghost use Rattle.managers.specs.Schemes as schemes;
 ghost use Rattle.managers.specs.Uses.{dopen_key, dseal_of};
 
-use crate::firsts::copied;
 use crate::reading::read_as;
 use crate::{CheckFault, DaeadManager, KeyManager, Prepared};
 use key_msgs::{KeyKind, KeyType};
@@ -14,25 +13,22 @@ use siv_daead::{siv_open, siv_seal};
 use std::alloc::Global;
 use tink_base::{NoMemory, Trials};
 
-/// Seals under a valid key of any kind, behind `front`: to no bytes where it isn't one of a
-/// deterministic AEAD.
-fn dseal_under(
-    alloc: Global,
-    key: &Prepared,
-    front: &[u8],
-    plain: &[u8],
-    ad: &[u8],
-) -> Result<Vec<u8>, NoMemory>
+/// Seals in place under a valid key of any kind, behind the first `at` bytes: to no bytes where it isn't
+/// one of a deterministic AEAD.
+fn dseal_under(key: &Prepared, at: usize, mut bytes: Vec<u8>, ad: &[u8]) -> Vec<u8>
     requires valid { IsValid key.now }
-    requires front_bound { length front.now ≤ 2 ^ 10 }
-    requires plain_bound { length plain.now ≤ 2 ^ 30 }
+    requires room { at + 16 ≤ length bytes.items }
+    requires plain_bound { length bytes.items ≤ at + 16 + 2 ^ 30 }
     requires ad_bound { length ad.now ≤ 2 ^ 30 }
-    ensures { IfOk result (λ sealed.
-        sealed.items ≡ front.now ++ dseal_of key.now plain.now ad.now) }
+    ensures { result.items ≡ take at bytes.items
+        ++ dseal_of key.now (drop (at + 16) bytes.items) ad.now }
 {
     match key.kind() {
-        KeyKind::AesSiv { .. } => siv_seal(alloc, key.siv(), front, plain, ad),
-        _ => copied(alloc, front),
+        KeyKind::AesSiv { .. } => siv_seal(key.siv(), at, bytes, ad),
+        _ => {
+            bytes.truncate(at);
+            bytes
+        }
     }
 }
 
@@ -88,13 +84,12 @@ impl KeyManager for StandardDaead {
 impl DaeadManager for StandardDaead {
     fn seal(
         &self,
-        alloc: Global,
         key: &Prepared,
-        front: &[u8],
-        plain: &[u8],
+        at: usize,
+        bytes: Vec<u8>,
         ad: &[u8],
     ) -> Result<Vec<u8>, NoMemory> {
-        dseal_under(alloc, key, front, plain, ad)
+        Ok(dseal_under(key, at, bytes, ad))
     }
 
     fn open(

@@ -1,7 +1,6 @@
-//! The first bytes of HMAC and of CMAC, which tags and pseudo-random functions give; and a copy of
-//! bytes.
+//! The first bytes of HMAC and of CMAC, which tags and pseudo-random functions give.
 
-ghost use Rattle.std.specs.Prelude.{◌≡◌, ◌≤◌, length, take, IfOk};
+ghost use Rattle.std.specs.Prelude.{◌≡◌, ◌≤◌, length, take};
 ghost use Rattle.mac_prf.specs.Cmac.{cmac};
 ghost use Rattle.mac_prf.specs.Hmac.{hmac};
 ghost use Rattle.tink_base.specs.Hash.{hash_size};
@@ -9,8 +8,7 @@ ghost use Rattle.managers.specs.Uses.{tagged};
 
 use aes_core::Aes;
 use mac_prf::{Cmac, Hmac};
-use std::alloc::Global;
-use tink_base::{Hash, NoMemory};
+use tink_base::Hash;
 
 /// Writes the first bytes of HMAC, as many as `out` has, of the body and of one byte 0 behind it
 /// where `zero` says so.
@@ -45,12 +43,4 @@ fn whole_cmac(aes: &Aes, body: &[u8], zero: bool) -> [u8; 16]
         state.update(&[0]);
     }
     state.finish()
-}
-
-/// A copy of these bytes.
-pub(crate) fn copied(alloc: Global, bytes: &[u8]) -> Result<Vec<u8>, NoMemory>
-    ensures { IfOk result (λ copy. copy.items ≡ bytes.now) }
-{
-    let copy = Vec::from_slice(alloc, bytes)?;
-    Ok(copy)
 }

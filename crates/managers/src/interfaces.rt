@@ -3,10 +3,9 @@
 //!
 //! A call takes a key that the manager admits: a valid key of its scheme, as `check` gives one, with
 //! what is made of it once. Plaintexts, associated data, bodies and inputs have at most 2^30 bytes,
-//! what is opened at most 2^30 + 96, and what stands before a sealing at most 2^10. `NoMemory` comes
-//! for want of memory alone.
+//! and what is opened at most 2^30 + 96. `NoMemory` comes for want of memory alone.
 
-ghost use Rattle.std.specs.Prelude.{◌≡◌, ◌+◌, ◌^◌, ◌≤◌, ◌++◌, ℕ, List, length, IfOk};
+ghost use Rattle.std.specs.Prelude.{◌≡◌, ◌+◌, ◌^◌, ◌≤◌, ◌++◌, ℕ, List, drop, length, take, IfOk};
 ghost use Rattle.std.specs.Option.{option_map};
 ghost use Rattle.std.specs.Str.{bytes_eq};
 ghost use Rattle.tink_spec.specs.Outside.{next};
@@ -53,25 +52,27 @@ pub trait AeadManager: KeyManager {
         requires admitted { IsAdmitted (Self.scheme self.now) key.now }
         ensures { result ≡ iv_size key.now };
 
-    /// Seals `plain` with `iv`, of `iv_size` bytes: `front`, IV, ciphertext and tag, joined.
+    /// Seals in place with `iv`, of `iv_size` bytes. In `bytes` stands what goes in front, of `at` bytes,
+    /// which stays; then room for the IV, whatever is in it; and the plaintext. The IV is written into
+    /// its room, the ciphertext over the plaintext, and the tag behind. Under a key of no AEAD the first
+    /// `at` bytes alone are given.
     ///
     /// No IV may serve twice under one key: this is for the caller to see to.
     fn seal(
         &self,
-        alloc: Global,
         key: &Prepared,
-        front: &[u8],
+        at: usize,
+        bytes: Vec<u8>,
         iv: &[u8],
-        plain: &[u8],
         ad: &[u8],
     ) -> Result<Vec<u8>, NoMemory>
         requires admitted { IsAdmitted (Self.scheme self.now) key.now }
-        requires front_bound { length front.now ≤ 2 ^ 10 }
         requires whole_iv { length iv.now ≡ iv_size key.now }
-        requires plain_bound { length plain.now ≤ 2 ^ 30 }
+        requires room { at + iv_size key.now ≤ length bytes.items }
+        requires plain_bound { length bytes.items ≤ at + iv_size key.now + 2 ^ 30 }
         requires ad_bound { length ad.now ≤ 2 ^ 30 }
-        ensures { IfOk result (λ sealed.
-            sealed.items ≡ front.now ++ seal_of key.now iv.now plain.now ad.now) };
+        ensures { IfOk result (λ sealed. sealed.items ≡ take at bytes.items
+            ++ seal_of key.now iv.now (drop (at + iv_size key.now) bytes.items) ad.now) };
 
     /// Opens IV, ciphertext and tag, joined, and counts one trial.
     ///
@@ -96,21 +97,23 @@ pub trait AeadManager: KeyManager {
 /// A manager that seals and opens, deterministic: the same key, plaintext and associated data give
 /// the same bytes.
 pub trait DaeadManager: KeyManager {
-    /// Seals `plain`: `front` and what it is sealed to, joined.
+    /// Seals in place. In `bytes` stands what goes in front, of `at` bytes, which stays; then room of 16
+    /// bytes for the tag, whatever is in it; and the plaintext. The tag is written into its room, and the
+    /// ciphertext over the plaintext. Under a key of no deterministic AEAD the first `at` bytes alone are
+    /// given.
     fn seal(
         &self,
-        alloc: Global,
         key: &Prepared,
-        front: &[u8],
-        plain: &[u8],
+        at: usize,
+        bytes: Vec<u8>,
         ad: &[u8],
     ) -> Result<Vec<u8>, NoMemory>
         requires admitted { IsAdmitted (Self.scheme self.now) key.now }
-        requires front_bound { length front.now ≤ 2 ^ 10 }
-        requires plain_bound { length plain.now ≤ 2 ^ 30 }
+        requires room { at + 16 ≤ length bytes.items }
+        requires plain_bound { length bytes.items ≤ at + 16 + 2 ^ 30 }
         requires ad_bound { length ad.now ≤ 2 ^ 30 }
-        ensures { IfOk result (λ sealed.
-            sealed.items ≡ front.now ++ dseal_of key.now plain.now ad.now) };
+        ensures { IfOk result (λ sealed. sealed.items ≡ take at bytes.items
+            ++ dseal_of key.now (drop (at + 16) bytes.items) ad.now) };
 
     /// Opens sealed bytes, and counts one trial.
     ///
