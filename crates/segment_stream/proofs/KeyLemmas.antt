@@ -1,8 +1,9 @@
--- A valid key for streams of AES-CTR-HMAC has sound sizes.
-use Rattle.std.proofs.Common.{◌≡◌, ◌<◌, ◌≤◌, ◌⊎◌, ℕ, ◌+◌, Bool, true, false, refl, Option, Some, None, List, arith, inl, inr}
+-- A valid key for streams has sound sizes.
+use Rattle.std.proofs.Common.{◌≡◌, ◌≤◌, ◌⊎◌, ℕ, ◌+◌, Bool, true, false, refl, Option, Some, None, List, arith, inl, inr}
 use Rattle.std.proofs.lemmas.Grind.{common_steps}
+use Rattle.std.proofs.lemmas.Bool.{and_parts, ltb-true}
 use Rattle.std.proofs.lemmas.Bool.Decides.{eqb_tells}
-use Rattle.std.specs.Prelude.{not, ◌&&◌, ◌^◌, nat_lt, if◌then◌else◌}
+use Rattle.std.specs.Prelude.{not, ◌^◌, nat_lt, if◌then◌else◌}
 use Rattle.tink_base.specs.Hash.{hash_size, hash_of_number}
 use Rattle.tink_base.specs.declared.hash.Hash.{Hash}
 use Rattle.tink_base.specs.declared.hash.Hash.TheVariants.{Sha1, Sha224, Sha256, Sha384, Sha512}
@@ -40,12 +41,23 @@ either n is = elim (eqb_tells n 16) [
   ]
 ]
 
-both : (a b : Bool) → (a && b) ≡ true → (a ≡ true) × (b ≡ true)
-both true b is = (refl, is)
-both false b is = absurd cc
-
-less : (a b : ℕ) → nat_lt a b ≡ true → a < b
-less a b is = grind (arith, common_steps)
+pub gcm_stream-sound : (key : List ℕ) (segment derived : ℕ) (hash : Hash)
+    → IsValid (kinds.GcmStream key segment derived hash)
+    → IsSound (record { value = key; segment = segment; derived = derived; hash = hash; scheme = schemes.Gcm })
+gcm_stream-sound key segment derived hash valid =
+    let m = contents_of (kinds.GcmStream key segment derived hash) in
+    let from_hash = (past (hash_fits types.GcmStream m) broken.Hash _ valid).1 in
+    let from_key = (past (key_fits types.GcmStream m) broken.KeySize _ from_hash).1 in
+    let size = past (derived_fits types.GcmStream m) broken.DerivedSize _ from_key in
+    let whole = past (segment_fits types.GcmStream m) broken.Segment _ size.1 in
+    let parts = and_parts (nat_lt (derived + 24) segment) (nat_lt segment (2 ^ 31)) whole.0 in
+    let room = ltb-true (derived + 24) segment parts.0 in
+    record {
+      derived = either derived size.0;
+      tag = tt;
+      room = omega (arith, room);
+      most = ltb-true segment (2 ^ 31) parts.1;
+    }
 
 pub ctr_stream-sound : (key : List ℕ) (segment derived : ℕ) (hash mac_hash : Hash) (tag_size : ℕ)
     → IsValid (kinds.CtrStream key segment derived hash mac_hash tag_size)
@@ -63,10 +75,10 @@ ctr_stream-sound key segment derived hash mac_hash tag_size valid =
     let tag = past (tag_fits types.CtrStream m) broken.TagSize _ from_key in
     let size = past (derived_fits types.CtrStream m) broken.DerivedSize _ tag.1 in
     let whole = past (segment_fits types.CtrStream m) broken.Segment _ size.1 in
-    let parts = both (nat_lt (derived + 8 + tag_size) segment) (nat_lt segment (2 ^ 31)) whole.0 in
+    let parts = and_parts (nat_lt (derived + 8 + tag_size) segment) (nat_lt segment (2 ^ 31)) whole.0 in
     record {
       derived = either derived size.0;
       tag = tag_within mac_hash tag_size tag.0;
-      room = less (derived + 8 + tag_size) segment parts.0;
-      most = less segment (2 ^ 31) parts.1;
+      room = ltb-true (derived + 8 + tag_size) segment parts.0;
+      most = ltb-true segment (2 ^ 31) parts.1;
     }

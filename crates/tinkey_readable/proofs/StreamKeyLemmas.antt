@@ -1,33 +1,29 @@
 -- The keys for streams of keysets: their sizes are sound, a keyset that gives them gives them after edits,
 -- and what one of them sealed opens.
-use Rattle.std.proofs.Common.{◌≡◌, ◌∙◌, sym, refl, ap, subst, arith, ℕ, suc, ◌+◌, ◌<◌, ◌^◌, ◌⊎◌, Bool, true, false, List, [], ◌∷◌, ◌++◌, take, drop, add-one, drop-cons, Option, Some, None, Result, Ok, Err, inl, inr}
-use Rattle.std.specs.Prelude.{All, slice_get, option_map, not, ◌&&◌, ◌==◌, nat_lt, if◌then◌else◌}
+use Rattle.std.proofs.Common.{◌≡◌, ◌∙◌, sym, refl, ap, subst, arith, ℕ, suc, ◌+◌, Bool, true, false, List, [], ◌∷◌, ◌++◌, take, drop, add-one, drop-cons, Option, Some, None, Result, Ok, Err}
+use Rattle.std.specs.Prelude.{All, slice_get, option_map, ◌==◌, if◌then◌else◌}
 use Rattle.std.specs.List.{AllByRecursion, filter_map}
 use Rattle.std.specs.Option.{option_and_then}
 use Rattle.std.specs.Result.{result_err}
-use Rattle.std.proofs.lemmas.Bool.Decides.{eqb_tells, nat_tests}
-use Rattle.std.proofs.lemmas.Grind.{common_steps}
+use Rattle.std.proofs.lemmas.Bool.Decides.{nat_tests}
 use Rattle.std.proofs.lemmas.List.{take-append-drop}
 use Rattle.std.proofs.lemmas.List.Elements.{filter_map-append}
 use Rattle.std.proofs.lemmas.Option.{same_Some, slice_get_within, get_or_from_slice_get}
-use Rattle.tink_base.specs.declared.hash.Hash.{Hash}
 use Rattle.key_msgs.specs.KeyTypes.{primitive_of_type, type_of_url}
-use Rattle.key_msgs.specs.Keys.{IsValid, contents_of, type_of}
+use Rattle.key_msgs.specs.Keys.{IsValid, type_of}
 use Rattle.key_msgs.specs.Reading.{key_of}
-use Rattle.key_msgs.specs.Rules.{derived_fits, hash_fits, is_either, key_fits, segment_fits}
 use Rattle.key_msgs.specs.declared.key.KeyKind.{KeyKind}
 use Rattle.key_msgs.specs.declared.key.KeyKind.TheVariants as kinds
 use Rattle.key_msgs.specs.declared.key_type.KeyType.{KeyType}
 use Rattle.key_msgs.specs.declared.key_type.KeyType.TheVariants as types
 use Rattle.key_msgs.specs.declared.primitive.Primitive.TheVariants.{Stream}
 use Rattle.key_msgs.specs.declared.rule.Rule.{Rule}
-use Rattle.key_msgs.specs.declared.rule.Rule.TheVariants as broken
 use Rattle.keyset_model.specs.Keyset.{Keys, is_enabled, primary_of}
 use Rattle.keyset_model.specs.declared.record.Record.{Record}
 use Rattle.keyset_model.proofs.PrimaryLemmas.{primary_there}
 use Rattle.managers.proofs.ReadingLemmas.{read_of_type}
 use Rattle.segment_stream.proofs.CipherLemmas.{ciphers_of-are_ciphers}
-use Rattle.segment_stream.proofs.KeyLemmas.{ctr_stream-sound}
+use Rattle.segment_stream.proofs.KeyLemmas.{ctr_stream-sound, gcm_stream-sound}
 use Rattle.segment_stream.specs.Cipher.{IsCipher, SegmentCipher}
 use Rattle.segment_stream.specs.Opening.{Choice, no_key, chosen, choose, decides, decides_by, failed, fits, released_by, stream_answer, StreamRefusal}
 use Rattle.segment_stream.specs.Segments.{IsSound, cipher_of, ciphers_of}
@@ -42,43 +38,6 @@ use Rattle.wrapped_prims.specs.Laws.{HasKey, IsKeyset, IsSameKey}
 use Rattle.tinkey_readable.specs.StreamRuns.{NoOtherBefore}
 
 -- ---- sound sizes
-
-past : (b : Bool) (rule : Rule) (rest : Option Rule) → (if not b then Some rule else rest) ≡ None → (b ≡ true) × (rest ≡ None)
-past true rule rest none = (refl, none)
-past false rule rest none = cc
-
-either : (n : ℕ) → is_either 16 32 n ≡ true → (n ≡ 16) ⊎ (n ≡ 32)
-either n is = elim (eqb_tells n 16) [
-  | inl one ↦ inl one.1
-  | inr other ↦ elim (eqb_tells n 32) [
-    | inl two ↦ inr two.1
-    | inr neither ↦ let clash : false ≡ true = rw (other.0, neither.0) at is in absurd cc
-  ]
-]
-
-both : (a b : Bool) → (a && b) ≡ true → (a ≡ true) × (b ≡ true)
-both true b is = (refl, is)
-both false b is = absurd cc
-
-less : (a b : ℕ) → nat_lt a b ≡ true → a < b
-less a b is = grind (arith, common_steps)
-
-gcm_stream-sound : (key : List ℕ) (segment derived : ℕ) (hash : Hash) → IsValid (kinds.GcmStream key segment derived hash)
-    → IsSound (record { value = key; segment = segment; derived = derived; hash = hash; scheme = schemes.Gcm })
-gcm_stream-sound key segment derived hash valid =
-    let m = contents_of (kinds.GcmStream key segment derived hash) in
-    let from_hash = (past (hash_fits types.GcmStream m) broken.Hash _ valid).1 in
-    let from_key = (past (key_fits types.GcmStream m) broken.KeySize _ from_hash).1 in
-    let size = past (derived_fits types.GcmStream m) broken.DerivedSize _ from_key in
-    let whole = past (segment_fits types.GcmStream m) broken.Segment _ size.1 in
-    let parts = both (nat_lt (derived + 24) segment) (nat_lt segment (2 ^ 31)) whole.0 in
-    let room = less (derived + 24) segment parts.0 in
-    record {
-      derived = either derived size.0;
-      tag = tt;
-      room = omega (arith, room);
-      most = less segment (2 ^ 31) parts.1;
-    }
 
 ok_same : {A E : Type 0} (x y : A) → ◌≡◌ {A = Result A E} (Ok x) (Ok y) → x ≡ y
 ok_same x y e = cc

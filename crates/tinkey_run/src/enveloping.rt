@@ -55,15 +55,13 @@ pub(crate) fn use_envelope<S: Source, E: Entropy, D: Store>(
     let handle = handle_of(alloc, &keyset, managers, Primitive::Aead)?;
     let manager = find_manager(managers, &template)?;
     let input = read_input(alloc, envelope_limit(work), source)?;
-    do_envelope(
-        alloc,
-        &handle,
-        manager,
-        &template,
-        work,
-        input.as_slice(),
-        entropy,
-    )
+    let input = input.as_slice();
+    match work {
+        Envelope::Seal(ad) => {
+            seal_envelope(alloc, &handle, manager, &template, ad, input, entropy)
+        }
+        Envelope::Open(ad) => open_envelope(alloc, &handle, manager, ad, input),
+    }
 }
 
 /// The template of this name, whose keys are of an AEAD. No memory is taken.
@@ -93,35 +91,6 @@ fn find_manager<'m>(
     match data_key(managers, template) {
         Ok(manager) => Ok(manager),
         Err(_) => Err(Status::NoDekManager),
-    }
-}
-
-/// What is put out for the input.
-fn do_envelope<E: Entropy>(
-    alloc: Global,
-    handle: &Handle<'_>,
-    manager: &dyn AeadManager,
-    template: &Template,
-    work: Envelope<'_>,
-    input: &[u8],
-    entropy: &mut E,
-) -> Result<Bytes, Status>
-    requires serving { IsServing (⟦<Managers as KeyTable>⟧.table handle.now.managers.now) Aead
-        handle.now.held }
-    requires aead { IsAead (seen template.now) }
-    requires url { (⟦<dyn AeadManager as KeyManager>⟧ manager.now.0).url manager.now.1
-        ≡ url_made (seen template.now) }
-    requires bound { length input.now ≤ envelope_limit (seen_envelope work) }
-    ensures { (w : World) (keys : Keys)
-        → IsOver (⟦<Managers as KeyTable>⟧.table handle.now.managers.now) Aead keys handle.now.held
-        → Passes (envelopes (⟦<Managers as KeyTable>⟧.table handle.now.managers.now) keys
-        ((⟦<dyn AeadManager as KeyManager>⟧ manager.now.0).scheme manager.now.1)
-        (seen template.now) (seen_envelope work.entry) input.now)
-        (record w { entropy = E.state entropy.old }) result (record w { entropy = E.state entropy.new }) }
-{
-    match work {
-        Envelope::Seal(ad) => seal_envelope(alloc, handle, manager, template, ad, input, entropy),
-        Envelope::Open(ad) => open_envelope(alloc, handle, manager, ad, input),
     }
 }
 

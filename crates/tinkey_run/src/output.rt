@@ -6,8 +6,8 @@ ghost use Rattle.keyset_model.specs.Keyset.{Keys, IsShort};
 ghost use Rattle.tinkey_plans.specs.Plan.{Plan, writes, creates};
 ghost use Rattle.tinkey_plans.specs.Ends.{Ends, World};
 ghost use Rattle.tinkey_plans.specs.Steps.{written_in, within_limit, writes_keyset, puts, puts_keyset, Passes};
-ghost use Rattle.tinkey_plans.specs.Using.{hex_line, puts_output};
-ghost use Rattle.tinkey_words.specs.Words.{seen_name, seen_output, seen_place};
+ghost use Rattle.tinkey_plans.specs.Using.{hex_line, shows};
+ghost use Rattle.tinkey_words.specs.Words.{seen_name, seen_place};
 ghost use Rattle.tinkey_plans.specs.declared.status.Status.TheVariants as status;
 
 use crate::steps::KEYSET_LIMIT;
@@ -16,23 +16,11 @@ use keyset_model::{Keyset, write_binary};
 use std::alloc::Global;
 use tink_base::{Bytes, Created, NoMemory, Sink, Store, StoreError, write_all};
 use tinkey_plans::Status;
-use tinkey_words::{Format, Output, Place};
+use tinkey_words::{Format, Place};
 
-/// Writes a command's output, its last step, or hands on why there is none.
-pub(crate) fn finish<K: Sink>(sink: &mut K, output: Result<Bytes, Status>) -> Status
-    ensures { (step : (List ℕ → Plan) → Plan) (first w : World) →
-        Passes step first output (record w { sink = K.state sink.old }) →
-        Ends (step writes) first result (record w { sink = K.state sink.new }) }
-{
-    match output {
-        Ok(bytes) => write_output(sink, bytes.as_slice()),
-        Err(status) => status,
-    }
-}
-
-/// Puts out the text that a command gives, as its last step: into a new file, or where none is named,
-/// to the sink. Or hands on why there is none.
-pub(crate) fn finish_text<K: Sink, D: Store>(
+/// Puts out the bytes that a command gives, as its last step: into a new file, or where none is named,
+/// to the sink. Or hands on why there are none.
+pub(crate) fn finish_output<K: Sink, D: Store>(
     alloc: Global,
     out: Option<&str>,
     sink: &mut K,
@@ -51,45 +39,18 @@ pub(crate) fn finish_text<K: Sink, D: Store>(
     }
 }
 
-/// Puts out the bytes that work by keys gives, as its last step: as they are or in hexadecimal, into a
-/// new file, or where none is named, to the sink. Or hands on why there are none.
-pub(crate) fn finish_output<K: Sink, D: Store>(
-    alloc: Global,
-    out: Output<'_>,
-    sink: &mut K,
-    store: &mut D,
-    made: Result<Bytes, Status>,
-) -> Status
-    ensures { (step : (List ℕ → Plan) → Plan) (first w : World) →
-        Passes step first made
-        (record w { sink = K.state sink.old; store = D.state store.old }) →
-        Ends (step (puts_output (seen_output out.entry))) first result
-        (record w { sink = K.state sink.new; store = D.state store.new }) }
+/// What work by keys gives, as it is or in hexadecimal. Or hands on why it gives nothing.
+pub(crate) fn shown(alloc: Global, hex: bool, made: Result<Bytes, Status>) -> Result<Bytes, Status>
+    ensures { (step : (List ℕ → Plan) → Plan) (first w : World) → Passes step first made w →
+        Passes (λ next. step (λ bytes. shows hex bytes next)) first result w }
 {
-    match made {
-        Ok(bytes) => put_output(alloc, out, sink, store, bytes.as_slice()),
-        Err(status) => status,
+    let bytes = made?;
+    if !hex {
+        return Ok(bytes);
     }
-}
-
-/// Puts bytes as they are or in hexadecimal.
-fn put_output<K: Sink, D: Store>(
-    alloc: Global,
-    out: Output<'_>,
-    sink: &mut K,
-    store: &mut D,
-    bytes: &[u8],
-) -> Status
-    ensures { (w : World) → Ends (puts_output (seen_output out.entry) bytes.now)
-        (record w { sink = K.state sink.old; store = D.state store.old }) result
-        (record w { sink = K.state sink.new; store = D.state store.new }) }
-{
-    if !out.hex {
-        return put(alloc, out.file, sink, store, bytes);
-    }
-    match hex_line(alloc, bytes) {
-        Ok(line) => put(alloc, out.file, sink, store, line.as_slice()),
-        Err(_) => Status::NoMemory,
+    match hex_line(alloc, bytes.as_slice()) {
+        Ok(line) => Ok(Bytes::own(line)),
+        Err(_) => Err(Status::NoMemory),
     }
 }
 
@@ -141,26 +102,10 @@ pub(crate) fn finish_keyset<K: Sink, D: Store>(
         (record w { sink = K.state sink.new; store = D.state store.new }) }
 {
     match made {
-        Ok(keyset) => put_keyset(alloc, out, sink, store, &keyset),
-        Err(status) => status,
-    }
-}
-
-/// Puts out a keyset in its written form.
-fn put_keyset<K: Sink, D: Store>(
-    alloc: Global,
-    out: Place<'_>,
-    sink: &mut K,
-    store: &mut D,
-    keyset: &Keyset,
-) -> Status
-    requires short { AllByRecursion IsShort keyset.now.records }
-    ensures { (w : World) → Ends (puts_keyset (seen_place out.entry) keyset.now)
-        (record w { sink = K.state sink.old; store = D.state store.old }) result
-        (record w { sink = K.state sink.new; store = D.state store.new }) }
-{
-    match written(alloc, out.form, keyset) {
-        Ok(bytes) => put(alloc, out.file, sink, store, bytes.as_slice()),
+        Ok(keyset) => match written(alloc, out.form, &keyset) {
+            Ok(bytes) => put(alloc, out.file, sink, store, bytes.as_slice()),
+            Err(status) => status,
+        },
         Err(status) => status,
     }
 }

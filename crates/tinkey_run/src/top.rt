@@ -12,7 +12,7 @@ ghost use Rattle.tinkey_words.specs.Words.{seen_command};
 use crate::edits::{create_keyset, edit_keyset};
 use crate::enveloping::use_envelope;
 use crate::list::list_keyset;
-use crate::output::{finish, finish_keyset, finish_output, finish_text, write_output};
+use crate::output::{finish_keyset, finish_output, shown, write_output};
 use crate::ranging::open_stretch;
 use crate::self_testing::tell_self_test;
 use crate::session::answer_lines;
@@ -131,7 +131,10 @@ fn dispatch<S: Source, K: Sink, E: Entropy, D: Store>(
             let edited = edit_keyset(alloc, edit, input, source, entropy, store);
             finish_keyset(alloc, output, sink, store, edited)
         }
-        Request::ListKeyset { input } => finish(sink, list_keyset(alloc, input, source, store)),
+        Request::ListKeyset { input } => {
+            let listing = list_keyset(alloc, input, source, store);
+            finish_output(alloc, None, sink, store, listing)
+        }
         Request::ConvertKeyset { input, output } => {
             let taken = take_keyset(alloc, input, source, store);
             finish_keyset(alloc, output, sink, store, taken)
@@ -144,7 +147,8 @@ fn dispatch<S: Source, K: Sink, E: Entropy, D: Store>(
             output,
         } => {
             let done = use_keyset(alloc, managers, keyset, form, work, source, entropy, store);
-            finish_output(alloc, output, sink, store, done)
+            let done = shown(alloc, output.hex, done);
+            finish_output(alloc, output.file, sink, store, done)
         }
         Request::UseEnvelope {
             keyset,
@@ -156,7 +160,7 @@ fn dispatch<S: Source, K: Sink, E: Entropy, D: Store>(
             let done = use_envelope(
                 alloc, managers, keyset, form, template, work, source, entropy, store,
             );
-            finish_text(alloc, output, sink, store, done)
+            finish_output(alloc, output, sink, store, done)
         }
         Request::SealStream { keyset, form, ad } => {
             let keys = load_stream_keys(alloc, keyset, form, store);
@@ -174,10 +178,11 @@ fn dispatch<S: Source, K: Sink, E: Entropy, D: Store>(
             output,
         } => {
             let opened = open_stretch(alloc, keyset, form, ad, range, store);
-            finish_text(alloc, output, sink, store, opened)
+            finish_output(alloc, output, sink, store, opened)
         }
         Request::SelfTest { seed, lines } => {
-            finish(sink, tell_self_test(alloc, managers, seed, lines))
+            let told = tell_self_test(alloc, managers, seed, lines);
+            finish_output(alloc, None, sink, store, told)
         }
         Request::Session {
             keyset,
@@ -206,7 +211,7 @@ fn dispatch<S: Source, K: Sink, E: Entropy, D: Store>(
                 entropy,
                 store,
             );
-            finish_text(alloc, output.file, sink, store, wrapped)
+            finish_output(alloc, output.file, sink, store, wrapped)
         }
         Request::UnwrapKeyset {
             master,

@@ -3,7 +3,6 @@ pub mod FlagLemmas
 pub mod GrammarLemmas
 pub mod HelpLemmas
 pub mod MisuseLemmas
-pub mod OffsetLemmas
 pub mod RowLemmas
 pub mod SpellingLemmas
 pub mod WordLemmas

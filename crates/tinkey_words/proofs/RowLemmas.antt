@@ -1,12 +1,12 @@
 -- The tables of the words: an entry is found by its word and by its place, and a value is of its form.
 -- A further command or option is a line of `command_found` or of `is_found`.
-use Rattle.std.proofs.Common.{◌≡◌, ◌≢◌, ◌⊎◌, inl, inr, ◌∙◌, sym, refl, ap, subst, ℕ, ◌+◌, ◌*◌, ◌%◌, ◌≤◌, Bool, true, false, List, [], ◌∷◌, ◌++◌, length, get_or, cond, arith, length-append, Option, Some, None}
+use Rattle.std.proofs.Common.{◌≡◌, ◌≢◌, ◌⊎◌, inl, inr, ◌∙◌, sym, refl, ap, subst, ℕ, ◌+◌, ◌*◌, ◌^◌, ◌%◌, ◌≤◌, Bool, true, false, List, [], ◌∷◌, ◌++◌, length, get_or, cond, arith, length-append, Option, Some, None}
 use Rattle.std.specs.Prelude.{◌==◌, ◌&&◌, nat_lt, nat_le, is_some, option_map, if◌then◌else◌, codes}
 use Rattle.std.specs.List.{find, list_all, position_or_len, before_first, after_first}
 use Rattle.std.specs.Str.{bytes_eq, str_eq_ignore_ascii_case, str_to_ascii_lowercase}
 use Rattle.std.specs.Str.Parse.{digits_value}
 use Rattle.tink_base.specs.Decimal.{number_in}
-use Rattle.tink_base.proofs.DecimalLemmas.{number_passes, number_taken}
+use Rattle.tink_base.proofs.DecimalLemmas.{below_passes, below_taken, number_passes, number_taken}
 use Rattle.std.proofs.Math.Seq.{get_or-append_seam, take-append_seam, drop-append-add}
 use Rattle.std.proofs.lemmas.Bool.Decides.{nat_tests}
 use Rattle.std.proofs.lemmas.List.{get_or_append_left}
@@ -23,7 +23,6 @@ use Rattle.hex.specs.Hex.{is_hex_digit}
 use Rattle.tinkey_words.specs.Rows.{row_of, all_commands, command_of, option_row, all_options, option_of, rival, same, datum_limit, is_line_count, most_lines, is_range_length, most_range, offset_in, format_of, is_hex, is_value, is_flag}
 use Rattle.tinkey_words.specs.Words.{is_equals, own_value}
 use Rattle.tinkey_words.specs.Grammar.{IsHex, IsLineCount, IsNumber, IsOffset, IsRangeLength, IsValue}
-use Rattle.tinkey_words.proofs.OffsetLemmas.{offset_is, offset_passes}
 
 pub same_option : {A : Type 0} (o : Option A) → option_map (λ x. x) o ≡ o
 same_option None = refl
@@ -233,12 +232,14 @@ range_formed text is = by (number_in text) refl is
     by None there is = absurd (cc)
 
 offset_taken : (text : List ℕ) → IsOffset text → is_some (offset_in text) ≡ true
-offset_taken text formed = rw (offset_is text formed.some formed.short formed.digits formed.within) refl
+unfolding offset_in
+offset_taken text formed = ap is_some (below_taken 19 (2 ^ 63) text formed.some formed.short formed.digits formed.within)
 
 offset_formed : (text : List ℕ) → is_some (offset_in text) ≡ true → IsOffset text
+unfolding offset_in
 offset_formed text is =
     let there = is_there (offset_in text) is in
-    let tests = offset_passes text there.0 there.1 in
+    let tests = below_passes 19 (2 ^ 63) text there.0 there.1 in
     record { digits = tests.2; some = tests.0; short = tests.1; within = tests.3 }
 
 not_empty : (value : List ℕ) → value ≢ [] → nat_lt 0 (length value) ≡ true

@@ -47,8 +47,25 @@ returns-in_err-input g c = λ w.
     envelope_no_input _ c.args.name.now c.args.form c.args.template.now work old mid new row keys _ _ _ (c.in_ok-template.ensures.passes old) (c.in_ok-keyset.ensures.passes first) (c.in_ok-handle.ensures.passes mid)
     (c.in_ok-manager.ensures.passes mid) c.from_residual-in_err-input.ensures.1 (rw c.envelope_limit.ensures.limit at (c.in_err-input.ensures.passes mid))
 
-pub do_envelope-requires-clause-bound : goal.do_envelope-requires-clause-bound
-do_envelope-requires-clause-bound g c = rw (c.as_slice.ensures, ← c.envelope_limit.ensures.limit) c.in_ok-input.ensures.within
+pub seal_envelope-requires-clause-bound : goal.seal_envelope-requires-clause-bound
+seal_envelope-requires-clause-bound g c = rw c.as_slice-input.ensures (rw (c.envelope_limit.ensures.limit, c.in-Seal.is) at c.in_ok-input.ensures.within)
+
+pub open_envelope-requires-clause-bound : goal.open_envelope-requires-clause-bound
+open_envelope-requires-clause-bound g c = rw c.as_slice-input.ensures (rw (c.envelope_limit.ensures.limit, c.in-Open.is) at c.in_ok-input.ensures.within)
+
+pub returns-in-Seal : goal.returns-in-Seal
+returns-in-Seal g c = λ w.
+    let first = record w { source = g.S.Source.state c.args.source.now; entropy = g.E.Entropy.state c.args.entropy.now } in
+    let old = record first { store = g.D.Store.state c.args.store.now } in
+    let mid = record first { store = g.D.Store.state c.load_keyset.new.store } in
+    let behind = record mid { source = g.S.Source.state c.read_input.new.source } in
+    let new = record behind { entropy = g.E.Entropy.state c.seal_envelope.new.entropy } in
+    let row = seen c.in_ok-template.template in
+    let keys = c.in_ok-keyset.keyset in
+    let work = seen_envelope c.args.work in
+    envelope_with_handle _ c.args.name.now c.args.form c.args.template.now work old mid new row keys _ (c.in_ok-template.ensures.passes old) (c.in_ok-keyset.ensures.passes first) (c.in_ok-handle.ensures.passes mid)
+    (envelope_with_input _ _ row work keys _ mid behind new c.in_ok-input.input _ c.in_ok-handle.ensures.table (c.in_ok-manager.ensures.passes mid) (rw c.envelope_limit.ensures.limit at (c.in_ok-input.ensures.passes mid))
+    (rw c.in-Seal.is (rw c.as_slice-input.ensures at (c.seal_envelope.ensures behind keys c.in_ok-handle.ensures.over))))
 
 pub returns : goal.returns
 returns g c = λ w.
@@ -56,10 +73,9 @@ returns g c = λ w.
     let old = record first { store = g.D.Store.state c.args.store.now } in
     let mid = record first { store = g.D.Store.state c.load_keyset.new.store } in
     let behind = record mid { source = g.S.Source.state c.read_input.new.source } in
-    let new = record behind { entropy = g.E.Entropy.state c.do_envelope.new.entropy } in
     let row = seen c.in_ok-template.template in
     let keys = c.in_ok-keyset.keyset in
     let work = seen_envelope c.args.work in
-    envelope_with_handle _ c.args.name.now c.args.form c.args.template.now work old mid new row keys _ (c.in_ok-template.ensures.passes old) (c.in_ok-keyset.ensures.passes first) (c.in_ok-handle.ensures.passes mid)
-    (envelope_with_input _ _ row work keys _ mid behind new c.in_ok-input.input _ c.in_ok-handle.ensures.table (c.in_ok-manager.ensures.passes mid) (rw c.envelope_limit.ensures.limit at (c.in_ok-input.ensures.passes mid))
-    (rw c.as_slice.ensures at (c.do_envelope.ensures behind keys c.in_ok-handle.ensures.over)))
+    envelope_with_handle _ c.args.name.now c.args.form c.args.template.now work old mid behind row keys _ (c.in_ok-template.ensures.passes old) (c.in_ok-keyset.ensures.passes first) (c.in_ok-handle.ensures.passes mid)
+    (envelope_with_input _ _ row work keys _ mid behind behind c.in_ok-input.input _ c.in_ok-handle.ensures.table (c.in_ok-manager.ensures.passes mid) (rw c.envelope_limit.ensures.limit at (c.in_ok-input.ensures.passes mid))
+    (rw c.in-Open.is (rw c.as_slice-input.ensures at (c.open_envelope.ensures behind keys row c.in_ok-handle.ensures.over))))

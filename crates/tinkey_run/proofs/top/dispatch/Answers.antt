@@ -6,7 +6,7 @@ use Rattle.tinkey_plans.specs.Ranging.{range_output}
 use Rattle.tinkey_plans.specs.SelfTesting.{self_test_output}
 use Rattle.tinkey_plans.specs.Steps.{loads_keyset, takes_keyset}
 use Rattle.tinkey_plans.specs.Streaming.{loads_stream_keys}
-use Rattle.tinkey_plans.specs.Using.{use_output}
+use Rattle.tinkey_plans.specs.Using.{shows, use_output}
 use Rattle.tinkey_plans.specs.Wrapping.{unwrap_output, wrap_output}
 use Rattle.tinkey_words.specs.Words.{seen_datum, seen_edit, seen_envelope, seen_place, seen_range, seen_work}
 use Rattle.tinkey_run.proofs.top.dispatch.Goals as goal
@@ -24,7 +24,7 @@ returns-in-EditKeyset g c =
 pub returns-in-ListKeyset : goal.returns-in-ListKeyset
 returns-in-ListKeyset g c =
     let w = world (g.S.Source.state c.args.source.now) (g.K.Sink.state c.args.sink.now) (g.D.Store.state c.args.store.now) (g.E.Entropy.state c.args.entropy.now) in
-    rw c.in-ListKeyset.is (c.finish.ensures (list_keyset_output (seen_place c.in-ListKeyset.input)) w (record w { source = g.S.Source.state c.list_keyset.new.source; store = g.D.Store.state c.list_keyset.new.store }) (c.list_keyset.ensures w))
+    rw c.in-ListKeyset.is (c.finish_output.ensures (list_keyset_output (seen_place c.in-ListKeyset.input)) w (record w { source = g.S.Source.state c.list_keyset-listing.new.source; store = g.D.Store.state c.list_keyset-listing.new.store }) (c.list_keyset-listing.ensures w))
 
 pub returns-in-ConvertKeyset : goal.returns-in-ConvertKeyset
 returns-in-ConvertKeyset g c =
@@ -40,14 +40,16 @@ pub returns-in-UseKeyset : goal.returns-in-UseKeyset
 returns-in-UseKeyset g c =
     let w = world (g.S.Source.state c.args.source.now) (g.K.Sink.state c.args.sink.now) (g.D.Store.state c.args.store.now) (g.E.Entropy.state c.args.entropy.now) in
     let new = record w { source = g.S.Source.state c.use_keyset-done.new.source; entropy = g.E.Entropy.state c.use_keyset-done.new.entropy; store = g.D.Store.state c.use_keyset-done.new.store } in
-    rw c.in-UseKeyset.is (c.finish_output.ensures (use_output _ c.in-UseKeyset.keyset.now c.in-UseKeyset.form (seen_work c.in-UseKeyset.work)) w new (c.use_keyset-done.ensures w))
+    let x = c.in-UseKeyset in
+    let step = use_output _ x.keyset.now x.form (seen_work x.work) in
+    rw x.is (c.finish_output-in-UseKeyset.ensures (λ next. step (λ bytes. shows x.output.hex bytes next)) w new (c.shown-done.ensures step w new (c.use_keyset-done.ensures w)))
 
 pub returns-in-UseEnvelope : goal.returns-in-UseEnvelope
 returns-in-UseEnvelope g c =
     let w = world (g.S.Source.state c.args.source.now) (g.K.Sink.state c.args.sink.now) (g.D.Store.state c.args.store.now) (g.E.Entropy.state c.args.entropy.now) in
     let x = c.in-UseEnvelope in
     let new = record w { source = g.S.Source.state c.use_envelope-done.new.source; entropy = g.E.Entropy.state c.use_envelope-done.new.entropy; store = g.D.Store.state c.use_envelope-done.new.store } in
-    rw x.is (c.finish_text.ensures (envelope_output _ x.keyset.now x.form x.template.now (seen_envelope x.work)) w new (c.use_envelope-done.ensures w))
+    rw x.is (c.finish_output-in-UseEnvelope.ensures (envelope_output _ x.keyset.now x.form x.template.now (seen_envelope x.work)) w new (c.use_envelope-done.ensures w))
 
 pub returns-in-SealStream : goal.returns-in-SealStream
 returns-in-SealStream g c =
@@ -63,7 +65,7 @@ pub returns-in-OpenRange : goal.returns-in-OpenRange
 returns-in-OpenRange g c =
     let w = world (g.S.Source.state c.args.source.now) (g.K.Sink.state c.args.sink.now) (g.D.Store.state c.args.store.now) (g.E.Entropy.state c.args.entropy.now) in
     let x = c.in-OpenRange in
-    rw x.is (c.finish_text-in-OpenRange.ensures (range_output x.keyset.now x.form (seen_datum x.ad) (seen_range x.range)) w (record w { store = g.D.Store.state c.open_stretch-opened.new.store }) (c.open_stretch-opened.ensures w))
+    rw x.is (c.finish_output-in-OpenRange.ensures (range_output x.keyset.now x.form (seen_datum x.ad) (seen_range x.range)) w (record w { store = g.D.Store.state c.open_stretch-opened.new.store }) (c.open_stretch-opened.ensures w))
 
 pub returns-in-Session : goal.returns-in-Session
 returns-in-Session g c =
@@ -73,14 +75,14 @@ returns-in-Session g c =
 pub returns-in-SelfTest : goal.returns-in-SelfTest
 returns-in-SelfTest g c =
     let w = world (g.S.Source.state c.args.source.now) (g.K.Sink.state c.args.sink.now) (g.D.Store.state c.args.store.now) (g.E.Entropy.state c.args.entropy.now) in
-    rw c.in-SelfTest.is (c.finish-in-SelfTest.ensures (self_test_output _ c.in-SelfTest.seed c.in-SelfTest.lines) w w (c.tell_self_test.ensures w))
+    rw c.in-SelfTest.is (c.finish_output-in-SelfTest.ensures (self_test_output _ c.in-SelfTest.seed c.in-SelfTest.lines) w w (c.tell_self_test-told.ensures w))
 
 pub returns-in-WrapKeyset : goal.returns-in-WrapKeyset
 returns-in-WrapKeyset g c =
     let w = world (g.S.Source.state c.args.source.now) (g.K.Sink.state c.args.sink.now) (g.D.Store.state c.args.store.now) (g.E.Entropy.state c.args.entropy.now) in
     let x = c.in-WrapKeyset in
     let new = record w { source = g.S.Source.state c.wrap_keyset-wrapped.new.source; entropy = g.E.Entropy.state c.wrap_keyset-wrapped.new.entropy; store = g.D.Store.state c.wrap_keyset-wrapped.new.store } in
-    rw x.is (c.finish_text-in-WrapKeyset.ensures (wrap_output _ x.master.now x.form (seen_place x.input) x.output.form) w new (c.wrap_keyset-wrapped.ensures w))
+    rw x.is (c.finish_output-in-WrapKeyset.ensures (wrap_output _ x.master.now x.form (seen_place x.input) x.output.form) w new (c.wrap_keyset-wrapped.ensures w))
 
 pub returns-in-UnwrapKeyset : goal.returns-in-UnwrapKeyset
 returns-in-UnwrapKeyset g c =
