@@ -50,38 +50,28 @@ impl SivKey {
     }
 }
 
-/// Seals `plain` with the associated datum `ad` (RFC 5297, 2.6): behind the bytes of `front` the SIV of
-/// 16 bytes and then as many bytes of ciphertext as `plain` has.
+/// Seals in place with the associated datum `ad` (RFC 5297, 2.6), and gives the list itself: behind
+/// its first bytes, so many as `at` says, which stay as they are, the SIV of 16 bytes and the
+/// ciphertext.
 ///
-/// `plain` and `ad` have at most 2^30 bytes, and `front` 2^10. An empty `ad` is a datum too. The same
-/// key, plaintext and datum give the same bytes. `NoMemory` comes for want of memory alone, here and in
-/// opening.
-pub fn siv_seal(
-    alloc: Global,
-    key: &SivKey,
-    front: &[u8],
-    plain: &[u8],
-    ad: &[u8],
-) -> Result<Vec<u8>, NoMemory>
-    requires front_bound { length front.now ≤ 2 ^ 10 }
-    requires plain_bound { length plain.now ≤ 2 ^ 30 }
+/// The plaintext stands behind `at` and room for the SIV, whatever stands in that. It has at most 2^30
+/// bytes, as many as its ciphertext, and so has `ad`. An empty `ad` is a datum too. The same key,
+/// plaintext and datum give the same bytes. No memory is taken.
+pub fn siv_seal(key: &SivKey, at: usize, mut bytes: Vec<u8>, ad: &[u8]) -> Vec<u8>
+    requires room { at + 16 ≤ length bytes.items }
+    requires plain_bound { length bytes.items ≤ at + 16 + 2 ^ 30 }
     requires ad_bound { length ad.now ≤ 2 ^ 30 }
-    ensures sealed { IfOk result (λ bytes.
-        bytes.items ≡ front.now ++ siv_seal key.now plain.now ad.now) }
+    ensures { result.items ≡ take at bytes.items ++ siv_seal key.now (drop (at + 16) bytes.items) ad.now }
 {
-    let siv = synthetic_iv(&key.mac, ad, plain);
-    let mut bytes = Vec::with_capacity(alloc, front.len() + 16 + plain.len())?;
-    bytes.extend_from_slice(front)?;
-    bytes.extend_from_slice(&siv)?;
-    bytes.extend_from_slice(plain)?;
-    crypt_behind(&key.ctr, &siv, front.len() + 16, &mut bytes);
-    Ok(bytes)
+    seal_behind(key, at, &mut bytes, ad);
+    bytes
 }
 
 /// Opens what `siv_seal` made under the same key and associated datum (RFC 5297, 2.7).
 ///
-/// `bytes` have at most 2^30 + 96, and `ad` at most 2^30. The answer is `None` exactly where there are fewer than 16 bytes, or where the SIV that the plaintext has isn't
-/// the one in front. All bytes of the two are compared.
+/// `bytes` have at most 2^30 + 96, and `ad` at most 2^30. The answer is `None` exactly where there are
+/// fewer than 16 bytes, or where the SIV that the plaintext has isn't the one in front. All bytes of
+/// the two are compared. `NoMemory` comes for want of memory alone.
 pub fn siv_open(
     alloc: Global,
     key: &SivKey,
@@ -103,6 +93,25 @@ pub fn siv_open(
     } else {
         Ok(None)
     }
+}
+
+// Seals in place what stands behind the first bytes, so many as `at` says.
+fn seal_behind(key: &SivKey, at: usize, bytes: &mut [u8], ad: &[u8])
+    requires room { at + 16 ≤ length bytes.old }
+    ensures { bytes.new ≡ take at bytes.old ++ siv_seal key.now (drop 16 (drop at bytes.old)) ad.now }
+{
+    seal_in_place(key, &mut bytes[at..], ad);
+}
+
+// Writes the SIV into its room, and encrypts in place what stands behind that (2.6).
+fn seal_in_place(key: &SivKey, sealed: &mut [u8], ad: &[u8])
+    requires room { 16 ≤ length sealed.old }
+    ensures { sealed.new ≡ siv_seal key.now (drop 16 sealed.old) ad.now }
+{
+    let (room, body) = sealed.split_at_mut(16);
+    let siv = synthetic_iv(&key.mac, ad, body);
+    room.copy_from_slice(&siv);
+    crypt(&key.ctr, &siv, body);
 }
 
 // Decrypts in place, and answers whether the SIV is that of the plaintext (2.7).
@@ -136,15 +145,6 @@ fn mac(key: &Aes, front: &[u8], back: &[u8]) -> [u8; 16]
     state.update(front);
     state.update(back);
     state.finish()
-}
-
-// Encrypts in place what stands behind the first bytes, so many as `at` says.
-fn crypt_behind(key: &Aes, siv: &[u8; 16], at: usize, bytes: &mut [u8])
-    requires room { at ≤ length bytes.old }
-    ensures { bytes.new
-        ≡ take at bytes.old ++ ctr key.now (first_counter siv.now) All128 (drop at bytes.old) }
-{
-    crypt(key, siv, &mut bytes[at..]);
 }
 
 // Encrypts or decrypts in place, under the second half of the key, from the counter that follows
