@@ -21,39 +21,37 @@ const IV: usize = 12;
 /// The bytes of a tag.
 const TAG: usize = 16;
 
-/// Seals `plain` (RFC 8452, 4): behind the bytes of `front` the IV, as many bytes of ciphertext as
-/// `plain` has, and the tag.
+/// Seals in place (RFC 8452, 4), and gives the list itself: behind its first bytes, so many as `at`
+/// says, which stay as they are, the IV, the ciphertext and the tag.
 ///
-/// `plain` and `ad` have at most 2^30 bytes each, and `front` 2^10. An IV that serves twice
-/// under one key tells whether plaintext and associated data were the same, and nothing else; still,
-/// each message should have its own. `NoMemory` comes for want of memory alone, here and in opening.
+/// The plaintext stands behind `at` and room for the IV, whatever stands in that. It has at most 2^30
+/// bytes, as many as its ciphertext, and so has `ad`. An IV that serves twice under one key tells
+/// whether plaintext and associated data were the same, and nothing else; still, each message should
+/// have its own. `NoMemory` comes for want of memory alone, here and in opening, and here only where
+/// the list has no place for the tag of 16 bytes.
 pub fn gcm_siv_seal(
-    alloc: Global,
     key: &Aes,
-    front: &[u8],
+    at: usize,
+    mut bytes: Vec<u8>,
     iv: &[u8; 12],
-    plain: &[u8],
     ad: &[u8],
 ) -> Result<Vec<u8>, NoMemory>
-    requires front_bound { length front.now ≤ 2 ^ 10 }
-    requires plain_bound { length plain.now ≤ 2 ^ 30 }
+    requires room { at + 12 ≤ length bytes.items }
+    requires plain_bound { length bytes.items ≤ at + 12 + 2 ^ 30 }
     requires ad_bound { length ad.now ≤ 2 ^ 30 }
-    ensures sealed { IfOk result (λ v.
-        v.items ≡ front.now ++ gcm_siv_seal key.now iv.now plain.now ad.now) }
+    ensures { IfOk result (λ v. v.items
+        ≡ take at bytes.items ++ gcm_siv_seal key.now iv.now (drop (at + 12) bytes.items) ad.now) }
 {
-    let mut sealed = Vec::with_capacity(alloc, front.len() + IV + plain.len() + TAG)?;
-    sealed.extend_from_slice(front)?;
-    sealed.extend_from_slice(iv)?;
-    sealed.extend_from_slice(plain)?;
-    let tag = seal_behind(key, iv, ad, front.len() + IV, &mut sealed);
-    sealed.extend_from_slice(&tag)?;
-    Ok(sealed)
+    let tag = seal_behind(key, at, &mut bytes, iv, ad);
+    bytes.extend_from_slice(&tag)?;
+    Ok(bytes)
 }
 
 /// Opens IV, ciphertext and tag, joined (RFC 8452, 5).
 ///
-/// `bytes` have at most 2^30 + 96, and `ad` at most 2^30. The answer is `None` exactly where `bytes` are shorter than IV and tag, or the tag isn't the one that the plaintext
-/// has. All bytes of the two are compared.
+/// `bytes` have at most 2^30 + 96, and `ad` at most 2^30. The answer is `None` exactly where `bytes`
+/// are shorter than IV and tag, or the tag isn't the one that the plaintext has. All bytes of the two
+/// are compared.
 pub fn gcm_siv_open(
     alloc: Global,
     key: &Aes,
@@ -79,16 +77,28 @@ pub fn gcm_siv_open(
     }
 }
 
-// Encrypts in place what stands behind the first bytes, so many as `at` says, and answers the tag (4).
-fn seal_behind(key: &Aes, iv: &[u8; 12], ad: &[u8], at: usize, bytes: &mut [u8]) -> [u8; 16]
+// Seals in place what stands behind the first bytes, so many as `at` says, and answers the tag.
+fn seal_behind(key: &Aes, at: usize, bytes: &mut [u8], iv: &[u8; 12], ad: &[u8]) -> [u8; 16]
+    requires room { at + 12 ≤ length bytes.old }
+    requires bytes_bound { length bytes.old ≤ at + 12 + 2 ^ 30 }
     requires ad_bound { length ad.now ≤ 2 ^ 30 }
-    requires room { at ≤ length bytes.old }
-    requires bytes_bound { length bytes.old ≤ 2 ^ 31 }
-    ensures text { bytes.new
-        ≡ take at bytes.old ++ gcm_siv_text key.now iv.now result (drop at bytes.old) }
-    ensures tag { result ≡ gcm_siv_tag key.now iv.now ad.now (drop at bytes.old) }
+    ensures { bytes.new ++ result ≡ take at bytes.old
+        ++ gcm_siv_seal key.now iv.now (drop 12 (drop at bytes.old)) ad.now }
 {
-    seal_in_place(key, iv, ad, &mut bytes[at..])
+    seal_under_iv(key, &mut bytes[at..], iv, ad)
+}
+
+// Writes the IV into its room, encrypts in place what stands behind that, and answers the tag (4).
+fn seal_under_iv(key: &Aes, sealed: &mut [u8], iv: &[u8; 12], ad: &[u8]) -> [u8; 16]
+    requires room { 12 ≤ length sealed.old }
+    requires sealed_bound { length sealed.old ≤ 2 ^ 31 }
+    requires ad_bound { length ad.now ≤ 2 ^ 30 }
+    ensures { sealed.new ++ result
+        ≡ gcm_siv_seal key.now iv.now (drop 12 sealed.old) ad.now }
+{
+    let (room, body) = sealed.split_at_mut(IV);
+    room.copy_from_slice(iv);
+    seal_in_place(key, iv, ad, body)
 }
 
 // Encrypts in place, and answers the tag (4).
