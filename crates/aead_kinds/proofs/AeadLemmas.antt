@@ -1,8 +1,6 @@
--- What sealing and opening give, of the parts that the code works on.
-use Rattle.std.proofs.Common.{◌≡◌, ℕ, ◌+◌, ◌-◌, ◌≤◌, Some, None, List, ◌++◌, length, take, drop, sym, ap, ◌∙◌, arith}
-use Rattle.std.proofs.lemmas.List.{drop-drop, length-append, length-drop, length-take-le, take-append-le}
-use Rattle.std.proofs.lemmas.Slice.{take-put_mid}
-use borrow.Rule.Slice.PartMut.{post_of, put_mid}
+-- What opening gives, of the parts that the code works on.
+use Rattle.std.proofs.Common.{◌≡◌, ℕ, ◌+◌, ◌-◌, ◌≤◌, Some, None, List, length, take, drop, sym, ap, ◌∙◌, arith}
+use Rattle.std.proofs.lemmas.List.{drop-drop, length-drop}
 use Rattle.aead_kinds.specs.Gcm.{gcm_open, gcm_tag, gcm_text, iv_of, tag_of, text_of}
 use Rattle.aead_kinds.proofs.GcmLemmas.{closed, opens}
 
@@ -53,22 +51,3 @@ parts-closed key bytes ad iv rest text tag parts other =
     closed key bytes ad parts.long
     (λ same. other (anew_is key bytes ad iv rest text tag parts ∙ sym same
     ∙ sym (tag_is bytes iv rest text tag parts)))
-
--- ---- sealing
-
--- what a write of all that stands behind the first bytes leaves in a vector of that length
-pub written_behind : (n : ℕ) (items slice new : List ℕ) (len : ℕ) → slice ≡ items → len ≡ length items
-    → n ≤ length items → length new ≡ length items - n
-    → take len (put_mid n (length slice - n) slice new
-    ++ drop (length (put_mid n (length slice - n) slice new)) items)
-    ≡ take n items ++ new
-written_behind n items slice new len e l long size =
-    let all : List ℕ = put_mid n (length slice - n) slice new in
-    let post : List ℕ = post_of n (length slice - n) slice in
-    let same : length slice ≡ length items = ap (λ xs. length xs) e in
-    let front : length (take n slice) ≡ n = length-take-le n slice (omega (arith, same)) in
-    let within : len ≤ length all
-    = omega (arith, length-append (take n slice) (new ++ post), length-append new post, front) in
-    take-append-le len all (drop (length all) items) within
-    ∙ take-put_mid n (length slice - n) slice new len (omega arith) (omega (arith, same))
-    ∙ ap (λ xs. take n xs ++ new) e

@@ -191,26 +191,6 @@ bytes-xor_bytes (x ∷ a) (y ∷ b) ha hb =
     (xor_of_8 x y (All-head (λ n. n < 256) x a ha) (All-head (λ n. n < 256) y b hb))
     (bytes-xor_bytes a b (All-tail (λ n. n < 256) x a ha) (All-tail (λ n. n < 256) y b hb))
 
--- what stands behind the first n bytes, which are those in front and the IV, was encrypted in its place,
--- and the tag appended
-pub sealed_in_place_by : (crypt : List ℕ → List ℕ → List ℕ)
-    (tag : List ℕ → List ℕ → List ℕ → List ℕ) (front iv plain ad body text made all : List ℕ) (n : ℕ)
-    → n ≡ length front + length iv → body ≡ drop n ((front ++ iv) ++ plain)
-    → text ≡ crypt iv body → made ≡ tag iv ad text
-    → all ≡ take n ((front ++ iv) ++ plain) ++ text ++ made
-    → all ≡ front ++ sealed_by crypt tag iv plain ad
-unfolding sealed_by
-sealed_in_place_by crypt tag front iv plain ad body text made all n is body_is text_is made_is all_is =
-    let first : List ℕ = front ++ iv in
-    let size : length first ≡ n = omega (arith, length-append front iv) in
-    let whole : List ℕ = crypt iv plain in
-    let same : text ≡ whole
-    = text_is ∙ ap (λ b. crypt iv b) (body_is ∙ drop_at first plain n size) in
-    all_is ∙ ap (λ l. l ++ text ++ made) (take_at first plain n size)
-    ∙ ap (λ t. first ++ text ++ t) made_is ∙ ap (λ t. first ++ t ++ tag iv ad t) same
-    ∙ ap (λ l. l ++ tag iv ad whole) (append_assoc front iv whole)
-    ∙ append_assoc front (iv ++ whole) (tag iv ad whole)
-
 -- ---- opening, of the parts that the code cuts off
 
 -- the IV at the front, and then the tag at the back

@@ -1,6 +1,6 @@
 //! Sealing and opening under a key of any kind.
 
-ghost use Rattle.std.specs.Prelude.{◌≡◌, ◌↔◌, ◌+◌, ◌^◌, ◌≤◌, ◌++◌, length, IfOk, IsTrue};
+ghost use Rattle.std.specs.Prelude.{◌≡◌, ◌↔◌, ◌+◌, ◌^◌, ◌≤◌, ◌++◌, drop, length, take, IfOk, IsTrue};
 ghost use Rattle.std.specs.Option.{option_map};
 ghost use Rattle.aead_kinds.specs.Aead.{IsFit, iv_size_of, open_key, seal_of};
 ghost use Rattle.aead_kinds.specs.Gcm.{gcm_open, gcm_seal};
@@ -76,29 +76,32 @@ impl AeadKey<'_> {
     }
 }
 
-/// Seals `plain`: behind the bytes of `front` the IV, the ciphertext and the tag.
+/// Seals in place, and gives the list itself: behind its first bytes, so many as `at` says, which stay
+/// as they are, the IV, the ciphertext and the tag.
 ///
-/// `plain` and `ad` have at most 2^30 bytes each, and `front` 2^10. No IV may serve twice under one key: this is for
-/// the caller to see to.
+/// The plaintext stands behind `at` and room for the IV, whatever stands in that. It has at most 2^30
+/// bytes, as many as its ciphertext, and so has `ad`. No IV may serve twice under one key: this is for
+/// the caller to see to. `NoMemory` comes only where the list has no place for the tag, which has at
+/// most 64 bytes, and memory for more is wanting.
 #[tactic(auto, unfolding(crate::specs::Eax::eax_seal, crate::specs::CtrHmac::ctr_hmac_seal))]
 pub fn seal(
-    alloc: Global,
     key: &AeadKey<'_>,
-    front: &[u8],
+    at: usize,
+    bytes: Vec<u8>,
     iv: &[u8],
-    plain: &[u8],
     ad: &[u8],
 ) -> Result<Vec<u8>, NoMemory>
     requires fits { IsFit key.now }
-    requires front_bound { length front.now ≤ 2 ^ 10 }
     requires iv_size { length iv.now ≡ iv_size_of key.now }
-    requires plain_bound { length plain.now ≤ 2 ^ 30 }
+    requires room { at + length iv.now ≤ length bytes.items }
+    requires plain_bound { length bytes.items ≤ at + length iv.now + 2 ^ 30 }
     requires ad_bound { length ad.now ≤ 2 ^ 30 }
-    ensures { IfOk result (λ v. v.items ≡ front.now ++ seal_of key.now iv.now plain.now ad.now) }
+    ensures { IfOk result (λ v. v.items ≡ take at bytes.items
+        ++ seal_of key.now iv.now (drop (at + length iv.now) bytes.items) ad.now) }
 {
     match key {
-        AeadKey::Gcm { key } => gcm_sealed(alloc, key, front, iv, plain, ad),
-        AeadKey::Eax { key, .. } => Scheme::Eax { key }.seal(alloc, front, iv, plain, ad),
+        AeadKey::Gcm { key } => gcm_sealed(key, at, bytes, iv, ad),
+        AeadKey::Eax { key, .. } => Scheme::Eax { key }.seal(at, bytes, iv, ad),
         AeadKey::CtrHmac {
             aes,
             hash,
@@ -113,7 +116,7 @@ pub fn seal(
                 mac,
                 tag_size,
             }
-            .seal(alloc, front, iv, plain, ad)
+            .seal(at, bytes, iv, ad)
         }
     }
 }
@@ -157,32 +160,48 @@ pub fn open(
 }
 
 fn gcm_sealed(
-    alloc: Global,
     key: &Aes,
-    front: &[u8],
+    at: usize,
+    mut bytes: Vec<u8>,
     iv: &[u8],
-    plain: &[u8],
     ad: &[u8],
 ) -> Result<Vec<u8>, NoMemory>
-    requires front_bound { length front.now ≤ 2 ^ 10 }
     requires iv_size { length iv.now ≡ 12 }
-    requires plain_bound { length plain.now ≤ 2 ^ 30 }
+    requires room { at + length iv.now ≤ length bytes.items }
+    requires plain_bound { length bytes.items ≤ at + length iv.now + 2 ^ 30 }
     requires ad_bound { length ad.now ≤ 2 ^ 30 }
-    ensures { IfOk result (λ v. v.items ≡ front.now ++ gcm_seal key.now iv.now plain.now ad.now) }
+    ensures { IfOk result (λ v. v.items ≡ take at bytes.items
+        ++ gcm_seal key.now iv.now (drop (at + length iv.now) bytes.items) ad.now) }
 {
-    let mut sealed = Vec::with_capacity(alloc, front.len() + GCM_IV + plain.len() + TAG)?;
-    sealed.extend_from_slice(front)?;
-    sealed.extend_from_slice(iv)?;
-    sealed.extend_from_slice(plain)?;
     let tag = match iv.first_chunk::<GCM_IV>() {
-        Some(iv) => {
-            let body = &mut sealed.as_mut_slice()[front.len() + GCM_IV..];
-            gcm_seal_in_place(key, iv, ad, body)
-        }
+        Some(iv) => gcm_seal_behind(key, at, &mut bytes, iv, ad),
         None => unreachable!(),
     };
-    sealed.extend_from_slice(&tag)?;
-    Ok(sealed)
+    bytes.extend_from_slice(&tag)?;
+    Ok(bytes)
+}
+
+// Seals in place what stands behind the first bytes, so many as `at` says, and answers the tag.
+fn gcm_seal_behind(key: &Aes, at: usize, bytes: &mut [u8], iv: &[u8; 12], ad: &[u8]) -> [u8; 16]
+    requires room { at + 12 ≤ length bytes.old }
+    requires bytes_bound { length bytes.old ≤ at + 12 + 2 ^ 30 }
+    requires ad_bound { length ad.now ≤ 2 ^ 30 }
+    ensures { bytes.new ++ result ≡ take at bytes.old
+        ++ gcm_seal key.now iv.now (drop 12 (drop at bytes.old)) ad.now }
+{
+    gcm_seal_under_iv(key, &mut bytes[at..], iv, ad)
+}
+
+// Writes the IV into its room, encrypts in place what stands behind that, and answers the tag.
+fn gcm_seal_under_iv(key: &Aes, sealed: &mut [u8], iv: &[u8; 12], ad: &[u8]) -> [u8; 16]
+    requires room { 12 ≤ length sealed.old }
+    requires sealed_bound { length sealed.old ≤ 2 ^ 31 }
+    requires ad_bound { length ad.now ≤ 2 ^ 30 }
+    ensures { sealed.new ++ result ≡ gcm_seal key.now iv.now (drop 12 sealed.old) ad.now }
+{
+    let (room, body) = sealed.split_at_mut(GCM_IV);
+    room.copy_from_slice(iv);
+    gcm_seal_in_place(key, iv, ad, body)
 }
 
 // The tag is compared before the ciphertext is copied.

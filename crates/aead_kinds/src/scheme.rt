@@ -1,6 +1,6 @@
 //! Sealing by encryption and a tag over what was encrypted, which EAX and AES-CTR-HMAC have in common.
 
-ghost use Rattle.std.specs.Prelude.{◌≡◌, ◌↔◌, ◌+◌, ◌^◌, ◌≤◌, ℕ, List, ◌++◌, length, IfOk, IsTrue};
+ghost use Rattle.std.specs.Prelude.{◌≡◌, ◌↔◌, ◌+◌, ◌^◌, ◌≤◌, ℕ, List, ◌++◌, drop, length, take, IfOk, IsTrue};
 ghost use Rattle.std.specs.Option.{option_map};
 ghost use Rattle.aead_kinds.specs.EncryptThenTag.{opened_by, sealed_by};
 ghost use Rattle.aead_kinds.specs.SchemeState.{crypt_under, IsSound, start_under, tag_size_of, tag_under};
@@ -31,39 +31,29 @@ pub(crate) enum Scheme<'k> {
 }
 
 impl Scheme<'_> {
-    /// Seals `plain`: behind the bytes of `front` the IV, the ciphertext and the tag.
+    /// Seals in place, and gives the list itself: behind its first bytes, so many as `at` says, which
+    /// stay as they are, the IV, the ciphertext and the tag.
     pub(crate) fn seal(
         &self,
-        alloc: Global,
-        front: &[u8],
+        at: usize,
+        mut bytes: Vec<u8>,
         iv: &[u8],
-        plain: &[u8],
         ad: &[u8],
     ) -> Result<Vec<u8>, NoMemory>
         requires sound { IsSound self.now }
-        requires front_bound { length front.now ≤ 2 ^ 10 }
         requires iv_bound { length iv.now ≤ 16 }
-        requires plain_bound { length plain.now ≤ 2 ^ 30 }
+        requires room { at + length iv.now ≤ length bytes.items }
+        requires plain_bound { length bytes.items ≤ at + length iv.now + 2 ^ 30 }
         requires ad_bound { length ad.now ≤ 2 ^ 30 }
-        ensures { IfOk result (λ v. v.items
-            ≡ front.now
-            ++ sealed_by (crypt_under self.now) (tag_under self.now) iv.now plain.now ad.now) }
+        ensures { IfOk result (λ v. v.items ≡ take at bytes.items
+            ++ sealed_by (crypt_under self.now) (tag_under self.now) iv.now
+            (drop (at + length iv.now) bytes.items) ad.now) }
     {
         let mut longest = [0; LONGEST_TAG];
         let tag = &mut longest[..self.tag_size()];
-        let start = self.start(iv);
-        let mut sealed = Vec::with_capacity(
-            alloc,
-            front.len() + iv.len() + plain.len() + tag.len(),
-        )?;
-        sealed.extend_from_slice(front)?;
-        sealed.extend_from_slice(iv)?;
-        sealed.extend_from_slice(plain)?;
-        let body = &mut sealed.as_mut_slice()[front.len() + iv.len()..];
-        self.crypt(&start, body);
-        self.write_tag(&start, iv, ad, body, tag);
-        sealed.extend_from_slice(tag)?;
-        Ok(sealed)
+        self.seal_behind(at, &mut bytes, iv, ad, tag);
+        bytes.extend_from_slice(tag)?;
+        Ok(bytes)
     }
 
     /// Opens IV, ciphertext and tag, joined. The tag is computed anew and compared before anything is
@@ -95,6 +85,38 @@ impl Scheme<'_> {
         let mut body = text.to_vec(alloc)?;
         self.crypt(&start, body.as_mut_slice());
         Ok(Some(body))
+    }
+
+    // Seals in place what stands behind the first bytes, so many as `at` says, and writes the tag.
+    fn seal_behind(&self, at: usize, bytes: &mut [u8], iv: &[u8], ad: &[u8], tag: &mut [u8])
+        requires sound { IsSound self.now }
+        requires iv_bound { length iv.now ≤ 16 }
+        requires room { at + length iv.now ≤ length bytes.old }
+        requires ad_bound { length ad.now ≤ 2 ^ 30 }
+        requires tag_size { length tag.old ≡ tag_size_of self.now }
+        ensures { bytes.new ++ tag.new ≡ take at bytes.old
+            ++ sealed_by (crypt_under self.now) (tag_under self.now) iv.now
+            (drop (length iv.now) (drop at bytes.old)) ad.now }
+    {
+        self.seal_in_place(&mut bytes[at..], iv, ad, tag);
+    }
+
+    // Writes the IV into its room, encrypts in place what stands behind that, and writes the tag.
+    fn seal_in_place(&self, sealed: &mut [u8], iv: &[u8], ad: &[u8], tag: &mut [u8])
+        requires sound { IsSound self.now }
+        requires iv_bound { length iv.now ≤ 16 }
+        requires room { length iv.now ≤ length sealed.old }
+        requires ad_bound { length ad.now ≤ 2 ^ 30 }
+        requires tag_size { length tag.old ≡ tag_size_of self.now }
+        ensures { sealed.new ++ tag.new
+            ≡ sealed_by (crypt_under self.now) (tag_under self.now) iv.now
+            (drop (length iv.now) sealed.old) ad.now }
+    {
+        let (room, body) = sealed.split_at_mut(iv.len());
+        room.copy_from_slice(iv);
+        let start = self.start(iv);
+        self.crypt(&start, body);
+        self.write_tag(&start, iv, ad, body, tag);
     }
 
     // How many bytes a tag has.
