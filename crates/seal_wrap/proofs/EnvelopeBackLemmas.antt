@@ -14,11 +14,13 @@ use Rattle.key_msgs.specs.declared.primitive.Primitive.TheVariants.{Aead}
 use Rattle.key_msgs.specs.declared.rule.Rule.{Rule}
 use Rattle.keyset_model.specs.Keyset.{Keys, primary_of}
 use Rattle.keyset_model.specs.declared.record.Record.{Record}
+use Rattle.managers.proofs.SizeLemmas.{iv-short}
 use Rattle.managers.specs.Laws.{ReadingIsAdmitted, SealingsOpen}
 use Rattle.managers.specs.Schemes.{Scheme, key_under}
 use Rattle.managers.specs.Table.{Table}
 use Rattle.managers.specs.Uses.{iv_size, open_key, seal_of}
 use Rattle.wrapped_prims.proofs.PrefixLemmas.{five-prefix_of}
+use Rattle.wrapped_prims.proofs.SealLemmas.{enough}
 use Rattle.wrapped_prims.specs.Answers.{Sealed, open_answer, seal_answer, seal_behind, seal_under}
 use Rattle.wrapped_prims.specs.Candidates.{prefix_bytes, prefix_of}
 use Rattle.wrapped_prims.specs.Fitness.{key_of_record}
@@ -26,8 +28,7 @@ use Rattle.wrapped_prims.specs.Laws.{SameKeyOpens}
 use Rattle.seal_wrap.specs.Enveloped.{Enveloped, behind_data_key, data_key_of, envelope, envelope_of, open_behind, open_envelope_of, open_payload, under_data_key}
 use Rattle.seal_wrap.specs.EnvelopeLaws.{EnvelopeBack, EnvelopesFit}
 use Rattle.seal_wrap.proofs.DataKeyLemmas.{data_key-long}
-use Rattle.seal_wrap.proofs.EnvelopeLemmas.{enough}
-use Rattle.seal_wrap.proofs.SealedSizes.{IsSealed, iv-short, length-seal_of, sealed_behind, sealing-long, then_some}
+use Rattle.seal_wrap.proofs.SealedSizes.{IsSealed, length-seal_of, sealed_behind, sealing-long, then_some}
 use Rattle.seal_wrap.proofs.WrapLemmas.{map_some}
 
 -- ---- the parts of an envelope

@@ -1,9 +1,10 @@
 -- What sealing in an envelope says of the entropy, and what an envelope is made of.
-use Rattle.std.proofs.Common.{◌≡◌, ◌∙◌, inl, inr, refl, sym, ap, subst, ℕ, cond, le-ltb, Bool, false, List, [], ◌++◌, length, take, drop, Option, Some, None, Ok, arith}
-use Rattle.std.specs.Prelude.{nat_lt, slice_get}
+use Rattle.std.proofs.Common.{◌≡◌, ◌∙◌, inl, inr, refl, sym, ap, subst, ℕ, cond, Bool, false, List, [], ◌++◌, length, take, drop, Option, Some, None, Ok}
+use Rattle.std.specs.Prelude.{slice_get}
+use Rattle.std.specs.Int.{to_be_bytes, w32}
 use Rattle.std.specs.Option.{option_and_then, option_map}
 use Rattle.std.specs.Str.{bytes_eq}
-use Rattle.std.proofs.lemmas.List.{append_assoc, append-nil, drop_at, length-append, take_at}
+use Rattle.std.proofs.lemmas.List.{append_assoc, append-nil, drop_at, take_at}
 use Rattle.std.proofs.lemmas.List.Quantifiers.{position-Some}
 use Rattle.std.proofs.lemmas.Option.{get_or_from_slice_get}
 use Rattle.std.proofs.lemmas.Slice.Eq.{bytes_eq-Decides}
@@ -15,11 +16,12 @@ use Rattle.managers.specs.Table.{Entry, Table, place_in}
 use Rattle.managers.specs.Uses.{iv_size, seal_of}
 use Rattle.tink_spec.proofs.Moves.{drew_more, drew_nothing, ran_short_later}
 use Rattle.tink_spec.specs.Outside.{Drew, EntropyState, Stood}
-use Rattle.wrapped_prims.specs.Answers.{Sealed, seal_answer, seal_behind}
+use Rattle.wrapped_prims.proofs.SealLemmas.{enough, seal-drawn}
+use Rattle.wrapped_prims.specs.Answers.{Sealed, seal_answer}
 use Rattle.wrapped_prims.specs.Sealing.{IsKeySealing, IsSealFault, IsSealing}
 use Rattle.wrapped_prims.specs.declared.sealing.SealFault.{SealFault}
 use Rattle.wrapped_prims.specs.declared.sealing.SealFault.TheVariants as seals
-use Rattle.seal_wrap.specs.Enveloped.{Enveloped, behind_data_key, data_key_of, envelope, envelope_of, under_data_key}
+use Rattle.seal_wrap.specs.Enveloped.{Enveloped, before_payload, behind_data_key, data_key_of, envelope, envelope_of, under_data_key}
 use Rattle.seal_wrap.specs.EnvelopeSteps.{IsMakingFault, IsPayloadFault, Makes}
 use Rattle.seal_wrap.specs.Enveloping.{Asks, FailedAtFill, IsEnvelopeFault, IsEnveloping, StoodAtFill}
 use Rattle.seal_wrap.specs.declared.envelope.EnvelopeFault.{EnvelopeFault}
@@ -27,9 +29,6 @@ use Rattle.seal_wrap.specs.declared.envelope.EnvelopeFault.TheVariants as faults
 use Rattle.seal_wrap.proofs.WrapLemmas.{has_sealed}
 
 -- ---- what is taken of the random bytes
-
-pub enough : (n : ℕ) (xs ys : List ℕ) → length xs ≡ n → nat_lt (length (xs ++ ys)) n ≡ false
-enough n xs ys whole = le-ltb (length (xs ++ ys)) n (omega (arith, length-append xs ys, whole))
 
 -- the first ones are those of the data key
 pub envelope-drawn : (keys : Keys) (table : Table) (scheme : Scheme) (row : Row) (plain ad random rest : List ℕ) → length random ≡ random_of row
@@ -42,37 +41,30 @@ envelope-drawn keys table scheme row plain ad random rest whole =
     ∙ ap (λ front. by front (drop n (random ++ rest)) false) (take_at random rest n whole)
     ∙ ap (λ behind. by random behind false) (drop_at random rest n whole)
 
--- the same of an IV
-seal-drawn : (prefix plain ad iv rest : List ℕ) (key : KeyKind) → length iv ≡ iv_size key
-    → seal_behind prefix plain ad (iv ++ rest) key ≡ Some (record { bytes = prefix ++ seal_of key iv plain ad; left = rest })
-seal-drawn prefix plain ad iv rest key whole =
-    let n = iv_size key in
-    let by : List ℕ → List ℕ → Bool → Option Sealed
-    = λ front behind few. cond few None (Some (record { bytes = prefix ++ seal_of key front plain ad; left = behind })) in
-    ap (by (take n (iv ++ rest)) (drop n (iv ++ rest))) (enough n iv rest whole)
-    ∙ ap (λ front. by front (drop n (iv ++ rest)) false) (take_at iv rest n whole)
-    ∙ ap (λ behind. by iv behind false) (drop_at iv rest n whole)
-
 -- ---- an envelope
 
 both_assoc : (a b c more : List ℕ) → (a ++ b ++ c) ++ more ≡ a ++ (b ++ (c ++ more))
 both_assoc a b c more = append_assoc (a ++ b) c more ∙ append_assoc a b (c ++ more)
 
-pub enveloping : (keys : Keys) (table : Table) (scheme : Scheme) (row : Row) (plain ad : List ℕ) (old one two new : EntropyState) (value sealed payload bytes : List ℕ) (key : KeyKind)
-    → Makes scheme row old one value key → IsSealing keys table value [] one two sealed → IsKeySealing key [] plain ad two new payload → bytes ≡ envelope sealed payload
+pub enveloping : (keys : Keys) (table : Table) (scheme : Scheme) (row : Row) (plain ad : List ℕ) (old one two new : EntropyState) (value sealed front bytes : List ℕ) (key : KeyKind)
+    → Makes scheme row old one value key → IsSealing keys table value [] one two sealed → front ≡ before_payload sealed → IsKeySealing key front plain ad two new bytes
     → IsEnveloping keys table scheme row plain ad old new bytes
-enveloping keys table scheme row plain ad old one two new value sealed payload bytes key made sealing last joined = record {
-  drawn = made.drawn ++ sealing.drawn ++ last.drawn;
-  drew = drew_more old two new (made.drawn ++ sealing.drawn) last.drawn (drew_more old one two made.drawn sealing.drawn made.drew sealing.drew) last.drew;
-  answer = λ more.
-      ap (envelope_of keys table scheme row plain ad) (both_assoc made.drawn sealing.drawn last.drawn more)
-      ∙ envelope-drawn keys table scheme row plain ad made.drawn (sealing.drawn ++ (last.drawn ++ more)) made.makes.whole
-      ∙ ap (under_data_key keys table (data_key_of row made.drawn) plain ad (sealing.drawn ++ (last.drawn ++ more))) made.makes.valid
-      ∙ ap (λ (v : List ℕ). option_and_then (behind_data_key plain ad key) (seal_answer keys table v [] (sealing.drawn ++ (last.drawn ++ more)))) (sym made.message)
-      ∙ ap (option_and_then (behind_data_key plain ad key)) (sealing.answer (last.drawn ++ more))
-      ∙ ap (option_map (λ (p : Sealed). record { answer = Ok (envelope sealed p.bytes); left = p.left })) (seal-drawn [] plain ad last.drawn more key last.whole)
-      ∙ ap (λ (b : List ℕ). Some (record { answer = Ok b; left = more })) (ap (envelope sealed) (sym last.made) ∙ sym joined);
-}
+enveloping keys table scheme row plain ad old one two new value sealed front bytes key made sealing before last =
+    let payload : List ℕ = seal_of key last.drawn plain ad in
+    let whole : bytes ≡ envelope sealed payload
+    = last.made ∙ ap (λ (f : List ℕ). f ++ payload) before ∙ append_assoc (to_be_bytes w32 (length sealed)) sealed payload in
+    record {
+      drawn = made.drawn ++ sealing.drawn ++ last.drawn;
+      drew = drew_more old two new (made.drawn ++ sealing.drawn) last.drawn (drew_more old one two made.drawn sealing.drawn made.drew sealing.drew) last.drew;
+      answer = λ more.
+          ap (envelope_of keys table scheme row plain ad) (both_assoc made.drawn sealing.drawn last.drawn more)
+          ∙ envelope-drawn keys table scheme row plain ad made.drawn (sealing.drawn ++ (last.drawn ++ more)) made.makes.whole
+          ∙ ap (under_data_key keys table (data_key_of row made.drawn) plain ad (sealing.drawn ++ (last.drawn ++ more))) made.makes.valid
+          ∙ ap (λ (v : List ℕ). option_and_then (behind_data_key plain ad key) (seal_answer keys table v [] (sealing.drawn ++ (last.drawn ++ more)))) (sym made.message)
+          ∙ ap (option_and_then (behind_data_key plain ad key)) (sealing.answer (last.drawn ++ more))
+          ∙ ap (option_map (λ (p : Sealed). record { answer = Ok (envelope sealed p.bytes); left = p.left })) (seal-drawn [] plain ad last.drawn more key last.whole)
+          ∙ ap (λ (b : List ℕ). Some (record { answer = Ok b; left = more })) (sym whole);
+    }
 
 -- ---- faults
 
@@ -196,11 +188,11 @@ fault_payload keys table scheme row plain ad old two new key faults.NoMemory beh
   stood = is.stood ∙ behind.stood;
 }
 
--- memory was wanting behind all fills
-pub fault_joining : (keys : Keys) (table : Table) (scheme : Scheme) (row : Row) (plain ad : List ℕ) (old two new : EntropyState) (payload : List ℕ) (key : KeyKind)
-    → IsBehind keys table scheme row old two key → IsKeySealing key [] plain ad two new payload → Stood two.faults new.faults → StoodAtFill keys table scheme row old new
-fault_joining keys table scheme row plain ad old two new payload key behind last stood =
-    fault_payload keys table scheme row plain ad old two new key faults.NoMemory behind (record { fill = last.drawn; part = inr last.whole; drew = last.drew; stood = stood })
+-- memory was wanting behind the sealing of the data key
+pub fault_room : (keys : Keys) (table : Table) (scheme : Scheme) (row : Row) (old two : EntropyState) (key : KeyKind)
+    → IsBehind keys table scheme row old two key → StoodAtFill keys table scheme row old two
+fault_room keys table scheme row old two key behind =
+    fault_payload keys table scheme row [] [] old two two key faults.NoMemory behind (record { fill = []; part = inl refl; drew = drew_nothing two; stood = refl })
 
 -- ---- the manager of a data key
 

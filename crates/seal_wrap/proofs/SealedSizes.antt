@@ -1,9 +1,7 @@
 -- How long what is sealed is.
 use Rattle.std.proofs.Common.{◌≡◌, ◌∙◌, refl, sym, ap, ℕ, ◌+◌, ◌≤◌, Bool, true, false, cond, ltb, List, ◌∷◌, ◌++◌, length, take, drop, Option, Some, None, Ok, Err, Result, arith}
-use Rattle.std.specs.Prelude.{not, if◌then◌else◌}
 use Rattle.std.specs.Int.{to_be_bytes, w32}
 use Rattle.std.specs.Option.{option_and_then, option_map}
-use Rattle.std.proofs.lemmas.Grind.{common_steps}
 use Rattle.std.proofs.lemmas.Bool.{ltb-false}
 use Rattle.std.proofs.lemmas.List.{length-append, length-take, length-take-le}
 use Rattle.std.proofs.lemmas.Option.{same_Some}
@@ -15,20 +13,18 @@ use Rattle.aead_kinds.specs.CtrHmac.{authenticated, ctr_hmac_seal, ctr_hmac_tag,
 use Rattle.aead_kinds.specs.Eax.{eax_seal, eax_tag, eax_text}
 use Rattle.aead_kinds.specs.EncryptThenTag.{sealed_by}
 use Rattle.gcm_siv.proofs.GcmSivLemmas.{length-gcm_siv_seal}
-use Rattle.key_msgs.specs.Keys.{IsValid, contents_of}
-use Rattle.key_msgs.specs.Rules.{hash_fits, is_either, is_within, iv_fits, key_fits}
+use Rattle.key_msgs.specs.Keys.{IsValid}
 use Rattle.key_msgs.specs.declared.key.KeyKind.{KeyKind}
 use Rattle.key_msgs.specs.declared.key.KeyKind.TheVariants as kinds
-use Rattle.key_msgs.specs.declared.key_type.KeyType.TheVariants as types
 use Rattle.key_msgs.specs.declared.primitive.Primitive.{Primitive}
 use Rattle.key_msgs.specs.declared.primitive.Primitive.TheVariants.{Aead, Daead}
 use Rattle.key_msgs.specs.declared.rule.Rule.{Rule}
-use Rattle.key_msgs.specs.declared.rule.Rule.TheVariants as broken
 use Rattle.keyset_model.specs.Keyset.{Keys, primary_of}
 use Rattle.keyset_model.specs.declared.record.Record.{Record}
 use Rattle.mac_prf.proofs.HmacLemmas.{length-hmac}
 use Rattle.mac_prf.specs.Hmac.{hmac}
 use Rattle.managers.proofs.ReadingLemmas.{read_of_type}
+use Rattle.managers.proofs.SizeLemmas.{iv-short}
 use Rattle.managers.specs.Schemes.{Scheme, key_under, type_under}
 use Rattle.managers.specs.Table.{Table, scheme_at}
 use Rattle.managers.specs.Uses.{dseal_of, iv_size, seal_of}
@@ -45,7 +41,7 @@ pub then_some : {A B : Type 0} (f : A → Option B) (o : Option A) (b : B) → o
 then_some f None b e = cc
 then_some f (Some a) b e = (a, refl, e)
 
--- ---- a record's key is valid, and so its IV is short
+-- ---- a record's key is valid
 
 read-valid : (scheme : Option Scheme) (value : List ℕ) (key : KeyKind) → read_key (option_map (λ s. key_under s value) scheme) ≡ Some key → IsValid key
 read-valid None value key e = cc
@@ -57,37 +53,6 @@ read-valid (Some scheme) value key e = by (key_under scheme value) refl e
 
 pub key-valid : (table : Table) (p : Primitive) (r : Record) (key : KeyKind) → key_of_record table p r ≡ Some key → IsValid key
 key-valid table p r key e = read-valid (scheme_at table p r.url) r.value key e
-
-past : (b : Bool) (rule : Rule) (rest : Option Rule) → (if not b then Some rule else rest) ≡ None → (b ≡ true) × (rest ≡ None)
-past true rule rest none = (refl, none)
-past false rule rest none = cc
-
-either-small : (n : ℕ) → is_either 12 16 n ≡ true → n ≤ 16
-either-small n is = grind (arith, common_steps)
-
-within-small : (n : ℕ) → is_within 12 16 n ≡ true → n ≤ 16
-within-small n is = grind (arith, common_steps)
-
-pub iv-short : (key : KeyKind) → IsValid key → iv_size key ≤ 16
-iv-short (kinds.AesGcm key) valid = omega arith
-iv-short (kinds.AesEax key size) valid =
-    let m = contents_of (kinds.AesEax key size) in
-    let from_key = (past (key_fits types.AesEax m) broken.KeySize _ valid).1 in
-    either-small size (past (iv_fits types.AesEax m) broken.IvSize _ from_key).0
-iv-short (kinds.AesCtrHmac aes size hash mac tag_size) valid =
-    let m = contents_of (kinds.AesCtrHmac aes size hash mac tag_size) in
-    let from_hash = (past (hash_fits types.AesCtrHmac m) broken.Hash _ valid).1 in
-    let from_key = (past (key_fits types.AesCtrHmac m) broken.KeySize _ from_hash).1 in
-    within-small size (past (iv_fits types.AesCtrHmac m) broken.IvSize _ from_key).0
-iv-short (kinds.AesSiv key) valid = omega arith
-iv-short (kinds.AesGcmSiv key) valid = omega arith
-iv-short (kinds.Hmac key hash tag_size) valid = omega arith
-iv-short (kinds.AesCmac key tag_size) valid = omega arith
-iv-short (kinds.HkdfPrf key hash salt) valid = omega arith
-iv-short (kinds.HmacPrf key hash) valid = omega arith
-iv-short (kinds.CmacPrf key) valid = omega arith
-iv-short (kinds.GcmStream key segment derived hash) valid = omega arith
-iv-short (kinds.CtrStream key segment derived hash mac_hash tag_size) valid = omega arith
 
 -- ---- a sealing is at most 64 bytes longer than IV and plaintext
 

@@ -28,6 +28,10 @@ data_key_of row random = value_of (made row random)
 
 -- ---- sealing
 
+-- the length of the sealed data key, and that
+abbrev pub before_payload : (sealed : List ℕ) → List ℕ
+before_payload sealed = to_be_bytes w32 (length sealed) ++ sealed
+
 -- the length of the sealed data key, that, and the payload
 abbrev pub envelope : (sealed payload : List ℕ) → List ℕ
 envelope sealed payload = to_be_bytes w32 (length sealed) ++ (sealed ++ payload)

@@ -5,15 +5,16 @@
 //! key, and the payload: IV, ciphertext and tag under the data key, without a prefix. The data key's
 //! message is sealed with empty associated data.
 
-ghost use Rattle.std.specs.Prelude.{◌≡◌, ◌^◌, ◌<◌, ◌≤◌, ℕ, [], length, IfOk, IfErr, OnOk, option_map};
+ghost use Rattle.std.specs.Prelude.{◌≡◌, ◌+◌, ◌^◌, ◌<◌, ◌≤◌, ◌++◌, ℕ, drop, length, take, IfOk, IfErr, OnOk, option_map};
 ghost use Rattle.key_msgs.specs.Templates.{Row, seen};
 ghost use Rattle.key_msgs.specs.declared.primitive.Primitive.TheVariants.{Aead};
 ghost use Rattle.keyset_model.specs.Keyset.{Keys};
 ghost use Rattle.managers.specs.Schemes.{IsAdmitted, key_under};
+ghost use Rattle.managers.specs.Uses.{iv_size};
 ghost use Rattle.tink_spec.specs.Outside.{EntropyState, Stood};
 ghost use Rattle.wrapped_prims.specs.Making.{IsOver};
 ghost use Rattle.wrapped_prims.specs.Sealing.{IsKeySealing};
-ghost use Rattle.seal_wrap.specs.Enveloped.{envelope, open_behind, open_envelope_of, open_payload};
+ghost use Rattle.seal_wrap.specs.Enveloped.{before_payload, open_behind, open_envelope_of, open_payload};
 ghost use Rattle.seal_wrap.specs.EnvelopeSteps.{IsPayloadFault, Makes};
 ghost use Rattle.seal_wrap.specs.Enveloping.{IsAead, IsEnvelopeFault, IsEnveloping, url_made};
 
@@ -35,43 +36,62 @@ pub enum EnvelopeFault {
     NoMemory,
 }
 
-/// The payload: the plaintext under the data key, with an IV that is drawn in one fill, unless it has no
-/// bytes.
+/// The bytes of the length of a sealed data key.
+const LENGTH: usize = 4;
+
+/// The bytes of the longest tag, which is a digest of SHA-512.
+const LONGEST_TAG: usize = 64;
+
+/// What stands before a payload, room of so many bytes for its IV, and the plaintext. There is capacity
+/// for any tag behind it.
+fn with_room(alloc: Global, sealed: &[u8], room: usize, plain: &[u8]) -> Result<Vec<u8>, NoMemory>
+    requires sealed_bound { length sealed.now < 2 ^ 32 }
+    requires room_bound { room ≤ 2 ^ 10 }
+    requires plain_bound { length plain.now ≤ 16777216 }
+    ensures size { IfOk result (λ bytes.
+        length bytes.items ≡ 4 + length sealed.now + room + length plain.now) }
+    ensures before { IfOk result (λ bytes.
+        take (4 + length sealed.now) bytes.items ≡ before_payload sealed.now) }
+    ensures plain { IfOk result (λ bytes.
+        drop (4 + length sealed.now + room) bytes.items ≡ plain.now) }
+{
+    let at = LENGTH + sealed.len() + room;
+    let mut bytes = Vec::with_capacity(alloc, at + plain.len() + LONGEST_TAG)?;
+    bytes.extend_from_slice(&(sealed.len() as u32).to_be_bytes())?;
+    bytes.extend_from_slice(sealed)?;
+    bytes.resize(at, 0)?;
+    bytes.extend_from_slice(plain)?;
+    Ok(bytes)
+}
+
+/// Makes the payload in place, behind the first `at` bytes and room for an IV: the plaintext that stands
+/// there under the data key, with an IV that is drawn in one fill, unless it has no bytes.
 fn seal_payload<E: Entropy>(
     alloc: Global,
     manager: &dyn AeadManager,
     key: &Prepared,
-    plain: &[u8],
+    at: usize,
+    bytes: Vec<u8>,
     ad: &[u8],
     entropy: &mut E,
 ) -> Result<Vec<u8>, EnvelopeFault>
     requires admitted { IsAdmitted
         ((⟦<dyn AeadManager as KeyManager>⟧ manager.now.0).scheme manager.now.1) key.now }
-    requires plain_bound { length plain.now ≤ 16777216 }
+    requires room { at + iv_size key.now ≤ length bytes.items }
+    requires plain_bound { length bytes.items ≤ at + iv_size key.now + 16777216 }
     requires ad_bound { length ad.now ≤ 16777216 }
-    ensures sealed { IfOk result (λ payload. IsKeySealing key.now [] plain.now ad.now
-        (E.state entropy.old) (E.state entropy.new) payload.items) }
+    ensures sealed { IfOk result (λ sealed. IsKeySealing key.now (take at bytes.items)
+        (drop (at + iv_size key.now) bytes.items) ad.now
+        (E.state entropy.old) (E.state entropy.new) sealed.items) }
     ensures no_fault { OnOk result (Stood (E.state entropy.old).faults (E.state entropy.new).faults) }
     ensures fault { IfErr result
         (IsPayloadFault key.now (E.state entropy.old) (E.state entropy.new)) }
 {
     let iv = draw(alloc, manager.iv_size(key), entropy)?;
-    match manager.seal(alloc, key, &[], &iv, plain, ad) {
-        Ok(payload) => Ok(payload),
+    match manager.seal(key, at, bytes, &iv, ad) {
+        Ok(sealed) => Ok(sealed),
         Err(_) => Err(EnvelopeFault::NoMemory),
     }
-}
-
-/// The parts of an envelope, joined.
-fn joined(alloc: Global, sealed: &[u8], payload: &[u8]) -> Result<Vec<u8>, NoMemory>
-    requires sealed_bound { length sealed.now < 2 ^ 32 }
-    ensures { IfOk result (λ bytes. bytes.items ≡ envelope sealed.now payload.now) }
-{
-    let mut bytes = Vec::new(alloc);
-    bytes.extend_from_slice(&(sealed.len() as u32).to_be_bytes())?;
-    bytes.extend_from_slice(sealed)?;
-    bytes.extend_from_slice(payload)?;
-    Ok(bytes)
 }
 
 /// Seals under a data key that was made, whose message is short. What was drawn before is told by the
@@ -117,11 +137,12 @@ fn seal_made<E: Entropy>(
         Err(SealFault::EntropyFault) => return Err(EnvelopeFault::EntropyFault),
         Err(SealFault::NoMemory) => return Err(EnvelopeFault::NoMemory),
     };
-    let payload = seal_payload(alloc, manager, &made.key, plain, ad, entropy)?;
-    match joined(alloc, &sealed, &payload) {
-        Ok(bytes) => Ok(bytes),
-        Err(_) => Err(EnvelopeFault::NoMemory),
-    }
+    let Ok(bytes) = with_room(alloc, &sealed, manager.iv_size(&made.key), plain) else {
+        return Err(EnvelopeFault::NoMemory);
+    };
+    let at = LENGTH + sealed.len();
+    let envelope = seal_payload(alloc, manager, &made.key, at, bytes, ad, entropy)?;
+    Ok(envelope)
 }
 
 /// Seals a plaintext in an envelope: under a fresh data key of the template, and that key under the

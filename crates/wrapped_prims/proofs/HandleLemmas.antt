@@ -7,14 +7,14 @@ use Rattle.std.proofs.lemmas.Option.{get_or_from_slice_get, same_Some, slice_get
 use Rattle.keyset_model.proofs.PrimaryLemmas.{well_formed-faultless}
 use Rattle.keyset_model.specs.Keyset.{Keys, is_enabled, primary_of}
 use Rattle.keyset_model.specs.declared.record.Record.{Record}
-use Rattle.std.specs.Option.{option_and_then}
+use Rattle.std.specs.Option.{option_and_then, option_flatten}
 use Rattle.wrapped_prims.specs.Answers.{primary_key}
 use Rattle.key_msgs.specs.declared.primitive.Primitive.{Primitive}
 use Rattle.managers.specs.Table.{Table, entries_of}
 use Rattle.wrapped_prims.proofs.OpenLemmas.{KeptAs, count-raw, count-under, kept_as, none_here, off, on}
 use Rattle.wrapped_prims.specs.Candidates.{candidates, each_with, enabled_with}
 use Rattle.wrapped_prims.specs.Fitness.{fault_of_record, key_of_record, unfit_from}
-use Rattle.wrapped_prims.specs.Held.{IsPrimary, IsServedBy, kept_of, kept_raw, kept_under, kept_with}
+use Rattle.wrapped_prims.specs.Held.{IsPrimary, IsServedBy, kept_in, kept_of, kept_raw, kept_under, kept_with}
 use Rattle.wrapped_prims.specs.Making.{IsOver}
 use Rattle.wrapped_prims.specs.declared.held.Held.{Held}
 use Rattle.wrapped_prims.specs.declared.held.Kept.{Kept}
@@ -88,6 +88,11 @@ pub primary_served : (table : Table) (p : Primitive) (keys : Keys) (held : Held)
 primary_served table p keys held slot kept over found some =
     let has = has_primary table p keys held over in
     over.served held.primary (Some kept) (has.there ∙ ap Some (sym (slot_is table p keys held has slot found) ∙ some))
+
+pub primary_kept : (table : Table) (p : Primitive) (keys : Keys) (held : Held) (slot : Option Kept) (kept : Kept) → IsOver table p keys held → slot ≡ slice_index_or held.slots.items held.primary slot → slot ≡ Some kept → kept_in held.slots.items held.primary ≡ Some kept
+primary_kept table p keys held slot kept over found some =
+    let has = has_primary table p keys held over in
+    ap option_flatten has.there ∙ sym (slot_is table p keys held has slot found) ∙ some
 
 pub key-primary : (table : Table) (p : Primitive) (keys : Keys) (kept : Kept) → IsPrimary table p keys kept → primary_key keys table p ≡ Some kept.key
 key-primary table p keys kept is = ap (option_and_then (key_of_record table p)) is.primary ∙ is.key

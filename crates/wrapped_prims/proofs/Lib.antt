@@ -4,5 +4,7 @@ pub mod IndexLemmas
 pub mod OpenLemmas
 pub mod PrefixLemmas
 pub mod HandleLemmas
+pub mod RoomLemmas
+pub mod SealLemmas
 pub mod SameKeyLemmas
 pub mod TrialLemmas

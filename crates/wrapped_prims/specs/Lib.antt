@@ -7,5 +7,6 @@ pub mod Held
 pub mod Laws
 pub mod Making
 pub mod Prefixes
+pub mod Rooms
 pub mod Sealing
 pub mod Trying

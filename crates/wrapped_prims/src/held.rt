@@ -127,6 +127,7 @@ pub(crate) fn prefix(from: &Record) -> Option<[u8; 5]>
 /// The bytes of a prefix, of which there are none where there is no prefix.
 pub(crate) fn front(prefix: &Option<[u8; 5]>) -> &[u8]
     ensures bytes { result.now ≡ prefix_bytes prefix.now }
+    ensures size { length result.now ≡ length (prefix_bytes prefix.now) }
     ensures bound { length result.now ≤ 5 }
 {
     match prefix {

@@ -8,6 +8,7 @@ pub mod laws;
 mod making;
 mod opening;
 mod places;
+mod rooms;
 mod sealing;
 mod trying;
 

@@ -1,5 +1,5 @@
 use Rattle.std.proofs.Common.{arith}
-use Rattle.wrapped_prims.proofs.HandleLemmas.{primary_is, primary_none, primary_served, primary_within}
+use Rattle.wrapped_prims.proofs.HandleLemmas.{primary_is, primary_kept, primary_none, primary_served, primary_within}
 use Rattle.wrapped_prims.proofs.making.primary.Goals as goal
 
 pub index-requires : goal.index-requires
@@ -15,3 +15,6 @@ returns-clause-primary g c = λ keys over. primary_is _ _ keys _ _ _ over c.inde
 
 pub returns-clause-served : goal.returns-clause-served
 returns-clause-served g c = primary_served _ _ _ _ _ _ c.requires.over.1 c.index.ensures c.in-Some.is
+
+pub returns-clause-kept : goal.returns-clause-kept
+returns-clause-kept g c = primary_kept _ _ _ _ _ _ c.requires.over.1 c.index.ensures c.in-Some.is

@@ -1,0 +1,60 @@
+-- What sealing takes of the random bytes.
+use Rattle.std.proofs.Common.{◌≡◌, ◌∙◌, inl, refl, sym, ap, ℕ, cond, le-ltb, Bool, false, List, ◌++◌, length, take, drop, Option, Some, None, arith}
+use Rattle.std.specs.Prelude.{nat_lt}
+use Rattle.std.specs.Option.{option_and_then}
+use Rattle.std.proofs.lemmas.List.{drop_at, length-append, take_at}
+use Rattle.key_msgs.specs.declared.key.KeyKind.{KeyKind}
+use Rattle.key_msgs.specs.declared.primitive.Primitive.TheVariants.{Aead}
+use Rattle.keyset_model.specs.Keyset.{Keys}
+use Rattle.managers.specs.Table.{Table}
+use Rattle.managers.specs.Uses.{iv_size, seal_of}
+use Rattle.tink_spec.proofs.Moves.{drew_nothing}
+use Rattle.tink_spec.specs.Outside.{EntropyState}
+use Rattle.wrapped_prims.specs.Answers.{Sealed, seal_behind, seal_under}
+use Rattle.wrapped_prims.specs.Candidates.{prefix_bytes, prefix_of}
+use Rattle.wrapped_prims.specs.Held.{IsPrimary}
+use Rattle.wrapped_prims.specs.Making.{IsOver}
+use Rattle.wrapped_prims.specs.Sealing.{IsKeySealing, IsSealFault, IsSealing}
+use Rattle.wrapped_prims.specs.declared.held.Held.{Held}
+use Rattle.wrapped_prims.specs.declared.held.Kept.{Kept}
+use Rattle.wrapped_prims.specs.declared.sealing.SealFault.TheVariants as faults
+use Rattle.wrapped_prims.proofs.HandleLemmas.{has_primary, key-primary}
+
+pub enough : (n : ℕ) (xs ys : List ℕ) → length xs ≡ n → nat_lt (length (xs ++ ys)) n ≡ false
+enough n xs ys whole = le-ltb (length (xs ++ ys)) n (omega (arith, length-append xs ys, whole))
+
+-- the first ones are the IV
+pub seal-drawn : (prefix plain ad iv rest : List ℕ) (key : KeyKind) → length iv ≡ iv_size key
+    → seal_behind prefix plain ad (iv ++ rest) key ≡ Some (record { bytes = prefix ++ seal_of key iv plain ad; left = rest })
+seal-drawn prefix plain ad iv rest key whole =
+    let n = iv_size key in
+    let by : List ℕ → List ℕ → Bool → Option Sealed
+    = λ front behind few. cond few None (Some (record { bytes = prefix ++ seal_of key front plain ad; left = behind })) in
+    ap (by (take n (iv ++ rest)) (drop n (iv ++ rest))) (enough n iv rest whole)
+    ∙ ap (λ front. by front (drop n (iv ++ rest)) false) (take_at iv rest n whole)
+    ∙ ap (λ behind. by iv behind false) (drop_at iv rest n whole)
+
+-- the sealing under the primary record's key is the keyset's
+pub primary_sealing : (table : Table) (keys : Keys) (kept : Kept) (plain ad : List ℕ) (old new : EntropyState) (sealed : List ℕ)
+    → IsPrimary table Aead keys kept → IsKeySealing kept.key (prefix_bytes kept.prefix) plain ad old new sealed → IsSealing keys table plain ad old new sealed
+primary_sealing table keys kept plain ad old new sealed primary is = record {
+  drawn = is.drawn;
+  drew = is.drew;
+  answer = λ more.
+      let random : List ℕ = is.drawn ++ more in
+      ap (option_and_then (seal_under table plain ad random)) primary.primary
+      ∙ ap (option_and_then (seal_behind (prefix_bytes (prefix_of primary.under')) plain ad random)) primary.key
+      ∙ ap (λ (p : Option (List ℕ)). seal_behind (prefix_bytes p) plain ad random kept.key) (sym primary.prefix)
+      ∙ seal-drawn (prefix_bytes kept.prefix) plain ad is.drawn more kept.key is.whole
+      ∙ ap (λ (b : List ℕ). Some (record { bytes = b; left = more })) (sym is.made);
+}
+
+-- memory was wanting before the entropy was asked
+pub unsealed : (table : Table) (keys : Keys) (held : Held) (state : EntropyState) → IsOver table Aead keys held → IsSealFault keys table state state faults.NoMemory
+unsealed table keys held state over =
+    let there = has_primary table Aead keys held over in
+    record {
+      key = there.kept.key;
+      primary = key-primary table Aead keys there.kept there.primary;
+      entropy = (refl, inl (drew_nothing state));
+    }
