@@ -10,7 +10,7 @@ use Rattle.segment_stream.specs.declared.fault.OpenPumpFault.{OpenPumpFault}
 use Rattle.segment_stream.specs.declared.fault.OpenPumpFault.TheVariants as faults
 use Rattle.keyset_model.specs.Keyset.{Keys}
 use Rattle.tinkey_session.specs.Talking.{Exchange, goes, Limit, long_line, many_lines}
-use Rattle.tinkey_session.specs.Talks.{Sides, Talks, HasTalked, NoneRose, IsSteady, limit_fault}
+use Rattle.tinkey_session.specs.Talks.{Sides, Talks, HasTalked, NoneRose, limit_fault}
 use Rattle.tinkey_session.specs.Talks as talks
 use Rattle.tinkey_session.specs.declared.talk.TalkFault.{TalkFault}
 use Rattle.tinkey_session.specs.declared.talk.TalkFault.TheVariants as talk_faults

@@ -1,5 +1,5 @@
 -- How much was read of files, of every end of every plan; and so for srange.
-use Rattle.std.proofs.Common.{arith, ◌≡◌, ◌⊎◌, inl, inr, ◌∙◌, refl, sym, ap, subst, ℕ, ◌+◌, ◌≤◌, List, length, Option}
+use Rattle.std.proofs.Common.{arith, ◌≡◌, inl, inr, refl, sym, ap, subst, ℕ, ◌+◌, length, Option}
 use Rattle.tink_spec.specs.Files.{Files, StoreState}
 use Rattle.tinkey_plans.specs.declared.status.Status.{Status}
 use Rattle.tinkey_plans.specs.Plan.{Plan, ends, writes, creates, looks, allocates, loads, reads_all, ranges, draws, pumps, exchanges}

@@ -30,7 +30,7 @@ use Rattle.tinkey_selftest.specs.Trial as trial
 use Rattle.tinkey_selftest.specs.declared.counts.Counts.{Counts}
 use Rattle.tinkey_plans.specs.SelfTesting.{tells_counts}
 use Rattle.tinkey_plans.specs.Session.{finds_free, saves_as}
-use Rattle.tinkey_plans.specs.Streaming.{keys_for, opens_stream, seals_stream, with_keys}
+use Rattle.tinkey_plans.specs.Streaming.{keys_for, seals_stream, with_keys}
 use Rattle.tinkey_plans.specs.Streaming as streaming
 use Rattle.tinkey_plans.specs.Stretch.{Opened, Stretch, stretch_in}
 use Rattle.tinkey_session.proofs.Options.{clash}

@@ -8,7 +8,7 @@ use Rattle.tink_spec.specs.Files.{Files, StoreState, KeptFiles, Holds, HoldsSome
 use Rattle.std.specs.FinMap as map
 use Rattle.tink_spec.proofs.Moves.{gave_same, gave_more, took_same, took_more, drew_nothing, drew_more}
 use Rattle.segment_stream.specs.Opening.{StreamRefusal}
-use Rattle.segment_stream.specs.Pumping.{Part, Pumps, fault_of}
+use Rattle.segment_stream.specs.Pumping.{Part, Pumps}
 use Rattle.segment_stream.specs.Pumping as pass
 use Rattle.segment_stream.specs.declared.fault.OpenPumpFault.{OpenPumpFault}
 use Rattle.segment_stream.specs.declared.fault.OpenPumpFault.TheVariants as faults
@@ -16,7 +16,7 @@ use Rattle.tinkey_cmds.specs.Draws.{Draw, Drawn}
 use Rattle.tinkey_cmds.specs.declared.command.CmdFault.{CmdFault}
 use Rattle.keyset_model.specs.Keyset.{Keys}
 use Rattle.tinkey_session.specs.Talking.{Exchange, Talk, Stop, goes, wants, passes, Limit}
-use Rattle.tinkey_session.specs.Talks.{Sides, Talks, HasTalked, NoneRose, IsSteady, limit_fault}
+use Rattle.tinkey_session.specs.Talks.{Talks, HasTalked, IsSteady}
 use Rattle.tinkey_session.specs.Talks as talks
 use Rattle.tinkey_session.specs.declared.talk.TalkFault.{TalkFault}
 use Rattle.tinkey_session.specs.declared.talk.TalkFault.TheVariants as talk_faults

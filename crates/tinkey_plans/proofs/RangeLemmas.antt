@@ -1,29 +1,28 @@
 -- How much a run of srange reads.
-use Rattle.std.proofs.Common.{arith, ◌≡◌, ◌≢◌, ◌⊎◌, inl, inr, ◌∙◌, refl, sym, ap, subst, ℕ, ◌+◌, ◌*◌, ◌≤◌, List, length, true, Option, Some, None, Result, Ok, Err}
+use Rattle.std.proofs.Common.{arith, ◌≡◌, ◌≢◌, ◌⊎◌, inl, inr, refl, sym, ap, subst, ℕ, ◌*◌, ◌≤◌, List, Option, Some, None, Result, Ok, Err}
 use Rattle.keyset_json.specs.Reading as Json
 use Rattle.keyset_json.specs.Reading.{reads_json}
 use Rattle.keyset_model.specs.Keyset.{Keys}
 use Rattle.keyset_model.specs.Reading.{Refusal, Wire, Fault, reads_binary}
-use Rattle.managers.specs.Table.{Table}
 use Rattle.segment_stream.specs.KeysModel.{KeysForStreams}
 use Rattle.segment_stream.specs.Range.{stream_failed, past_end}
-use Rattle.segment_stream.specs.StreamKeys.{StreamUnfit, not_stream, bad_key, stream_unfit, largest_of}
-use Rattle.tink_spec.specs.Files.{Files, Holds, KeptFiles, StoreState}
+use Rattle.segment_stream.specs.StreamKeys.{StreamUnfit, not_stream, bad_key, stream_unfit}
+use Rattle.tink_spec.specs.Files.{Files, StoreState}
 use Rattle.tinkey_plans.specs.declared.status.Status.{Status}
 use Rattle.tinkey_plans.specs.declared.status.Status.TheVariants as status
 use Rattle.tinkey_words.specs.declared.words.rows.Format.{Format}
 use Rattle.tinkey_words.specs.declared.words.rows.Format.TheVariants as formats
 use Rattle.tinkey_plans.specs.Commands.{asked_plan}
 use Rattle.tinkey_plans.specs.Ends.{World, Ends, EndsRanging, GaveWithin, loaded, load_absent, load_long, load_failed, load_starved, ranged, range_absent, range_failed, range_starved, wrote, write_failed, made, name_taken, create_failed, create_starved}
-use Rattle.tinkey_plans.specs.Laws.{IsKeysetIn, KeysLieIn, RangeGave, RangesReadLittle}
+use Rattle.tinkey_plans.specs.Laws.{IsKeysetIn, RangeGave, RangesReadLittle}
 use Rattle.tinkey_plans.specs.Plan.{Plan, allocates}
 use Rattle.tinkey_plans.specs.Ranging.{opens_stretch, range_output, stretch_for, with_stretch}
 use Rattle.tinkey_plans.specs.Steps.{keyset_in, keyset_limit, puts, with_json, with_keyset}
 use Rattle.tinkey_plans.specs.Streaming.{keys_for, unless_unfit, with_keys}
-use Rattle.tinkey_plans.specs.Stretch.{Opened, Stretch, GivesAtMost, IsShortPast}
+use Rattle.tinkey_plans.specs.Stretch.{Opened, Stretch, GivesAtMost}
 use Rattle.tinkey_plans.proofs.GivenLemmas.{none_given}
 use Rattle.tinkey_words.specs.declared.words.misuse.Misuse.{Misuse}
-use Rattle.tinkey_words.specs.Words.{Asked, AskedRange, open_range, words_of}
+use Rattle.tinkey_words.specs.Words.{Asked, AskedRange}
 
 -- ---- the output
 

@@ -1,5 +1,5 @@
 -- Two texts, one behind the other.
-use Rattle.std.proofs.Common.{arith, ◌≡◌, ◌⊎◌, inl, inr, ◌∙◌, ap, refl, sym, ℕ, ◌<◌, ◌≤◌, List, ◌++◌, length, length-append, append_assoc}
+use Rattle.std.proofs.Common.{arith, inl, inr, ◌∙◌, ap, sym, ℕ, ◌≤◌, List, ◌++◌, length-append, append_assoc}
 use Rattle.tink_spec.specs.Outside.{Rose, SinkState, Took, TookPrefix}
 use Rattle.tink_spec.proofs.Moves.{took_more}
 use Rattle.tinkey_plans.specs.Status.{Wrote, wrote, write_failed}

@@ -12,7 +12,7 @@ use Rattle.tinkey_plans.specs.declared.status.Status.{Status}
 use Rattle.tinkey_plans.specs.declared.status.Status.TheVariants as status
 use Rattle.tinkey_plans.specs.Plan.{Plan, ends, writes, creates, looks, allocates, loads, reads_all, ranges, draws, pumps, exchanges, Of, IsMadeInParts, Told, Answer, answer, stream_status, limit_status, IsStated}
 use Rattle.tinkey_plans.specs.Ends.{World, Ends, GaveWithin, Settles}
-use Rattle.tinkey_plans.specs.Stretch.{Opened, Stretch, GivesAtMost, HoldsStretch, IsShortPast}
+use Rattle.tinkey_plans.specs.Stretch.{Opened, GivesAtMost, HoldsStretch, IsShortPast}
 
 -- the objects tell these bytes
 pub record Tells (w : World) (told : Told) : Type 0 where

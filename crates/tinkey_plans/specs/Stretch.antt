@@ -1,5 +1,5 @@
 -- A stretch of a stream in a file: what is asked of it, what it is, and how many bytes are read for it.
-use Rattle.std.specs.Prelude.{◌≡◌, ℕ, ◌+◌, ◌*◌, ◌≤◌, List, Option, Some, IfSome, Result, Ok, Err, true}
+use Rattle.std.specs.Prelude.{◌≡◌, ℕ, ◌+◌, ◌*◌, ◌≤◌, List, Option, Some, IfSome, Result, Err, true}
 use Rattle.std.specs.FinMap as map
 use Rattle.segment_stream.specs.Cipher.{SegmentCipher}
 use Rattle.segment_stream.specs.Opening.{choose}
