@@ -13,13 +13,21 @@ zeros_on a k n bytes over within size zeros before =
     ∙ ap (λ l. replicate a 0 ++ l) zeros
     ∙ replicate-append-replicate a n 0
 
--- what was held is what was handed out, and then what is held
-pub handed_out : (a k n to : ℕ) (bytes over given rest : List ℕ) → a ≤ length bytes → k ≡ n → length over ≡ n → a + n ≤ to → length given ≡ n → given ≡ take n (drop a bytes) → slice_range bytes a to ≡ take n (given ++ rest) ++ slice_range (put_mid a k bytes over) (a + n) to
-handed_out a k n to bytes over given rest within room size fits long is =
+-- what was held is what was handed out, and then what is held; behind that the array is as it was
+handed_on : (a n to : ℕ) (bytes after given rest : List ℕ) → a + n ≤ to → length given ≡ n → given ≡ take n (drop a bytes) → drop (a + n) after ≡ drop n (drop a bytes) → slice_range bytes a to ≡ take n (given ++ rest) ++ slice_range after (a + n) to
+handed_on a n to bytes after given rest fits long is behind =
     let whole : n + (to - (a + n)) ≡ to - a = omega (arith, fits) in
-    let behind : drop (a + n) (put_mid a k bytes over) ≡ drop n (drop a bytes) = drop-put_mid a k bytes over (a + n) (omega (arith, room)) within (omega (arith, room, size)) ∙ sym (drop-drop n a bytes) in
     let front : take n (given ++ rest) ≡ take n (drop a bytes) = take_at given rest n long ∙ is in
     ap (λ m. take m (drop a bytes)) (sym whole)
     ∙ take-add n (to - (a + n)) (drop a bytes)
     ∙ ap (λ l. take n (drop a bytes) ++ take (to - (a + n)) l) (sym behind)
-    ∙ ap (λ l. l ++ slice_range (put_mid a k bytes over) (a + n) to) (sym front)
+    ∙ ap (λ l. l ++ slice_range after (a + n) to) (sym front)
+
+-- where the array stays
+pub copied_out : (a n to : ℕ) (bytes given rest : List ℕ) → a + n ≤ to → length given ≡ n → given ≡ take n (drop a bytes) → slice_range bytes a to ≡ take n (given ++ rest) ++ slice_range bytes (a + n) to
+copied_out a n to bytes given rest fits long is = handed_on a n to bytes bytes given rest fits long is (sym (drop-drop n a bytes))
+
+-- where what was handed out is written over
+pub handed_out : (a k n to : ℕ) (bytes over given rest : List ℕ) → a ≤ length bytes → k ≡ n → length over ≡ n → a + n ≤ to → length given ≡ n → given ≡ take n (drop a bytes) → slice_range bytes a to ≡ take n (given ++ rest) ++ slice_range (put_mid a k bytes over) (a + n) to
+handed_out a k n to bytes over given rest within room size fits long is =
+    handed_on a n to bytes (put_mid a k bytes over) given rest fits long is (drop-put_mid a k bytes over (a + n) (omega (arith, room)) within (omega (arith, room, size)) ∙ sym (drop-drop n a bytes))

@@ -1,6 +1,7 @@
 -- What real streams, files and random bytes tell: how often they have failed, whether a stream has
 -- ended, and no bytes.
-use Rattle.std.specs.Prelude.{ℕ, None, false}
+use Rattle.std.specs.Prelude.{ℕ, List, Option, None, false}
+use Rattle.std.specs.Io.KnownBytes.{prepend_known}
 use Rattle.tink_spec.specs.Outside.{SourceState, SinkState, EntropyState}
 use Rattle.tink_spec.specs.Files.{StoreState}
 use Rattle.real_objects.specs.declared.streams.StdSource.{StdSource}
@@ -13,6 +14,14 @@ told_source source = record { left = None; faults = source.faults; ended = sourc
 -- the stream beneath it
 abbrev pub stream_read : {R : Type 0} → StdSource R → R
 stream_read source = source.input
+
+-- the bytes that were read of it ahead of what was handed out
+abbrev pub read_ahead : {R : Type 0} → StdSource R → List ℕ
+read_ahead source = source.unread
+
+-- the bytes that are still to come: those that were read ahead, and then what the stream has left
+abbrev pub source_left : {R : Type 0} → (R → Option (List ℕ)) → StdSource R → Option (List ℕ)
+source_left remaining source = prepend_known (read_ahead source) (remaining (stream_read source))
 
 -- a stream that is written
 abbrev pub told_sink : {W : Type 0} → StdSink W → SinkState

@@ -12,6 +12,7 @@ mod folder;
 mod naming;
 mod placed;
 mod streams;
+mod unread;
 
 pub use args::{Arguments, NoWords, words};
 pub use entropy::{FileEntropy, Opens, RandomDevice};

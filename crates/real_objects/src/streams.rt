@@ -1,22 +1,26 @@
 //! Real streams, standard ones and files, as sources and sinks. They tell no bytes of their own; their
 //! clauses speak of the bytes of the stream beneath, where it knows them. Each counts its errors.
 
-ghost use Rattle.std.specs.Prelude.{◌≡◌, ◌≢◌, ◌<◌, ◌≤◌, true, false, None, [], length, take, drop, IfOk, IfErr, OnOk, OnErr};
+ghost use Rattle.std.specs.Prelude.{◌≡◌, ◌≢◌, ◌<◌, ◌≤◌, true, false, None, [], length, take, drop, IsOk, IfOk, IfErr, OnOk, OnErr};
 ghost use Rattle.std.specs.Io.KnownBytes.{Appends, Consumes, Keeps, IsAtEnd as IsNoneLeft};
 ghost use Rattle.std.specs.IoError.{error_kind};
 ghost use Rattle.tink_spec.specs.Outside.{Rose, RoseOnce, Stood, Took, Gave, IsAtEnd, late_after};
-ghost use Rattle.real_objects.specs.Streams.{told_source, told_sink, stream_read, stream_written};
+ghost use Rattle.real_objects.specs.Streams.{told_source, told_sink, stream_read, read_ahead, source_left, stream_written};
 
+use crate::unread::Unread;
 use std::io::{self, ErrorKind, Read, Write};
 use tink_base::{Failed, Sink, Source};
 
-/// How many bytes are read at a time at the most.
-const PIECE: usize = 1 << 12;
-
 /// A stream that is read, as standard input.
+///
+/// It is read ahead of what is asked: up to 32,768 bytes may be taken of the stream that were not handed out
+/// yet. They are gone with this value, so what follows on the same standard input, once the program has
+/// ended, may lack them. A read is answered at once with what is held, and else with what one read of the
+/// stream gives; so a terminal or a pipe isn't waited for while bytes are there.
 #[derive(Drop)]
 pub struct StdSource<R> {
     input: R,
+    unread: Unread,
     faults: u64,
     // whether an end was answered, and how many reads came after that
     ended: bool,
@@ -27,11 +31,13 @@ impl<R: Read> StdSource<R> {
     /// A stream before its first read.
     pub fn new(from: R) -> StdSource<R>
         ensures beneath { stream_read result ≡ from }
+        ensures not_ahead { read_ahead result ≡ [] }
         ensures new { (told_source result).faults ≡ 0 }
         ensures not_ended { (told_source result).ended ≡ false }
     {
         StdSource {
             input: from,
+            unread: Unread::new(),
             faults: 0,
             ended: false,
             late: 0,
@@ -64,24 +70,27 @@ impl<R: Read> Source for StdSource<R> {
             (RoseOnce (told_source self.old).faults (told_source self.new).faults) }
         ensures kept { OnErr result (Gave (told_source self.old) (told_source self.new) []) }
 
-        // What goes out of the stream beneath.
+        // What goes out of the bytes that were read ahead, and then of the stream beneath.
         ensures read { IfOk result (λ n.
-            Consumes (R.remaining (stream_read self.old)) (R.remaining (stream_read self.new))
+            Consumes (source_left R.remaining self.old) (source_left R.remaining self.new)
             (take n out.new)) }
         ensures none_left { IfOk result (λ n. n ≡ 0 → 0 < length out.old →
-            IsNoneLeft (R.remaining (stream_read self.new))) }
+            IsNoneLeft (source_left R.remaining self.new)) }
         ensures unread { OnErr result
-            (Keeps (R.remaining (stream_read self.old)) (R.remaining (stream_read self.new))) }
+            (Keeps (source_left R.remaining self.old) (source_left R.remaining self.new)) }
+
+        // What was read ahead is given, and the stream isn't asked before it is used up.
+        ensures enough { 0 < length (read_ahead self.old) → IsOk result }
+        ensures unasked { 0 < length (read_ahead self.old) →
+            stream_read self.new ≡ stream_read self.old }
+        ensures ahead_bound { length (read_ahead self.new) ≤ 32768 }
     {
         if self.ended {
             self.late = self.late.saturating_add(1);
         }
-        let mut piece = [0u8; PIECE];
-        let room = out.len().min(PIECE);
-        match read_through_signals(&mut self.input, &mut piece[..room]) {
+        match self.unread.read(&mut self.input, out) {
             Ok(n) => {
-                out[..n].copy_from_slice(&piece[..n]);
-                self.ended = self.ended || (n == 0 && room > 0);
+                self.ended = self.ended || (n == 0 && !out.is_empty());
                 Ok(n)
             }
             Err(_) => {

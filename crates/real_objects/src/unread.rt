@@ -1,0 +1,109 @@
+//! Bytes of a stream that are read ahead of what is asked, so that many small reads cost few reads of it.
+
+ghost use Rattle.std.specs.Prelude.{◌≡◌, ◌<◌, ◌≤◌, [], ◌++◌, length, take, drop, min, true, false, IsOk, IfOk, OnOk, OnErr};
+ghost use Rattle.std.specs.Io.KnownBytes.{Consumes, IsAtEnd, Keeps, prepend_known};
+
+use crate::streams::read_through_signals;
+use std::io::{self, Read};
+use std::marker::Model;
+
+/// How many bytes are read ahead at the most.
+const AHEAD: usize = 1 << 15;
+
+/// Bytes that were read and not handed out yet, in order; at most 32,768 of them.
+///
+/// Contracts see the list of them. What was handed out stays here until it is read over: it was a stream's,
+/// and nothing is promised of it (`ahead` has the random bytes, which are overwritten).
+#[derive(Drop)]
+pub(crate) struct Unread {
+    bytes: [u8; AHEAD],
+    from: usize,
+    to: usize,
+}
+
+impl Model for Unread {
+    ghost use Rattle.std.specs.Prelude.{◌≤◌, List, ℕ, slice_range};
+
+    ghost Value = { List ℕ };
+
+    ghost view = { λ unread. slice_range unread.bytes unread.from unread.to };
+
+    ghost invariant = { λ unread. (unread.from ≤ unread.to) × (unread.to ≤ 32768) };
+}
+
+impl Unread {
+    /// No bytes.
+    pub(crate) fn new() -> Unread
+        ensures { result ≡ [] }
+    {
+        Unread {
+            bytes: [0; AHEAD],
+            from: 0,
+            to: 0,
+        }
+    }
+
+    /// Whether there are none.
+    pub(crate) fn is_empty(&self) -> bool
+        ensures some { result ≡ false → 0 < length self.now }
+        ensures none { result ≡ true → self.now ≡ [] }
+    {
+        self.from == self.to
+    }
+
+    /// Reads ahead by one read of the stream, which is tried again where a signal interrupted it. There are
+    /// no bytes before it.
+    pub(crate) fn refill<R: Read>(&mut self, stream: &mut R) -> io::Result<()>
+        requires empty { self.old ≡ [] }
+        ensures read { OnOk result
+            (Consumes (R.remaining stream.old) (R.remaining stream.new) self.new) }
+        ensures end { OnOk result (self.new ≡ [] → IsAtEnd (R.remaining stream.new)) }
+        ensures unread { OnErr result (Keeps (R.remaining stream.old) (R.remaining stream.new)) }
+        ensures kept { OnErr result (self.new ≡ []) }
+    {
+        self.from = 0;
+        self.to = 0;
+        let n = read_through_signals(stream, &mut self.bytes)?;
+        self.to = n;
+        Ok(())
+    }
+
+    /// Copies bytes from the front into the front of `out`, as many as both have, and answers how many. They
+    /// are gone from here.
+    pub(crate) fn hand_out(&mut self, out: &mut [u8]) -> usize
+        ensures count { result ≡ min (length self.old) (length out.old) }
+        ensures given { self.old ≡ take result out.new ++ self.new }
+        ensures rest { drop result out.new ≡ drop result out.old }
+        ensures bound { length self.new ≤ 32768 }
+    {
+        let n = out.len().min(self.to - self.from);
+        let end = self.from + n;
+        out[..n].copy_from_slice(&self.bytes[self.from..end]);
+        self.from = end;
+        n
+    }
+
+    /// Moves the next bytes into the front of `out`, as many as both have: those that are here, and where
+    /// there are none, those that one read of the stream gives.
+    pub(crate) fn read<R: Read>(&mut self, stream: &mut R, out: &mut [u8]) -> io::Result<usize>
+        ensures bound { IfOk result (λ n. n ≤ length out.old) }
+        ensures read { IfOk result (λ n.
+            Consumes (prepend_known self.old (R.remaining stream.old))
+            (prepend_known self.new (R.remaining stream.new)) (take n out.new)) }
+        ensures rest { IfOk result (λ n. drop n out.new ≡ drop n out.old) }
+        ensures end { IfOk result (λ n. n ≡ 0 → 0 < length out.old →
+            IsAtEnd (prepend_known self.new (R.remaining stream.new))) }
+        ensures unread { OnErr result
+            (Keeps (prepend_known self.old (R.remaining stream.old))
+            (prepend_known self.new (R.remaining stream.new))) }
+        ensures enough { 0 < length self.old → IsOk result }
+        ensures unasked { 0 < length self.old → stream.new ≡ stream.old }
+        ensures ahead_bound { length self.new ≤ 32768 }
+    {
+        if !self.is_empty() || out.is_empty() {
+            return Ok(self.hand_out(out));
+        }
+        self.refill(stream)?;
+        Ok(self.hand_out(out))
+    }
+}
