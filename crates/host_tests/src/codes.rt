@@ -100,63 +100,86 @@ fn line_of(alloc: Global, words: &str) -> Result<Listed, Fail> {
     in_text(alloc, words)
 }
 
-/// Obeys a row, and compares the exit code, the output and the line.
-fn obey_row(alloc: Global, row: &str) -> Result<(), Fail> {
-    let line = line_of(alloc, cell(row, 1)?)?;
-    let input = cell(row, 2)?;
+/// The source of a row. A read of it fails where the input is `fails`.
+fn source_of(alloc: Global, input: &str) -> Result<MemSource, Fail> {
     let mut fails = Vec::new(alloc);
     if input == "fails" {
         fails.push(1)?;
     }
-    let mut source = MemSource::new(input_of(alloc, input)?, 4_096, fails);
-    let mut sink = MemSink::new(alloc, 256, 64, Vec::new(alloc))?;
-    let mut diag = MemSink::new(alloc, 256, 64, Vec::new(alloc))?;
-    let mut entropy = MemEntropy::new(Vec::new(alloc), Vec::new(alloc));
-    let code = if input == "no memory" {
-        let mut store = NoRoom { calls: 0 };
-        obey_listed(
-            &line,
-            alloc,
-            &mut source,
-            &mut sink,
-            &mut diag,
-            &mut entropy,
-            &mut store,
-        )
-    } else {
-        let mut store = MemStore::new(alloc, Vec::new(alloc));
-        store.put("k", &bytes_of(alloc, HMAC)?)?;
-        obey_listed(
-            &line,
-            alloc,
-            &mut source,
-            &mut sink,
-            &mut diag,
-            &mut entropy,
-            &mut store,
-        )
-    };
-    if code != ExitCode::from(cell(row, 3)?.parse::<u8>()?) {
-        return Err(unlike(row, "the exit code", cell(row, 3)?, "another"));
-    }
-    let output = if cell(row, 5)? == "listing" {
-        LISTING
-    } else {
-        ""
-    };
-    if sink.written() != output.as_bytes() {
-        return Err(unlike(row, "the output", output, "another"));
-    }
-    let told = str::from_utf8(diag.written())?;
-    if told.trim_end() != cell(row, 4)? || told.ends_with('\n') == told.is_empty() {
-        return Err(unlike(row, "the line", cell(row, 4)?, told));
+    Ok(MemSource::new(input_of(alloc, input)?, 4_096, fails))
+}
+
+/// A sink that takes up to 64 bytes at once.
+fn sink_of(alloc: Global) -> Result<MemSink, Fail> {
+    Ok(MemSink::new(alloc, 256, 64, Vec::new(alloc))?)
+}
+
+/// Holds an exit code to that of a row.
+fn has_code(row: &str, code: ExitCode) -> Result<(), Fail> {
+    let want = cell(row, 3)?;
+    if code != ExitCode::from(want.parse::<u8>()?) {
+        return Err(unlike(row, "the exit code", want, "another"));
     }
     Ok(())
 }
 
+/// Holds the output to that of a row.
+fn has_output(row: &str, written: &[u8]) -> Result<(), Fail> {
+    let want = if cell(row, 5)? == "listing" {
+        LISTING
+    } else {
+        ""
+    };
+    if written != want.as_bytes() {
+        return Err(unlike(row, "the output", want, "another"));
+    }
+    Ok(())
+}
+
+/// Holds what was told to the lines of a row, each ended by a newline.
+fn has_lines(row: &str, written: &[u8]) -> Result<(), Fail> {
+    let want = cell(row, 4)?;
+    let told = str::from_utf8(written)?;
+    if told.trim_end() != want || told.ends_with('\n') == told.is_empty() {
+        return Err(unlike(row, "the line", want, told));
+    }
+    Ok(())
+}
+
+/// Obeys a row over this store, and compares the exit code, the output and the line.
+fn obey_over<D: Store>(alloc: Global, row: &str, store: &mut D) -> Result<(), Fail> {
+    let line = line_of(alloc, cell(row, 1)?)?;
+    let mut source = source_of(alloc, cell(row, 2)?)?;
+    let mut sink = sink_of(alloc)?;
+    let mut diag = sink_of(alloc)?;
+    let mut entropy = MemEntropy::new(Vec::new(alloc), Vec::new(alloc));
+    let code = obey_listed(
+        &line,
+        alloc,
+        &mut source,
+        &mut sink,
+        &mut diag,
+        &mut entropy,
+        store,
+    );
+    has_code(row, code)?;
+    has_output(row, sink.written())?;
+    has_lines(row, diag.written())
+}
+
+/// Obeys a row. The file `k` is the keyset for HMAC.
+fn obey_row(alloc: Global, row: &str) -> Result<(), Fail> {
+    if cell(row, 2)? == "no memory" {
+        return obey_over(alloc, row, &mut NoRoom { calls: 0 });
+    }
+    let mut store = MemStore::new(alloc, Vec::new(alloc));
+    store.put("k", &bytes_of(alloc, HMAC)?)?;
+    obey_over(alloc, row, &mut store)
+}
+
 #[test]
 fn ends_with_the_exit_code_of_the_table(rt: HostRuntime) -> Result<(), Fail> {
-    for row in RUNS {
+    for row in &RUNS {
         obey_row(rt.alloc(), row)?;
     }
     Ok(())
@@ -168,28 +191,26 @@ fn obeys_the_words_of_the_process(rt: HostRuntime) {
     assert!(rt; program(&rt) == ExitCode::from(2));
 }
 
-// Over the real random bytes and files, as `program` has them.
+/// A row over the real random bytes and files, as `program` has them.
+const REAL: &str =
+    "no command | | | 2 | tinkey: usage: word 0\ntinkey: no such command: see tinkey help |";
+
 #[test]
 fn tells_the_exit_code_of_a_run(rt: HostRuntime) -> Result<(), Fail> {
     let mut words = Vec::new(rt.alloc());
     words.push(String::from_str(rt.alloc(), "no-command")?)?;
-    let mut source = MemSource::new(Vec::new(rt.alloc()), 1, Vec::new(rt.alloc()));
-    let mut sink = MemSink::new(rt.alloc(), 64, 64, Vec::new(rt.alloc()))?;
-    let mut diag = MemSink::new(rt.alloc(), 128, 64, Vec::new(rt.alloc()))?;
-    let mut entropy = FileEntropy::new(RandomDevice::new(&rt));
-    let mut store = DirStore::new(&rt);
+    let mut sink = sink_of(rt.alloc())?;
+    let mut diag = sink_of(rt.alloc())?;
     let code = obey(
         rt.alloc(),
         &words,
-        &mut source,
+        &mut source_of(rt.alloc(), "")?,
         &mut sink,
         &mut diag,
-        &mut entropy,
-        &mut store,
+        &mut FileEntropy::new(RandomDevice::new(&rt)),
+        &mut DirStore::new(&rt),
     );
-    assert!(rt; code == ExitCode::from(2));
-    assert_eq!(rt; sink.written(), b"".as_slice());
-    let told = "tinkey: usage: word 0\ntinkey: no such command: see tinkey help\n";
-    assert_eq!(rt; diag.written(), told.as_bytes());
-    Ok(())
+    has_code(REAL, code)?;
+    has_output(REAL, sink.written())?;
+    has_lines(REAL, diag.written())
 }

@@ -1,121 +1,38 @@
 //! Random bytes of the system's device, and of devices in memory that tell their bytes.
 
-ghost use Rattle.std.specs.Prelude.{Some};
-
-use real_objects::{FileEntropy, Opens, RandomDevice};
-use std::alloc::Global;
-use std::cell::Cell;
+use crate::ahead::{Calls, drawn, fails, refusing};
+use crate::metered::counts;
+use real_objects::{FileEntropy, RandomDevice};
 use std::fs;
-use std::io::{self, ErrorKind};
 use std::test::Fail;
 use test_words::{counting, same_bytes};
 use tink_base::Entropy;
 
-/// A device in memory, which counts how often it was opened. The first opens are refused, as many as
-/// that.
-#[derive(Drop)]
-struct Deck<'a> {
-    bytes: &'a [u8],
-    refused: u32,
-    opens: &'a Cell<u32>,
-}
-
-impl<'a> Opens for Deck<'a> {
-    type Device = &'a [u8];
-
-    ghost given = { λ s. Some s.bytes.now };
-
-    fn open(&self) -> io::Result<&'a [u8]> {
-        let before = self.opens.get();
-        self.opens.set(before.wrapping_add(1));
-        if before < self.refused {
-            return Err(io::Error::from(ErrorKind::NotFound));
-        }
-        Ok(self.bytes)
-    }
-}
-
-/// Draws so many bytes.
-fn drawn<O: Opens>(
-    alloc: Global,
-    entropy: &mut FileEntropy<O>,
-    size: usize,
-) -> Result<Vec<u8>, Fail> {
-    let mut out = vec![in alloc; 0u8; size]?;
-    if entropy.fill(&mut out).is_err() {
-        return Err(Fail::new(format_args!("a draw of {size} bytes fails")));
-    }
-    Ok(out)
-}
-
-/// Holds a draw into these bytes to a fault.
-fn fails<O: Opens>(entropy: &mut FileEntropy<O>, shows: &str, out: &mut [u8]) -> Result<(), Fail> {
-    if entropy.fill(out).is_ok() {
-        return Err(Fail::new(format_args!("{shows}: bytes were drawn")));
-    }
-    Ok(())
-}
-
-/// Holds a draw to these bytes.
-fn draws<O: Opens>(
-    alloc: Global,
-    entropy: &mut FileEntropy<O>,
-    shows: &str,
-    want: &[u8],
-) -> Result<(), Fail> {
-    let found = drawn(alloc, entropy, want.len())?;
-    same_bytes(alloc, shows, "the draw", want, &found)
-}
-
-/// Holds the number of opens.
-fn counts(opens: &Cell<u32>, want: u32) -> Result<(), Fail> {
-    let found = opens.get();
-    if found != want {
-        return Err(Fail::new(format_args!("{found} opens, and not {want}")));
-    }
-    Ok(())
-}
-
 // The sizes make up the 600 bytes of the device.
 const SIZES: [usize; 8] = [0, 1, 2, 3, 255, 256, 64, 19];
-
-/// Draws of all those sizes, one behind the other.
-fn all_drawn<O: Opens>(alloc: Global, entropy: &mut FileEntropy<O>) -> Result<Vec<u8>, Fail> {
-    let mut all = Vec::new(alloc);
-    for size in &SIZES {
-        all.extend_from_slice(&drawn(alloc, entropy, *size)?)?;
-    }
-    Ok(all)
-}
 
 #[test]
 fn fills_go_on_where_the_one_before_ended(rt: HostRuntime) -> Result<(), Fail> {
     let bytes = counting(rt.alloc(), 600)?;
-    let opens = Cell::new(0);
-    let mut entropy = FileEntropy::new(Deck {
-        bytes: &bytes,
-        refused: 0,
-        opens: &opens,
-    });
-    let all = all_drawn(rt.alloc(), &mut entropy)?;
+    let calls = Calls::new();
+    let mut entropy = refusing(&bytes, 0, &calls);
+    let all = drawn(rt.alloc(), &mut entropy, &SIZES)?;
     same_bytes(rt.alloc(), "all draws", "what they make up", &bytes, &all)?;
-    counts(&opens, 1)?;
-    fails(&mut entropy, "a byte behind the end", &mut [0u8; 1])
+    counts("opens", calls.opens.get(), 1)?;
+    fails(&mut entropy, "a byte behind the end", &mut [0; 1])
 }
 
 #[test]
 fn fails_at_an_end_in_mid_fill_and_at_a_refused_open(rt: HostRuntime) -> Result<(), Fail> {
-    let opens = Cell::new(0);
-    let mut entropy = FileEntropy::new(Deck {
-        bytes: b"bytes",
-        refused: 1,
-        opens: &opens,
-    });
-    fails(&mut entropy, "the open is refused", &mut [0u8; 3])?;
-    draws(rt.alloc(), &mut entropy, "three bytes", b"byt")?;
-    fails(&mut entropy, "two bytes are left", &mut [0u8; 3])?;
-    draws(rt.alloc(), &mut entropy, "no byte", b"")?;
-    counts(&opens, 2)
+    let calls = Calls::new();
+    let mut entropy = refusing(b"bytes", 1, &calls);
+    fails(&mut entropy, "the open is refused", &mut [0; 3])?;
+    let found = drawn(rt.alloc(), &mut entropy, &[3])?;
+    same_bytes(rt.alloc(), "three bytes", "the draw", b"byt", &found)?;
+    fails(&mut entropy, "two bytes are left", &mut [0; 3])?;
+    let found = drawn(rt.alloc(), &mut entropy, &[0])?;
+    same_bytes(rt.alloc(), "no byte", "the draw", b"", &found)?;
+    counts("opens", calls.opens.get(), 2)
 }
 
 // Of 64 draws each bit of each byte is 0 in one and 1 in another, but for one time in 2^53.
@@ -143,9 +60,10 @@ fn each_bit_of_a_draw_changes(rt: HostRuntime) {
 #[test]
 fn draws_other_bytes_each_time(rt: HostRuntime) -> Result<(), Fail> {
     let mut entropy = FileEntropy::new(RandomDevice::new(&rt));
-    let first = drawn(rt.alloc(), &mut entropy, 32)?;
-    let second = drawn(rt.alloc(), &mut entropy, 32)?;
-    assert!(rt; first.as_slice() != second.as_slice());
+    let both = drawn(rt.alloc(), &mut entropy, &[32, 32])?;
+    if both.get(..32) == both.get(32..) {
+        return Err("two draws are alike".into());
+    }
     Ok(())
 }
 
@@ -159,13 +77,13 @@ fn assert_no_device(rt: &HostRuntime, path: &str) -> Result<(), Fail> {
 }
 
 // Linux' /dev/zero is 1:5 and /dev/null 1:3.
+const OTHERS: [&str; 5] = ["/dev/zero", "/dev/null", "plain-file", ".", "no-device"];
+
 #[test]
 fn refuses_what_is_no_device_of_random_bytes(rt: HostRuntime) -> Result<(), Fail> {
     fs::write(&rt, "plain-file", "0123456789abcdef")?;
-    assert_no_device(&rt, "/dev/zero")?;
-    assert_no_device(&rt, "/dev/null")?;
-    assert_no_device(&rt, "plain-file")?;
-    assert_no_device(&rt, ".")?;
-    assert_no_device(&rt, "no-device")?;
+    for path in &OTHERS {
+        assert_no_device(&rt, path)?;
+    }
     Ok(fs::remove_file(&rt, "plain-file")?)
 }

@@ -89,28 +89,73 @@ fn has_aside(rt: &HostRuntime, folder: &str, want: usize) -> Result<(), Fail> {
     Ok(())
 }
 
+/// A step over real files.
+enum Step {
+    /// A folder is made.
+    Folder(&'static str),
+    /// A file is written with this text.
+    Write(&'static str, &'static str),
+    /// A symbolic link leads to the first from the second.
+    Link(&'static str, &'static str),
+    /// A file is created with this text, which is answered so.
+    Create(&'static str, &'static str, &'static str),
+    /// A file that is to have the bytes `bytes` is loaded up to a limit, which is answered so.
+    Load(&'static str, usize, &'static str),
+    /// A file has this text.
+    Holds(&'static str, &'static str),
+    /// A file is its owner's alone.
+    Private(&'static str),
+    /// A file has three bytes and one name, and is its owner's alone.
+    New(&'static str),
+    /// Nothing has this name.
+    Absent(&'static str),
+    /// A folder has so many names aside.
+    Aside(&'static str, usize),
+}
+
+/// Takes a step.
+fn take(rt: &HostRuntime, store: &mut DirStore<'_>, step: &Step) -> Result<(), Fail> {
+    match step {
+        Step::Folder(name) => Ok(fs::create_dir(rt, *name)?),
+        Step::Write(name, text) => Ok(fs::write(rt, *name, *text)?),
+        Step::Link(to, name) => Ok(symlink(rt, *to, *name)?),
+        Step::Create(name, text, want) => creates(store, rt.alloc(), name, text.as_bytes(), want),
+        Step::Load(name, limit, want) => loads(store, rt.alloc(), name, *limit, b"bytes", want),
+        Step::Holds(name, text) => holds(rt, name, text),
+        Step::Private(name) => is_private(rt, name),
+        Step::New(name) => is_new(rt, name),
+        Step::Absent(name) => is_absent(rt, name),
+        Step::Aside(folder, want) => has_aside(rt, folder, *want),
+    }
+}
+
+/// Takes steps one after another.
+fn take_all(rt: &HostRuntime, store: &mut DirStore<'_>, steps: &[Step]) -> Result<(), Fail> {
+    for step in steps {
+        take(rt, store, step)?;
+    }
+    Ok(())
+}
+
 // A file of the bytes `bytes`, by its name and by others.
-const LOADS: [(&str, usize, &str); 6] = [
-    ("a-new-file", 5, "bytes"),
-    ("a-new-file", 4, "too long"),
-    ("no-file", 5, "absent"),
-    ("no-folder/file", 5, "absent"),
-    ("a-new-file/file", 5, "absent"),
-    (".", 5, "failed"),
+const KEEPS: [Step; 11] = [
+    Step::Create("a-new-file", "bytes", "made"),
+    Step::Private("a-new-file"),
+    Step::Create("a-new-file", "other", "exists"),
+    Step::Load("a-new-file", 5, "bytes"),
+    Step::Load("a-new-file", 4, "too long"),
+    Step::Load("no-file", 5, "absent"),
+    Step::Load("no-folder/file", 5, "absent"),
+    Step::Load("a-new-file/file", 5, "absent"),
+    Step::Load(".", 5, "failed"),
+    Step::Create("no-folder/file", "", "failed"),
+    Step::Create("a-new-file/file", "", "failed"),
 ];
 
 #[test]
 fn keeps_and_reads_real_files(rt: HostRuntime) -> Result<(), Fail> {
     let _ = fs::remove_file(&rt, "a-new-file");
-    let mut store = DirStore::new(&rt);
-    creates(&mut store, rt.alloc(), "a-new-file", b"bytes", "made")?;
-    is_private(&rt, "a-new-file")?;
-    creates(&mut store, rt.alloc(), "a-new-file", b"other", "exists")?;
-    for (name, limit, want) in &LOADS {
-        loads(&mut store, rt.alloc(), name, *limit, b"bytes", want)?;
-    }
-    creates(&mut store, rt.alloc(), "no-folder/file", b"", "failed")?;
-    creates(&mut store, rt.alloc(), "a-new-file/file", b"", "failed")?;
+    take_all(&rt, &mut DirStore::new(&rt), &KEEPS)?;
     Ok(fs::remove_file(&rt, "a-new-file")?)
 }
 
@@ -168,13 +213,22 @@ const PLACES: [&str; 15] = [
     "no name | | failed",
 ];
 
-/// Makes that folder.
-fn make_places(rt: &HostRuntime) -> Result<(), Fail> {
-    make_empty(rt, "places")?;
-    fs::create_dir(rt, "places/sub")?;
-    fs::write(rt, "places/file", "old")?;
-    Ok(symlink(rt, "nowhere", "places/link")?)
-}
+const BEFORE: [Step; 3] = [
+    Step::Folder("places/sub"),
+    Step::Write("places/file", "old"),
+    Step::Link("nowhere", "places/link"),
+];
+
+const AFTER: [Step; 8] = [
+    Step::New("places/k"),
+    Step::New("places/two"),
+    Step::New("places/dot"),
+    Step::Holds("places/file", "old"),
+    Step::Absent("places/nowhere"),
+    Step::Aside("places", 0),
+    Step::Aside("places/sub", 0),
+    Step::Aside(".", 0),
+];
 
 /// Creates the file of a row.
 fn assert_place(store: &mut DirStore<'_>, alloc: Global, row: &str) -> Result<(), Fail> {
@@ -194,19 +248,13 @@ fn is_new(rt: &HostRuntime, name: &str) -> Result<(), Fail> {
 
 #[test]
 fn makes_a_file_where_the_path_is_free(rt: HostRuntime) -> Result<(), Fail> {
-    make_places(&rt)?;
+    make_empty(&rt, "places")?;
     let mut store = DirStore::new(&rt);
+    take_all(&rt, &mut store, &BEFORE)?;
     for row in &PLACES {
         assert_place(&mut store, rt.alloc(), row)?;
     }
-    is_new(&rt, "places/k")?;
-    is_new(&rt, "places/two")?;
-    is_new(&rt, "places/dot")?;
-    holds(&rt, "places/file", "old")?;
-    is_absent(&rt, "places/nowhere")?;
-    has_aside(&rt, "places", 0)?;
-    has_aside(&rt, "places/sub", 0)?;
-    has_aside(&rt, ".", 0)?;
+    take_all(&rt, &mut store, &AFTER)?;
     Ok(fs::remove_dir_all(&rt, "places")?)
 }
 
@@ -237,41 +285,33 @@ fn makes_files_of_the_longest_names(rt: HostRuntime) -> Result<(), Fail> {
     Ok(fs::remove_dir_all(&rt, "long")?)
 }
 
-// New files, and what killed runs left beside each.
-const LEFT: [(&str, &str); 3] = [
-    ("left/a", "left/.tinkey-new-0"),
-    ("left/b", "left/.tinkey-new-1"),
-    ("left/c", "left/.tinkey-new-3"),
+// What killed runs left, and a link under the next name aside, are neither followed nor removed.
+const LEFT: [Step; 19] = [
+    Step::Write("left/.tinkey-new-0", "part"),
+    Step::Create("left/a", "new", "made"),
+    Step::Create("left/a", "new", "exists"),
+    Step::Holds("left/a", "new"),
+    Step::Write("left/.tinkey-new-1", "part"),
+    Step::Create("left/b", "new", "made"),
+    Step::Create("left/b", "new", "exists"),
+    Step::Holds("left/b", "new"),
+    Step::Write("left/.tinkey-new-3", "part"),
+    Step::Create("left/c", "new", "made"),
+    Step::Create("left/c", "new", "exists"),
+    Step::Holds("left/c", "new"),
+    Step::Link("nowhere", "left/.tinkey-new-2"),
+    Step::Create("left/d", "new", "made"),
+    Step::Holds("left/.tinkey-new-0", "part"),
+    Step::Holds("left/.tinkey-new-1", "part"),
+    Step::Holds("left/.tinkey-new-3", "part"),
+    Step::Absent("left/nowhere"),
+    Step::Aside("left", 4),
 ];
 
-/// Creates a file beside what was left.
-fn assert_beside(
-    rt: &HostRuntime,
-    store: &mut DirStore<'_>,
-    name: &str,
-    left: &str,
-) -> Result<(), Fail> {
-    fs::write(rt, left, "part")?;
-    creates(store, rt.alloc(), name, b"new", "made")?;
-    creates(store, rt.alloc(), name, b"new", "exists")?;
-    holds(rt, name, "new")
-}
-
-// What killed runs left, and a link under the next name aside, are neither followed nor removed.
 #[test]
 fn goes_on_beside_what_killed_runs_left(rt: HostRuntime) -> Result<(), Fail> {
     make_empty(&rt, "left")?;
-    let mut store = DirStore::new(&rt);
-    for (name, left) in &LEFT {
-        assert_beside(&rt, &mut store, name, left)?;
-    }
-    symlink(&rt, "nowhere", "left/.tinkey-new-2")?;
-    creates(&mut store, rt.alloc(), "left/d", b"new", "made")?;
-    for (_, left) in &LEFT {
-        holds(&rt, left, "part")?;
-    }
-    is_absent(&rt, "left/nowhere")?;
-    has_aside(&rt, "left", 4)?;
+    take_all(&rt, &mut DirStore::new(&rt), &LEFT)?;
     Ok(fs::remove_dir_all(&rt, "left")?)
 }
 

@@ -1,5 +1,5 @@
-//! Tests of the real objects and of what `main` does with them: files, random bytes, words, streams
-//! that a signal interrupts, and exit codes. There is no code here but tests, and a type of one.
+//! Tests of the real objects and of what `main` does with them: files, random bytes, words, streams,
+//! and exit codes. There is no code here but tests, and a type of one.
 #![tactic(auto)]
 
 #[cfg(test)]
@@ -13,6 +13,8 @@ mod entropy;
 mod files;
 #[cfg(test)]
 mod listed;
+#[cfg(test)]
+mod metered;
 #[cfg(test)]
 mod naming;
 #[cfg(test)]

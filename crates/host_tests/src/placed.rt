@@ -8,7 +8,28 @@ use std::fs;
 use std::io::{self, ErrorKind};
 use std::os::unix::fs::symlink;
 use std::test::Fail;
+use test_words::{same_bytes, same_text};
 use tink_base::{Failed, Store};
+
+/// What a look at a name answers, as a word.
+fn look_word(answer: Result<bool, Failed>) -> &'static str {
+    match answer {
+        Ok(true) => "taken",
+        Ok(false) => "free",
+        Err(Failed) => "failed",
+    }
+}
+
+const LOOKS: [(&str, &str); 8] = [
+    ("placed-file", "taken"),
+    (".", "taken"),
+    ("placed-link", "taken"),
+    ("placed-none", "free"),
+    ("placed-none/file", "failed"),
+    ("placed-file/file", "failed"),
+    ("placed-none/", "failed"),
+    ("", "failed"),
+];
 
 #[test]
 fn looks_names_up(rt: HostRuntime) -> Result<(), Fail> {
@@ -16,20 +37,32 @@ fn looks_names_up(rt: HostRuntime) -> Result<(), Fail> {
     fs::write(&rt, "placed-file", b"bytes")?;
     symlink(&rt, "placed-nowhere", "placed-link")?;
     let mut store = DirStore::new(&rt);
-    for (name, want) in [
-        ("placed-file", Ok(true)),
-        (".", Ok(true)),
-        ("placed-link", Ok(true)),
-        ("placed-none", Ok(false)),
-        ("placed-none/file", Err(Failed)),
-        ("placed-file/file", Err(Failed)),
-        ("placed-none/", Err(Failed)),
-        ("", Err(Failed)),
-    ] {
-        assert_eq!(rt; store.is_taken(name), want, "{name}");
+    for (name, want) in &LOOKS {
+        same_text(name, "a look", want, look_word(store.is_taken(name)))?;
     }
     Ok(())
 }
+
+/// What a length is, as a word, where the file is to have so many bytes.
+fn size_word(answer: Result<Option<u64>, Failed>, size: u64) -> &'static str {
+    match answer {
+        Ok(Some(found)) if found == size => "so many",
+        Ok(Some(_)) => "another length",
+        Ok(None) => "no file",
+        Err(Failed) => "failed",
+    }
+}
+
+const SIZES: [(&str, u64, &str); 8] = [
+    ("sized-file", 5, "so many"),
+    ("sized-empty", 0, "so many"),
+    ("sized-link", 5, "so many"),
+    ("sized-none", 0, "no file"),
+    ("sized-none/file", 0, "no file"),
+    ("sized-file/file", 0, "no file"),
+    (".", 0, "failed"),
+    ("/dev/null", 0, "failed"),
+];
 
 #[test]
 fn tells_lengths_of_files_alone(rt: HostRuntime) -> Result<(), Fail> {
@@ -38,40 +71,37 @@ fn tells_lengths_of_files_alone(rt: HostRuntime) -> Result<(), Fail> {
     fs::write(&rt, "sized-empty", b"")?;
     symlink(&rt, "sized-file", "sized-link")?;
     let mut store = DirStore::new(&rt);
-    for (name, want) in [
-        ("sized-file", Ok(Some(5))),
-        ("sized-empty", Ok(Some(0))),
-        ("sized-link", Ok(Some(5))),
-        ("sized-none", Ok(None)),
-        ("sized-none/file", Ok(None)),
-        ("sized-file/file", Ok(None)),
-        (".", Err(Failed)),
-        ("/dev/null", Err(Failed)),
-    ] {
-        assert_eq!(rt; store.size(name), want, "{name}");
+    for (name, size, want) in &SIZES {
+        same_text(name, "the length", want, size_word(store.size(name), *size))?;
     }
     Ok(())
+}
+
+const READS: [(&str, u64, &str); 7] = [
+    ("read-file", 0, "byte"),
+    ("read-file", 2, "tes"),
+    ("read-file", 4, "s"),
+    ("read-file", 5, "failed"),
+    ("read-file", u64::MAX, "failed"),
+    ("read-none", 0, "failed"),
+    (".", 0, "failed"),
+];
+
+/// Reads up to four bytes of a file at a place.
+fn assert_read_at(rt: &HostRuntime, name: &str, at: u64, want: &str) -> Result<(), Fail> {
+    let mut out = [0; 4];
+    let found = match DirStore::new(rt).read_at(name, at, &mut out) {
+        Ok(n) => &out[..n],
+        Err(Failed) => b"failed".as_slice(),
+    };
+    same_bytes(rt.alloc(), name, "what was read", want.as_bytes(), found)
 }
 
 #[test]
 fn reads_files_at_places(rt: HostRuntime) -> Result<(), Fail> {
     fs::write(&rt, "read-file", b"bytes")?;
-    let mut store = DirStore::new(&rt);
-    for (name, at, want) in [
-        ("read-file", 0, "byte"),
-        ("read-file", 2, "tes"),
-        ("read-file", 4, "s"),
-        ("read-file", 5, "failed"),
-        ("read-file", u64::MAX, "failed"),
-        ("read-none", 0, "failed"),
-        (".", 0, "failed"),
-    ] {
-        let mut out = [0; 4];
-        let found = match store.read_at(name, at, &mut out) {
-            Ok(n) => &out[..n],
-            Err(Failed) => b"failed".as_slice(),
-        };
-        assert_eq!(rt; found, want.as_bytes(), "{name} at {at}");
+    for (name, at, want) in &READS {
+        assert_read_at(&rt, name, *at, want)?;
     }
     Ok(())
 }
@@ -96,26 +126,32 @@ impl PlacedFile for Zeros {
     }
 }
 
+/// Holds what a read answers to a number of bytes, or to a fault.
+fn answers(found: Result<usize, Failed>, want: Option<usize>) -> Result<(), Fail> {
+    let found = found.ok();
+    if found != want {
+        return Err(Fail::new(format_args!("a read is {found:?}, and not {want:?}")));
+    }
+    Ok(())
+}
+
+// How often a read of four bytes is interrupted, how many it gives then, and what is told.
+const INTERRUPTS: [(u32, usize, Option<usize>); 4] = [
+    (0, 3, Some(3)),
+    (2, 3, Some(3)),
+    (1, 9, Some(4)),
+    (1, 0, None),
+];
+
 #[test]
-fn reads_again_behind_a_signal(rt: HostRuntime) -> Result<(), Fail> {
-    for (interrupts, gives, want) in [
-        (0, 3, Ok(3)),
-        (2, 3, Ok(3)),
-        (1, 9, Ok(4)),
-        (1, 0, Err(Failed)),
-    ] {
+fn reads_again_behind_a_signal() -> Result<(), Fail> {
+    for (interrupts, gives, want) in INTERRUPTS {
         let file = Zeros {
             interrupts: Cell::new(interrupts),
             gives,
         };
-        let mut out = [0; 4];
-        assert_eq!(rt;
-            read_opened(Ok(file), 7, &mut out),
-            want,
-            "{interrupts} and {gives}"
-        );
+        answers(read_opened(Ok(file), 7, &mut [0; 4]), want)?;
     }
     let unopened = Err::<Zeros, io::Error>(io::Error::from(ErrorKind::PermissionDenied));
-    assert_eq!(rt; read_opened(unopened, 0, &mut [0; 4]), Err(Failed));
-    Ok(())
+    answers(read_opened(unopened, 0, &mut [0; 4]), None)
 }

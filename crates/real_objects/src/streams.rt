@@ -14,9 +14,9 @@ use tink_base::{Failed, Sink, Source};
 /// A stream that is read, as standard input.
 ///
 /// It is read ahead of what is asked: up to 32,768 bytes may be taken of the stream that were not handed out
-/// yet. They are gone with this value, so what follows on the same standard input, once the program has ended,
-/// may lack them. A read is answered at once with what is held, and else with what one read of the stream
-/// gives; so a terminal or a pipe isn't waited for while bytes are there.
+/// yet. They are gone with this value, so what follows on the same standard input, once the program has
+/// ended, may lack them. A read is answered at once with what is held, and else with what one read of the
+/// stream gives; so a terminal or a pipe isn't waited for while bytes are there.
 #[derive(Drop)]
 pub struct StdSource<R> {
     input: R,

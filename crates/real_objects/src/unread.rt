@@ -12,8 +12,8 @@ const AHEAD: usize = 1 << 15;
 
 /// Bytes that were read and not handed out yet, in order; at most 32,768 of them.
 ///
-/// Contracts see the list of them. What was handed out stays here until it is read over: it was a stream's, and
-/// nothing is promised of it (`ahead` has the random bytes, which are overwritten).
+/// Contracts see the list of them. What was handed out stays here until it is read over: it was a stream's,
+/// and nothing is promised of it (`ahead` has the random bytes, which are overwritten).
 #[derive(Drop)]
 pub(crate) struct Unread {
     bytes: [u8; AHEAD],
@@ -51,8 +51,8 @@ impl Unread {
         self.from == self.to
     }
 
-    /// Reads ahead by one read of the stream, which is tried again where a signal interrupted it. There are no
-    /// bytes before it.
+    /// Reads ahead by one read of the stream, which is tried again where a signal interrupted it. There are
+    /// no bytes before it.
     pub(crate) fn refill<R: Read>(&mut self, stream: &mut R) -> io::Result<()>
         requires empty { self.old ≡ [] }
         ensures read { OnOk result
@@ -83,8 +83,8 @@ impl Unread {
         n
     }
 
-    /// Moves the next bytes into the front of `out`, as many as both have: those that are here, and where there
-    /// are none, those that one read of the stream gives.
+    /// Moves the next bytes into the front of `out`, as many as both have: those that are here, and where
+    /// there are none, those that one read of the stream gives.
     pub(crate) fn read<R: Read>(&mut self, stream: &mut R, out: &mut [u8]) -> io::Result<usize>
         ensures bound { IfOk result (λ n. n ≤ length out.old) }
         ensures read { IfOk result (λ n.

@@ -1,0 +1,57 @@
+//! Devices and streams in memory that tell their bytes and count their reads.
+
+ghost use Rattle.std.specs.Prelude.{Some};
+
+use std::alloc::Global;
+use std::cell::Cell;
+use std::io::{self, ErrorKind, Read};
+use std::test::Fail;
+use test_words::same_bytes;
+
+/// More bytes than the largest read of these tests.
+pub(crate) const WHOLE: usize = 1 << 20;
+
+/// A device or a stream in memory. A read gives at most `piece` bytes, and the one of the number `fails`,
+/// from 1, fails.
+#[derive(Drop)]
+pub(crate) struct Metered<'a> {
+    pub(crate) left: &'a [u8],
+    pub(crate) piece: usize,
+    pub(crate) fails: usize,
+    pub(crate) reads: &'a Cell<usize>,
+}
+
+impl Read for Metered<'_> {
+    ghost remaining = { λ s. Some s.left.now };
+
+    fn read(&mut self, out: &mut [u8]) -> io::Result<usize> {
+        let number = self.reads.get().wrapping_add(1);
+        self.reads.set(number);
+        if number == self.fails {
+            return Err(io::Error::from(ErrorKind::Other));
+        }
+        let room = out.len().min(self.piece.max(1));
+        self.left.read(&mut out[..room])
+    }
+}
+
+/// Holds bytes to those of a device or a stream from a place on.
+pub(crate) fn are_those_from(
+    alloc: Global,
+    shows: &str,
+    bytes: &[u8],
+    place: usize,
+    found: &[u8],
+) -> Result<(), Fail> {
+    let from = bytes.get(place..).unwrap_or_default();
+    let want = from.get(..found.len()).unwrap_or(from);
+    same_bytes(alloc, shows, "what was read", want, found)
+}
+
+/// Holds a number of calls.
+pub(crate) fn counts(shows: &str, found: usize, want: usize) -> Result<(), Fail> {
+    if found != want {
+        return Err(Fail::new(format_args!("{shows}: {found} calls, and not {want}")));
+    }
+    Ok(())
+}
