@@ -1,7 +1,7 @@
 //! Each manager in its box, found by its URL, against published and independent answers; and which
 //! tables are refused.
 
-ghost use Rattle.std.specs.Prelude.{◌≤◌, length};
+ghost use Rattle.std.specs.Prelude.{◌≡◌, ◌+◌, ◌≤◌, length, IfOk};
 
 use crate::boxes::{aead_under, daead_under, mac_under, prf_under};
 use crate::rows::{bytes_in, few, holds, holds_bytes, holds_text};
@@ -107,6 +107,19 @@ fn behind_front(alloc: Global, sealed: &[u8]) -> Result<Vec<u8>, Fail> {
     Ok(Vec::from_slice(alloc, rest)?)
 }
 
+// A plaintext behind a front and room of so many bytes, in which others stand.
+fn with_room(alloc: Global, front: &[u8], room: usize, plain: &[u8]) -> Result<Vec<u8>, Fail>
+    requires few_front { length front.now ≤ 1000 }
+    requires few_room { room ≤ 1000 }
+    ensures { IfOk result (λ bytes.
+        length bytes.items ≡ length front.now + room + length plain.now) }
+{
+    let mut bytes = Vec::from_slice(alloc, front)?;
+    bytes.resize(front.len() + room, 0xa5)?;
+    bytes.extend_from_slice(plain)?;
+    Ok(bytes)
+}
+
 fn aead_seals(
     alloc: Global,
     manager: &dyn AeadManager,
@@ -119,7 +132,8 @@ fn aead_seals(
         return Err("no key".into());
     };
     let iv = cells.made.get(..manager.iv_size(&key)).ok_or("an IV")?;
-    Ok(manager.seal(alloc, &key, front, iv, &cells.last, &cells.given)?)
+    let bytes = with_room(alloc, front, iv.len(), &cells.last)?;
+    Ok(manager.seal(&key, front.len(), bytes, iv, &cells.given)?)
 }
 
 fn aead_opens(
@@ -172,7 +186,8 @@ fn daead_seals(
     let Ok(key) = manager.check(alloc, &cells.value) else {
         return Err("no key".into());
     };
-    Ok(manager.seal(alloc, &key, front, &cells.last, &cells.given)?)
+    let bytes = with_room(alloc, front, 16, &cells.last)?;
+    Ok(manager.seal(&key, front.len(), bytes, &cells.given)?)
 }
 
 fn daead_opens(
