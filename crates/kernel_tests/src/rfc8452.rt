@@ -1,6 +1,6 @@
 //! AES-GCM-SIV against printed and independent sealings, and altered ones refused.
 
-use crate::rows::{FRONT, behind_front, bytes_in, refused};
+use crate::rows::{FRONT, behind_front, bytes_in, refused, with_room};
 use aes_core::Aes;
 use gcm_siv::{gcm_siv_open, gcm_siv_seal};
 use std::alloc::Global;
@@ -69,7 +69,7 @@ fn changed(alloc: Global, bytes: &[u8], at: usize) -> Result<Vec<u8>, Fail> {
     Ok(other)
 }
 
-// Behind these bytes.
+// Sealed in place, behind these bytes.
 fn sealed(
     alloc: Global,
     key: &Aes,
@@ -79,10 +79,14 @@ fn sealed(
     ad: &[u8],
 ) -> Result<Vec<u8>, Fail> {
     let iv = iv.first_chunk::<12>().ok_or("an IV of 12 bytes")?;
-    if front.len() > 5 || plain.len() > 5000 || ad.len() > 5000 {
-        return Err("a prefix, and 5,000 bytes at most".into());
+    let bytes = with_room(alloc, front, 12, plain)?;
+    if bytes.len() > 6000 || ad.len() > 5000 {
+        return Err("6,000 bytes at most".into());
     }
-    Ok(gcm_siv_seal(alloc, key, front, iv, plain, ad)?)
+    if front.len() > 5 || bytes.len() < front.len() + 12 {
+        return Err("a prefix, and room for the IV".into());
+    }
+    Ok(gcm_siv_seal(key, front.len(), bytes, iv, ad)?)
 }
 
 fn opened(alloc: Global, key: &Aes, bytes: &[u8], ad: &[u8]) -> Result<Option<Vec<u8>>, Fail> {

@@ -14,6 +14,22 @@ pub(crate) fn behind_front(alloc: Global, bytes: &[u8]) -> Result<Vec<u8>, Fail>
     Ok(all)
 }
 
+/// What stands in the room for an IV before a sealing, and isn't to show in it.
+const OTHER: [u8; 16] = [0xa5; 16];
+
+/// What is sealed in place: the bytes in front, room for an IV of at most 16 bytes, and the plaintext.
+pub(crate) fn with_room(
+    alloc: Global,
+    front: &[u8],
+    room: usize,
+    plain: &[u8],
+) -> Result<Vec<u8>, Fail> {
+    let mut bytes = front.to_vec(alloc)?;
+    bytes.extend_from_slice(OTHER.get(..room).ok_or("an IV of 16 bytes at most")?)?;
+    bytes.extend_from_slice(plain)?;
+    Ok(bytes)
+}
+
 /// The bytes of a cell of hexadecimal digits.
 pub(crate) fn bytes_in(alloc: Global, row: &str, place: usize) -> Result<Vec<u8>, Fail> {
     bytes_of(alloc, cell(row, place)?)

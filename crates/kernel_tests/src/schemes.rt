@@ -1,7 +1,7 @@
 //! The kinds of AEAD against published and independent answers, by the calls that other crates
 //! make. What AES-GCM does in place stands in `gcm`.
 
-use crate::rows::{FRONT, behind_front, bytes_in, refused, title};
+use crate::rows::{FRONT, behind_front, bytes_in, refused, title, with_room};
 use aead_kinds::{AeadKey, open, seal};
 use aes_core::Aes;
 use std::alloc::Global;
@@ -107,6 +107,25 @@ fn assert_refused(
     refused(alloc, shows, part, opened(alloc, key, bytes, ad)?)
 }
 
+// Sealed in place, behind these bytes.
+fn sealed(
+    alloc: Global,
+    key: &AeadKey<'_>,
+    front: &[u8],
+    iv: &[u8],
+    plain: &[u8],
+    ad: &[u8],
+) -> Result<Vec<u8>, Fail> {
+    let bytes = with_room(alloc, front, iv.len(), plain)?;
+    if !key.fits() || bytes.len() > MOST + 21 || ad.len() > MOST {
+        return Err("a key that fits, and no more than 1,000 bytes".into());
+    }
+    if front.len() > 5 || iv.len() != key.iv_size() || bytes.len() < front.len() + iv.len() {
+        return Err("a prefix, and room for the IV".into());
+    }
+    Ok(seal(key, front.len(), bytes, iv, ad)?)
+}
+
 fn assert_accepted(
     alloc: Global,
     shows: &str,
@@ -118,14 +137,11 @@ fn assert_accepted(
     let back = opened(alloc, key, bytes, ad)?.ok_or("it opens")?;
     same_bytes(alloc, shows, "the plaintext", plain, &back)?;
     let iv = bytes.get(..key.iv_size()).ok_or("an IV")?;
-    if !key.fits() || plain.len() > MOST || ad.len() > MOST {
-        return Err("a key that fits, and no more than 1,000 bytes".into());
-    }
-    let sealed = seal(alloc, key, &[], iv, plain, ad)?;
-    same_bytes(alloc, shows, "the sealing", bytes, &sealed)?;
-    let want = behind_front(alloc, bytes)?;
-    let sealed = seal(alloc, key, &FRONT, iv, plain, ad)?;
-    same_bytes(alloc, shows, "the sealing behind a prefix", &want, &sealed)
+    let found = sealed(alloc, key, &[], iv, plain, ad)?;
+    same_bytes(alloc, shows, "the sealing", bytes, &found)?;
+    let behind = behind_front(alloc, bytes)?;
+    let found = sealed(alloc, key, &FRONT, iv, plain, ad)?;
+    same_bytes(alloc, shows, "the sealing behind a prefix", &behind, &found)
 }
 
 // Each part of accepted bytes altered, and their length.

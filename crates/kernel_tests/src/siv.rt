@@ -1,6 +1,6 @@
 //! AES-SIV against printed and independent sealings, and altered ones refused.
 
-use crate::rows::{FRONT, behind_front, bytes_in, refused};
+use crate::rows::{FRONT, behind_front, bytes_in, refused, with_room};
 use aes_core::KeySize;
 use siv_daead::{SivKey, siv_open, siv_seal};
 use std::alloc::Global;
@@ -39,6 +39,24 @@ fn changed(alloc: Global, bytes: &[u8], at: usize) -> Result<Vec<u8>, Fail> {
     Ok(other)
 }
 
+// Sealed in place, behind these bytes.
+fn sealed(
+    alloc: Global,
+    key: &SivKey,
+    front: &[u8],
+    plain: &[u8],
+    ad: &[u8],
+) -> Result<Vec<u8>, Fail> {
+    let bytes = with_room(alloc, front, 16, plain)?;
+    if bytes.len() > 1100 || ad.len() > 1000 {
+        return Err("1,100 bytes at most".into());
+    }
+    if front.len() > 5 || bytes.len() < front.len() + 16 {
+        return Err("a prefix, and room for the SIV".into());
+    }
+    Ok(siv_seal(key, front.len(), bytes, ad))
+}
+
 fn assert_sealed(
     alloc: Global,
     shows: &str,
@@ -47,14 +65,11 @@ fn assert_sealed(
     ad: &[u8],
     want: &[u8],
 ) -> Result<(), Fail> {
-    if plain.len() > 1000 || ad.len() > 1000 {
-        return Err("1,000 bytes at most".into());
-    }
-    let sealed = siv_seal(alloc, key, &[], plain, ad)?;
-    same_bytes(alloc, shows, "the sealing", want, &sealed)?;
-    let want = behind_front(alloc, want)?;
-    let sealed = siv_seal(alloc, key, &FRONT, plain, ad)?;
-    same_bytes(alloc, shows, "the sealing behind a prefix", &want, &sealed)
+    let found = sealed(alloc, key, &[], plain, ad)?;
+    same_bytes(alloc, shows, "the sealing", want, &found)?;
+    let behind = behind_front(alloc, want)?;
+    let found = sealed(alloc, key, &FRONT, plain, ad)?;
+    same_bytes(alloc, shows, "the sealing behind a prefix", &behind, &found)
 }
 
 fn opened(alloc: Global, key: &SivKey, bytes: &[u8], ad: &[u8]) -> Result<Option<Vec<u8>>, Fail> {
