@@ -1,6 +1,6 @@
 //! The kernels that are timed, each under a key of zeros.
 
-ghost use Rattle.std.specs.Prelude.{◌≡◌, ◌⊎◌, length};
+ghost use Rattle.std.specs.Prelude.{◌≡◌, ◌⊎◌, ◌^◌, ◌≤◌, length};
 
 use aead_kinds::Gcm;
 use aes_core::{Aes, CtrKind};
@@ -8,7 +8,7 @@ use gcm_siv::gcm_siv_seal;
 use ghash::Ghash;
 use mac_prf::Hmac;
 use std::alloc::Global;
-use tink_base::Hash;
+use tink_base::{Hash, NoMemory};
 
 /// Their names, in the order in which they are printed.
 pub const NAMES: [&str; 7] = [
@@ -127,14 +127,24 @@ fn seal(gcm: &mut Gcm, text: &mut [u8]) -> u8 {
     gcm.seal_in_place(&[0; 12], &[], &mut text[..size])[0]
 }
 
-// What is sealed is a new text each time; its last byte is answered, or 0 where memory is refused.
+// What is sealed is a new list each time; its last byte is answered, or 0 where memory is refused.
 #[inline(never)]
 fn seal_anew(alloc: Global, aes: &Aes, text: &[u8]) -> u8 {
     let size = text.len().min(LONGEST_GCM_SIV);
-    match gcm_siv_seal(alloc, aes, &[], &[0; 12], &text[..size], &[]) {
+    match sealed_copy(alloc, aes, &text[..size]) {
         Ok(sealed) => sealed.last().copied().unwrap_or(0),
         Err(_) => 0,
     }
+}
+
+// A copy of the text is sealed, behind room for the IV and with a place for the tag.
+fn sealed_copy(alloc: Global, aes: &Aes, text: &[u8]) -> Result<Vec<u8>, NoMemory>
+    requires { length text.now ≤ 2 ^ 30 }
+{
+    let mut bytes = Vec::with_capacity(alloc, 12 + text.len() + 16)?;
+    bytes.extend_from_slice(&[0; 12])?;
+    bytes.extend_from_slice(text)?;
+    gcm_siv_seal(aes, 0, bytes, &[0; 12], &[])
 }
 
 #[inline(never)]
