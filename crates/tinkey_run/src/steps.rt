@@ -164,7 +164,7 @@ pub(crate) fn read_input<S: Source>(
     ensures within { IfOk result (λ input. length input ≤ limit) }
 {
     match read_input_behind(alloc, 0, limit, source) {
-        Ok(data) => Ok(Bytes::own(data)),
+        Ok(input) => Ok(Bytes::own(input)),
         Err(status) => Err(status),
     }
 }
@@ -178,14 +178,14 @@ pub(crate) fn read_input_behind<S: Source>(
 ) -> Result<Vec<u8>, Status>
     requires limit_bound { limit ≤ 2 ^ 30 }
     requires room_bound { room ≤ 2 ^ 30 }
-    ensures passes { (w : World) → PassesAs (λ data. drop room data.items) (reads_input limit)
+    ensures passes { (w : World) → PassesAs (λ input. drop room input.items) (reads_input limit)
         (record w { source = S.state source.old }) result
         (record w { source = S.state source.new }) }
-    ensures room { IfOk result (λ data. room ≤ length data.items) }
-    ensures within { IfOk result (λ data. length data.items ≤ room + limit) }
+    ensures room { IfOk result (λ input. room ≤ length input.items) }
+    ensures within { IfOk result (λ input. length input.items ≤ room + limit) }
 {
     match read_behind(alloc, room, source, limit) {
-        Ok(data) => Ok(data),
+        Ok(input) => Ok(input),
         Err(e) => match e {
             ReadAllFault::TooLong => Err(Status::InputTooLong),
             ReadAllFault::Failed => Err(Status::ReadFault),

@@ -200,12 +200,7 @@ fn open(alloc: Global, handle: &Handle<'_>, ad: Datum<'_>, sealed: &[u8]) -> Res
 }
 
 /// dseal, in place: prefix, tag and ciphertext.
-fn dseal(
-    alloc: Global,
-    handle: &Handle<'_>,
-    ad: Datum<'_>,
-    input: Vec<u8>,
-) -> Result<Bytes, Status>
+fn dseal(alloc: Global, handle: &Handle<'_>, ad: Datum<'_>, input: Vec<u8>) -> Result<Bytes, Status>
     requires serving { IsServing (⟦<Managers as KeyTable>⟧.table handle.now.managers.now) Daead
         handle.now.held }
     requires room { dseal_room handle.now.held ≤ length input.items }
