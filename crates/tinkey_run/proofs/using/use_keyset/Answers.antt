@@ -27,10 +27,10 @@ returns-in_err-input g c = λ w.
     c.from_residual-in_err-input.ensures.1 (rw c.limit_for.ensures.limit at (c.in_err-input.ensures.passes mid))
 
 pub do_work-requires-clause-room : goal.do_work-requires-clause-room
-do_work-requires-clause-room g c = rw c.room_for.ensures.room at c.in_ok-input.ensures.room
+do_work-requires-clause-room g c = rw c.room_for-room.ensures.room at c.in_ok-input.ensures.room
 
 pub do_work-requires-clause-bound : goal.do_work-requires-clause-bound
-do_work-requires-clause-bound g c = rw c.room_for.ensures.room at (omega (arith, c.in_ok-input.ensures.within, c.limit_for.ensures.bound))
+do_work-requires-clause-bound g c = rw (← c.room_for-room.ensures.room) (omega (arith, c.in_ok-input.ensures.within, c.limit_for.ensures.bound))
 
 pub returns : goal.returns
 returns g c = λ w.
@@ -43,4 +43,4 @@ returns g c = λ w.
     let keys = c.in_ok-keyset.keyset in
     let over = rw c.primitive_for.ensures at c.in_ok-handle.ensures.over in
     use_with_handle _ c.args.name.now c.args.form work old mid new keys _ _ c.primitive_for.ensures (c.in_ok-keyset.ensures.passes first) (c.in_ok-handle.ensures.passes mid)
-    (with_input _ _ work mid behind new keys _ _ c.in_ok-handle.ensures.table (rw (c.limit_for.ensures.limit, c.room_for.ensures.room) at (c.in_ok-input.ensures.passes mid)) (c.do_work.ensures behind keys over))
+    (with_input _ _ work mid behind new keys _ _ c.in_ok-handle.ensures.table (rw (c.limit_for.ensures.limit, c.room_for-room.ensures.room) at (c.in_ok-input.ensures.passes mid)) (c.do_work.ensures behind keys over))
