@@ -5,7 +5,7 @@ ghost use Rattle.std.specs.Prelude.{◌≤◌};
 
 use crate::plain::aes as plain;
 use crate::rows::{block_in, bytes_in};
-use aes_core::{Aes, CtrKind, KeySize};
+use aes_core::{Aes, CtrKind};
 use std::alloc::Global;
 use std::process::Abort;
 use std::test::Fail;
@@ -49,15 +49,18 @@ no block|2b7e151628aed2a6abf7158809cf4f3c|000102030405060708090a0b0c0d0e0f||0001
 3 blocks|2b7e151628aed2a6abf7158809cf4f3c|000102030405060708090a0b0c0d0e0f|6bc1bee22e409f96e93d7e117393172aae2d8a571e03ac9c9eb76fac45af8e5130c81c46a35ce411e5fbc1191a0a52ef|73bed6b8e3c1743b7116e69e22229516
 4 blocks|2b7e151628aed2a6abf7158809cf4f3c|000102030405060708090a0b0c0d0e0f|6bc1bee22e409f96e93d7e117393172aae2d8a571e03ac9c9eb76fac45af8e5130c81c46a35ce411e5fbc1191a0a52eff69f2445df4f9b17ad2b417be66c3710|3ff1caa1681fac09120eca307586e1a7";
 
+// The names of the kinds in the rows.
+const KINDS: [(&str, CtrKind); 3] = [
+    ("Low32", CtrKind::Low32),
+    ("First32", CtrKind::First32),
+    ("All128", CtrKind::All128),
+];
+
 // The kind of this name.
 fn kind_named(name: &str) -> Result<CtrKind, Fail> {
-    for (word, kind) in [
-        ("Low32", CtrKind::Low32),
-        ("First32", CtrKind::First32),
-        ("All128", CtrKind::All128),
-    ] {
-        if word == name {
-            return Ok(kind);
+    for (word, kind) in &KINDS {
+        if *word == name {
+            return Ok(*kind);
         }
     }
     Err("a kind of counter".into())
@@ -117,8 +120,7 @@ fn enciphers_the_blocks_of_fips_197(rt: HostRuntime) -> Result<(), Fail> {
 #[test]
 fn refuses_keys_of_other_sizes(rt: HostRuntime) {
     for size in [0, 15, 17, 24, 31, 33] {
-        let answer = Aes::new(&[0; 33][..size]).err();
-        assert_eq!(rt; answer, Some(KeySize), "{size} bytes");
+        assert!(rt; Aes::new(&[0; 33][..size]).is_err(), "{size} bytes");
     }
 }
 
@@ -151,7 +153,7 @@ fn counts_as_plainly(rt: &impl Abort, key: &[u8; 32], kind: CtrKind, start: u128
         aes.ctr_xor(&start, kind, &mut body[..size]);
     }
     plain::ctr_xor(key, &start, kind, &mut want[..size]);
-    assert_eq!(rt; body, want, "{size} bytes");
+    assert!(rt; body == want, "{size} bytes");
 }
 
 // Starts from which each counter wraps in the midst of four blocks, and at their edge.
@@ -180,26 +182,36 @@ fn counts_as_plainly_at_every_length(rt: HostRuntime) {
     }
 }
 
-// A thousand blocks under each size of keys, each the cipher of the one before: by the plain body,
-// by the fast one, and by a chain, in which a block of zeros changes nothing.
-#[test]
-fn enciphers_as_plainly(rt: HostRuntime) -> Result<(), Fail> {
-    for size in [16, 32] {
-        let key = &COUNTING_KEY[..size];
-        let aes = Aes::new(key)?;
-        let mut block = [0; 16];
-        for i in 0..1000_u32 {
-            let want = plain::encrypt_block(key, &block);
-            assert_eq!(rt; aes.encrypt_block(&block), want, "block {i}, {size} bytes");
-            assert_eq!(rt;
-                aes.chain(&block, &[0; 16]),
-                want,
-                "block {i}, {size} bytes"
-            );
-            block = want;
-        }
+// The cipher of a block by the plain body: the fast one gives the same, and so does a chain, in which
+// a block of zeros changes nothing.
+fn enciphered(aes: &Aes, key: &[u8], block: &[u8; 16]) -> Result<[u8; 16], Fail> {
+    if key.len() != 16 && key.len() != 32 {
+        return Err("a key of 16 or 32 bytes".into());
+    }
+    let want = plain::encrypt_block(key, block);
+    if aes.encrypt_block(block) != want {
+        return Err("the cipher of the plain body".into());
+    }
+    if aes.chain(block, &[0; 16]) != want {
+        return Err("the chain of the plain body".into());
+    }
+    Ok(want)
+}
+
+// A thousand blocks, each the cipher of the one before.
+fn assert_enciphered_as_plainly(key: &[u8]) -> Result<(), Fail> {
+    let aes = Aes::new(key)?;
+    let mut block = [0; 16];
+    for _ in 0..1000_u32 {
+        block = enciphered(&aes, key, &block)?;
     }
     Ok(())
+}
+
+#[test]
+fn enciphers_as_plainly(_rt: HostRuntime) -> Result<(), Fail> {
+    assert_enciphered_as_plainly(&COUNTING_KEY[..16])?;
+    assert_enciphered_as_plainly(&COUNTING_KEY)
 }
 
 #[test]
@@ -210,7 +222,7 @@ fn chains_as_plainly(rt: HostRuntime) -> Result<(), Fail> {
     let mut want = [2; 16];
     for i in 0..300 {
         let last = aes.chain(&[2; 16], &body[..16 * i]);
-        assert_eq!(rt; last, want, "{i} blocks");
+        assert!(rt; last == want, "{i} blocks");
         for (j, byte) in want.iter_mut().enumerate() {
             *byte ^= body[16 * i + j];
         }
@@ -231,7 +243,7 @@ fn expands_keys_as_plainly(rt: HostRuntime) -> Result<(), Fail> {
             let key = &key[..size];
             let want = plain::encrypt_block(key, &block);
             let found = Aes::new(key)?.encrypt_block(&block);
-            assert_eq!(rt; found, want, "{size} bytes that end in byte {byte}");
+            assert!(rt; found == want, "{size} bytes that end in byte {byte}");
         }
     }
     Ok(())

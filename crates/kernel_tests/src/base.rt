@@ -2,57 +2,91 @@
 
 ghost use Rattle.std.specs.Prelude.{◌≡◌, ◌≤◌, ℕ, List, length, IsTrue, Some};
 
+use std::alloc::Global;
 use std::test::Fail;
+use test_words::{cell, create_word, hash_named, load_word, number_in, same_bytes};
 use tink_base::{
-    Bytes, Created, Entropy, Failed, Hash, Loaded, MemEntropy, MemSink, MemSource, MemStore,
-    ReadAllFault, Source, Store, StoreError, Text, read_all, write_all,
+    Bytes, Entropy, Failed, Hash, MemEntropy, MemSink, MemSource, MemStore, ReadAllFault, Source,
+    Store, Text, read_all, write_all,
 };
 
 // The numbers are those of HashType in Tink's common.proto, and the sizes those of FIPS 180-4,
-// figure 1.
-#[test]
-fn reads_the_numbers_of_hash_types(rt: HostRuntime) {
-    let cases = [
-        (1, Hash::Sha1, 20),
-        (2, Hash::Sha384, 48),
-        (3, Hash::Sha256, 32),
-        (4, Hash::Sha512, 64),
-        (5, Hash::Sha224, 28),
-    ];
-    for (number, hash, size) in cases {
-        assert_eq!(rt; Hash::from_number(number), Some(hash), "number {number}");
-        assert_eq!(rt; hash.size(), size, "the size of {hash:?}");
-    }
-    for number in [0, 6, u32::MAX] {
-        assert_eq!(rt; Hash::from_number(number), None, "number {number}");
+// figure 1: no two are the same, so that a size tells the function. A row has number, name and size.
+const HASH_TYPES: &str = "\
+1|SHA-1|20
+2|SHA-384|48
+3|SHA-256|32
+4|SHA-512|64
+5|SHA-224|28";
+
+// The size of the digests of the hash function of this number, or 0.
+fn size_of_number(number: u32) -> usize {
+    match Hash::from_number(number) {
+        Some(hash) => hash.size(),
+        None => 0,
     }
 }
 
 #[test]
-fn copies_bytes_and_text(rt: HostRuntime) -> Result<(), Fail> {
-    assert_eq!(rt;
-        Bytes::copy(rt.alloc(), b"\x00\xff")?.as_slice(),
-        b"\x00\xff".as_slice()
-    );
-    assert_eq!(rt; Text::copy(rt.alloc(), "key")?.as_str(), "key");
+fn reads_the_numbers_of_hash_types(rt: HostRuntime) -> Result<(), Fail> {
+    for row in HASH_TYPES.lines() {
+        let size = number_in(row, 2)?;
+        assert!(rt;
+            hash_named(cell(row, 1)?)?.size() == size,
+            "the size in {row}"
+        );
+        assert!(rt;
+            size_of_number(cell(row, 0)?.parse::<u32>()?) == size,
+            "the number in {row}"
+        );
+    }
+    for number in [0, 6, u32::MAX] {
+        assert!(rt; size_of_number(number) == 0, "number {number}");
+    }
     Ok(())
 }
 
 #[test]
+fn copies_bytes_and_text(rt: HostRuntime) -> Result<(), Fail> {
+    let bytes = Bytes::copy(rt.alloc(), b"\x00\xff")?;
+    assert!(rt; bytes.as_slice() == b"\x00\xff".as_slice());
+    let text = Text::copy(rt.alloc(), "key")?;
+    assert!(rt; text.as_str() == "key");
+    Ok(())
+}
+
+// What a read up to this limit answers, as a word; what it read is written again, into a room that
+// it fills.
+fn read_and_written(alloc: Global, limit: usize) -> Result<&'static str, Fail> {
+    if limit > 6 {
+        return Err("a limit of 6 at most".into());
+    }
+    let mut source = MemSource::new(b"bytes".to_vec(alloc)?, 2, Vec::new(alloc));
+    match read_all(alloc, &mut source, limit) {
+        Ok(all) => written(alloc, &all),
+        Err(ReadAllFault::TooLong) => Ok("too long"),
+        Err(_) => Ok("failed"),
+    }
+}
+
+fn written(alloc: Global, all: &[u8]) -> Result<&'static str, Fail> {
+    same_bytes(alloc, "a source", "what is read", b"bytes", all)?;
+    let mut sink = MemSink::new(alloc, 5, 3, Vec::new(alloc))?;
+    let whole = write_all(&mut sink, all).is_ok();
+    let more = write_all(&mut sink, b"!").is_ok();
+    same_bytes(alloc, "a sink", "what is written", b"bytes", sink.written())?;
+    Ok(match (whole, more) {
+        (true, false) => "bytes",
+        (true, true) => "more than there is room for",
+        _ => "not written",
+    })
+}
+
+#[test]
 fn reads_and_writes_in_pieces_up_to_a_limit(rt: HostRuntime) -> Result<(), Fail> {
-    for (limit, want) in [(6, None), (5, None), (4, Some(ReadAllFault::TooLong))] {
-        let mut source = MemSource::new(b"bytes".to_vec(rt.alloc())?, 2, Vec::new(rt.alloc()));
-        match read_all(rt.alloc(), &mut source, limit) {
-            Ok(all) => {
-                assert_eq!(rt; want, None, "limit {limit}");
-                assert_eq!(rt; all.as_slice(), b"bytes".as_slice(), "limit {limit}");
-                let mut sink = MemSink::new(rt.alloc(), 5, 3, Vec::new(rt.alloc()))?;
-                assert_eq!(rt; write_all(&mut sink, &all), Ok(()));
-                assert_eq!(rt; sink.written(), b"bytes".as_slice());
-                assert!(rt; write_all(&mut sink, b"!").is_err(), "the room is full");
-            }
-            Err(fault) => assert_eq!(rt; Some(fault), want, "limit {limit}"),
-        }
+    for (limit, want) in [(6, "bytes"), (5, "bytes"), (4, "too long")] {
+        let found = read_and_written(rt.alloc(), limit)?;
+        assert!(rt; found == want, "{found} up to {limit}");
     }
     Ok(())
 }
@@ -66,34 +100,25 @@ fn keeps_files_that_stand(rt: HostRuntime) -> Result<(), Fail> {
     let mut store = MemStore::new(rt.alloc(), fails);
     store.put("a", b"first")?;
     store.put("a", b"second")?;
-    assert_eq!(rt;
-        store.create(rt.alloc(), "a", b"third"),
-        Ok(Created::Exists)
-    );
-    assert_eq!(rt; store.create(rt.alloc(), "b", b"new"), Ok(Created::Made));
-    assert_eq!(rt;
-        store.create(rt.alloc(), "c", b"lost"),
-        Err(StoreError::Failed)
-    );
+    for (name, bytes, want) in [
+        ("a", "third", "exists"),
+        ("b", "new", "made"),
+        ("c", "lost", "failed"),
+    ] {
+        let found = create_word(&store.create(rt.alloc(), name, bytes.as_bytes()));
+        assert!(rt; found == want, "{found} at {name}");
+    }
     for (name, limit, want) in [
         ("a", 6, "bytes"),
         ("a", 6, "failed"),
         ("a", 5, "too long"),
         ("c", 9, "absent"),
     ] {
-        let found = match store.load(rt.alloc(), name, limit) {
-            Ok(Loaded::Absent) => "absent",
-            Ok(Loaded::TooLong) => "too long",
-            Ok(Loaded::Bytes(bytes)) => {
-                assert_eq!(rt; bytes.as_slice(), b"second".as_slice());
-                "bytes"
-            }
-            Err(_) => "failed",
-        };
-        assert_eq!(rt; found, want, "{name} up to {limit}");
+        let found = load_word(&store.load(rt.alloc(), name, limit), b"second");
+        assert!(rt; found == want, "{found} at {name} up to {limit}");
     }
-    assert_eq!(rt; store.get("b"), Some(b"new".as_slice()));
-    assert_eq!(rt; store.get("c"), None);
+    assert!(rt; store.get("b").unwrap_or(b"") == b"new".as_slice());
+    assert!(rt; store.get("c").is_none());
     Ok(())
 }
 
@@ -104,15 +129,15 @@ fn fills_from_a_stream(rt: HostRuntime) -> Result<(), Fail> {
     fails.push(2)?;
     let mut entropy = MemEntropy::new(b"random".to_vec(rt.alloc())?, fails);
     let mut out = [0u8; 4];
-    assert_eq!(rt; entropy.fill(&mut out), Ok(()));
-    assert_eq!(rt; &out, b"rand");
-    assert_eq!(rt; entropy.fill(&mut out[..2]), Err(Failed), "listed");
-    assert_eq!(rt; entropy.fill(&mut out), Err(Failed), "short");
-    assert_eq!(rt; entropy.left(), 2);
-    assert_eq!(rt; entropy.fill(&mut out[..2]), Ok(()));
-    assert_eq!(rt; &out, b"omnd");
+    assert!(rt; entropy.fill(&mut out).is_ok());
+    assert!(rt; &out == b"rand");
+    assert!(rt; entropy.fill(&mut out[..2]).is_err(), "listed");
+    assert!(rt; entropy.fill(&mut out).is_err(), "short");
+    assert!(rt; entropy.left() == 2);
+    assert!(rt; entropy.fill(&mut out[..2]).is_ok());
+    assert!(rt; &out == b"omnd");
     let mut steady = MemEntropy::new(b"byte".to_vec(rt.alloc())?, Vec::new(rt.alloc()));
-    assert_eq!(rt; &four_bytes(&mut steady), b"byte");
+    assert!(rt; &four_bytes(&mut steady) == b"byte");
     Ok(())
 }
 

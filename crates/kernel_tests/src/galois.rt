@@ -170,14 +170,14 @@ fn gives_what_the_plain_forms_give(rt: HostRuntime) -> Result<(), Fail> {
         let want = ghash_by_blocks(h, &data[..size]);
         let mut hash = Ghash::new(h);
         hash.absorb(&data[..size]);
-        assert_eq!(rt; hash.finish(), want, "{size} bytes");
+        assert!(rt; hash.finish() == want, "{size} bytes");
         kept.restart();
         kept.absorb(&data[..size]);
-        assert_eq!(rt; kept.finish(), want, "{size} bytes, with all powers");
+        assert!(rt; kept.finish() == want, "{size} bytes, with all powers");
         let factor = h ^ size as u128;
-        assert_eq!(rt;
-            mul(want, factor),
-            mul_by_bits(want, factor),
+        let product = mul_by_bits(want, factor);
+        assert!(rt;
+            mul(want, factor) == product,
             "the product after {size} bytes"
         );
     }

@@ -1,9 +1,10 @@
 //! AES-GCM in place, with what is kept from one message to the next, and its sizes of keys.
 
 use crate::rows::bytes_in;
-use crate::schemes::{GCM_CAVS, GCM_PUBLISHED, MOST, TINK};
+use crate::schemes::{GCM_CAVS, GCM_PUBLISHED, TINK};
+use crate::sealing::MOST;
 use aead_kinds::{AeadKey, Gcm, gcm_open_in_place, gcm_seal_in_place};
-use aes_core::{Aes, KeySize};
+use aes_core::Aes;
 use std::alloc::Global;
 use std::test::Fail;
 use test_words::{cell, same_bytes, unlike};
@@ -22,7 +23,7 @@ fn assert_in_place(
     let mut body = text.to_vec(alloc)?;
     let body = body.as_mut_slice();
     if body.len() > MOST || ad.len() > MOST {
-        return Err("no more than 1,000 bytes".into());
+        return Err("no more than 6,000 bytes".into());
     }
     for _ in 0..2 {
         if !gcm.open_in_place(iv, ad, body, tag) {
@@ -69,7 +70,7 @@ fn seals_a_long_text_in_place(rt: HostRuntime) -> Result<(), Fail> {
     let aes = Aes::new(&counting)?;
     let mut body = [0; 5000];
     let tag = gcm_seal_in_place(&aes, &iv, &[7; 300], &mut body);
-    assert_eq!(rt; tag, 0x025461640CBFBF5130EC3B25E97695F0_u128.to_be_bytes());
+    assert!(rt; tag == 0x025461640CBFBF5130EC3B25E97695F0_u128.to_be_bytes());
     assert!(rt; !gcm_open_in_place(&aes, &iv, &[7; 299], &mut body, &tag));
     assert!(rt; gcm_open_in_place(&aes, &iv, &[7; 300], &mut body, &tag));
     assert!(rt; body == [0; 5000]);
@@ -81,14 +82,14 @@ fn seals_a_long_text_in_place(rt: HostRuntime) -> Result<(), Fail> {
 fn takes_keys_of_two_sizes(rt: HostRuntime) -> Result<(), Fail> {
     for size in [0, 15, 17, 24, 31, 33] {
         let key = &[0; 33][..size];
-        assert_eq!(rt; Aes::new(key).err(), Some(KeySize), "{size} bytes");
-        assert_eq!(rt; Gcm::new(key).err(), Some(KeySize), "{size} bytes");
+        assert!(rt; Aes::new(key).is_err(), "{size} bytes");
+        assert!(rt; Gcm::new(key).is_err(), "{size} bytes");
     }
     for size in [16, 32] {
         let key = &Aes::new(&[0; 32][..size])?;
-        assert_eq!(rt; key.key_size(), size);
+        assert!(rt; key.key_size() == size, "{size} bytes");
         assert!(rt; AeadKey::Gcm { key }.fits(), "{size} bytes");
-        assert_eq!(rt; AeadKey::Gcm { key }.iv_size(), 12);
+        assert!(rt; AeadKey::Gcm { key }.iv_size() == 12, "{size} bytes");
     }
     Ok(())
 }

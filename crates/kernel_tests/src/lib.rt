@@ -20,6 +20,8 @@ mod rows;
 #[cfg(test)]
 mod schemes;
 #[cfg(test)]
+mod sealing;
+#[cfg(test)]
 mod siv;
 #[cfg(test)]
 mod stores;

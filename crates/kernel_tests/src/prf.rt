@@ -141,7 +141,7 @@ fn writes_no_more_bytes_than_asked_for(rt: HostRuntime) {
         let mut tag = [0xee; 17];
         assert!(rt; size <= 16);
         hmac.finish(&mut tag[..size]);
-        assert_eq!(rt; tag[..size], whole[..size], "{size} bytes");
+        assert!(rt; tag[..size] == whole[..size], "{size} bytes");
         assert!(rt;
             tag[size..].iter().all(|byte| *byte == 0xee),
             "after {size} bytes"

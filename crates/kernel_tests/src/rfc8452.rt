@@ -1,11 +1,13 @@
 //! AES-GCM-SIV against printed and independent sealings, and altered ones refused.
 
-use crate::rows::{FRONT, behind_front, bytes_in, refused, with_room};
+use crate::rows::bytes_in;
+use crate::sealing::{
+    Alterations, SealingKey, assert_accepted, assert_altered_refused, opened, sealed,
+};
 use aes_core::Aes;
-use gcm_siv::{gcm_siv_open, gcm_siv_seal};
 use std::alloc::Global;
 use std::test::Fail;
-use test_words::{cell, longer, same_bytes};
+use test_words::cell;
 
 // A row has what it shows, the key, the IV, the associated data, the plaintext, and ciphertext and tag.
 
@@ -62,103 +64,24 @@ a block and a byte, and a block less a byte of data, a key of 32 bytes|000102030
 five blocks, and one and a part of data, a key of 32 bytes|000102030405060708090a0b0c0d0e0f101112131415161718191a1b1c1d1e1f|6465666768696a6b6c6d6e6f|07121d28333e49545f6a75808b96a1acb7c2cdd8|070c11161b20252a2f34393e43484d52575c61666b70757a7f84898e93989da2a7acb1b6bbc0c5cacfd4d9dee3e8edf2f7fc01060b10151a1f24292e33383d42474c51565b60656a6f74797e83888d92|13f9be87b42286e000c665e4c2a859ac46c9c12f949977405c9bcffe96565d4bf64c68861cf5b5434aecaad220810a32fcdbebb66e0061af5f99092f857540de764161d83d4afac01373f9523d69fcbf88bd7ef5b663f8dcff9e99cd806389a3
 six blocks and a part of each, a key of 32 bytes|000102030405060708090a0b0c0d0e0f101112131415161718191a1b1c1d1e1f|6465666768696a6b6c6d6e6f|07121d28333e49545f6a75808b96a1acb7c2cdd8e3eef9040f1a25303b46515c67727d88939ea9b4bfcad5e0ebf6010c17222d38434e59646f7a85909ba6b1bcc7d2dde8f3fe09141f2a35404b56616c77828d98a3aeb9c4cfdae5f0fb06111c27323d48|070c11161b20252a2f34393e43484d52575c61666b70757a7f84898e93989da2a7acb1b6bbc0c5cacfd4d9dee3e8edf2f7fc01060b10151a1f24292e33383d42474c51565b60656a6f74797e83888d92979ca1a6abb0b5babfc4c9ced3d8dde2e7ecf1f6|357ae892cb8cd652a9a92f45b59ea431884f8276be02fdc9d4cfedcbae005cc7e6729e0e1f8f5421e3061c1554545a8ead7ab7d58a1e0d8efb4b3c360129f6c477c68ccccfe215f975024520be7482737e60eea1eaa689b73cf3635d2732c9ec0e2994c01d84e7a95d2e88e4a0e4cc4600199765";
 
-// The bytes with the highest bit changed in the byte at this place.
-fn changed(alloc: Global, bytes: &[u8], at: usize) -> Result<Vec<u8>, Fail> {
-    let mut other = bytes.to_vec(alloc)?;
-    *other.get_mut(at).ok_or("a byte at the place")? ^= 0x80;
-    Ok(other)
-}
-
-// Sealed in place, behind these bytes.
-fn sealed(
-    alloc: Global,
-    key: &Aes,
-    front: &[u8],
-    iv: &[u8],
-    plain: &[u8],
-    ad: &[u8],
-) -> Result<Vec<u8>, Fail> {
-    let iv = iv.first_chunk::<12>().ok_or("an IV of 12 bytes")?;
-    let bytes = with_room(alloc, front, 12, plain)?;
-    if bytes.len() > 6000 || ad.len() > 5000 {
-        return Err("6,000 bytes at most".into());
-    }
-    if front.len() > 5 || bytes.len() < front.len() + 12 {
-        return Err("a prefix, and room for the IV".into());
-    }
-    Ok(gcm_siv_seal(key, front.len(), bytes, iv, ad)?)
-}
-
-fn opened(alloc: Global, key: &Aes, bytes: &[u8], ad: &[u8]) -> Result<Option<Vec<u8>>, Fail> {
-    if bytes.len() > 6000 || ad.len() > 5000 {
-        return Err("6,000 bytes at most".into());
-    }
-    Ok(gcm_siv_open(alloc, key, bytes, ad)?)
-}
-
-// A sealing with a bit changed in IV, text or tag, with a byte less or a byte more.
-fn assert_altered_refused(
-    alloc: Global,
-    shows: &str,
-    key: &Aes,
-    bytes: &[u8],
-    ad: &[u8],
-) -> Result<(), Fail> {
-    let last = bytes.len().saturating_sub(1);
-    for at in [0, 11, 12, last.saturating_sub(15), last] {
-        let other = changed(alloc, bytes, at)?;
-        refused(
-            alloc,
-            shows,
-            "a changed sealing",
-            opened(alloc, key, &other, ad)?,
-        )?;
-    }
-    let less = opened(alloc, key, &bytes[..last], ad)?;
-    refused(alloc, shows, "a sealing of a byte less", less)?;
-    let short = opened(alloc, key, &bytes[..last.min(27)], ad)?;
-    refused(alloc, shows, "fewer bytes than IV and tag have", short)?;
-    let more = opened(alloc, key, &longer(alloc, bytes)?, ad)?;
-    refused(alloc, shows, "a sealing of a byte more", more)
-}
-
-// The same of other associated data.
-fn assert_other_data_refused(
-    alloc: Global,
-    shows: &str,
-    key: &Aes,
-    bytes: &[u8],
-    ad: &[u8],
-) -> Result<(), Fail> {
-    let more = opened(alloc, key, bytes, &longer(alloc, ad)?)?;
-    refused(alloc, shows, "data of a byte more", more)?;
-    if ad.is_empty() {
-        return Ok(());
-    }
-    let other = opened(alloc, key, bytes, &changed(alloc, ad, 0)?)?;
-    refused(alloc, shows, "changed data", other)
-}
-
 fn assert_row(alloc: Global, row: &str) -> Result<(), Fail> {
     let shows = cell(row, 0)?;
-    let key = Aes::new(&bytes_in(alloc, row, 1)?)?;
+    let aes = Aes::new(&bytes_in(alloc, row, 1)?)?;
+    let key = &SealingKey::GcmSiv(&aes);
     let iv = bytes_in(alloc, row, 2)?;
     let ad = bytes_in(alloc, row, 3)?;
     let plain = bytes_in(alloc, row, 4)?;
     let mut want = bytes_in(alloc, row, 2)?;
     want.extend_from_slice(&bytes_in(alloc, row, 5)?)?;
-    if want.len() < 28 {
-        return Err("an IV and a tag at least".into());
-    }
-    let found = sealed(alloc, &key, &[], &iv, &plain, &ad)?;
-    same_bytes(alloc, shows, "the sealing", &want, &found)?;
-    let found = sealed(alloc, &key, &FRONT, &iv, &plain, &ad)?;
-    let behind = behind_front(alloc, &want)?;
-    same_bytes(alloc, shows, "the sealing behind a prefix", &behind, &found)?;
-    let back = opened(alloc, &key, &want, &ad)?.ok_or("it opens")?;
-    same_bytes(alloc, shows, "the plaintext", &plain, &back)?;
-    assert_altered_refused(alloc, shows, &key, &want, &ad)?;
-    assert_other_data_refused(alloc, shows, &key, &want, &ad)
+    let last = want.len().saturating_sub(1);
+    // IV, text and tag; a byte less, and fewer bytes than IV and tag have.
+    let altered = Alterations {
+        bit: 0x80,
+        places: &[0, 11, 12, last.saturating_sub(15), last],
+        lengths: &[last, last.min(27)],
+    };
+    assert_accepted(alloc, shows, key, &iv, &plain, &ad, &want)?;
+    assert_altered_refused(alloc, shows, key, &altered, &want, &ad)
 }
 
 fn assert_rows(alloc: Global, rows: &str) -> Result<(), Fail> {
@@ -188,12 +111,13 @@ fn seals_and_opens_a_long_text(rt: HostRuntime) -> Result<(), Fail> {
         25, 26, 27, 28, 29, 30, 31,
     ];
     let alloc = rt.alloc();
-    let key = Aes::new(&counting)?;
-    let found = sealed(alloc, &key, &[], &counting[..12], &[0; 5000], &[7; 700])?;
+    let aes = Aes::new(&counting)?;
+    let key = &SealingKey::GcmSiv(&aes);
+    let found = sealed(alloc, key, &[], &counting[..12], &[0; 5000], &[7; 700])?;
     let (_, tag) = found.split_last_chunk::<16>().ok_or("a tag")?;
-    assert_eq!(rt; *tag, 0xE73F27F30646A5DED95DC16FA2178898_u128.to_be_bytes());
-    assert!(rt; opened(alloc, &key, &found, &[7; 699])?.is_none());
-    let back = opened(alloc, &key, &found, &[7; 700])?.ok_or("it opens")?;
+    assert!(rt; *tag == 0xE73F27F30646A5DED95DC16FA2178898_u128.to_be_bytes());
+    assert!(rt; opened(alloc, key, &found, &[7; 699])?.is_none());
+    let back = opened(alloc, key, &found, &[7; 700])?.ok_or("it opens")?;
     assert!(rt; back.as_slice() == [0; 5000].as_slice());
     Ok(())
 }

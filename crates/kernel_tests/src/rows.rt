@@ -30,6 +30,13 @@ pub(crate) fn with_room(
     Ok(bytes)
 }
 
+/// The bytes with this bit turned in the byte at this place.
+pub(crate) fn changed(alloc: Global, bytes: &[u8], at: usize, bit: u8) -> Result<Vec<u8>, Fail> {
+    let mut other = bytes.to_vec(alloc)?;
+    *other.get_mut(at).ok_or("a byte at the place")? ^= bit;
+    Ok(other)
+}
+
 /// The bytes of a cell of hexadecimal digits.
 pub(crate) fn bytes_in(alloc: Global, row: &str, place: usize) -> Result<Vec<u8>, Fail> {
     bytes_of(alloc, cell(row, place)?)

@@ -1,15 +1,15 @@
 //! The kinds of AEAD against published and independent answers, by the calls that other crates
 //! make. What AES-GCM does in place stands in `gcm`.
 
-use crate::rows::{FRONT, behind_front, bytes_in, refused, title, with_room};
-use aead_kinds::{AeadKey, open, seal};
+use crate::rows::{bytes_in, title};
+use crate::sealing::{
+    Alterations, SealingKey, assert_accepted, assert_altered_refused, assert_refused,
+};
+use aead_kinds::AeadKey;
 use aes_core::Aes;
 use std::alloc::Global;
 use std::test::Fail;
-use test_words::{cell, hash_named, longer, number_in, same_bytes, turned};
-
-// The longest text and the longest associated data here.
-pub(crate) const MOST: usize = 1000;
+use test_words::{cell, hash_named, number_in};
 
 // A row of a table has what it shows, the kind (GCM, EAX, or the hash function of HMAC), the AES
 // key, HMAC's key, the sizes of IV and tag, the associated data, IV, ciphertext and tag as one, and
@@ -84,124 +84,6 @@ a counter that begins at its last value|SHA-1|000102030405060708090a0b0c0d0e0f|0
 an IV of 12 bytes, a whole digest|SHA-384|000102030405060708090a0b0c0d0e0f101112131415161718191a1b1c1d1e1f|808182838485868788898a8b8c8d8e8f909192939495969798999a9b9c9d9e9f|12|48|000102|f0f1f2f3f4f5f6f7f8f9fafbe2d8c1ad20a40086f4d43ce8f14748bb2bf4c8f7578609394ad573634f2a053668a18804a5b8d76ec77b4dd266d251305555ae2e17ae9ca2efd19fa28a75a0f372|4142434445464748494a4b4c4d4e4f5051
 an IV of 13 bytes, a whole block|SHA-256|000102030405060708090a0b0c0d0e0f|808182838485868788898a8b8c8d8e8f909192939495969798999a9b9c9d9e9fa0a1a2a3a4a5a6a7a8a9aaabacadaeafb0b1b2b3b4b5b6b7b8b9babbbcbdbebfc0|13|16|000102030405060708090a0b0c0d0e0f101112131415161718191a1b1c1d1e1f20|f0f1f2f3f4f5f6f7f8f9fafbfcdb852b843fbdbf0e60ad311cc1cc69bad113227fd7f97a8d2fb9ab8ac2168be6|4142434445464748494a4b4c4d4e4f50";
 
-fn opened(
-    alloc: Global,
-    key: &AeadKey<'_>,
-    bytes: &[u8],
-    ad: &[u8],
-) -> Result<Option<Vec<u8>>, Fail> {
-    if !key.fits() || bytes.len() > MOST || ad.len() > MOST {
-        return Err("a key that fits, and no more than 1,000 bytes".into());
-    }
-    Ok(open(alloc, key, bytes, ad)?)
-}
-
-fn assert_refused(
-    alloc: Global,
-    shows: &str,
-    part: &str,
-    key: &AeadKey<'_>,
-    bytes: &[u8],
-    ad: &[u8],
-) -> Result<(), Fail> {
-    refused(alloc, shows, part, opened(alloc, key, bytes, ad)?)
-}
-
-// Sealed in place, behind these bytes.
-fn sealed(
-    alloc: Global,
-    key: &AeadKey<'_>,
-    front: &[u8],
-    iv: &[u8],
-    plain: &[u8],
-    ad: &[u8],
-) -> Result<Vec<u8>, Fail> {
-    let bytes = with_room(alloc, front, iv.len(), plain)?;
-    if !key.fits() || bytes.len() > MOST + 21 || ad.len() > MOST {
-        return Err("a key that fits, and no more than 1,000 bytes".into());
-    }
-    if front.len() > 5 || iv.len() != key.iv_size() || bytes.len() < front.len() + iv.len() {
-        return Err("a prefix, and room for the IV".into());
-    }
-    Ok(seal(key, front.len(), bytes, iv, ad)?)
-}
-
-fn assert_accepted(
-    alloc: Global,
-    shows: &str,
-    key: &AeadKey<'_>,
-    plain: &[u8],
-    ad: &[u8],
-    bytes: &[u8],
-) -> Result<(), Fail> {
-    let back = opened(alloc, key, bytes, ad)?.ok_or("it opens")?;
-    same_bytes(alloc, shows, "the plaintext", plain, &back)?;
-    let iv = bytes.get(..key.iv_size()).ok_or("an IV")?;
-    let found = sealed(alloc, key, &[], iv, plain, ad)?;
-    same_bytes(alloc, shows, "the sealing", bytes, &found)?;
-    let behind = behind_front(alloc, bytes)?;
-    let found = sealed(alloc, key, &FRONT, iv, plain, ad)?;
-    same_bytes(alloc, shows, "the sealing behind a prefix", &behind, &found)
-}
-
-// Each part of accepted bytes altered, and their length.
-fn assert_altered_refused(
-    alloc: Global,
-    shows: &str,
-    key: &AeadKey<'_>,
-    tag_size: usize,
-    bytes: &[u8],
-    ad: &[u8],
-) -> Result<(), Fail> {
-    let size = bytes.len();
-    let iv_size = key.iv_size();
-    if iv_size < 12 || tag_size < 10 || tag_size > size || iv_size > size - tag_size {
-        return Err("an IV and a tag".into());
-    }
-    let tag = size - tag_size;
-    for at in [0, iv_size - 1, iv_size, tag - 1, tag, size - 10, size - 1] {
-        let other = turned(alloc, bytes, at)?;
-        assert_refused(alloc, shows, "a changed sealing", key, &other, ad)?;
-    }
-    for shorter in [size - 1, iv_size + tag_size - 1, iv_size, 0] {
-        assert_refused(alloc, shows, "a cut sealing", key, &bytes[..shorter], ad)?;
-    }
-    let more = longer(alloc, bytes)?;
-    assert_refused(alloc, shows, "a sealing of a byte more", key, &more, ad)
-}
-
-// The same of their associated data.
-fn assert_other_data_refused(
-    alloc: Global,
-    shows: &str,
-    key: &AeadKey<'_>,
-    bytes: &[u8],
-    ad: &[u8],
-) -> Result<(), Fail> {
-    let more = longer(alloc, ad)?;
-    assert_refused(
-        alloc,
-        shows,
-        "associated data of a byte more",
-        key,
-        bytes,
-        &more,
-    )?;
-    if ad.is_empty() {
-        return Ok(());
-    }
-    let other = turned(alloc, ad, 0)?;
-    assert_refused(alloc, shows, "changed associated data", key, bytes, &other)?;
-    assert_refused(
-        alloc,
-        shows,
-        "associated data of a byte less",
-        key,
-        bytes,
-        &ad[1..],
-    )
-}
-
 // The key of a row, over those of its two cells.
 fn key_of<'a>(row: &str, aes: &'a Aes, mac: &'a [u8]) -> Result<AeadKey<'a>, Fail> {
     let kind = cell(row, 1)?;
@@ -222,19 +104,61 @@ fn key_of<'a>(row: &str, aes: &'a Aes, mac: &'a [u8]) -> Result<AeadKey<'a>, Fai
     })
 }
 
+// Accepted bytes, with each part of them altered, and their length.
+fn assert_sealing(
+    alloc: Global,
+    row: &str,
+    shows: &str,
+    key: &AeadKey<'_>,
+    bytes: &[u8],
+) -> Result<(), Fail> {
+    let size = bytes.len();
+    let iv_size = key.iv_size();
+    let tag = size.saturating_sub(number_in(row, 5)?);
+    let shortest = size.saturating_sub(tag.saturating_sub(iv_size));
+    let altered = Alterations {
+        bit: 1,
+        places: &[
+            0,
+            iv_size.saturating_sub(1),
+            iv_size,
+            tag.saturating_sub(1),
+            tag,
+            size.saturating_sub(10),
+            size.saturating_sub(1),
+        ],
+        lengths: &[
+            size.saturating_sub(1),
+            shortest.saturating_sub(1),
+            iv_size,
+            0,
+        ],
+    };
+    let key = &SealingKey::Aead(key);
+    let iv = bytes.get(..iv_size).ok_or("an IV")?;
+    let ad = bytes_in(alloc, row, 6)?;
+    assert_accepted(alloc, shows, key, iv, &bytes_in(alloc, row, 8)?, &ad, bytes)?;
+    assert_altered_refused(alloc, shows, key, &altered, bytes, &ad)
+}
+
 fn assert_row(alloc: Global, row: &str) -> Result<(), Fail> {
     let shows = &title(alloc, row)?;
     let aes = Aes::new(&bytes_in(alloc, row, 2)?)?;
     let mac = bytes_in(alloc, row, 3)?;
     let key = key_of(row, &aes, &mac)?;
-    let ad = bytes_in(alloc, row, 6)?;
     let bytes = bytes_in(alloc, row, 7)?;
-    if cell(row, 8)? == "refused" {
-        return assert_refused(alloc, shows, "the sealing", &key, &bytes, &ad);
+    if cell(row, 8)? != "refused" {
+        return assert_sealing(alloc, row, shows, &key, &bytes);
     }
-    assert_accepted(alloc, shows, &key, &bytes_in(alloc, row, 8)?, &ad, &bytes)?;
-    assert_altered_refused(alloc, shows, &key, number_in(row, 5)?, &bytes, &ad)?;
-    assert_other_data_refused(alloc, shows, &key, &bytes, &ad)
+    let ad = bytes_in(alloc, row, 6)?;
+    assert_refused(
+        alloc,
+        shows,
+        "the sealing",
+        &SealingKey::Aead(&key),
+        &bytes,
+        &ad,
+    )
 }
 
 fn assert_rows(alloc: Global, rows: &str) -> Result<(), Fail> {

@@ -1,7 +1,8 @@
 //! Names and lengths of files of the stores in memory.
 
 use std::test::Fail;
-use tink_base::{Created, Failed, MemStore, Store, StoreError, TornStore};
+use test_words::create_word;
+use tink_base::{MemStore, Store, TornStore};
 
 // Call 4 fails.
 #[test]
@@ -10,12 +11,12 @@ fn looks_up_names_and_lengths(rt: HostRuntime) -> Result<(), Fail> {
     fails.push(4)?;
     let mut store = MemStore::new(rt.alloc(), fails);
     store.put("a", b"seven b")?;
-    assert_eq!(rt; store.is_taken("a"), Ok(true));
-    assert_eq!(rt; store.is_taken("b"), Ok(false));
-    assert_eq!(rt; store.size("a"), Ok(Some(7)));
-    assert_eq!(rt; store.size("a"), Err(Failed));
-    assert_eq!(rt; store.size("b"), Ok(None));
-    assert_eq!(rt; store.faults(), 1);
+    assert!(rt; matches!(store.is_taken("a"), Ok(true)));
+    assert!(rt; matches!(store.is_taken("b"), Ok(false)));
+    assert!(rt; matches!(store.size("a"), Ok(Some(7))));
+    assert!(rt; store.size("a").is_err(), "listed");
+    assert!(rt; matches!(store.size("b"), Ok(None)));
+    assert!(rt; store.faults() == 1);
     Ok(())
 }
 
@@ -26,24 +27,23 @@ fn counts_what_it_gives(rt: HostRuntime) -> Result<(), Fail> {
     store.put("a", b"seven b")?;
     for (limit, given) in [(6, 0), (7, 7), (9, 14)] {
         let _ = store.load(rt.alloc(), "a", limit);
-        assert_eq!(rt; store.given(), given, "up to {limit}");
+        assert!(rt; store.given() == given, "up to {limit}");
     }
     let _ = store.load(rt.alloc(), "b", 9);
-    assert_eq!(rt; store.size("a"), Ok(Some(7)));
-    assert_eq!(rt; store.given(), 14);
+    assert!(rt; matches!(store.size("a"), Ok(Some(7))));
+    assert!(rt; store.given() == 14);
     Ok(())
 }
 
 #[test]
 fn a_torn_file_has_a_name_and_a_length(rt: HostRuntime) -> Result<(), Fail> {
     let mut store = TornStore::new(rt.alloc(), 3);
-    assert_eq!(rt; store.is_taken("n"), Ok(false));
-    assert_eq!(rt;
-        store.create(rt.alloc(), "n", b"bytes"),
-        Err(StoreError::Failed)
-    );
-    assert_eq!(rt; store.is_taken("n"), Ok(true));
-    assert_eq!(rt; store.size("n"), Ok(Some(3)));
-    assert_eq!(rt; store.create(rt.alloc(), "n", b""), Ok(Created::Exists));
+    assert!(rt; matches!(store.is_taken("n"), Ok(false)));
+    let torn = store.create(rt.alloc(), "n", b"bytes");
+    assert!(rt; create_word(&torn) == "failed");
+    assert!(rt; matches!(store.is_taken("n"), Ok(true)));
+    assert!(rt; matches!(store.size("n"), Ok(Some(3))));
+    let again = store.create(rt.alloc(), "n", b"");
+    assert!(rt; create_word(&again) == "exists");
     Ok(())
 }
