@@ -1,6 +1,8 @@
 //! AES-SIV (RFC 5297), with one associated datum.
 
-ghost use Rattle.std.specs.Prelude.{◌≡◌, ◌≢◌, ◌↔◌, ◌+◌, ◌^◌, ◌≤◌, ◌++◌, drop, length, option_map, take, IfOk, IsErr, IsTrue};
+ghost use Rattle.std.specs.Prelude.{◌≡◌, ◌≢◌, ◌↔◌, ◌+◌, ◌^◌, ◌≤◌, ◌++◌, drop, length, take, IfOk, IsErr, IsTrue};
+ghost use Rattle.std.specs.Bool.{OnFalse, OnTrue};
+ghost use Rattle.tink_spec.specs.InPlace.{OpensTo};
 ghost use Rattle.aes_core.specs.Counter.{ctr};
 ghost use Rattle.aes_core.specs.declared.counter.CtrKind.TheVariants.{All128};
 ghost use Rattle.mac_prf.specs.Cmac.{cmac};
@@ -9,9 +11,8 @@ ghost use Rattle.siv_daead.specs.Siv.{first_counter, mac_key, s2v, siv_open, siv
 use aes_core::{Aes, CtrKind, KeySize};
 use mac_prf::Cmac;
 use mac_prf::blocks::{doubled, padded, same_bytes, xor};
-use std::alloc::Global;
 use std::marker::Model;
-use tink_base::NoMemory;
+use std::ops::Range;
 
 // The bits of the counter that stay: the highest ones of bytes 8 and 12 are cleared (2.5).
 const KEPT_BITS: u128 = 0xffff_ffff_ffff_ffff_7fff_ffff_7fff_ffff;
@@ -67,31 +68,26 @@ pub fn siv_seal(key: &SivKey, at: usize, mut bytes: Vec<u8>, ad: &[u8]) -> Vec<u
     bytes
 }
 
-/// Opens what `siv_seal` made under the same key and associated datum (RFC 5297, 2.7).
+/// Opens in place what `siv_seal` made under the same key and associated datum (RFC 5297, 2.7), and
+/// answers where the plaintext stands in `bytes` then.
 ///
 /// `bytes` have at most 2^30 + 96, and `ad` at most 2^30. The answer is `None` exactly where there are
 /// fewer than 16 bytes, or where the SIV that the plaintext has isn't the one in front. All bytes of
-/// the two are compared. `NoMemory` comes for want of memory alone.
-pub fn siv_open(
-    alloc: Global,
-    key: &SivKey,
-    bytes: &[u8],
-    ad: &[u8],
-) -> Result<Option<Vec<u8>>, NoMemory>
-    requires bytes_bound { length bytes.now ≤ 2 ^ 30 + 96 }
+/// the two are compared, and `bytes` are as before then. No memory is taken.
+pub fn siv_open(key: &SivKey, bytes: &mut [u8], ad: &[u8]) -> Option<Range<usize>>
+    requires bytes_bound { length bytes.old ≤ 2 ^ 30 + 96 }
     requires ad_bound { length ad.now ≤ 2 ^ 30 }
-    ensures opened { IfOk result (λ plain.
-        option_map (λ text. text.items) plain ≡ siv_open key.now bytes.now ad.now) }
+    ensures { OpensTo (siv_open key.now bytes.old ad.now) bytes.old bytes.new result }
 {
-    if bytes.len() < 16 {
-        return Ok(None);
+    let end = bytes.len();
+    if end < 16 {
+        return None;
     }
-    let (front, text) = bytes.split_at(16);
-    let mut plain = Vec::from_slice(alloc, text)?;
-    if open_in_place(key, &block_of(front), ad, &mut plain) {
-        Ok(Some(plain))
+    let (front, body) = bytes.split_at_mut(16);
+    if open_in_place(key, &block_of(front), ad, body) {
+        Some(16..end)
     } else {
-        Ok(None)
+        None
     }
 }
 
@@ -114,13 +110,20 @@ fn seal_in_place(key: &SivKey, sealed: &mut [u8], ad: &[u8])
     crypt(&key.ctr, &siv, body);
 }
 
-// Decrypts in place, and answers whether the SIV is that of the plaintext (2.7).
+// Decrypts in place, where the SIV is that of the plaintext (2.7). Where it isn't, what was decrypted is
+// encrypted again.
 fn open_in_place(key: &SivKey, siv: &[u8; 16], ad: &[u8], body: &mut [u8]) -> bool
-    ensures plain { body.new ≡ siv_text key.now siv.now body.old }
-    ensures authentic { IsTrue result ↔ (siv.now ≡ s2v (mac_key key.now) ad.now body.new) }
+    ensures authentic { IsTrue result
+        ↔ (siv.now ≡ s2v (mac_key key.now) ad.now (siv_text key.now siv.now body.old)) }
+    ensures opened { OnTrue result (body.new ≡ siv_text key.now siv.now body.old) }
+    ensures kept { OnFalse result (body.new ≡ body.old) }
 {
     crypt(&key.ctr, siv, body);
-    same_bytes(siv, &synthetic_iv(&key.mac, ad, body))
+    let same = same_bytes(siv, &synthetic_iv(&key.mac, ad, body));
+    if !same {
+        crypt(&key.ctr, siv, body);
+    }
+    same
 }
 
 // S2V of the datum and the plaintext, under the first half of the key (2.4 and 2.6).
