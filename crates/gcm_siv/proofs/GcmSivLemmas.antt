@@ -178,58 +178,47 @@ sealed_under_first key bytes plain ad e =
 
 -- ---- the parts that the code works on
 
--- the parts of bytes, as they are cut off: the IV at the front, and then the tag at the back
-pub record AreParts (bytes iv rest text tag : List ℕ) : Type 0 where
-  pub front : iv ≡ take 12 bytes
-  pub behind : rest ≡ drop 12 bytes
-  pub middle : text ≡ take (length rest - 16) rest
-  pub back : tag ≡ drop (length rest - 16) rest
+-- the IV and the tag of bytes, and the text between them
+pub record AreParts (bytes iv text tag : List ℕ) : Type 0 where
+  pub front : iv ≡ iv_of bytes
+  pub middle : text ≡ text_of bytes
+  pub back : tag ≡ tag_of bytes
   pub long : 28 ≤ length bytes
 
-text_is : (bytes iv rest text tag : List ℕ) → AreParts bytes iv rest text tag
-    → text ≡ text_of bytes
-text_is bytes iv rest text tag parts =
-    let size : length (drop 12 bytes) - 16 ≡ length bytes - 28
-    = omega (arith, length-drop 12 bytes) in
-    parts.middle ∙ ap (λ r. take (length r - 16) r) parts.behind
-    ∙ ap (λ n. take n (drop 12 bytes)) size
-
-tag_is : (bytes iv rest text tag : List ℕ) → AreParts bytes iv rest text tag → tag ≡ tag_of bytes
-tag_is bytes iv rest text tag parts =
+-- the tag, as it is cut off behind the IV
+pub tag_behind : (bytes rest : List ℕ) → rest ≡ drop 12 bytes → 28 ≤ length bytes
+    → drop (length rest - 16) rest ≡ tag_of bytes
+tag_behind bytes rest behind long =
     let before : ℕ = length (drop 12 bytes) - 16 in
-    let size : 12 + before ≡ length bytes - 16
-    = omega (arith, length-drop 12 bytes, parts.long) in
-    parts.back ∙ ap (λ r. drop (length r - 16) r) parts.behind
-    ∙ drop-drop before 12 bytes ∙ ap (λ n. drop n bytes) size
+    let size : 12 + before ≡ length bytes - 16 = omega (arith, length-drop 12 bytes) in
+    ap (λ r. drop (length r - 16) r) behind ∙ drop-drop before 12 bytes
+    ∙ ap (λ n. drop n bytes) size
 
-plain_is : (key bytes iv rest text tag : List ℕ) → AreParts bytes iv rest text tag
+plain_is : (key bytes iv text tag : List ℕ) → AreParts bytes iv text tag
     → gcm_siv_text key iv tag text ≡ plain_of key bytes
-plain_is key bytes iv rest text tag parts =
-    λ i. gcm_siv_text key (parts.front i) (tag_is bytes iv rest text tag parts i)
-    (text_is bytes iv rest text tag parts i)
+plain_is key bytes iv text tag parts =
+    λ i. gcm_siv_text key (parts.front i) (parts.back i) (parts.middle i)
 
-anew_is : (key bytes ad iv rest text tag : List ℕ) → AreParts bytes iv rest text tag
+anew_is : (key bytes ad iv text tag : List ℕ) → AreParts bytes iv text tag
     → gcm_siv_tag key iv ad (gcm_siv_text key iv tag text)
     ≡ gcm_siv_tag key (iv_of bytes) ad (plain_of key bytes)
-anew_is key bytes ad iv rest text tag parts =
-    λ i. gcm_siv_tag key (parts.front i) ad (plain_is key bytes iv rest text tag parts i)
+anew_is key bytes ad iv text tag parts =
+    λ i. gcm_siv_tag key (parts.front i) ad (plain_is key bytes iv text tag parts i)
 
-pub parts-open : (key bytes ad iv rest text tag : List ℕ) → AreParts bytes iv rest text tag
+pub parts-open : (key bytes ad iv text tag : List ℕ) → AreParts bytes iv text tag
     → tag ≡ gcm_siv_tag key iv ad (gcm_siv_text key iv tag text)
     → gcm_siv_open key bytes ad ≡ Some (gcm_siv_text key iv tag text)
-parts-open key bytes ad iv rest text tag parts same =
+parts-open key bytes ad iv text tag parts same =
     opens key bytes ad parts.long
-    (sym (tag_is bytes iv rest text tag parts) ∙ same
-    ∙ anew_is key bytes ad iv rest text tag parts)
-    ∙ ap (λ p. Some p) (sym (plain_is key bytes iv rest text tag parts))
+    (sym parts.back ∙ same ∙ anew_is key bytes ad iv text tag parts)
+    ∙ ap (λ p. Some p) (sym (plain_is key bytes iv text tag parts))
 
-pub parts-closed : (key bytes ad iv rest text tag : List ℕ) → AreParts bytes iv rest text tag
+pub parts-closed : (key bytes ad iv text tag : List ℕ) → AreParts bytes iv text tag
     → (tag ≡ gcm_siv_tag key iv ad (gcm_siv_text key iv tag text) → ⊥)
     → gcm_siv_open key bytes ad ≡ None
-parts-closed key bytes ad iv rest text tag parts other =
+parts-closed key bytes ad iv text tag parts other =
     closed key bytes ad parts.long
-    (λ same. other (tag_is bytes iv rest text tag parts ∙ same
-    ∙ sym (anew_is key bytes ad iv rest text tag parts)))
+    (λ same. other (parts.back ∙ same ∙ sym (anew_is key bytes ad iv text tag parts)))
 
 -- ---- bytes
 

@@ -3,8 +3,10 @@
 //! No branch and no place in memory depends on the key or on a byte of text, associated data or tag,
 //! but for the answer whether the tag is the right one: so it is written, and no clause says it.
 
-ghost use Rattle.std.specs.Prelude.{◌≡◌, ◌⊎◌, ◌↔◌, ◌+◌, ◌^◌, ◌≤◌, ◌<◌, ◌*◌, ◌++◌, drop, length, option_map, take, IfOk, IsTrue};
+ghost use Rattle.std.specs.Prelude.{◌≡◌, ◌⊎◌, ◌↔◌, ◌+◌, ◌^◌, ◌≤◌, ◌<◌, ◌*◌, ◌++◌, drop, length, take, IfOk, IsTrue};
+ghost use Rattle.std.specs.Bool.{OnFalse, OnTrue};
 ghost use Rattle.std.specs.Int.{w64, to_le_bytes};
+ghost use Rattle.tink_spec.specs.InPlace.{OpensTo};
 ghost use Rattle.aes_core.specs.Counter.{ctr};
 ghost use Rattle.aes_core.specs.declared.counter.CtrKind.TheVariants.{First32};
 ghost use Rattle.gcm_siv.specs.GcmSiv.{derived_half, encryption_key, first_counter, gcm_siv_open, gcm_siv_seal, gcm_siv_tag, gcm_siv_text, hashed};
@@ -12,7 +14,7 @@ ghost use Rattle.gcm_siv.specs.GcmSiv.{derived_half, encryption_key, first_count
 use crate::polyval::{absorb, hash_under};
 use aes_core::{Aes, CtrKind};
 use mac_prf::blocks::{same_bytes, xor};
-use std::alloc::Global;
+use std::ops::Range;
 use tink_base::NoMemory;
 
 /// The bytes of an IV.
@@ -27,8 +29,8 @@ const TAG: usize = 16;
 /// The plaintext stands behind `at` and room for the IV, whatever stands in that. It has at most 2^30
 /// bytes, as many as its ciphertext, and so has `ad`. An IV that serves twice under one key tells
 /// whether plaintext and associated data were the same, and nothing else; still, each message should
-/// have its own. `NoMemory` comes for want of memory alone, here and in opening, and here only where
-/// the list has no place for the tag of 16 bytes.
+/// have its own. `NoMemory` comes only where the list has no place for the tag of 16 bytes, and memory for
+/// more is wanting.
 pub fn gcm_siv_seal(
     key: &Aes,
     at: usize,
@@ -47,33 +49,25 @@ pub fn gcm_siv_seal(
     Ok(bytes)
 }
 
-/// Opens IV, ciphertext and tag, joined (RFC 8452, 5).
+/// Opens IV, ciphertext and tag, joined, in place (RFC 8452, 5), and answers where the plaintext stands
+/// in `bytes` then.
 ///
 /// `bytes` have at most 2^30 + 96, and `ad` at most 2^30. The answer is `None` exactly where `bytes`
 /// are shorter than IV and tag, or the tag isn't the one that the plaintext has. All bytes of the two
-/// are compared.
-pub fn gcm_siv_open(
-    alloc: Global,
-    key: &Aes,
-    bytes: &[u8],
-    ad: &[u8],
-) -> Result<Option<Vec<u8>>, NoMemory>
-    requires bytes_bound { length bytes.now ≤ 2 ^ 30 + 96 }
+/// are compared, and `bytes` are as before then. No memory is taken.
+pub fn gcm_siv_open(key: &Aes, bytes: &mut [u8], ad: &[u8]) -> Option<Range<usize>>
+    requires bytes_bound { length bytes.old ≤ 2 ^ 30 + 96 }
     requires ad_bound { length ad.now ≤ 2 ^ 30 }
-    ensures opened { IfOk result (λ o.
-        option_map (λ v. v.items) o ≡ gcm_siv_open key.now bytes.now ad.now) }
+    ensures { OpensTo (gcm_siv_open key.now bytes.old ad.now) bytes.old bytes.new result }
 {
-    let Some((iv, rest)) = bytes.split_first_chunk::<IV>() else {
-        return Ok(None);
-    };
-    let Some((text, tag)) = rest.split_last_chunk::<TAG>() else {
-        return Ok(None);
-    };
-    let mut body = text.to_vec(alloc)?;
-    if open_in_place(key, iv, ad, body.as_mut_slice(), tag) {
-        Ok(Some(body))
+    let (iv, rest) = bytes.split_first_chunk::<IV>()?;
+    let (_, tag) = rest.split_last_chunk::<TAG>()?;
+    let (iv, tag) = (*iv, *tag);
+    let end = bytes.len() - TAG;
+    if open_in_place(key, &iv, ad, &mut bytes[IV..end], &tag) {
+        Some(IV..end)
     } else {
-        Ok(None)
+        None
     }
 }
 
@@ -114,16 +108,23 @@ fn seal_in_place(key: &Aes, iv: &[u8; 12], ad: &[u8], body: &mut [u8]) -> [u8; 1
     tag
 }
 
-// Decrypts in place, and answers whether the tag is that of the plaintext (5).
+// Decrypts in place, where the tag is that of the plaintext (5). Where it isn't, what was decrypted is
+// encrypted again.
 fn open_in_place(key: &Aes, iv: &[u8; 12], ad: &[u8], body: &mut [u8], tag: &[u8; 16]) -> bool
     requires ad_bound { length ad.now ≤ 2 ^ 30 }
     requires body_bound { length body.old ≤ 2 ^ 31 }
-    ensures plain { body.new ≡ gcm_siv_text key.now iv.now tag.now body.old }
-    ensures authentic { IsTrue result ↔ (tag.now ≡ gcm_siv_tag key.now iv.now ad.now body.new) }
+    ensures authentic { IsTrue result ↔ (tag.now
+        ≡ gcm_siv_tag key.now iv.now ad.now (gcm_siv_text key.now iv.now tag.now body.old)) }
+    ensures opened { OnTrue result (body.new ≡ gcm_siv_text key.now iv.now tag.now body.old) }
+    ensures kept { OnFalse result (body.new ≡ body.old) }
 {
     let encryption = encryption_aes(key, iv);
     crypt(&encryption, tag, body);
-    same_bytes(tag, &tag_of(key, &encryption, iv, ad, body))
+    let same = same_bytes(tag, &tag_of(key, &encryption, iv, ad, body));
+    if !same {
+        crypt(&encryption, tag, body);
+    }
+    same
 }
 
 // The expansion of a key that fits.

@@ -1,82 +1,81 @@
-use Rattle.std.proofs.Common.{rules, ◌≡◌, Some, List, ℕ, length, drop, sym, ap, ◌∙◌, arith}
-use Rattle.std.proofs.lemmas.Bool.{true≢false}
-use Rattle.std.proofs.lemmas.List.{take_at}
-use Rattle.gcm_siv.specs.GcmSiv.{gcm_siv_tag, gcm_siv_text}
-use Rattle.gcm_siv.proofs.GcmSivLemmas.{AreParts, closed-short, length-gcm_siv_text, parts-closed, parts-open}
+-- The ciphertext between IV and tag is decrypted where it stands, if the tag is that of the plaintext.
+use Rattle.std.proofs.Common.{◌≡◌, ◌-◌, ◌≤◌, ◌∙◌, None, Some, List, Option, ℕ, ap, arith, length, refl, slice_range, sym, true≢false}
+use Rattle.std.proofs.lemmas.Bool.{OnFalse_at, OnTrue_at}
+use Rattle.std.proofs.lemmas.Slice.{between-put_mid}
+use Rattle.std.specs.declared.ops.Range.{Range}
+use borrow.Rule.Slice.PartMut.{mid_len, mid_of, put_mid, put_same, same_len_mid}
+use Rattle.tink_spec.specs.InPlace.{OpensTo}
+use Rattle.gcm_siv.specs.GcmSiv.{gcm_siv_open, gcm_siv_text}
+use Rattle.gcm_siv.proofs.GcmSivLemmas.{AreParts, closed-short, parts-closed, parts-open, tag_behind}
 use Rattle.gcm_siv.proofs.siv.gcm_siv_open.Goals as goal
+use Rattle.gcm_siv.proofs.siv.gcm_siv_open.Goals.{After-open_in_place}
 
-pub returns-in_default : goal.returns-in_default
-returns-in_default c = record {
-  opened = sym (closed-short c.args.key.now c.args.bytes.now c.args.ad.now
-      (omega (arith, c.in_default.ensures.cases)));
-}
+short : (key bytes ad : List ℕ) (found : Option (Range ℕ)) → found ≡ None
+    → gcm_siv_open key bytes ad ≡ None → OpensTo (gcm_siv_open key bytes ad) bytes bytes found
+short key bytes ad found none closed = rw none (closed, refl)
 
-pub returns-in_default-split_last_chunk : goal.returns-in_default-split_last_chunk
-returns-in_default-split_last_chunk c = record {
-  opened = sym (closed-short c.args.key.now c.args.bytes.now c.args.ad.now
-      (omega (arith, c.in-Some.ensures.cases.2, c.in_default-split_last_chunk.ensures.cases)));
-}
+pub returns-in_err-iv : goal.returns-in_err-iv
+returns-in_err-iv c =
+    short c.args.key.now c.args.bytes.now c.args.ad.now _ c.from_residual.ensures
+    (closed-short c.args.key.now c.args.bytes.now c.args.ad.now
+    (omega (arith, c.in_err-iv.ensures.cases)))
+
+pub returns-in_err-tag : goal.returns-in_err-tag
+returns-in_err-tag c =
+    short c.args.key.now c.args.bytes.now c.args.ad.now _ c.from_residual-in_err-tag.ensures
+    (closed-short c.args.key.now c.args.bytes.now c.args.ad.now
+    (omega (arith, c.in_ok-iv.ensures.cases.2, c.in_err-tag.ensures.cases)))
+
+-- what was cut off, and the text between
+parts : (c : After-open_in_place) → AreParts c.args.bytes.now c.in_ok-iv.iv.now
+    (mid_of 12 (length c.args.bytes.now - 16 - 12) c.args.bytes.now) c.in_ok-tag.tag.now
+parts c =
+    let bytes = c.args.bytes.now in
+    let first = c.in_ok-iv.ensures.cases in
+    let last = c.in_ok-tag.ensures.cases in
+    let long : 28 ≤ length bytes = omega (arith, first.2, last.2) in
+    let size : length bytes - 16 - 12 ≡ length bytes - 28 = omega arith in
+    record {
+      front = first.0;
+      middle = ap (λ n. mid_of 12 n bytes) size;
+      back = last.1 ∙ tag_behind bytes c.in_ok-iv.rest.now first.1 long;
+      long = long;
+    }
 
 pub returns-then-open_in_place : goal.returns-then-open_in_place
 returns-then-open_in_place c =
     let key = c.args.key.now in
     let bytes = c.args.bytes.now in
     let ad = c.args.ad.now in
-    let iv = c.in-Some.iv.now in
-    let rest = c.in-Some.rest.now in
-    let text = c.in-Some-split_last_chunk.text.now in
-    let tag = c.in-Some-split_last_chunk.tag.now in
-    let first = c.in-Some.ensures.cases in
-    let last = c.in-Some-split_last_chunk.ensures.cases in
-    let parts : AreParts bytes iv rest text tag = record {
-      front = first.0;
-      behind = first.1;
-      middle = last.0;
-      back = last.1;
-      long = omega (arith, first.2, last.2);
-    } in
-    let copied : c.in_ok-body.body.items ≡ text = search rules in
-    let body : c.as_mut_slice.result.now ≡ text = c.as_mut_slice.ensures.value ∙ copied in
-    let new = c.open_in_place.new.body in
-    let plain : new ≡ gcm_siv_text key iv tag text
-    = c.open_in_place.ensures.plain ∙ ap (λ (t : List ℕ). gcm_siv_text key iv tag t) body in
-    let same : tag ≡ gcm_siv_tag key iv ad (gcm_siv_text key iv tag text)
-    = c.open_in_place.ensures.authentic.0 c.if-open_in_place.true
-    ∙ ap (λ (p : List ℕ). gcm_siv_tag key iv ad p) plain in
-    let size : length new ≡ c.in_ok-body.body.len
-    = ap (λ l. length l) plain ∙ length-gcm_siv_text key iv tag text ∙ sym (ap (λ l. length l) body)
-    ∙ c.as_mut_slice.ensures.len in
-    record {
-      opened = ap (λ (p : List ℕ). Some p) (take_at new (drop (length new) c.in_ok-body.body.items)
-          c.in_ok-body.body.len size ∙ plain)
-          ∙ sym (parts-open key bytes ad iv rest text tag parts same);
-    }
+    let iv = c.in_ok-iv.iv.now in
+    let tag = c.in_ok-tag.tag.now in
+    let end = length bytes - 16 in
+    let text : List ℕ = mid_of 12 (end - 12) bytes in
+    let body : List ℕ = c.open_in_place.new.body in
+    let cut = parts (goal.at.returns-then-open_in_place c).After-open_in_place in
+    let long = cut.long in
+    let kept : length body ≡ length text = c.open_in_place.auto.body in
+    let size : length body ≡ end - 12 = kept ∙ mid_len 12 end bytes (omega arith) in
+    let plain : body ≡ gcm_siv_text key iv tag text
+    = OnTrue_at c.if-open_in_place.true c.open_in_place.ensures.opened in
+    let part : slice_range (put_mid 12 (end - 12) bytes body) 12 end ≡ body
+    = between-put_mid 12 (end - 12) bytes body end (omega arith) size in (
+      omega arith,
+      omega (arith, same_len_mid 12 (end - 12) bytes body kept),
+      parts-open key bytes ad iv text tag cut
+          (c.open_in_place.ensures.authentic.0 c.if-open_in_place.true)
+          ∙ ap (λ (l : List ℕ). Some l) (sym (part ∙ plain)),
+    )
 
 pub returns-else-open_in_place : goal.returns-else-open_in_place
 returns-else-open_in_place c =
-    let key = c.args.key.now in
     let bytes = c.args.bytes.now in
-    let ad = c.args.ad.now in
-    let iv = c.in-Some.iv.now in
-    let rest = c.in-Some.rest.now in
-    let text = c.in-Some-split_last_chunk.text.now in
-    let tag = c.in-Some-split_last_chunk.tag.now in
-    let first = c.in-Some.ensures.cases in
-    let last = c.in-Some-split_last_chunk.ensures.cases in
-    let parts : AreParts bytes iv rest text tag = record {
-      front = first.0;
-      behind = first.1;
-      middle = last.0;
-      back = last.1;
-      long = omega (arith, first.2, last.2);
-    } in
-    let copied : c.in_ok-body.body.items ≡ text = search rules in
-    let body : c.as_mut_slice.result.now ≡ text = c.as_mut_slice.ensures.value ∙ copied in
-    let plain : c.open_in_place.new.body ≡ gcm_siv_text key iv tag text
-    = c.open_in_place.ensures.plain ∙ ap (λ (t : List ℕ). gcm_siv_text key iv tag t) body in
-    record {
-      opened = sym (parts-closed key bytes ad iv rest text tag parts (λ same.
-          let yes = c.open_in_place.ensures.authentic.1
-          (same ∙ ap (λ (p : List ℕ). gcm_siv_tag key iv ad p) (sym plain)) in
-          true≢false (sym yes ∙ c.if-open_in_place.false)));
-    }
+    let size = length bytes - 16 - 12 in
+    let text : List ℕ = mid_of 12 size bytes in
+    let cut = parts (goal.at.returns-else-open_in_place c).After-open_in_place in (
+      parts-closed c.args.key.now bytes c.args.ad.now c.in_ok-iv.iv.now text c.in_ok-tag.tag.now cut (λ same.
+          true≢false (sym (c.open_in_place.ensures.authentic.1 same) ∙ c.if-open_in_place.false)),
+      ap (λ (l : List ℕ). put_mid 12 size bytes l)
+          (OnFalse_at c.if-open_in_place.false c.open_in_place.ensures.kept)
+          ∙ put_same 12 size bytes,
+    )
