@@ -4,23 +4,19 @@ use Rattle.std.proofs.lemmas.List.{drop-drop, length-drop}
 use Rattle.aead_kinds.specs.Gcm.{gcm_open, gcm_tag, gcm_text, iv_of, tag_of, text_of}
 use Rattle.aead_kinds.proofs.GcmLemmas.{closed, opens}
 
--- ---- opening
-
--- the parts of bytes, as they are cut off: the IV at the front, and then the tag at the back
+-- the IV is cut off in front, the tag behind that, and the text stands between them
 pub record AreParts (bytes iv rest text tag : List ℕ) : Type 0 where
   pub front : iv ≡ take 12 bytes
   pub behind : rest ≡ drop 12 bytes
-  pub middle : text ≡ take (length rest - 16) rest
+  pub middle : text ≡ take (length bytes - 16 - 12) (drop 12 bytes)
   pub back : tag ≡ drop (length rest - 16) rest
   pub long : 28 ≤ length bytes
 
 text_is : (bytes iv rest text tag : List ℕ) → AreParts bytes iv rest text tag
     → text ≡ text_of bytes
 text_is bytes iv rest text tag parts =
-    let size : length (drop 12 bytes) - 16 ≡ length bytes - 28
-    = omega (arith, length-drop 12 bytes) in
-    parts.middle ∙ ap (λ r. take (length r - 16) r) parts.behind
-    ∙ ap (λ n. take n (drop 12 bytes)) size
+    let size : length bytes - 16 - 12 ≡ length bytes - 28 = omega arith in
+    parts.middle ∙ ap (λ n. take n (drop 12 bytes)) size
 
 tag_is : (bytes iv rest text tag : List ℕ) → AreParts bytes iv rest text tag → tag ≡ tag_of bytes
 tag_is bytes iv rest text tag parts =

@@ -2,7 +2,7 @@
 -- the tag has its size.
 use Rattle.std.proofs.Common.{◌≡◌, ℕ, ◌+◌, ◌-◌, ◌<◌, ◌≤◌, cond, nat_lt, Some, None, List, [], ◌∷◌, ◌++◌, length, take, drop, refl, sym, ap, ◌∙◌, arith}
 use Rattle.std.proofs.lemmas.Bool.{cond-false, cond-true, cond_both, le-ltb, lt-ltb, ltb-false}
-use Rattle.std.proofs.lemmas.List.{append_assoc, drop-drop, drop_at, length-append, length-drop, length-take, take-append-drop, take_at}
+use Rattle.std.proofs.lemmas.List.{append_assoc, drop-drop, drop_at, length-append, length-take, take-append-drop, take_at}
 use Rattle.std.proofs.lemmas.List.Elements.{All-append, All-cons, All-head, All-nil, All-tail}
 use Rattle.std.proofs.lemmas.Nat.{xor_of_8}
 use Rattle.std.proofs.lemmas.Option.{none-some, same_Some}
@@ -193,51 +193,47 @@ bytes-xor_bytes (x ∷ a) (y ∷ b) ha hb =
 
 -- ---- opening, of the parts that the code cuts off
 
--- the IV at the front, and then the tag at the back
-pub record AreCut (v t : ℕ) (bytes iv rest text made : List ℕ) : Type 0 where
+-- the IV in front, and of what stands behind it the text, of n bytes, and the tag
+pub record AreCut (v n t : ℕ) (bytes iv rest text made : List ℕ) : Type 0 where
   pub front : iv ≡ take v bytes
   pub behind : rest ≡ drop v bytes
-  pub middle : text ≡ take (length rest - t) rest
-  pub back : made ≡ drop (length rest - t) rest
-  pub long : v + t ≤ length bytes
+  pub middle : text ≡ take n rest
+  pub back : made ≡ drop n rest
+  pub whole : v + n + t ≡ length bytes
 
-cut-text : (v t : ℕ) (bytes iv rest text made : List ℕ) → AreCut v t bytes iv rest text made
+cut-text : (v n t : ℕ) (bytes iv rest text made : List ℕ) → AreCut v n t bytes iv rest text made
     → text ≡ text_of v t bytes
-cut-text v t bytes iv rest text made cut =
-    let size : length (drop v bytes) - t ≡ length bytes - (v + t)
-    = omega (arith, length-drop v bytes) in
-    cut.middle ∙ ap (λ r. take (length r - t) r) cut.behind ∙ ap (λ n. take n (drop v bytes)) size
+cut-text v n t bytes iv rest text made cut =
+    let size : n ≡ length bytes - (v + t) = omega (arith, cut.whole) in
+    cut.middle ∙ ap (λ r. take n r) cut.behind ∙ ap (λ m. take m (drop v bytes)) size
 
-cut-tag : (v t : ℕ) (bytes iv rest text made : List ℕ) → AreCut v t bytes iv rest text made
+cut-tag : (v n t : ℕ) (bytes iv rest text made : List ℕ) → AreCut v n t bytes iv rest text made
     → made ≡ tag_of t bytes
-cut-tag v t bytes iv rest text made cut =
-    let before : ℕ = length (drop v bytes) - t in
-    let size : v + before ≡ length bytes - t
-    = omega (arith, length-drop v bytes, cut.long) in
-    cut.back ∙ ap (λ r. drop (length r - t) r) cut.behind
-    ∙ drop-drop before v bytes ∙ ap (λ n. drop n bytes) size
+cut-tag v n t bytes iv rest text made cut =
+    let size : v + n ≡ length bytes - t = omega (arith, cut.whole) in
+    cut.back ∙ ap (λ r. drop n r) cut.behind ∙ drop-drop n v bytes ∙ ap (λ m. drop m bytes) size
 
-cut-anew : (tag : List ℕ → List ℕ → List ℕ → List ℕ) (v t : ℕ) (bytes ad iv rest text made : List ℕ)
-    → AreCut v t bytes iv rest text made
+cut-anew : (tag : List ℕ → List ℕ → List ℕ → List ℕ) (v n t : ℕ)
+    (bytes ad iv rest text made : List ℕ) → AreCut v n t bytes iv rest text made
     → tag iv ad text ≡ tag (iv_of v bytes) ad (text_of v t bytes)
-cut-anew tag v t bytes ad iv rest text made cut =
+cut-anew tag v n t bytes ad iv rest text made cut =
     ap (λ w. tag w ad text) cut.front
-    ∙ ap (λ c. tag (iv_of v bytes) ad c) (cut-text v t bytes iv rest text made cut)
+    ∙ ap (λ c. tag (iv_of v bytes) ad c) (cut-text v n t bytes iv rest text made cut)
 
 pub cut-opens : (crypt : List ℕ → List ℕ → List ℕ) (tag : List ℕ → List ℕ → List ℕ → List ℕ)
-    (v t : ℕ) (bytes ad iv rest text made : List ℕ) → AreCut v t bytes iv rest text made
+    (v n t : ℕ) (bytes ad iv rest text made : List ℕ) → AreCut v n t bytes iv rest text made
     → tag iv ad text ≡ made → opened_by crypt tag v t bytes ad ≡ Some (crypt iv text)
-cut-opens crypt tag v t bytes ad iv rest text made cut same =
-    authentic-opens crypt tag v t bytes ad cut.long
-    (sym (cut-tag v t bytes iv rest text made cut) ∙ sym same
-    ∙ cut-anew tag v t bytes ad iv rest text made cut)
+cut-opens crypt tag v n t bytes ad iv rest text made cut same =
+    authentic-opens crypt tag v t bytes ad (omega (arith, cut.whole))
+    (sym (cut-tag v n t bytes iv rest text made cut) ∙ sym same
+    ∙ cut-anew tag v n t bytes ad iv rest text made cut)
     ∙ ap (λ w. Some (crypt w (text_of v t bytes))) (sym cut.front)
-    ∙ ap (λ c. Some (crypt iv c)) (sym (cut-text v t bytes iv rest text made cut))
+    ∙ ap (λ c. Some (crypt iv c)) (sym (cut-text v n t bytes iv rest text made cut))
 
 pub cut-closed : (crypt : List ℕ → List ℕ → List ℕ) (tag : List ℕ → List ℕ → List ℕ → List ℕ)
-    (v t : ℕ) (bytes ad iv rest text made : List ℕ) → AreCut v t bytes iv rest text made
+    (v n t : ℕ) (bytes ad iv rest text made : List ℕ) → AreCut v n t bytes iv rest text made
     → (tag iv ad text ≡ made → ⊥) → opened_by crypt tag v t bytes ad ≡ None
-cut-closed crypt tag v t bytes ad iv rest text made cut other =
-    other_tag-closed crypt tag v t bytes ad cut.long
-    (λ same. other (cut-anew tag v t bytes ad iv rest text made cut ∙ sym same
-    ∙ sym (cut-tag v t bytes iv rest text made cut)))
+cut-closed crypt tag v n t bytes ad iv rest text made cut other =
+    other_tag-closed crypt tag v t bytes ad (omega (arith, cut.whole))
+    (λ same. other (cut-anew tag v n t bytes ad iv rest text made cut ∙ sym same
+    ∙ sym (cut-tag v n t bytes iv rest text made cut)))

@@ -4,4 +4,3 @@ pub mod CtrHmacLemmas
 pub mod EaxLemmas
 pub mod InPlaceLemmas
 pub mod AeadLemmas
-pub mod SchemeLemmas

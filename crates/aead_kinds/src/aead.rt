@@ -1,14 +1,14 @@
 //! Sealing and opening under a key of any kind.
 
 ghost use Rattle.std.specs.Prelude.{◌≡◌, ◌↔◌, ◌+◌, ◌^◌, ◌≤◌, ◌++◌, drop, length, take, IfOk, IsTrue};
-ghost use Rattle.std.specs.Option.{option_map};
+ghost use Rattle.tink_spec.specs.InPlace.{OpensTo};
 ghost use Rattle.aead_kinds.specs.Aead.{IsFit, iv_size_of, open_key, seal_of};
 ghost use Rattle.aead_kinds.specs.Gcm.{gcm_open, gcm_seal};
 
-use crate::gcm::{crypt as gcm_crypt, gcm_seal_in_place, is_tag as is_gcm_tag};
+use crate::gcm::{gcm_open_in_place, gcm_seal_in_place};
 use crate::scheme::Scheme;
 use aes_core::Aes;
-use std::alloc::Global;
+use std::ops::Range;
 use tink_base::{Hash, NoMemory};
 
 /// The bytes of an IV of AES-GCM.
@@ -121,25 +121,22 @@ pub fn seal(
     }
 }
 
-/// Opens IV, ciphertext and tag, joined.
+/// Opens IV, ciphertext and tag, joined, in place, and answers where the plaintext stands in `bytes`
+/// then.
 ///
 /// `bytes` have at most 2^30 + 96, and `ad` at most 2^30. The answer is `None` exactly where `bytes`
-/// are shorter than IV and tag, or the tag isn't the one computed anew; nothing was decrypted then.
+/// are shorter than IV and tag, or the tag isn't the one computed anew; nothing was decrypted then. No
+/// memory is taken.
 #[tactic(auto, unfolding(crate::specs::Eax::eax_open, crate::specs::CtrHmac::ctr_hmac_open))]
-pub fn open(
-    alloc: Global,
-    key: &AeadKey<'_>,
-    bytes: &[u8],
-    ad: &[u8],
-) -> Result<Option<Vec<u8>>, NoMemory>
+pub fn open(key: &AeadKey<'_>, bytes: &mut [u8], ad: &[u8]) -> Option<Range<usize>>
     requires fits { IsFit key.now }
-    requires bytes_bound { length bytes.now ≤ 2 ^ 30 + 96 }
+    requires bytes_bound { length bytes.old ≤ 2 ^ 30 + 96 }
     requires ad_bound { length ad.now ≤ 2 ^ 30 }
-    ensures { IfOk result (λ o. option_map (λ v. v.items) o ≡ open_key key.now bytes.now ad.now) }
+    ensures { OpensTo (open_key key.now bytes.old ad.now) bytes.old bytes.new result }
 {
     match key {
-        AeadKey::Gcm { key } => gcm_opened(alloc, key, bytes, ad),
-        AeadKey::Eax { key, iv_size } => Scheme::Eax { key }.open(alloc, *iv_size, bytes, ad),
+        AeadKey::Gcm { key } => gcm_opened(key, bytes, ad),
+        AeadKey::Eax { key, iv_size } => Scheme::Eax { key }.open(*iv_size, bytes, ad),
         AeadKey::CtrHmac {
             aes,
             iv_size,
@@ -154,7 +151,7 @@ pub fn open(
                 mac,
                 tag_size,
             }
-            .open(alloc, *iv_size, bytes, ad)
+            .open(*iv_size, bytes, ad)
         }
     }
 }
@@ -204,27 +201,19 @@ fn gcm_seal_under_iv(key: &Aes, sealed: &mut [u8], iv: &[u8; 12], ad: &[u8]) -> 
     gcm_seal_in_place(key, iv, ad, body)
 }
 
-// The tag is compared before the ciphertext is copied.
-fn gcm_opened(
-    alloc: Global,
-    key: &Aes,
-    bytes: &[u8],
-    ad: &[u8],
-) -> Result<Option<Vec<u8>>, NoMemory>
-    requires bytes_bound { length bytes.now ≤ 2 ^ 30 + 96 }
+// Opens in place, and answers where the plaintext stands then.
+fn gcm_opened(key: &Aes, bytes: &mut [u8], ad: &[u8]) -> Option<Range<usize>>
+    requires bytes_bound { length bytes.old ≤ 2 ^ 30 + 96 }
     requires ad_bound { length ad.now ≤ 2 ^ 30 }
-    ensures { IfOk result (λ o. option_map (λ v. v.items) o ≡ gcm_open key.now bytes.now ad.now) }
+    ensures { OpensTo (gcm_open key.now bytes.old ad.now) bytes.old bytes.new result }
 {
-    let Some((iv, rest)) = bytes.split_first_chunk::<GCM_IV>() else {
-        return Ok(None);
-    };
-    let Some((text, tag)) = rest.split_last_chunk::<TAG>() else {
-        return Ok(None);
-    };
-    if !is_gcm_tag(key, iv, ad, text, tag) {
-        return Ok(None);
+    let (iv, rest) = bytes.split_first_chunk::<GCM_IV>()?;
+    let (_, tag) = rest.split_last_chunk::<TAG>()?;
+    let (iv, tag) = (*iv, *tag);
+    let end = bytes.len() - TAG;
+    if gcm_open_in_place(key, &iv, ad, &mut bytes[GCM_IV..end], &tag) {
+        Some(GCM_IV..end)
+    } else {
+        None
     }
-    let mut body = text.to_vec(alloc)?;
-    gcm_crypt(key, iv, body.as_mut_slice());
-    Ok(Some(body))
 }

@@ -160,20 +160,11 @@ fn open_with(
     same
 }
 
-/// Encrypts or decrypts from the counter behind the first one, which is the tag's.
-pub(crate) fn crypt(aes: &Aes, iv: &[u8; 12], body: &mut [u8])
+// Encrypts or decrypts from the counter behind the first one, which is the tag's.
+fn crypt(aes: &Aes, iv: &[u8; 12], body: &mut [u8])
     ensures { body.new ≡ gcm_text aes.now iv.now body.old }
 {
     aes.ctr_xor(&counter_block(iv, 2), CtrKind::Low32, body);
-}
-
-/// Whether the tag is that of IV, associated data and ciphertext, computed anew.
-pub(crate) fn is_tag(aes: &Aes, iv: &[u8; 12], ad: &[u8], text: &[u8], tag: &[u8; 16]) -> bool
-    requires ad_bound { length ad.now ≤ 2 ^ 30 }
-    requires text_bound { length text.now ≤ 2 ^ 31 }
-    ensures { IsTrue result ↔ (gcm_tag aes.now iv.now ad.now text.now ≡ tag.now) }
-{
-    same_bytes(&tag_of(aes, &mut hash_under(aes), iv, ad, text), tag)
 }
 
 // The tag of associated data and ciphertext.

@@ -1,14 +1,14 @@
 //! Sealing by encryption and a tag over what was encrypted, which EAX and AES-CTR-HMAC have in common.
 
 ghost use Rattle.std.specs.Prelude.{◌≡◌, ◌↔◌, ◌+◌, ◌^◌, ◌≤◌, ℕ, List, ◌++◌, drop, length, take, IfOk, IsTrue};
-ghost use Rattle.std.specs.Option.{option_map};
+ghost use Rattle.tink_spec.specs.InPlace.{OpensTo};
 ghost use Rattle.aead_kinds.specs.EncryptThenTag.{opened_by, sealed_by};
 ghost use Rattle.aead_kinds.specs.SchemeState.{crypt_under, IsSound, start_under, tag_size_of, tag_under};
 
 use crate::{ctr_hmac, eax};
 use aes_core::{Aes, CtrKind};
 use mac_prf::blocks::same_bytes;
-use std::alloc::Global;
+use std::ops::Range;
 use tink_base::{Hash, NoMemory};
 
 /// The bytes of the longest tag, which is a digest of SHA-512.
@@ -56,35 +56,28 @@ impl Scheme<'_> {
         Ok(bytes)
     }
 
-    /// Opens IV, ciphertext and tag, joined. The tag is computed anew and compared before anything is
-    /// decrypted.
-    pub(crate) fn open(
-        &self,
-        alloc: Global,
-        iv_size: usize,
-        bytes: &[u8],
-        ad: &[u8],
-    ) -> Result<Option<Vec<u8>>, NoMemory>
+    /// Opens IV, ciphertext and tag, joined, in place, and answers where the plaintext stands then. The tag
+    /// is computed anew and compared before anything is decrypted.
+    pub(crate) fn open(&self, iv_size: usize, bytes: &mut [u8], ad: &[u8]) -> Option<Range<usize>>
         requires sound { IsSound self.now }
         requires iv_bound { iv_size ≤ 16 }
         requires ad_bound { length ad.now ≤ 2 ^ 30 }
-        ensures { IfOk result (λ o. option_map (λ v. v.items) o
-            ≡ opened_by (crypt_under self.now) (tag_under self.now) iv_size (tag_size_of self.now)
-            bytes.now ad.now) }
+        ensures { OpensTo (opened_by (crypt_under self.now) (tag_under self.now) iv_size
+            (tag_size_of self.now) bytes.old ad.now) bytes.old bytes.new result }
     {
-        let tag_size = self.tag_size();
-        if bytes.len() < iv_size + tag_size {
-            return Ok(None);
+        let (len, tag_size) = (bytes.len(), self.tag_size());
+        if len < iv_size + tag_size {
+            return None;
         }
-        let (iv, rest) = bytes.split_at(iv_size);
-        let (text, tag) = rest.split_at(rest.len() - tag_size);
+        let end = len - tag_size;
+        let (iv, rest) = bytes.split_at_mut(iv_size);
+        let (body, tag) = rest.split_at_mut(end - iv_size);
         let start = self.start(iv);
-        if !self.is_tag(&start, iv, ad, text, tag) {
-            return Ok(None);
+        if !self.is_tag(&start, iv, ad, body, tag) {
+            return None;
         }
-        let mut body = text.to_vec(alloc)?;
-        self.crypt(&start, body.as_mut_slice());
-        Ok(Some(body))
+        self.crypt(&start, body);
+        Some(iv_size..end)
     }
 
     // Seals in place what stands behind the first bytes, so many as `at` says, and writes the tag.

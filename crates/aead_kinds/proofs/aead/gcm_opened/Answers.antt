@@ -1,68 +1,85 @@
-use Rattle.std.proofs.Common.{rules, ◌≡◌, Some, length, drop, refl, sym, ap, ◌∙◌, arith}
+-- The text between IV and tag is decrypted where it stands.
+use Rattle.std.proofs.Common.{◌≡◌, ◌-◌, ℕ, List, Some, length, take, drop, refl, sym, ap, ◌∙◌, arith, subst}
 use Rattle.std.proofs.lemmas.Bool.{false≢true}
-use Rattle.std.proofs.lemmas.List.{take_at}
-use Rattle.aead_kinds.specs.Gcm.{gcm_text}
+use Rattle.std.proofs.lemmas.List.{length-drop, length-take-le}
+use Rattle.std.proofs.lemmas.Slice.{between-put_mid}
+use borrow.Rule.Slice.PartMut.{put_mid, put_same, same_len_mid}
+use Rattle.tink_spec.specs.InPlace.{OpensTo}
+use Rattle.aead_kinds.specs.Gcm.{gcm_open}
 use Rattle.aead_kinds.proofs.AeadLemmas.{AreParts, parts-closed, parts-open}
-use Rattle.aead_kinds.proofs.GcmLemmas.{closed-short, length-gcm_text}
+use Rattle.aead_kinds.proofs.GcmLemmas.{closed-short}
 use Rattle.aead_kinds.proofs.aead.gcm_opened.Goals as goal
+use Rattle.aead_kinds.proofs.aead.gcm_opened.Goals.{After-gcm_open_in_place}
 
-pub returns-in_default : goal.returns-in_default
-returns-in_default c =
-    sym (closed-short c.args.key.now c.args.bytes.now c.args.ad.now
-    (omega (arith, c.in_default.ensures.cases)))
+-- the bytes are cut into IV, text and tag
+parts_are : (c : After-gcm_open_in_place)
+    → AreParts c.args.bytes.now c.in_ok-iv.iv.now c.in_ok-iv.rest.now
+    (take (length c.args.bytes.now - 16 - 12) (drop 12 c.args.bytes.now)) c.in_ok-tag.tag.now
+parts_are c =
+    let first = c.in_ok-iv.ensures.cases in
+    let last = c.in_ok-tag.ensures.cases in
+    record {
+      front = first.0;
+      behind = first.1;
+      middle = refl;
+      back = last.1;
+      long = omega (arith, first.2, last.2);
+    }
 
-pub returns-in_default-split_last_chunk : goal.returns-in_default-split_last_chunk
-returns-in_default-split_last_chunk c =
-    sym (closed-short c.args.key.now c.args.bytes.now c.args.ad.now
-    (omega (arith, c.in-Some.ensures.cases.2, c.in_default-split_last_chunk.ensures.cases)))
-
-pub returns-then-not-is_tag : goal.returns-then-not-is_tag
-returns-then-not-is_tag c =
+pub returns-in_err-iv : goal.returns-in_err-iv
+returns-in_err-iv c =
     let key = c.args.key.now in
     let bytes = c.args.bytes.now in
     let ad = c.args.ad.now in
-    let iv = c.in-Some.iv.now in
-    let rest = c.in-Some.rest.now in
-    let text = c.in-Some-split_last_chunk.text.now in
-    let tag = c.in-Some-split_last_chunk.tag.now in
-    let first = c.in-Some.ensures.cases in
-    let last = c.in-Some-split_last_chunk.ensures.cases in
-    let parts : AreParts bytes iv rest text tag = record {
-      front = first.0;
-      behind = first.1;
-      middle = last.0;
-      back = last.1;
-      long = omega (arith, first.2, last.2);
-    } in
-    sym (parts-closed key bytes ad iv rest text tag parts
-    (λ e. false≢true (c.if-not-is_tag.ensures.1 e)))
+    subst (λ found. OpensTo (gcm_open key bytes ad) bytes bytes found) (sym c.from_residual.ensures)
+    (closed-short key bytes ad (omega (arith, c.in_err-iv.ensures.cases)), refl)
 
-pub returns : goal.returns
-returns c =
+pub returns-in_err-tag : goal.returns-in_err-tag
+returns-in_err-tag c =
     let key = c.args.key.now in
     let bytes = c.args.bytes.now in
     let ad = c.args.ad.now in
-    let iv = c.in-Some.iv.now in
-    let rest = c.in-Some.rest.now in
-    let text = c.in-Some-split_last_chunk.text.now in
-    let tag = c.in-Some-split_last_chunk.tag.now in
-    let first = c.in-Some.ensures.cases in
-    let last = c.in-Some-split_last_chunk.ensures.cases in
-    let parts : AreParts bytes iv rest text tag = record {
-      front = first.0;
-      behind = first.1;
-      middle = last.0;
-      back = last.1;
-      long = omega (arith, first.2, last.2);
-    } in
-    let copied : c.in_ok-body.body.items ≡ text = search rules in
-    let body : c.as_mut_slice.result.now ≡ text = c.as_mut_slice.ensures.value ∙ copied in
-    let new = c.crypt.new.body in
-    let plain : new ≡ gcm_text key iv text
-    = c.crypt.ensures ∙ ap (λ t. gcm_text key iv t) body in
-    let size : length new ≡ c.in_ok-body.body.len
-    = ap (λ l. length l) plain ∙ length-gcm_text key iv text ∙ sym (ap (λ l. length l) body)
-    ∙ c.as_mut_slice.ensures.len in
-    let kept = take_at new (drop (length new) c.in_ok-body.body.items) c.in_ok-body.body.len size in
-    ap (λ p. Some p) (kept ∙ plain)
-    ∙ sym (parts-open key bytes ad iv rest text tag parts (c.if-not-is_tag.ensures.0 refl))
+    subst (λ found. OpensTo (gcm_open key bytes ad) bytes bytes found)
+    (sym c.from_residual-in_err-tag.ensures)
+    (closed-short key bytes ad (omega (arith, c.in_ok-iv.ensures.cases.2, c.in_err-tag.ensures.cases)), refl)
+
+pub returns-then-gcm_open_in_place : goal.returns-then-gcm_open_in_place
+returns-then-gcm_open_in_place c =
+    let key = c.args.key.now in
+    let bytes = c.args.bytes.now in
+    let ad = c.args.ad.now in
+    let iv = c.in_ok-iv.iv.now in
+    let rest = c.in_ok-iv.rest.now in
+    let tag = c.in_ok-tag.tag.now in
+    let end : ℕ = length bytes - 16 in
+    let text : List ℕ = take (end - 12) (drop 12 bytes) in
+    let parts = parts_are (goal.at.returns-then-gcm_open_in_place c).After-gcm_open_in_place in
+    let new : List ℕ = c.gcm_open_in_place.new.body in
+    let same_size : length new ≡ length text = c.gcm_open_in_place.auto.body in
+    let long = parts.long in
+    let size : length new ≡ end - 12
+    = same_size ∙ length-take-le (end - 12) (drop 12 bytes) (omega (arith, length-drop 12 bytes)) in
+    let there = between-put_mid 12 (end - 12) bytes new end (omega arith) size in
+    let opened = c.if-gcm_open_in_place.ensures.opened in (
+      omega arith,
+      omega (arith, same_len_mid 12 (end - 12) bytes new same_size),
+      parts-open key bytes ad iv rest text tag parts (c.if-gcm_open_in_place.ensures.authentic.0 refl)
+          ∙ ap (λ p. Some p) (sym (there ∙ opened)),
+    )
+
+pub returns-else-gcm_open_in_place : goal.returns-else-gcm_open_in_place
+returns-else-gcm_open_in_place c =
+    let key = c.args.key.now in
+    let bytes = c.args.bytes.now in
+    let ad = c.args.ad.now in
+    let iv = c.in_ok-iv.iv.now in
+    let rest = c.in_ok-iv.rest.now in
+    let tag = c.in_ok-tag.tag.now in
+    let size : ℕ = length bytes - 16 - 12 in
+    let text : List ℕ = take size (drop 12 bytes) in
+    let parts = parts_are (goal.at.returns-else-gcm_open_in_place c).After-gcm_open_in_place in (
+      parts-closed key bytes ad iv rest text tag parts
+          (λ e. false≢true (c.if-gcm_open_in_place.ensures.authentic.1 e)),
+      ap (λ (l : List ℕ). put_mid 12 size bytes l) c.if-gcm_open_in_place.ensures.kept
+          ∙ put_same 12 size bytes,
+    )

@@ -1,18 +1,35 @@
-use Rattle.std.proofs.Common.{rules, ◌≡◌, Some, length, drop, refl, sym, ap, ◌∙◌, arith}
+-- The text between IV and tag is decrypted where it stands.
+use Rattle.std.proofs.Common.{◌≡◌, ◌-◌, ◌++◌, ℕ, List, Some, length, take, refl, sym, ap, ◌∙◌, arith}
 use Rattle.std.proofs.lemmas.Bool.{false≢true}
-use Rattle.std.proofs.lemmas.List.{take_at}
+use Rattle.std.proofs.lemmas.List.{drop_at, length-append, take_at}
+use Rattle.std.specs.Prelude.{slice_range}
 use Rattle.aead_kinds.specs.EncryptThenTag.{opened_by}
 use Rattle.aead_kinds.specs.SchemeState.{crypt_under, tag_size_of, tag_under}
 use Rattle.aead_kinds.proofs.EncryptThenTagLemmas.{AreCut, cut-closed, cut-opens, short-closed}
-use Rattle.aead_kinds.proofs.SchemeLemmas.{length-crypt_under}
 use Rattle.aead_kinds.proofs.scheme.Scheme.open.Goals as goal
+use Rattle.aead_kinds.proofs.scheme.Scheme.open.Goals.{After-is_tag}
 
-pub returns-then-bytes-iv_size : goal.returns-then-bytes-iv_size
-returns-then-bytes-iv_size c =
-    let scheme = c.args.self.now in
-    sym (short-closed (crypt_under scheme) (tag_under scheme) c.args.iv_size (tag_size_of scheme)
-    c.args.bytes.now c.args.ad.now
-    (omega (arith, c.if-bytes-iv_size.true, c.tag_size-tag_size.ensures.size)))
+-- the bytes are cut into IV, text and tag
+cut_is : (c : After-is_tag)
+    → AreCut c.args.iv_size (length c.args.bytes.now - c.tag_size-tag_size.result - c.args.iv_size)
+    c.tag_size-tag_size.result c.args.bytes.now c.split_at_mut-iv.result.0.now
+    c.split_at_mut-iv.result.1.now c.split_at_mut-body.result.0.now c.split_at_mut-body.result.1.now
+cut_is c = record {
+  front = c.split_at_mut-iv.ensures.front;
+  behind = c.split_at_mut-iv.ensures.back;
+  middle = c.split_at_mut-body.ensures.front;
+  back = c.split_at_mut-body.ensures.back;
+  whole = omega (arith, c.if-len-iv_size.false);
+}
+
+pub returns-then-len-iv_size : goal.returns-then-len-iv_size
+returns-then-len-iv_size c =
+    let scheme = c.args.self.now in (
+      short-closed (crypt_under scheme) (tag_under scheme) c.args.iv_size (tag_size_of scheme)
+          c.args.bytes.now c.args.ad.now
+          (omega (arith, c.if-len-iv_size.true, c.tag_size-tag_size.ensures.size)),
+      refl,
+    )
 
 pub returns-then-not-is_tag : goal.returns-then-not-is_tag
 returns-then-not-is_tag c =
@@ -21,21 +38,19 @@ returns-then-not-is_tag c =
     let t = c.tag_size-tag_size.result in
     let bytes = c.args.bytes.now in
     let ad = c.args.ad.now in
-    let iv = c.split_at.result.0.now in
-    let rest = c.split_at.result.1.now in
-    let text = c.split_at-2.result.0.now in
-    let made = c.split_at-2.result.1.now in
-    let cut : AreCut v t bytes iv rest text made = record {
-      front = c.split_at.ensures.front;
-      behind = c.split_at.ensures.back;
-      middle = c.split_at-2.ensures.front;
-      back = c.split_at-2.ensures.back;
-      long = omega (arith, c.if-bytes-iv_size.false);
-    } in
-    sym (cut-closed (crypt_under scheme) (tag_under scheme) v t bytes ad iv rest text made cut
-    (λ e. false≢true (c.if-not-is_tag.ensures.1 e)))
-    ∙ ap (λ n. opened_by (crypt_under scheme) (tag_under scheme) v n bytes ad)
-    c.tag_size-tag_size.ensures.size
+    let n : ℕ = length bytes - t - v in
+    let iv = c.split_at_mut-iv.result.0.now in
+    let rest = c.split_at_mut-iv.result.1.now in
+    let text = c.split_at_mut-body.result.0.now in
+    let made = c.split_at_mut-body.result.1.now in
+    let cut = cut_is (goal.at.returns-then-not-is_tag c).After-is_tag in (
+      sym (ap (λ m. opened_by (crypt_under scheme) (tag_under scheme) v m bytes ad)
+          c.tag_size-tag_size.ensures.size)
+          ∙ cut-closed (crypt_under scheme) (tag_under scheme) v n t bytes ad iv rest text made cut
+          (λ e. false≢true (c.if-not-is_tag.ensures.1 e)),
+      ap (λ (l : List ℕ). iv ++ l) (sym c.split_at_mut-body.ensures.value)
+          ∙ sym c.split_at_mut-iv.ensures.value,
+    )
 
 pub returns : goal.returns
 returns c =
@@ -44,28 +59,30 @@ returns c =
     let t = c.tag_size-tag_size.result in
     let bytes = c.args.bytes.now in
     let ad = c.args.ad.now in
-    let iv = c.split_at.result.0.now in
-    let rest = c.split_at.result.1.now in
-    let text = c.split_at-2.result.0.now in
-    let made = c.split_at-2.result.1.now in
-    let cut : AreCut v t bytes iv rest text made = record {
-      front = c.split_at.ensures.front;
-      behind = c.split_at.ensures.back;
-      middle = c.split_at-2.ensures.front;
-      back = c.split_at-2.ensures.back;
-      long = omega (arith, c.if-bytes-iv_size.false);
-    } in
-    let copied : c.in_ok-body.body.items ≡ text = search rules in
-    let body : c.as_mut_slice.result.now ≡ text = c.as_mut_slice.ensures.value ∙ copied in
-    let new = c.crypt.new.body in
-    let plain : new ≡ crypt_under scheme iv text
-    = c.crypt.ensures iv c.start-start.ensures ∙ ap (λ b. crypt_under scheme iv b) body in
-    let size : length new ≡ c.in_ok-body.body.len
-    = ap (λ l. length l) plain ∙ length-crypt_under scheme iv text ∙ sym (ap (λ l. length l) body)
-    ∙ c.as_mut_slice.ensures.len in
-    let kept = take_at new (drop (length new) c.in_ok-body.body.items) c.in_ok-body.body.len size in
-    ap (λ p. Some p) (kept ∙ plain)
-    ∙ sym (cut-opens (crypt_under scheme) (tag_under scheme) v t bytes ad iv rest text made cut
-    (c.if-not-is_tag.ensures.0 refl))
-    ∙ ap (λ n. opened_by (crypt_under scheme) (tag_under scheme) v n bytes ad)
-    c.tag_size-tag_size.ensures.size
+    let n : ℕ = length bytes - t - v in
+    let iv = c.split_at_mut-iv.result.0.now in
+    let rest = c.split_at_mut-iv.result.1.now in
+    let text = c.split_at_mut-body.result.0.now in
+    let made = c.split_at_mut-body.result.1.now in
+    let cut = cut_is (goal.at.returns c).After-is_tag in
+    let new : List ℕ = c.crypt.new.body in
+    let size : length new ≡ n = c.crypt.auto.body ∙ c.split_at_mut-body.ensures.front_len in
+    let whole = cut.whole in
+    let there : slice_range (iv ++ (new ++ made)) v (length bytes - t) ≡ new
+    = ap (λ (l : List ℕ). take n l) (drop_at iv (new ++ made) v c.split_at_mut-iv.ensures.front_len)
+    ∙ take_at new made n size in
+    let plain : new ≡ crypt_under scheme iv text = c.crypt.ensures iv c.start-start.ensures in (
+      omega arith,
+      omega (
+        arith,
+        length-append iv (new ++ made),
+        length-append new made,
+        c.split_at_mut-iv.ensures.front_len,
+        size,
+      ),
+      sym (ap (λ m. opened_by (crypt_under scheme) (tag_under scheme) v m bytes ad)
+          c.tag_size-tag_size.ensures.size)
+          ∙ cut-opens (crypt_under scheme) (tag_under scheme) v n t bytes ad iv rest text made cut
+          (c.if-not-is_tag.ensures.0 refl)
+          ∙ ap (λ p. Some p) (sym (there ∙ plain)),
+    )
