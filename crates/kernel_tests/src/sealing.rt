@@ -7,8 +7,9 @@ use aes_core::Aes;
 use gcm_siv::{gcm_siv_open, gcm_siv_seal};
 use siv_daead::{SivKey, siv_open, siv_seal};
 use std::alloc::Global;
+use std::ops::Range;
 use std::test::Fail;
-use test_words::{longer, same_bytes};
+use test_words::{longer, opened_in, same_bytes};
 
 /// The longest sealing and the longest associated data here.
 pub(crate) const MOST: usize = 6000;
@@ -30,32 +31,41 @@ pub(crate) struct Alterations<'a> {
 }
 
 fn opened_by_aead(
-    alloc: Global,
     key: &AeadKey<'_>,
-    bytes: &[u8],
+    bytes: &mut [u8],
     ad: &[u8],
-) -> Result<Option<Vec<u8>>, Fail> {
+) -> Result<Option<Range<usize>>, Fail> {
     if !key.fits() || bytes.len() > MOST || ad.len() > MOST {
         return Err("a key that fits, and no more than 6,000 bytes".into());
     }
-    Ok(open(alloc, key, bytes, ad)?)
+    Ok(open(key, bytes, ad))
 }
 
-/// The plaintext, or nothing where the bytes are refused.
+fn range_opened(
+    key: &SealingKey<'_>,
+    bytes: &mut [u8],
+    ad: &[u8],
+) -> Result<Option<Range<usize>>, Fail> {
+    if bytes.len() > MOST || ad.len() > MOST {
+        return Err("no more than 6,000 bytes".into());
+    }
+    match key {
+        SealingKey::Aead(key) => opened_by_aead(key, bytes, ad),
+        SealingKey::Siv(key) => Ok(siv_open(key, bytes, ad)),
+        SealingKey::GcmSiv(key) => Ok(gcm_siv_open(key, bytes, ad)),
+    }
+}
+
+/// The plaintext, or nothing where the bytes are refused, which are as before then.
 pub(crate) fn opened(
     alloc: Global,
     key: &SealingKey<'_>,
     bytes: &[u8],
     ad: &[u8],
 ) -> Result<Option<Vec<u8>>, Fail> {
-    if bytes.len() > MOST || ad.len() > MOST {
-        return Err("no more than 6,000 bytes".into());
-    }
-    match key {
-        SealingKey::Aead(key) => opened_by_aead(alloc, key, bytes, ad),
-        SealingKey::Siv(key) => Ok(siv_open(alloc, key, bytes, ad)?),
-        SealingKey::GcmSiv(key) => Ok(gcm_siv_open(alloc, key, bytes, ad)?),
-    }
+    let mut list = bytes.to_vec(alloc)?;
+    let range = range_opened(key, &mut list, ad)?;
+    opened_in(alloc, &list, range, bytes)
 }
 
 fn sealed_by_aead(
