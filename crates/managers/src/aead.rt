@@ -1,11 +1,11 @@
 //! The manager of authenticated encryption: AES-GCM, EAX, AES-CTR-HMAC and AES-GCM-SIV.
 
 ghost use Rattle.std.specs.Prelude.{◌≡◌, ◌+◌, ◌^◌, ◌≤◌, ◌++◌, drop, length, string_bytes, take, IfOk};
-ghost use Rattle.std.specs.Option.{option_map};
 ghost use Rattle.gcm_siv.specs.GcmSiv.{gcm_siv_seal};
 ghost use Rattle.key_msgs.specs.Keys.{IsValid};
 ghost use Rattle.managers.specs.Schemes.{aead_scheme, type_under};
 ghost use Rattle.managers.specs.Uses.{iv_size, open_key, seal_of};
+ghost use Rattle.tink_spec.specs.InPlace.{OpensTo};
 
 use crate::reading::read_as;
 use crate::{AeadManager, CheckFault, KeyManager, Prepared};
@@ -14,6 +14,7 @@ use aes_core::Aes;
 use gcm_siv::{gcm_siv_open, gcm_siv_seal};
 use key_msgs::{KeyKind, KeyType};
 use std::alloc::Global;
+use std::ops::Range;
 use tink_base::{NoMemory, Trials};
 
 /// The bytes of an IV of AES-GCM, and of AES-GCM-SIV.
@@ -101,27 +102,21 @@ fn seal_by_gcm_siv(
     }
 }
 
-/// Opens under a valid key of any kind: nothing where it isn't one of an AEAD.
-fn open_under(
-    alloc: Global,
-    key: &Prepared,
-    bytes: &[u8],
-    ad: &[u8],
-) -> Result<Option<Vec<u8>>, NoMemory>
+/// Opens in place under a valid key of any kind: nothing where it isn't one of an AEAD.
+fn open_under(key: &Prepared, bytes: &mut [u8], ad: &[u8]) -> Option<Range<usize>>
     requires valid { IsValid key.now }
-    requires bytes_bound { length bytes.now ≤ 2 ^ 30 + 96 }
+    requires bytes_bound { length bytes.old ≤ 2 ^ 30 + 96 }
     requires ad_bound { length ad.now ≤ 2 ^ 30 }
-    ensures { IfOk result (λ plain.
-        option_map (λ text. text.items) plain ≡ open_key key.now bytes.now ad.now) }
+    ensures { OpensTo (open_key key.now bytes.old ad.now) bytes.old bytes.new result }
 {
     match key.kind() {
-        KeyKind::AesGcm { .. } => open(alloc, &AeadKey::Gcm { key: key.aes() }, bytes, ad),
+        KeyKind::AesGcm { .. } => open(&AeadKey::Gcm { key: key.aes() }, bytes, ad),
         KeyKind::AesEax { iv_size, .. } => {
             let under = AeadKey::Eax {
                 key: key.aes(),
                 iv_size: *iv_size as usize,
             };
-            open(alloc, &under, bytes, ad)
+            open(&under, bytes, ad)
         }
         KeyKind::AesCtrHmac {
             iv_size,
@@ -137,10 +132,10 @@ fn open_under(
                 mac: mac.as_slice(),
                 tag_size: *tag_size as usize,
             };
-            open(alloc, &under, bytes, ad)
+            open(&under, bytes, ad)
         }
-        KeyKind::AesGcmSiv { .. } => gcm_siv_open(alloc, key.aes(), bytes, ad),
-        _ => Ok(None),
+        KeyKind::AesGcmSiv { .. } => gcm_siv_open(key.aes(), bytes, ad),
+        _ => None,
     }
 }
 
@@ -220,13 +215,12 @@ impl AeadManager for StandardAead {
 
     fn open(
         &self,
-        alloc: Global,
         key: &Prepared,
-        bytes: &[u8],
+        bytes: &mut [u8],
         ad: &[u8],
         trials: &mut Trials,
-    ) -> Result<Option<Vec<u8>>, NoMemory> {
+    ) -> Option<Range<usize>> {
         trials.tick();
-        open_under(alloc, key, bytes, ad)
+        open_under(key, bytes, ad)
     }
 }

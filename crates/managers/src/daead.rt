@@ -1,16 +1,17 @@
 //! The manager of AES-SIV.
 
-ghost use Rattle.std.specs.Prelude.{◌≡◌, ◌+◌, ◌^◌, ◌≤◌, ◌++◌, drop, length, string_bytes, take, IfOk};
-ghost use Rattle.std.specs.Option.{option_map};
+ghost use Rattle.std.specs.Prelude.{◌≡◌, ◌+◌, ◌^◌, ◌≤◌, ◌++◌, drop, length, string_bytes, take};
 ghost use Rattle.key_msgs.specs.Keys.{IsValid};
 ghost use Rattle.managers.specs.Schemes as schemes;
 ghost use Rattle.managers.specs.Uses.{dopen_key, dseal_of};
+ghost use Rattle.tink_spec.specs.InPlace.{OpensTo};
 
 use crate::reading::read_as;
 use crate::{CheckFault, DaeadManager, KeyManager, Prepared};
 use key_msgs::{KeyKind, KeyType};
 use siv_daead::{siv_open, siv_seal};
 use std::alloc::Global;
+use std::ops::Range;
 use tink_base::{NoMemory, Trials};
 
 /// Seals in place under a valid key of any kind, behind the first `at` bytes: to no bytes where it isn't
@@ -32,22 +33,16 @@ fn dseal_under(key: &Prepared, at: usize, mut bytes: Vec<u8>, ad: &[u8]) -> Vec<
     }
 }
 
-/// Opens under a valid key of any kind: nothing where it isn't one of a deterministic AEAD.
-fn dopen_under(
-    alloc: Global,
-    key: &Prepared,
-    bytes: &[u8],
-    ad: &[u8],
-) -> Result<Option<Vec<u8>>, NoMemory>
+/// Opens in place under a valid key of any kind: nothing where it isn't one of a deterministic AEAD.
+fn dopen_under(key: &Prepared, bytes: &mut [u8], ad: &[u8]) -> Option<Range<usize>>
     requires valid { IsValid key.now }
-    requires bytes_bound { length bytes.now ≤ 2 ^ 30 + 96 }
+    requires bytes_bound { length bytes.old ≤ 2 ^ 30 + 96 }
     requires ad_bound { length ad.now ≤ 2 ^ 30 }
-    ensures { IfOk result (λ plain.
-        option_map (λ text. text.items) plain ≡ dopen_key key.now bytes.now ad.now) }
+    ensures { OpensTo (dopen_key key.now bytes.old ad.now) bytes.old bytes.new result }
 {
     match key.kind() {
-        KeyKind::AesSiv { .. } => siv_open(alloc, key.siv(), bytes, ad),
-        _ => Ok(None),
+        KeyKind::AesSiv { .. } => siv_open(key.siv(), bytes, ad),
+        _ => None,
     }
 }
 
@@ -94,13 +89,12 @@ impl DaeadManager for StandardDaead {
 
     fn open(
         &self,
-        alloc: Global,
         key: &Prepared,
-        bytes: &[u8],
+        bytes: &mut [u8],
         ad: &[u8],
         trials: &mut Trials,
-    ) -> Result<Option<Vec<u8>>, NoMemory> {
+    ) -> Option<Range<usize>> {
         trials.tick();
-        dopen_under(alloc, key, bytes, ad)
+        dopen_under(key, bytes, ad)
     }
 }

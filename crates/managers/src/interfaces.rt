@@ -6,8 +6,8 @@
 //! and what is opened at most 2^30 + 96. `NoMemory` comes for want of memory alone.
 
 ghost use Rattle.std.specs.Prelude.{◌≡◌, ◌+◌, ◌^◌, ◌≤◌, ◌++◌, ℕ, List, drop, length, take, IfOk};
-ghost use Rattle.std.specs.Option.{option_map};
 ghost use Rattle.std.specs.Str.{bytes_eq};
+ghost use Rattle.tink_spec.specs.InPlace.{OpensTo};
 ghost use Rattle.tink_spec.specs.Outside.{next};
 ghost use Rattle.managers.specs.Schemes.{Scheme, key_under, IsAdmitted, IsReading};
 ghost use Rattle.managers.specs.Uses.{dopen_key, dseal_of, greatest, iv_size, open_key, prf_of, seal_of, tag_of, tagged};
@@ -15,6 +15,7 @@ ghost use Rattle.managers.specs.Uses.{dopen_key, dseal_of, greatest, iv_size, op
 use crate::Prepared;
 use key_msgs::Rule;
 use std::alloc::Global;
+use std::ops::Range;
 use tink_base::{NoMemory, Trials};
 
 /// Why a key message gives no key.
@@ -74,23 +75,22 @@ pub trait AeadManager: KeyManager {
         ensures { IfOk result (λ sealed. sealed.items ≡ take at bytes.items
             ++ seal_of key.now iv.now (drop (at + iv_size key.now) bytes.items) ad.now) };
 
-    /// Opens IV, ciphertext and tag, joined, and counts one trial.
+    /// Opens IV, ciphertext and tag, joined, in place, and counts one trial. The answer is where the
+    /// plaintext stands in `bytes` then.
     ///
     /// `None` comes exactly where `bytes` are shorter than IV and tag, or the tag isn't the one
-    /// computed anew.
+    /// computed anew; they are as before then. No memory is taken.
     fn open(
         &self,
-        alloc: Global,
         key: &Prepared,
-        bytes: &[u8],
+        bytes: &mut [u8],
         ad: &[u8],
         trials: &mut Trials,
-    ) -> Result<Option<Vec<u8>>, NoMemory>
+    ) -> Option<Range<usize>>
         requires admitted { IsAdmitted (Self.scheme self.now) key.now }
-        requires bytes_bound { length bytes.now ≤ 2 ^ 30 + 96 }
+        requires bytes_bound { length bytes.old ≤ 2 ^ 30 + 96 }
         requires ad_bound { length ad.now ≤ 2 ^ 30 }
-        ensures opened { IfOk result (λ plain.
-            option_map (λ text. text.items) plain ≡ open_key key.now bytes.now ad.now) }
+        ensures opened { OpensTo (open_key key.now bytes.old ad.now) bytes.old bytes.new result }
         ensures one_trial { trials.new ≡ next trials.old };
 }
 
@@ -115,23 +115,22 @@ pub trait DaeadManager: KeyManager {
         ensures { IfOk result (λ sealed. sealed.items ≡ take at bytes.items
             ++ dseal_of key.now (drop (at + 16) bytes.items) ad.now) };
 
-    /// Opens sealed bytes, and counts one trial.
+    /// Opens sealed bytes in place, and counts one trial. The answer is where the plaintext stands in
+    /// `bytes` then.
     ///
     /// `None` comes exactly where `bytes` are shorter than a tag, or the tag isn't the one computed
-    /// anew.
+    /// anew; they are as before then. No memory is taken.
     fn open(
         &self,
-        alloc: Global,
         key: &Prepared,
-        bytes: &[u8],
+        bytes: &mut [u8],
         ad: &[u8],
         trials: &mut Trials,
-    ) -> Result<Option<Vec<u8>>, NoMemory>
+    ) -> Option<Range<usize>>
         requires admitted { IsAdmitted (Self.scheme self.now) key.now }
-        requires bytes_bound { length bytes.now ≤ 2 ^ 30 + 96 }
+        requires bytes_bound { length bytes.old ≤ 2 ^ 30 + 96 }
         requires ad_bound { length ad.now ≤ 2 ^ 30 }
-        ensures opened { IfOk result (λ plain.
-            option_map (λ text. text.items) plain ≡ dopen_key key.now bytes.now ad.now) }
+        ensures opened { OpensTo (dopen_key key.now bytes.old ad.now) bytes.old bytes.new result }
         ensures one_trial { trials.new ≡ next trials.old };
 }
 
