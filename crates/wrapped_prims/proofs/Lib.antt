@@ -3,6 +3,7 @@ pub mod PlaceLemmas
 pub mod IndexLemmas
 pub mod OpenLemmas
 pub mod PrefixLemmas
+pub mod InPlaceLemmas
 pub mod HandleLemmas
 pub mod RoomLemmas
 pub mod SealLemmas

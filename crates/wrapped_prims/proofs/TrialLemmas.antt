@@ -1,7 +1,10 @@
 -- How many keys a handle tries is what its keyset says.
-use Rattle.std.proofs.Common.{◌≡◌, ◌∙◌, ℕ, refl, sym, ap, List, [], ◌∷◌, ◌++◌, Option, Some, None, option_map, Bool, true, false, ◌||◌, cond, take, drop}
+use Rattle.std.proofs.Common.{◌≡◌, ◌∙◌, ℕ, refl, subst, sym, ap, List, [], ◌∷◌, ◌++◌, Option, Some, None, Bool, true, false, ◌||◌, cond, take, drop}
+use Rattle.std.specs.declared.ops.Range.{Range}
 use Rattle.std.specs.Prelude.{is_some}
 use Rattle.std.specs.List.{list_any}
+use Rattle.std.specs.Option.{option_or}
+use Rattle.tink_spec.specs.InPlace.{OpensTo}
 use Rattle.tink_spec.specs.Outside.{next}
 use Rattle.key_msgs.specs.declared.primitive.Primitive.{Primitive}
 use Rattle.key_msgs.specs.declared.primitive.Primitive.TheVariants.{Mac}
@@ -10,7 +13,7 @@ use Rattle.keyset_model.specs.declared.record.Record.{Record}
 use Rattle.managers.specs.Table.{Table}
 use Rattle.wrapped_prims.specs.Answers.{is_tag_of, is_tag_under, open_trials, opened, opened_under, tried, verify_trials}
 use Rattle.wrapped_prims.specs.Candidates.{each_with, enabled_with, is_legacy}
-use Rattle.wrapped_prims.specs.Held.{kept_at, open_with, places_at, tag_tries_kept, tag_tries_with, tries_kept, tries_with, verify_with}
+use Rattle.wrapped_prims.specs.Held.{kept_at, kept_raw, kept_under, open_kept, open_with, places_at, tag_tries_kept, tag_tries_with, tries_kept, tries_with, verify_with}
 use Rattle.wrapped_prims.specs.Making.{IsOver}
 use Rattle.wrapped_prims.specs.declared.held.Held.{Held}
 use Rattle.wrapped_prims.specs.declared.held.Kept.{Kept}
@@ -18,34 +21,35 @@ use Rattle.wrapped_prims.proofs.OpenLemmas.{HaveKept, all_kept, any_opens, have-
 
 -- ---- the keys of a prefix, and then those of none
 
-is_some-map : {T : Type 0} (items : T → List ℕ) (found : Option T) → is_some (option_map items found) ≡ is_some found
-is_some-map items None = refl
-is_some-map items (Some x) = refl
+-- what the keys of the prefix open is the answer
+pub opened_first : (p : Primitive) (held : Held) (bytes new ad : List ℕ) (range : Range ℕ) → OpensTo (open_with p (drop 5 bytes) ad (kept_under (take 5 bytes) held)) bytes new (Some range)
+    → OpensTo (open_kept p held bytes ad) bytes new (Some range)
+opened_first p held bytes new ad range opens = (opens.0, opens.1, ap (λ o. option_or o (open_with p bytes ad (kept_raw held))) opens.2)
 
--- the keys that were tried first, and those after them
-abbrev tries_by : Primitive → (first later : List Kept) → (rest bytes ad : List ℕ) → ℕ → ℕ
-tries_by p first later rest bytes ad count =
-    cond (is_some (open_with p rest ad first)) (tries_with p rest ad first count) (tries_with p bytes ad later (tries_with p rest ad first count))
+-- and where they open nothing, what those of none open
+pub opened_later : (p : Primitive) (held : Held) (slots : List (Option Kept)) (raw bytes mid new ad : List ℕ) (found : Option (Range ℕ)) → slots ≡ held.slots.items → raw ≡ held.raw.items
+    → OpensTo (open_with p (drop 5 bytes) ad (kept_under (take 5 bytes) held)) bytes mid None → OpensTo (open_with p mid ad (kept_at slots raw)) mid new found → OpensTo (open_kept p held bytes ad) bytes new found
+opened_later p held slots raw bytes mid new ad found same also first later =
+    let plain : open_with p mid ad (kept_at slots raw) ≡ open_kept p held bytes ad =
+    (λ j. open_with p (first.1 j) ad (kept_at (same j) (also j))) ∙ sym (ap (λ o. option_or o (open_with p bytes ad (kept_raw held))) first.0) in
+    subst (λ (l : List ℕ). OpensTo (open_kept p held bytes ad) l new found) first.1
+    (subst (λ (o : Option (List ℕ)). OpensTo o mid new found) plain later)
 
-opens_as : {T : Type 0} (items : T → List ℕ) (found : Option T) (b : Bool) (p : Primitive) (first later : List Kept) (rest bytes ad : List ℕ) (count : ℕ) → option_map items found ≡ open_with p rest ad first → is_some found ≡ b
-    → tries_by p first later rest bytes ad count ≡ cond b (tries_with p rest ad first count) (tries_with p bytes ad later (tries_with p rest ad first count))
-opens_as items found b p first later rest bytes ad count same is =
-    ap (λ b. cond b (tries_with p rest ad first count) (tries_with p bytes ad later (tries_with p rest ad first count))) (sym (ap is_some same) ∙ is_some-map items found ∙ is)
+-- the trials of the prefix, and where they open nothing, those of none
+abbrev tries_on : Primitive → Held → (bytes ad : List ℕ) → ℕ → Option (List ℕ) → ℕ
+tries_on p held bytes ad count plain =
+    let first = tries_with p (drop 5 bytes) ad (kept_under (take 5 bytes) held) count in
+    cond (is_some plain) first (tries_with p bytes ad (kept_raw held) first)
 
-pub tries_first : {T : Type 0} (items : T → List ℕ) (found : Option T) (p : Primitive) (first later : List Kept) (rest bytes ad : List ℕ) (count now : ℕ) → option_map items found ≡ open_with p rest ad first → is_some found ≡ true
-    → now ≡ tries_with p rest ad first count → now ≡ tries_by p first later rest bytes ad count
-tries_first items found p first later rest bytes ad count now same some tries = tries ∙ sym (opens_as items found true p first later rest bytes ad count same some)
+pub tries_first : (p : Primitive) (held : Held) (bytes new ad : List ℕ) (range : Range ℕ) (count now : ℕ) → OpensTo (open_with p (drop 5 bytes) ad (kept_under (take 5 bytes) held)) bytes new (Some range)
+    → now ≡ tries_with p (drop 5 bytes) ad (kept_under (take 5 bytes) held) count → now ≡ tries_kept p held bytes ad count
+tries_first p held bytes new ad range count now opens tries = tries ∙ sym (ap (tries_on p held bytes ad count) opens.2)
 
-pub tries_both : {T : Type 0} (items : T → List ℕ) (found : Option T) (p : Primitive) (first later : List Kept) (rest bytes ad : List ℕ) (count mid now : ℕ) → option_map items found ≡ open_with p rest ad first → is_some found ≡ false
-    → mid ≡ tries_with p rest ad first count → now ≡ tries_with p bytes ad later mid → now ≡ tries_by p first later rest bytes ad count
-tries_both items found p first later rest bytes ad count mid now same none before after =
-    after ∙ ap (tries_with p bytes ad later) before ∙ sym (opens_as items found false p first later rest bytes ad count same none)
-
-pub same_tries : (p : Primitive) (held : Held) (slots others : List (Option Kept)) (places raw : List ℕ) (hint rest bytes ad : List ℕ) (count : ℕ) → slots ≡ held.slots.items → others ≡ held.slots.items → raw ≡ held.raw.items
-    → places ≡ places_at hint held.index.entries → hint ≡ take 5 bytes → rest ≡ drop 5 bytes → tries_by p (kept_at slots places) (kept_at others raw) rest bytes ad count ≡ tries_kept p held bytes ad count
-same_tries p held slots others places raw hint rest bytes ad count same also none found head tail =
-    let under : places ≡ places_at (take 5 bytes) held.index.entries = found ∙ ap (λ h. places_at h held.index.entries) head in
-    (λ j. tries_by p (kept_at (same j) (under j)) (kept_at (also j) (none j)) (tail j) bytes ad count)
+pub tries_both : (p : Primitive) (held : Held) (slots : List (Option Kept)) (raw bytes mid ad : List ℕ) (count between now : ℕ) → slots ≡ held.slots.items → raw ≡ held.raw.items
+    → OpensTo (open_with p (drop 5 bytes) ad (kept_under (take 5 bytes) held)) bytes mid None
+    → between ≡ tries_with p (drop 5 bytes) ad (kept_under (take 5 bytes) held) count → now ≡ tries_with p mid ad (kept_at slots raw) between → now ≡ tries_kept p held bytes ad count
+tries_both p held slots raw bytes mid ad count between now same also closed before after =
+    after ∙ (λ j. tries_with p (closed.1 j) ad (kept_at (same j) (also j)) (before j)) ∙ sym (ap (tries_on p held bytes ad count) closed.0)
 
 abbrev tag_tries_by : (first later : List Kept) → (rest tag body : List ℕ) → ℕ → ℕ
 tag_tries_by first later rest tag body count =
@@ -93,6 +97,11 @@ tried-append test (x ∷ xs) ys count = by (test x) (tried-append test xs ys (ne
         → cond b (next count) (tried test (xs ++ ys) (next count)) ≡ cond (b || list_any test xs) (cond b (next count) (tried test xs (next count))) (tried test ys (cond b (next count) (tried test xs (next count))))
     by true h = refl
     by false h = h
+
+-- the trials of the keys that were tried first, and those of the keys after them
+abbrev tries_by : Primitive → (first later : List Kept) → (rest bytes ad : List ℕ) → ℕ → ℕ
+tries_by p first later rest bytes ad count =
+    cond (is_some (open_with p rest ad first)) (tries_with p rest ad first count) (tries_with p bytes ad later (tries_with p rest ad first count))
 
 pub tries-IsOver : (table : Table) (p : Primitive) (keys : Keys) (held : Held) (bytes ad : List ℕ) (count : ℕ) → IsOver table p keys held → tries_kept p held bytes ad count ≡ open_trials p keys table bytes ad count
 tries-IsOver table p keys held bytes ad count over =

@@ -1,48 +1,44 @@
-//! Opening and verifying with kept keys: those of a prefix, and then those of none.
+//! Opening in place and verifying with kept keys: those of a prefix, and then those of none.
 
-ghost use Rattle.std.specs.Prelude.{◌≡◌, ◌+◌, ◌^◌, ◌≤◌, length, IfOk, option_map, option_to_list, slice_get, take};
+ghost use Rattle.std.specs.Prelude.{◌≡◌, ◌+◌, ◌^◌, ◌≤◌, drop, length, option_to_list, slice_get, take};
 ghost use Rattle.std.specs.Str.{bytes_eq};
 ghost use Rattle.key_msgs.specs.declared.primitive.Primitive.TheVariants.{Mac};
 ghost use Rattle.managers.specs.Table.{entries_of};
 ghost use Rattle.managers.specs.Uses.{tag_of, tagged};
 ghost use Rattle.wrapped_prims.specs.Answers.{opened_under};
+ghost use Rattle.tink_spec.specs.InPlace.{OpensTo};
 ghost use Rattle.tink_spec.specs.Outside.{next};
 ghost use Rattle.wrapped_prims.specs.Held.{AreServed, IsServedBy, Opens, kept_at, kept_in, kept_raw, kept_under, open_kept, open_with, tag_tries_kept, tag_tries_with, tag_with, tries_kept, tries_with, verify_kept, verify_with};
 
 use crate::held::{Held, Kept, cut_prefix};
 use key_msgs::Primitive;
 use managers::{AeadManager, DaeadManager, KeyTable, MacManager, Managers};
-use std::alloc::Global;
-use tink_base::{NoMemory, Trials};
+use std::ops::Range;
+use tink_base::Trials;
 
 // One trial of a key.
 fn try_key(
     managers: &Managers,
-    alloc: Global,
     primitive: Primitive,
     kept: &Kept,
-    part: &[u8],
+    part: &mut [u8],
     ad: &[u8],
     trials: &mut Trials,
-) -> Result<Option<Vec<u8>>, NoMemory>
+) -> Option<Range<usize>>
     requires opens { Opens primitive }
     requires served { IsServedBy
         (slice_get (entries_of (⟦<Managers as KeyTable>⟧.table managers.now) primitive)
         kept.now.place) kept.now.key }
-    requires part_bound { length part.now ≤ 2 ^ 30 + 96 }
+    requires part_bound { length part.old ≤ 2 ^ 30 + 96 }
     requires ad_bound { length ad.now ≤ 2 ^ 30 }
-    ensures opened { IfOk result (λ plain. option_map (λ text. text.items) plain
-        ≡ opened_under primitive part.now ad.now kept.now.key) }
+    ensures opened { OpensTo (opened_under primitive part.old ad.now kept.now.key)
+        part.old part.new result }
     ensures one { trials.new ≡ next trials.old }
 {
     let at = kept.place;
     match primitive {
-        Primitive::Aead => managers
-            .aead_at(at)
-            .open(alloc, &kept.key, part, ad, trials),
-        Primitive::Daead => managers
-            .daead_at(at)
-            .open(alloc, &kept.key, part, ad, trials),
+        Primitive::Aead => managers.aead_at(at).open(&kept.key, part, ad, trials),
+        Primitive::Daead => managers.daead_at(at).open(&kept.key, part, ad, trials),
         Primitive::Mac | Primitive::Prf | Primitive::Stream => unreachable!(),
     }
 }
@@ -50,91 +46,121 @@ fn try_key(
 // Tries the key that is kept at this place.
 fn try_at(
     managers: &Managers,
-    alloc: Global,
     primitive: Primitive,
     slots: &[Option<Kept>],
     place: usize,
-    part: &[u8],
+    part: &mut [u8],
     ad: &[u8],
     trials: &mut Trials,
-) -> Result<Option<Vec<u8>>, NoMemory>
+) -> Option<Range<usize>>
     requires opens { Opens primitive }
     requires served { AreServed (⟦<Managers as KeyTable>⟧.table managers.now) primitive slots.now }
-    requires part_bound { length part.now ≤ 2 ^ 30 + 96 }
+    requires part_bound { length part.old ≤ 2 ^ 30 + 96 }
     requires ad_bound { length ad.now ≤ 2 ^ 30 }
-    ensures opened { IfOk result (λ plain. option_map (λ text. text.items) plain
-        ≡ open_with primitive part.now ad.now (option_to_list (kept_in slots.now place))) }
-    ensures tries { IfOk result (λ _. trials.new ≡ tries_with primitive part.now ad.now
-        (option_to_list (kept_in slots.now place)) trials.old) }
+    ensures opened { OpensTo (open_with primitive part.old ad.now
+        (option_to_list (kept_in slots.now place))) part.old part.new result }
+    ensures tries { trials.new ≡ tries_with primitive part.old ad.now
+        (option_to_list (kept_in slots.now place)) trials.old }
     ensures few { trials.new ≤ trials.old + length (option_to_list (kept_in slots.now place)) }
 {
     match slots.get(place) {
-        Some(Some(kept)) => try_key(managers, alloc, primitive, kept, part, ad, trials),
-        Some(None) | None => Ok(None),
+        Some(Some(kept)) => try_key(managers, primitive, kept, part, ad, trials),
+        Some(None) | None => None,
     }
 }
 
 // Tries the keys that are kept at these places, in order.
 fn try_places(
     managers: &Managers,
-    alloc: Global,
     primitive: Primitive,
     slots: &[Option<Kept>],
     places: &[usize],
-    part: &[u8],
+    part: &mut [u8],
     ad: &[u8],
     trials: &mut Trials,
-) -> Result<Option<Vec<u8>>, NoMemory>
+) -> Option<Range<usize>>
     requires opens { Opens primitive }
     requires served { AreServed (⟦<Managers as KeyTable>⟧.table managers.now) primitive slots.now }
-    requires part_bound { length part.now ≤ 2 ^ 30 + 96 }
+    requires part_bound { length part.old ≤ 2 ^ 30 + 96 }
     requires ad_bound { length ad.now ≤ 2 ^ 30 }
-    ensures opened { IfOk result (λ plain. option_map (λ text. text.items) plain
-        ≡ open_with primitive part.now ad.now (kept_at slots.now places.now)) }
-    ensures tries { IfOk result (λ _. trials.new ≡ tries_with primitive part.now ad.now
-        (kept_at slots.now places.now) trials.old) }
+    ensures opened { OpensTo (open_with primitive part.old ad.now (kept_at slots.now places.now))
+        part.old part.new result }
+    ensures tries { trials.new ≡ tries_with primitive part.old ad.now
+        (kept_at slots.now places.now) trials.old }
     ensures few { trials.new ≤ trials.old + length (kept_at slots.now places.now) }
 {
     for place in places {
-        if let Some(plain) = try_at(managers, alloc, primitive, slots, *place, part, ad, trials)? {
-            return Ok(Some(plain));
+        if let Some(range) = try_at(managers, primitive, slots, *place, part, ad, trials) {
+            return Some(range);
         }
     }
-    Ok(None)
+    None
 }
 
-/// Tries the keys with the prefix at the front of the bytes, and then those with none.
-pub(crate) fn try_all(
+// Tries the keys with the prefix at the front of the bytes.
+fn try_prefixed(
     managers: &Managers,
-    alloc: Global,
     primitive: Primitive,
     held: &Held,
-    bytes: &[u8],
+    bytes: &mut [u8],
     ad: &[u8],
     trials: &mut Trials,
-) -> Result<Option<Vec<u8>>, NoMemory>
+) -> Option<Range<usize>>
     requires opens { Opens primitive }
     requires served { AreServed (⟦<Managers as KeyTable>⟧.table managers.now) primitive
         held.now.slots.items }
-    requires bytes_bound { length bytes.now ≤ 2 ^ 30 + 96 }
+    requires bytes_bound { length bytes.old ≤ 2 ^ 30 + 96 }
     requires ad_bound { length ad.now ≤ 2 ^ 30 }
-    ensures opened { IfOk result (λ plain. option_map (λ text. text.items) plain
-        ≡ open_kept primitive held.now bytes.now ad.now) }
-    ensures tries { IfOk result (λ _. trials.new
-        ≡ tries_kept primitive held.now bytes.now ad.now trials.old) }
-    ensures few { trials.new ≤ trials.old + length (kept_under (take 5 bytes.now) held.now)
-        + length (kept_raw held.now) }
+    ensures opened { OpensTo (open_with primitive (drop 5 bytes.old) ad.now
+        (kept_under (take 5 bytes.old) held.now)) bytes.old bytes.new result }
+    ensures tries { trials.new ≡ tries_with primitive (drop 5 bytes.old) ad.now
+        (kept_under (take 5 bytes.old) held.now) trials.old }
+    ensures few { trials.new ≤ trials.old + length (kept_under (take 5 bytes.old) held.now) }
 {
     let slots = held.slots.as_slice();
-    let raw = held.raw.as_slice();
-    let (prefix, rest) = cut_prefix(bytes);
-    let places = held.places(prefix);
-    let first = try_places(managers, alloc, primitive, slots, places, rest, ad, trials)?;
-    if first.is_some() {
-        return Ok(first);
+    let (prefix, _) = cut_prefix(bytes);
+    let (at, places) = (prefix.len(), held.places(prefix));
+    match try_places(
+        managers,
+        primitive,
+        slots,
+        places,
+        &mut bytes[at..],
+        ad,
+        trials,
+    ) {
+        Some(range) => Some(at + range.start..at + range.end),
+        None => None,
     }
-    let plain = try_places(managers, alloc, primitive, slots, raw, bytes, ad, trials)?;
-    Ok(plain)
+}
+
+/// Tries the keys with the prefix at the front of the bytes, and then those with none. The answer is where
+/// the plaintext stands in the bytes then.
+pub(crate) fn try_all(
+    managers: &Managers,
+    primitive: Primitive,
+    held: &Held,
+    bytes: &mut [u8],
+    ad: &[u8],
+    trials: &mut Trials,
+) -> Option<Range<usize>>
+    requires opens { Opens primitive }
+    requires served { AreServed (⟦<Managers as KeyTable>⟧.table managers.now) primitive
+        held.now.slots.items }
+    requires bytes_bound { length bytes.old ≤ 2 ^ 30 + 96 }
+    requires ad_bound { length ad.now ≤ 2 ^ 30 }
+    ensures opened { OpensTo (open_kept primitive held.now bytes.old ad.now)
+        bytes.old bytes.new result }
+    ensures tries { trials.new ≡ tries_kept primitive held.now bytes.old ad.now trials.old }
+    ensures few { trials.new ≤ trials.old + length (kept_under (take 5 bytes.old) held.now)
+        + length (kept_raw held.now) }
+{
+    if let Some(range) = try_prefixed(managers, primitive, held, bytes, ad, trials) {
+        return Some(range);
+    }
+    let slots = held.slots.as_slice();
+    let raw = held.raw.as_slice();
+    try_places(managers, primitive, slots, raw, bytes, ad, trials)
 }
 
 // Whether the tag of the body under the key that is kept at this place is this one.

@@ -1,19 +1,21 @@
-use Rattle.std.proofs.Common.{sym, ◌∙◌, refl}
-use Rattle.wrapped_prims.proofs.TrialLemmas.{same_tries, tries_both, tries_first}
+use Rattle.wrapped_prims.proofs.TrialLemmas.{opened_first, opened_later, tries_both, tries_first}
 use Rattle.wrapped_prims.proofs.trying.try_all.Goals as goal
 
 pub try_places-requires-clause-served : goal.try_places-requires-clause-served
 try_places-requires-clause-served g c = rw c.as_slice-slots.ensures.value c.requires.served
 
-pub try_places-requires-2-clause-served : goal.try_places-requires-2-clause-served
-try_places-requires-2-clause-served g c = rw c.as_slice-slots.ensures.value c.requires.served
+pub returns-in-Some-clause-opened : goal.returns-in-Some-clause-opened
+returns-in-Some-clause-opened g c = opened_first c.args.primitive c.args.held.now c.args.bytes.now c.try_prefixed.new.bytes c.args.ad.now c.in-Some.range c.in-Some.ensures.opened
 
-pub returns-then-is_some-clause-tries : goal.returns-then-is_some-clause-tries
-returns-then-is_some-clause-tries g c =
-    tries_first _ c.in_ok-first.first c.args.primitive _ _ _ c.args.bytes.now c.args.ad.now c.args.trials.now c.try_places.new.trials c.in_ok-first.ensures.opened (sym c.is_some.ensures ∙ c.if-is_some.true) c.in_ok-first.ensures.tries
-    ∙ same_tries c.args.primitive c.args.held.now _ _ _ _ _ _ c.args.bytes.now c.args.ad.now c.args.trials.now c.as_slice-slots.ensures.value refl refl c.places-places.ensures c.cut_prefix.ensures.head c.cut_prefix.ensures.rest
+pub returns-in-Some-clause-tries : goal.returns-in-Some-clause-tries
+returns-in-Some-clause-tries g c = tries_first c.args.primitive c.args.held.now c.args.bytes.now c.try_prefixed.new.bytes c.args.ad.now c.in-Some.range c.args.trials.now c.try_prefixed.new.trials c.in-Some.ensures.opened c.in-Some.ensures.tries
+
+pub returns-clause-opened : goal.returns-clause-opened
+returns-clause-opened g c =
+    opened_later c.args.primitive c.args.held.now c.as_slice-slots.result.now c.as_slice-raw.result.now c.args.bytes.now c.try_prefixed.new.bytes c.try_places.new.part c.args.ad.now c.try_places.result
+    c.as_slice-slots.ensures.value c.as_slice-raw.ensures.value c.in_default.ensures.opened c.try_places.ensures.opened
 
 pub returns-clause-tries : goal.returns-clause-tries
 returns-clause-tries g c =
-    tries_both _ c.in_ok-first.first c.args.primitive _ _ _ c.args.bytes.now c.args.ad.now c.args.trials.now c.try_places.new.trials c.try_places-2.new.trials c.in_ok-first.ensures.opened (sym c.is_some.ensures ∙ c.if-is_some.false) c.in_ok-first.ensures.tries c.in_ok-plain.ensures.tries
-    ∙ same_tries c.args.primitive c.args.held.now _ _ _ _ _ _ c.args.bytes.now c.args.ad.now c.args.trials.now c.as_slice-slots.ensures.value c.as_slice-slots.ensures.value c.as_slice-raw.ensures.value c.places-places.ensures c.cut_prefix.ensures.head c.cut_prefix.ensures.rest
+    tries_both c.args.primitive c.args.held.now c.as_slice-slots.result.now c.as_slice-raw.result.now c.args.bytes.now c.try_prefixed.new.bytes c.args.ad.now c.args.trials.now c.try_prefixed.new.trials c.try_places.new.trials
+    c.as_slice-slots.ensures.value c.as_slice-raw.ensures.value c.in_default.ensures.opened c.in_default.ensures.tries c.try_places.ensures.tries
