@@ -4,6 +4,7 @@ pub mod EnvelopeBackLemmas
 pub mod EnvelopeLemmas
 pub mod FieldLemmas
 pub mod JsonLemmas
+pub mod OpenedInPlace
 pub mod OpenedSizes
 pub mod SealedBytes
 pub mod SealedSizes

@@ -11,6 +11,7 @@ ghost use Rattle.key_msgs.specs.declared.primitive.Primitive.TheVariants.{Aead};
 ghost use Rattle.keyset_model.specs.Keyset.{Keys};
 ghost use Rattle.managers.specs.Schemes.{IsAdmitted, key_under};
 ghost use Rattle.managers.specs.Uses.{iv_size};
+ghost use Rattle.tink_spec.specs.InPlace.{OpensTo};
 ghost use Rattle.tink_spec.specs.Outside.{EntropyState, Stood};
 ghost use Rattle.wrapped_prims.specs.Making.{IsOver};
 ghost use Rattle.wrapped_prims.specs.Sealing.{IsKeySealing};
@@ -22,7 +23,8 @@ use crate::data_keys::{DataKey, draw, make};
 use key_msgs::{Rule, Template};
 use managers::{AeadManager, CheckFault, KeyManager, KeyTable, Managers, Prepared};
 use std::alloc::Global;
-use tink_base::{Entropy, NoMemory, Trials};
+use std::ops::Range;
+use tink_base::{Entropy, NoMemory, Trials, part_of};
 use wrapped_prims::{Handle, SealFault};
 
 /// Why nothing was sealed.
@@ -190,58 +192,92 @@ pub fn envelope_seal<E: Entropy>(
     seal_made(alloc, handle, manager, &made, plain, ad, entropy)
 }
 
-/// What a payload opens to under the data key with this message.
+/// Opens a payload in place under the data key with this message, and answers where the plaintext stands
+/// then.
 fn open_with(
     alloc: Global,
     manager: &dyn AeadManager,
     value: &[u8],
-    payload: &[u8],
+    payload: &mut [u8],
     ad: &[u8],
-) -> Result<Option<Vec<u8>>, NoMemory>
-    requires payload_bound { length payload.now ≤ 16778240 }
+) -> Result<Option<Range<usize>>, NoMemory>
+    requires payload_bound { length payload.old ≤ 16778240 }
     requires ad_bound { length ad.now ≤ 16777216 }
-    ensures { IfOk result (λ plain. option_map (λ text. text.items) plain
-        ≡ open_payload payload.now ad.now (key_under
-        ((⟦<dyn AeadManager as KeyManager>⟧ manager.now.0).scheme manager.now.1) value.now)) }
+    ensures { IfOk result (OpensTo (open_payload payload.old ad.now (key_under
+        ((⟦<dyn AeadManager as KeyManager>⟧ manager.now.0).scheme manager.now.1) value.now))
+        payload.old payload.new) }
 {
     match manager.check(alloc, value) {
-        Ok(key) => manager.open(alloc, &key, payload, ad, &mut Trials::new()),
+        Ok(key) => Ok(manager.open(&key, payload, ad, &mut Trials::new())),
         Err(CheckFault::Bad(_)) => Ok(None),
         Err(CheckFault::NoMemory) => Err(NoMemory),
     }
 }
 
-/// Opens what stands behind the length of the sealed data key.
+/// Opens in place what stands behind the length of the sealed data key, and answers where the plaintext
+/// stands in `bytes` then.
 fn open_behind(
     alloc: Global,
     handle: &Handle<'_>,
     manager: &dyn AeadManager,
     size: usize,
-    rest: &[u8],
+    bytes: &mut [u8],
     ad: &[u8],
-) -> Result<Option<Vec<u8>>, NoMemory>
+) -> Result<Option<Range<usize>>, NoMemory>
     requires over { (keys : Keys) × IsOver (⟦<Managers as KeyTable>⟧.table
         handle.now.managers.now) Aead keys handle.now.held }
-    requires rest_bound { length rest.now ≤ 16778240 }
+    requires bytes_bound { length bytes.old ≤ 16778240 }
     requires ad_bound { length ad.now ≤ 16777216 }
     ensures { (keys : Keys)
         → IsOver (⟦<Managers as KeyTable>⟧.table handle.now.managers.now) Aead keys handle.now.held
-        → IfOk result (λ plain. option_map (λ text. text.items) plain ≡ open_behind keys
+        → IfOk result (OpensTo (open_behind keys
         (⟦<Managers as KeyTable>⟧.table handle.now.managers.now)
         ((⟦<dyn AeadManager as KeyManager>⟧ manager.now.0).scheme manager.now.1)
-        size rest.now ad.now) }
+        size bytes.old ad.now) bytes.old bytes.new) }
 {
-    if size == 0 || rest.len() < size {
+    if size == 0 || bytes.len() < size {
         return Ok(None);
     }
-    let (sealed, payload) = rest.split_at(size);
-    match handle.open(alloc, sealed, b"", &mut Trials::new())? {
-        Some(value) => open_with(alloc, manager, &value, payload, ad),
+    let Some(value) = handle.open(alloc, &bytes[..size], b"", &mut Trials::new())? else {
+        return Ok(None);
+    };
+    match open_with(alloc, manager, &value, &mut bytes[size..], ad)? {
+        Some(range) => Ok(Some(size + range.start..size + range.end)),
         None => Ok(None),
     }
 }
 
-/// Opens an envelope, of at most 16,778,240 bytes, with associated data of at most 16,777,216.
+/// Opens an envelope in place, and answers where the plaintext stands in `bytes` then.
+fn open_envelope(
+    alloc: Global,
+    handle: &Handle<'_>,
+    manager: &dyn AeadManager,
+    bytes: &mut [u8],
+    ad: &[u8],
+) -> Result<Option<Range<usize>>, NoMemory>
+    requires over { (keys : Keys) × IsOver (⟦<Managers as KeyTable>⟧.table
+        handle.now.managers.now) Aead keys handle.now.held }
+    requires bytes_bound { length bytes.old ≤ 16778240 }
+    requires ad_bound { length ad.now ≤ 16777216 }
+    ensures { (keys : Keys)
+        → IsOver (⟦<Managers as KeyTable>⟧.table handle.now.managers.now) Aead keys handle.now.held
+        → IfOk result (OpensTo (open_envelope_of keys
+        (⟦<Managers as KeyTable>⟧.table handle.now.managers.now)
+        ((⟦<dyn AeadManager as KeyManager>⟧ manager.now.0).scheme manager.now.1)
+        bytes.old ad.now) bytes.old bytes.new) }
+{
+    let Some((size, _)) = bytes.split_first_chunk::<LENGTH>() else {
+        return Ok(None);
+    };
+    let size = u32::from_be_bytes(*size) as usize;
+    match open_behind(alloc, handle, manager, size, &mut bytes[LENGTH..], ad)? {
+        Some(range) => Ok(Some(LENGTH + range.start..LENGTH + range.end)),
+        None => Ok(None),
+    }
+}
+
+/// Opens an envelope, of at most 16,778,240 bytes, with associated data of at most 16,777,216, in place:
+/// what is given is the envelope's list, with the plaintext in it alone.
 ///
 /// `None` comes exactly where there are fewer than four bytes; the length in the first four is 0 or above
 /// the number of bytes that follow; no key of the handle's keyset opens the sealed data key with empty
@@ -251,25 +287,22 @@ pub fn envelope_open(
     alloc: Global,
     handle: &Handle<'_>,
     manager: &dyn AeadManager,
-    bytes: &[u8],
+    mut bytes: Vec<u8>,
     ad: &[u8],
 ) -> Result<Option<Vec<u8>>, NoMemory>
     requires over { (keys : Keys) × IsOver (⟦<Managers as KeyTable>⟧.table
         handle.now.managers.now) Aead keys handle.now.held }
-    requires bytes_bound { length bytes.now ≤ 16778240 }
+    requires bytes_bound { length bytes.items ≤ 16778240 }
     requires ad_bound { length ad.now ≤ 16777216 }
     ensures { (keys : Keys)
         → IsOver (⟦<Managers as KeyTable>⟧.table handle.now.managers.now) Aead keys handle.now.held
         → IfOk result (λ plain. option_map (λ text. text.items) plain ≡ open_envelope_of keys
         (⟦<Managers as KeyTable>⟧.table handle.now.managers.now)
         ((⟦<dyn AeadManager as KeyManager>⟧ manager.now.0).scheme manager.now.1)
-        bytes.now ad.now) }
+        bytes.items ad.now) }
 {
-    match bytes.split_first_chunk::<4>() {
-        Some((size, rest)) => {
-            let size = u32::from_be_bytes(*size) as usize;
-            open_behind(alloc, handle, manager, size, rest, ad)
-        }
+    match open_envelope(alloc, handle, manager, &mut bytes, ad)? {
+        Some(range) => Ok(Some(part_of(bytes, range))),
         None => Ok(None),
     }
 }
