@@ -1,26 +1,24 @@
 -- A line that has 320 random bytes is answered, and draws no more.
-use Rattle.std.proofs.Common.{◌≡◌, ◌∙◌, inl, inr, refl, sym, ap, subst, ℕ, zero, suc, ◌+◌, ◌*◌, ◌≤◌, Bool, true, false, cond, not, List, [], ◌∷◌, ◌++◌, length, take, drop, Option, Some, None, Result, Ok, Err, option_map, find, arith, ◌==◌, eqb-true, nat_le}
+use Rattle.std.proofs.Common.{◌≡◌, ◌∙◌, inl, inr, refl, sym, ap, subst, ℕ, zero, suc, ◌+◌, ◌*◌, ◌≤◌, true, false, cond, List, [], ◌∷◌, ◌++◌, length, take, drop, Option, Some, None, Result, Ok, Err, option_map, arith}
 use Rattle.std.specs.List.{AllByRecursion}
 use Rattle.std.specs.Option.{option_and_then}
-use Rattle.std.proofs.lemmas.Bool.{and_parts, le-ltb, leb-true, or_cases}
+use Rattle.std.proofs.lemmas.Bool.{and_parts, le-ltb}
 use Rattle.std.proofs.lemmas.List.{length-drop}
 use Rattle.std.proofs.lemmas.Option.{same_Some}
-use Rattle.key_msgs.specs.Keys.{IsValid, contents_of, type_of}
-use Rattle.key_msgs.specs.Rules.{all_rules, is_either, keeps}
+use Rattle.key_msgs.specs.Keys.{IsValid}
 use Rattle.key_msgs.specs.Templates.{Row, random_of}
 use Rattle.key_msgs.specs.declared.key.KeyKind.{KeyKind}
-use Rattle.key_msgs.specs.declared.key.KeyKind.TheVariants as kinds
 use Rattle.key_msgs.specs.declared.primitive.Primitive.{Primitive}
 use Rattle.key_msgs.specs.declared.primitive.Primitive.TheVariants.{Aead, Daead, Mac, Prf}
-use Rattle.key_msgs.specs.declared.rule.Rule.TheVariants as rules_of
 use Rattle.keyset_model.proofs.PrimaryLemmas.{primary_there}
 use Rattle.keyset_model.specs.Keyset.{Keys, fault_of, is_enabled, is_primary, primary_of}
 use Rattle.keyset_model.specs.declared.record.Record.{Record}
 use Rattle.managers.proofs.ReadingLemmas.{read_of_type}
+use Rattle.managers.proofs.SizeLemmas.{iv-short}
 use Rattle.managers.specs.Schemes.{Scheme, key_under, type_under}
 use Rattle.managers.specs.Table.{Table, scheme_at}
 use Rattle.managers.specs.Uses.{dseal_of, iv_size, seal_of, tag_of, tagged}
-use Rattle.tinkey_cmds.proofs.Among.{Among, among-all, find-among}
+use Rattle.tinkey_cmds.proofs.Among.{among-all, find-among}
 use Rattle.tinkey_cmds.proofs.Kept.{most_random}
 use Rattle.tinkey_cmds.specs.Draws.{Draw, Drawn, and_then, answered as answers, fill, unless_err}
 use Rattle.tinkey_cmds.specs.Edits.{Edit, EditOf, added, alone, effect_of, grown, id_of, is_taken, new_id, new_record, record_of, refusal_of, rotated, step, unless_refused, with_key}
@@ -29,7 +27,7 @@ use Rattle.tinkey_cmds.specs.Laws.{HasTemplate, IsTemplate}
 use Rattle.tinkey_cmds.specs.declared.command.CmdFault.{CmdFault}
 use Rattle.tinkey_cmds.specs.declared.command.CmdFault.TheVariants.{IdsExhausted}
 use Rattle.tinkey_session.proofs.DrawLemmas.{served_left}
-use Rattle.tinkey_session.proofs.Options.{clash, no_truth}
+use Rattle.tinkey_session.proofs.Options.{clash}
 use Rattle.tinkey_session.proofs.TurnLemmas.{asked_cases}
 use Rattle.tinkey_session.proofs.UsableLemmas.{fit_reading}
 use Rattle.tinkey_session.specs.LineLaws.{FirstsDrawFew, LinesDrawFew}
@@ -150,42 +148,6 @@ has_primary_key table p keys faultless fit =
     let read = fit_reading (reading_of table p r) (prefix_fault p r) (sym (ap (λ b. cond b (first_of_three (reading_of table p r) (prefix_fault p r)) None) enabled) ∙ none) in
     record { under' = r; primary = there.1; key = read.0; read = ap read_key read.1; valid = read_valid (scheme_at table p r.url) r.value read.0 read.1 }
 
--- ---- the size of an IV
-
-none_passes : {A : Type 0} (test : A → Bool) (xs : List A) (x : A) → find test xs ≡ None → Among x xs → test x ≡ false
-none_passes test [] x e a = absurd a
-none_passes {A} test (y ∷ ys) x e a = elim (test y) as (λ b. test y ≡ b → cond b (Some y) (find test ys) ≡ None → test x ≡ false) [
-  | true ↦ λ t k. clash (sym k)
-  | false ↦ λ t k. elim a [ inl same ↦ ap test (sym same) ∙ t | inr later ↦ none_passes test ys x k later ]
-] refl e
-
-kept_rule : (b : Bool) → not b ≡ false → b ≡ true
-kept_rule true e = refl
-kept_rule false e = no_truth (sym e)
-
-iv_kept : (key : KeyKind) → IsValid key → keeps (type_of key) (contents_of key) rules_of.IvSize ≡ true
-iv_kept key valid = kept_rule _ (none_passes (λ rule. not (keeps (type_of key) (contents_of key) rule)) all_rules rules_of.IvSize valid (inr (inr (inr (inr (inl refl))))))
-
-either_small : (n : ℕ) → is_either 12 16 n ≡ true → n ≤ 16
-either_small n e = elim (or_cases (n == 12) (n == 16) e) [
-  | inl a ↦ let is = eqb-true n 12 a in omega (arith, is)
-  | inr b ↦ let is = eqb-true n 16 b in omega (arith, is)
-]
-
-iv_small : (key : KeyKind) → IsValid key → iv_size key ≤ 16
-iv_small (kinds.AesGcm key) valid = omega arith
-iv_small (kinds.AesEax key size) valid = either_small size (iv_kept (kinds.AesEax key size) valid)
-iv_small (kinds.AesCtrHmac aes size hash mac tag_size) valid = leb-true _ _ (and_parts (nat_le 12 size) (nat_le size 16) (iv_kept (kinds.AesCtrHmac aes size hash mac tag_size) valid)).1
-iv_small (kinds.AesSiv key) valid = omega arith
-iv_small (kinds.Hmac key hash tag_size) valid = omega arith
-iv_small (kinds.AesCmac key tag_size) valid = omega arith
-iv_small (kinds.HkdfPrf key hash salt) valid = omega arith
-iv_small (kinds.HmacPrf key hash) valid = omega arith
-iv_small (kinds.CmacPrf key) valid = omega arith
-iv_small (kinds.GcmStream key segment derived hash) valid = omega arith
-iv_small (kinds.CtrStream key segment derived hash mac_hash tag_size) valid = omega arith
-iv_small (kinds.AesGcmSiv key) valid = omega arith
-
 -- ---- lines
 
 -- over these bytes there is an answer, and no more than 320 of them are drawn
@@ -219,7 +181,7 @@ unfolding Few
 few-seal table keys plain ad random enough has =
     let key = has.key in
     let front = prefix_bytes (prefix_of has.under') in
-    let size = iv_small key has.valid in
+    let size = iv-short key has.valid in
     let sealed : Sealed = record { bytes = front ++ seal_of key (take (iv_size key) random) plain ad; left = drop (iv_size key) random } in
     let is : seal_answer keys table plain ad random ≡ Some sealed =
     ap (option_and_then (seal_under table plain ad random)) has.primary
