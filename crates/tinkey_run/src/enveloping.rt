@@ -55,10 +55,10 @@ pub(crate) fn use_envelope<S: Source, E: Entropy, D: Store>(
     let handle = handle_of(alloc, &keyset, managers, Primitive::Aead)?;
     let manager = find_manager(managers, &template)?;
     let input = read_input(alloc, envelope_limit(work), source)?;
-    let input = input.as_slice();
     match work {
         Envelope::Seal(ad) => {
-            seal_envelope(alloc, &handle, manager, &template, ad, input, entropy)
+            let plain = input.as_slice();
+            seal_envelope(alloc, &handle, manager, &template, ad, plain, entropy)
         }
         Envelope::Open(ad) => open_envelope(alloc, &handle, manager, ad, input),
     }
@@ -134,25 +134,25 @@ fn seal_envelope<E: Entropy>(
     }
 }
 
-/// eopen: the plaintext of the envelope.
+/// eopen, in place: the plaintext of the envelope.
 fn open_envelope(
     alloc: Global,
     handle: &Handle<'_>,
     manager: &dyn AeadManager,
     ad: Datum<'_>,
-    envelope: &[u8],
+    envelope: Bytes,
 ) -> Result<Bytes, Status>
     requires serving { IsServing (⟦<Managers as KeyTable>⟧.table handle.now.managers.now) Aead
         handle.now.held }
-    requires bound { length envelope.now ≤ 16778240 }
+    requires bound { length envelope ≤ 16778240 }
     ensures { (w : World) (keys : Keys) (row : Row)
         → IsOver (⟦<Managers as KeyTable>⟧.table handle.now.managers.now) Aead keys handle.now.held
         → Passes (envelopes (⟦<Managers as KeyTable>⟧.table handle.now.managers.now) keys
         ((⟦<dyn AeadManager as KeyManager>⟧ manager.now.0).scheme manager.now.1)
-        row (to_eopen (seen_datum ad.entry)) envelope.now) w result w }
+        row (to_eopen (seen_datum ad.entry)) envelope) w result w }
 {
     let ad = datum(alloc, ad)?;
-    match envelope_open(alloc, handle, manager, envelope, ad.as_slice()) {
+    match envelope_open(alloc, handle, manager, envelope.into_vec(), ad.as_slice()) {
         Ok(opened) => or_failed(opened),
         Err(_) => Err(Status::NoMemory),
     }

@@ -149,9 +149,9 @@ fn do_work<E: Entropy>(
 {
     match work {
         Work::Seal(ad) => seal(alloc, handle, ad, input, entropy),
-        Work::Open(ad) => open(alloc, handle, ad, &input),
+        Work::Open(ad) => open(alloc, handle, ad, input),
         Work::Dseal(ad) => dseal(alloc, handle, ad, input),
-        Work::Dopen(ad) => dopen(alloc, handle, ad, &input),
+        Work::Dopen(ad) => dopen(alloc, handle, ad, input),
         Work::Tag => tag(alloc, handle, &input),
         Work::Verify(tag) => verify(alloc, handle, tag, &input),
         Work::Derive(size) => derive(alloc, handle, size, &input),
@@ -183,20 +183,17 @@ fn seal<E: Entropy>(
     }
 }
 
-/// open: the plaintext of the first candidate that opens.
-fn open(alloc: Global, handle: &Handle<'_>, ad: Datum<'_>, sealed: &[u8]) -> Result<Bytes, Status>
+/// open, in place: the plaintext of the first candidate that opens.
+fn open(alloc: Global, handle: &Handle<'_>, ad: Datum<'_>, sealed: Vec<u8>) -> Result<Bytes, Status>
     requires serving { IsServing (⟦<Managers as KeyTable>⟧.table handle.now.managers.now) Aead
         handle.now.held }
-    requires bound { length sealed.now ≤ 2 ^ 25 }
+    requires bound { length sealed.items ≤ 2 ^ 25 }
     ensures { (w : World) → Works (⟦<Managers as KeyTable>⟧.table handle.now.managers.now)
-        handle.now.held (to_open (seen_datum ad.entry)) sealed.now
+        handle.now.held (to_open (seen_datum ad.entry)) sealed.items
         w result w }
 {
     let ad = datum(alloc, ad)?;
-    match handle.open(alloc, sealed, ad.as_slice(), &mut Trials::new()) {
-        Ok(opened) => or_failed(opened),
-        Err(_) => Err(Status::NoMemory),
-    }
+    or_failed(handle.open_in_place(sealed, ad.as_slice(), &mut Trials::new()))
 }
 
 /// dseal, in place: prefix, tag and ciphertext.
@@ -217,20 +214,22 @@ fn dseal(alloc: Global, handle: &Handle<'_>, ad: Datum<'_>, input: Vec<u8>) -> R
     }
 }
 
-/// dopen: the plaintext of the first candidate that opens.
-fn dopen(alloc: Global, handle: &Handle<'_>, ad: Datum<'_>, sealed: &[u8]) -> Result<Bytes, Status>
+/// dopen, in place: the plaintext of the first candidate that opens.
+fn dopen(
+    alloc: Global,
+    handle: &Handle<'_>,
+    ad: Datum<'_>,
+    sealed: Vec<u8>,
+) -> Result<Bytes, Status>
     requires serving { IsServing (⟦<Managers as KeyTable>⟧.table handle.now.managers.now) Daead
         handle.now.held }
-    requires bound { length sealed.now ≤ 2 ^ 25 }
+    requires bound { length sealed.items ≤ 2 ^ 25 }
     ensures { (w : World) → Works (⟦<Managers as KeyTable>⟧.table handle.now.managers.now)
-        handle.now.held (to_dopen (seen_datum ad.entry)) sealed.now
+        handle.now.held (to_dopen (seen_datum ad.entry)) sealed.items
         w result w }
 {
     let ad = datum(alloc, ad)?;
-    match handle.dopen(alloc, sealed, ad.as_slice(), &mut Trials::new()) {
-        Ok(opened) => or_failed(opened),
-        Err(_) => Err(Status::NoMemory),
-    }
+    or_failed(handle.dopen_in_place(sealed, ad.as_slice(), &mut Trials::new()))
 }
 
 /// tag: prefix and tag.

@@ -48,10 +48,10 @@ returns-in_err-input g c = λ w.
     (c.in_ok-manager.ensures.passes mid) c.from_residual-in_err-input.ensures.1 (rw c.envelope_limit.ensures.limit at (c.in_err-input.ensures.passes mid))
 
 pub seal_envelope-requires-clause-bound : goal.seal_envelope-requires-clause-bound
-seal_envelope-requires-clause-bound g c = rw c.as_slice-input.ensures (rw (c.envelope_limit.ensures.limit, c.in-Seal.is) at c.in_ok-input.ensures.within)
+seal_envelope-requires-clause-bound g c = rw c.as_slice-plain.ensures (rw (c.envelope_limit.ensures.limit, c.in-Seal.is) at c.in_ok-input.ensures.within)
 
 pub open_envelope-requires-clause-bound : goal.open_envelope-requires-clause-bound
-open_envelope-requires-clause-bound g c = rw c.as_slice-input.ensures (rw (c.envelope_limit.ensures.limit, c.in-Open.is) at c.in_ok-input.ensures.within)
+open_envelope-requires-clause-bound g c = rw (c.envelope_limit.ensures.limit, c.in-Open.is) at c.in_ok-input.ensures.within
 
 pub returns-in-Seal : goal.returns-in-Seal
 returns-in-Seal g c = λ w.
@@ -65,7 +65,7 @@ returns-in-Seal g c = λ w.
     let work = seen_envelope c.args.work in
     envelope_with_handle _ c.args.name.now c.args.form c.args.template.now work old mid new row keys _ (c.in_ok-template.ensures.passes old) (c.in_ok-keyset.ensures.passes first) (c.in_ok-handle.ensures.passes mid)
     (envelope_with_input _ _ row work keys _ mid behind new c.in_ok-input.input _ c.in_ok-handle.ensures.table (c.in_ok-manager.ensures.passes mid) (rw c.envelope_limit.ensures.limit at (c.in_ok-input.ensures.passes mid))
-    (rw c.in-Seal.is (rw c.as_slice-input.ensures at (c.seal_envelope.ensures behind keys c.in_ok-handle.ensures.over))))
+    (rw c.in-Seal.is (rw c.as_slice-plain.ensures at (c.seal_envelope.ensures behind keys c.in_ok-handle.ensures.over))))
 
 pub returns : goal.returns
 returns g c = λ w.
@@ -78,4 +78,4 @@ returns g c = λ w.
     let work = seen_envelope c.args.work in
     envelope_with_handle _ c.args.name.now c.args.form c.args.template.now work old mid behind row keys _ (c.in_ok-template.ensures.passes old) (c.in_ok-keyset.ensures.passes first) (c.in_ok-handle.ensures.passes mid)
     (envelope_with_input _ _ row work keys _ mid behind behind c.in_ok-input.input _ c.in_ok-handle.ensures.table (c.in_ok-manager.ensures.passes mid) (rw c.envelope_limit.ensures.limit at (c.in_ok-input.ensures.passes mid))
-    (rw c.in-Open.is (rw c.as_slice-input.ensures at (c.open_envelope.ensures behind keys row c.in_ok-handle.ensures.over))))
+    (rw c.in-Open.is (c.open_envelope.ensures behind keys row c.in_ok-handle.ensures.over)))

@@ -4,16 +4,16 @@ pub returns-in-Seal : goal.returns-in-Seal
 returns-in-Seal g c = λ w. rw c.in-Seal.is (c.seal.ensures w)
 
 pub returns-in-Open : goal.returns-in-Open
-returns-in-Open g c = λ w. rw c.in-Open.is (rw c.deref.ensures.value at (c.open.ensures (record w { entropy = g.E.Entropy.state c.args.entropy.now })))
+returns-in-Open g c = λ w. rw c.in-Open.is (c.open.ensures (record w { entropy = g.E.Entropy.state c.args.entropy.now }))
 
 pub returns-in-Dseal : goal.returns-in-Dseal
 returns-in-Dseal g c = λ w. rw c.in-Dseal.is (c.dseal.ensures (record w { entropy = g.E.Entropy.state c.args.entropy.now }))
 
 pub returns-in-Dopen : goal.returns-in-Dopen
-returns-in-Dopen g c = λ w. rw c.in-Dopen.is (rw c.deref-in-Dopen.ensures.value at (c.dopen.ensures (record w { entropy = g.E.Entropy.state c.args.entropy.now })))
+returns-in-Dopen g c = λ w. rw c.in-Dopen.is (c.dopen.ensures (record w { entropy = g.E.Entropy.state c.args.entropy.now }))
 
 pub returns-in-Tag : goal.returns-in-Tag
-returns-in-Tag g c = λ w. rw c.in-Tag.is (rw c.deref-in-Tag.ensures.value at (c.tag.ensures (record w { entropy = g.E.Entropy.state c.args.entropy.now })))
+returns-in-Tag g c = λ w. rw c.in-Tag.is (rw c.deref.ensures.value at (c.tag.ensures (record w { entropy = g.E.Entropy.state c.args.entropy.now })))
 
 pub returns-in-Verify : goal.returns-in-Verify
 returns-in-Verify g c = λ w. rw c.in-Verify.is (rw c.deref-in-Verify.ensures.value at (c.verify.ensures (record w { entropy = g.E.Entropy.state c.args.entropy.now })))

@@ -2,5 +2,5 @@ use Rattle.std.proofs.Common.{◌∙◌}
 use Rattle.tinkey_run.proofs.UseLemmas.{opened_passes}
 use Rattle.tinkey_run.proofs.using.open.Goals as goal
 
-pub returns-in-Ok : goal.returns-in-Ok
-returns-in-Ok g c = λ w keys over. opened_passes _ _ w w _ (rw (c.as_slice.ensures ∙ c.in_ok-ad.ensures.bytes) at (c.in-Ok.ensures.opened keys over)) (c.or_failed.ensures w)
+pub returns : goal.returns
+returns g c = λ w keys over. opened_passes _ _ w w _ (rw (c.as_slice.ensures ∙ c.in_ok-ad.ensures.bytes) at (c.open_in_place.ensures.opened keys over)) (c.or_failed.ensures w)
