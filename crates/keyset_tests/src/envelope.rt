@@ -5,14 +5,14 @@ ghost use Rattle.std.specs.Prelude.{◌≤◌, length, IfOk};
 
 use crate::boxes::aead_under;
 use crate::keysets::keyset_of;
-use crate::rows::{count, few, holds_text};
+use crate::rows::{bytes_named, count, digits_named, few};
 use key_msgs::{Primitive, Template, template_at, template_named};
 use keyset_model::Keyset;
 use managers::{AeadManager, AeadScheme, Managers};
 use seal_wrap::{data_key, envelope_open, envelope_seal};
 use std::alloc::Global;
 use std::test::Fail;
-use test_words::{bytes_of, cell, counting, digits_of, turned};
+use test_words::{bytes_of, cell, counting, digits_of, same_text, turned};
 use tink_base::MemEntropy;
 use wrapped_prims::Handle;
 
@@ -91,7 +91,7 @@ const URLS: [(&str, AeadScheme); 4] = [
 
 // Envelopes of Google's Tink in Go, 2.4.0, each under a keyset and with a template for the data key, and
 // what it answered. A row has what it shows, the template, the keyset, the associated data, the envelope
-// and the plaintext.
+// and what opens.
 const OF_TINK_GO: &str = "\
 a CRUNCHY key|AES256_CTR_HMAC_SHA256|08eae1cd960b12640a580a30747970652e676f6f676c65617069732e636f6d2f676f6f676c652e63727970746f2e74696e6b2e41657347636d4b657912221a20c0aa8b0198a5ea5a2ac40613d668bc4042ca088520829da5716611631d91d64f1801100118eae1cd960b2004|02e0ae946a|0000007300b2d370ea7606a98c49d19406116a3c6113a7f7bfae5eb9bab071e6fffeb3c176e46a7f369ce92b73f6d582e9027a4f5e8941785d6b6bf88aa4c2c673b5b64c8500b62821bc364d69541a8bba53e9e6bd108a4ebd5a19000dd09b15374b42df0784ab88ae7d1dc43ae5f2f12d2c6f7e6d3e719441b10a542bc9d11fae26d4663b66d3b69d8950c45e8a5dabd16e4576505bae2215352c0330e13782b286a1b8fb2cbe3b|46\n\
 a CRUNCHY key|AES128_CTR_HMAC_SHA256|089fc485ec0812640a580a30747970652e676f6f676c65617069732e636f6d2f676f6f676c652e63727970746f2e74696e6b2e41657347636d4b657912221a2050e057d407132b896f689a01a10070193e39494fb27b0f0a0d4baf466cd8fe2f18011001189fc485ec082004||00000063008d81621f5905fe2f5fad7da6d18e9afde5387246c8f51d6633e0bf8ab43f992fa66fc22a326ac3626a9604aba253cccb1e86165d33bd3c49e7c3260c1431440510909ef917c97aa0fcd8cb2d90343d91d98c1dd954371d011a13daa9e60d7820d58ccc8bf9a63c5cc8347119c43c55ceeb73dd1bb596a12812fd402f91aa638369882c|a8\n\
@@ -105,34 +105,34 @@ a TINK key, refused|AES256_CTR_HMAC_SHA256|08de969ac10a12640a580a30747970652e676
 a CRUNCHY key, refused|AES128_CTR_HMAC_SHA256|089ea396a60212640a580a30747970652e676f6f676c65617069732e636f6d2f676f6f676c652e63727970746f2e74696e6b2e41657347636d4b657912221a20460a778ae37b50a2de047f20724f0a53cfd6aab9b2f8d4f9e75a5a628fe9067518011001189ea396a6022004|7560351db7|000000000024c5919e867fdf48fb39dbe8a0379e58b816d91f685d454224b4faa016ebd8f5c15bcfcbd6e043b982932e64056dfacf58e5958ba49cfc25a0a6ba59a568ccfac03b51c638b44088205c0c7cd46acbedc9803c1cdb1f963cb013c27b918c7b5ccaabfa652e961499fd6977e6500fd706514bb0c0d440b98b1a06306e847b2393a93b|none\n\
 a CRUNCHY key, refused|AES128_CTR_HMAC_SHA256|0888abb4ae0812640a580a30747970652e676f6f676c65617069732e636f6d2f676f6f676c652e63727970746f2e74696e6b2e41657347636d4b657912221a20f76c6f5a6b04302cc37e7a848ff6499d3e6a90f9f50e14d3371e32fda7db34d8180110011888abb4ae082004|e17ddb20ca|ffffffff0085cd1588257867e04c998bf5e995700ad3f44f827b656c43233b60d62535341127e3b51886586973aca0c2a9fa05ddd088ce332ff87859a871fed9fda985b8303e7ff870ea8d9a2f3ef8e25e0895ddd375a58e27902f1c7705b27014d549d83bfd69d8c5ea75d4fd9bcd24ab33edce8513a253bf23d63d3083d915f40be59dae5dbb|none";
 
-// Under K1. A row has what it shows, the template, the envelope, the associated data and what opens.
+// The same form, under K1.
 const ENVELOPES: &str = "\
-as it was sealed|AES128_GCM_RAW|00000033 KEY TEXT||ZERO\n\
-an empty plaintext|AES128_GCM_RAW|00000033 KEY EMPTY_TEXT||\n\
-associated data of the payload|AES128_GCM_RAW|00000033 KEY TEXT_WITH_X|78|ZERO\n\
-associated data that wasn't sealed|AES128_GCM_RAW|00000033 KEY TEXT|78|none\n\
-associated data left out|AES128_GCM_RAW|00000033 KEY TEXT_WITH_X||none\n\
-a data key with associated data|AES128_GCM_RAW|00000033 KEY_WITH_X TEXT_WITH_X|78|none\n\
-a template of another size|AES256_GCM|00000033 KEY TEXT||ZERO\n\
-a template of another kind with this message|AES128_GCM_SIV|00000033 KEY TEXT||none\n\
-a template of another kind|AES128_EAX|00000033 KEY TEXT||none\n\
-a template of another primitive|AES256_SIV|00000033 KEY TEXT||NotAead\n\
-a data key of no byte|AES128_GCM_RAW|00000021 NO_KEY TEXT||none\n\
-a data key of 15 bytes|AES128_GCM_RAW|00000032 KEY_OF_15 TEXT||none\n\
-a prefix before the payload|AES128_GCM_RAW|00000033 KEY 0101020304 TEXT||none\n\
-no prefix before the data key|AES128_GCM_RAW|0000002e 0000000000000000000000001998dace60b6a392f328c2b971b2fe78f7956d5be285ef332e80174f60c6e290b102 TEXT||none\n\
-the length's bytes turned round|AES128_GCM_RAW|33000000 KEY TEXT||none\n\
-a length of 0|AES128_GCM_RAW|00000000 KEY TEXT||none\n\
-a length one below|AES128_GCM_RAW|00000032 KEY TEXT||none\n\
-a length one above|AES128_GCM_RAW|00000034 KEY TEXT||none\n\
-the length of all that follows|AES128_GCM_RAW|0000005f KEY TEXT||none\n\
-a length above what follows|AES128_GCM_RAW|00000060 KEY TEXT||none\n\
-the greatest length|AES128_GCM_RAW|ffffffff KEY TEXT||none\n\
-no payload|AES128_GCM_RAW|00000033 KEY||none\n\
-no byte|AES128_GCM_RAW|||none\n\
-three bytes|AES128_GCM_RAW|000000||none\n\
-a length alone|AES128_GCM_RAW|00000033||none\n\
-a length of 0 alone|AES128_GCM_RAW|00000000||none";
+as it was sealed|AES128_GCM_RAW|K1||00000033 KEY TEXT|ZERO\n\
+an empty plaintext|AES128_GCM_RAW|K1||00000033 KEY EMPTY_TEXT|\n\
+associated data of the payload|AES128_GCM_RAW|K1|78|00000033 KEY TEXT_WITH_X|ZERO\n\
+associated data that wasn't sealed|AES128_GCM_RAW|K1|78|00000033 KEY TEXT|none\n\
+associated data left out|AES128_GCM_RAW|K1||00000033 KEY TEXT_WITH_X|none\n\
+a data key with associated data|AES128_GCM_RAW|K1|78|00000033 KEY_WITH_X TEXT_WITH_X|none\n\
+a template of another size|AES256_GCM|K1||00000033 KEY TEXT|ZERO\n\
+a template of another kind with this message|AES128_GCM_SIV|K1||00000033 KEY TEXT|none\n\
+a template of another kind|AES128_EAX|K1||00000033 KEY TEXT|none\n\
+a template of another primitive|AES256_SIV|K1||00000033 KEY TEXT|NotAead\n\
+a data key of no byte|AES128_GCM_RAW|K1||00000021 NO_KEY TEXT|none\n\
+a data key of 15 bytes|AES128_GCM_RAW|K1||00000032 KEY_OF_15 TEXT|none\n\
+a prefix before the payload|AES128_GCM_RAW|K1||00000033 KEY 0101020304 TEXT|none\n\
+no prefix before the data key|AES128_GCM_RAW|K1||0000002e 0000000000000000000000001998dace60b6a392f328c2b971b2fe78f7956d5be285ef332e80174f60c6e290b102 TEXT|none\n\
+the length's bytes turned round|AES128_GCM_RAW|K1||33000000 KEY TEXT|none\n\
+a length of 0|AES128_GCM_RAW|K1||00000000 KEY TEXT|none\n\
+a length one below|AES128_GCM_RAW|K1||00000032 KEY TEXT|none\n\
+a length one above|AES128_GCM_RAW|K1||00000034 KEY TEXT|none\n\
+the length of all that follows|AES128_GCM_RAW|K1||0000005f KEY TEXT|none\n\
+a length above what follows|AES128_GCM_RAW|K1||00000060 KEY TEXT|none\n\
+the greatest length|AES128_GCM_RAW|K1||ffffffff KEY TEXT|none\n\
+no payload|AES128_GCM_RAW|K1||00000033 KEY|none\n\
+no byte|AES128_GCM_RAW|K1|||none\n\
+three bytes|AES128_GCM_RAW|K1||000000|none\n\
+a length alone|AES128_GCM_RAW|K1||00000033|none\n\
+a length of 0 alone|AES128_GCM_RAW|K1||00000000|none";
 
 // What is sealed of 16 zero bytes under K1 with this template, of so many zero bytes, where the call of
 // this number fails; 0 is no call. Behind the answer stands how many bytes are left.
@@ -211,27 +211,6 @@ const DRAWS: [(&str, &str, usize, u64, &str); 12] = [
     ("another primitive", "AES256_SIV", 200, 0, "NotAead 200"),
 ];
 
-// The digits of a name, or the word itself.
-fn digits_named(word: &str) -> &str {
-    for (name, digits) in NAMED {
-        if name == word {
-            return digits;
-        }
-    }
-    word
-}
-
-// The bytes of words with a space between them, each of them digits or a name.
-fn bytes_named(alloc: Global, words: &str) -> Result<Vec<u8>, Fail>
-    ensures few { IfOk result (λ bytes. length bytes.items ≤ 1000) }
-{
-    let mut bytes = Vec::new(alloc);
-    for word in words.split(' ') {
-        bytes.extend_from_slice(&bytes_of(alloc, digits_named(word))?)?;
-    }
-    few(bytes)
-}
-
 // What is sealed, or the fault, and how many random bytes are left.
 fn seal_text(
     alloc: Global,
@@ -243,18 +222,16 @@ fn seal_text(
 ) -> Result<String, Fail>
     requires few { length plain.now ≤ 1000 }
 {
-    let handle = match Handle::new(alloc, keyset, all, Primitive::Aead) {
-        Ok(handle) => handle,
-        Err(fault) => return Ok(format!(in alloc; "{fault:?}")?),
-    };
+    let handle = Handle::new(alloc, keyset, all, Primitive::Aead)?;
     let manager = match data_key(all, template) {
         Ok(manager) => manager,
         Err(fault) => return Ok(format!(in alloc; "{fault:?} {}", entropy.left())?),
     };
-    match envelope_seal(alloc, &handle, manager, template, plain, b"", &mut entropy) {
-        Ok(bytes) => Ok(format!(in alloc; "{} {}", digits_of(alloc, &bytes)?, entropy.left())?),
-        Err(fault) => Ok(format!(in alloc; "{fault:?} {}", entropy.left())?),
-    }
+    let text = match envelope_seal(alloc, &handle, manager, template, plain, b"", &mut entropy) {
+        Ok(bytes) => digits_of(alloc, &bytes)?,
+        Err(fault) => format!(in alloc; "{fault:?}")?,
+    };
+    Ok(format!(in alloc; "{text} {}", entropy.left())?)
 }
 
 // What opens, `none`, or the fault.
@@ -269,131 +246,127 @@ fn open_text(
     requires few_bytes { length bytes.now ≤ 1000 }
     requires few_ad { length ad.now ≤ 1000 }
 {
-    let handle = match Handle::new(alloc, keyset, all, Primitive::Aead) {
-        Ok(handle) => handle,
-        Err(fault) => return Ok(format!(in alloc; "{fault:?}")?),
-    };
+    let handle = Handle::new(alloc, keyset, all, Primitive::Aead)?;
     let manager = match data_key(all, template) {
         Ok(manager) => manager,
         Err(fault) => return Ok(format!(in alloc; "{fault:?}")?),
     };
-    match envelope_open(alloc, &handle, manager, bytes, ad)? {
+    match envelope_open(alloc, &handle, manager, bytes.to_vec(alloc)?, ad)? {
         Some(plain) => digits_of(alloc, &plain),
         None => Ok(String::from_str(alloc, "none")?),
     }
 }
 
-// Holds what opens of an envelope to a plaintext.
-fn assert_opened(
+fn assert_opened(alloc: Global, all: &Managers, row: &str) -> Result<(), Fail> {
+    let template = template_named(cell(row, 1)?)?;
+    let keyset = keyset_of(alloc, &bytes_named(alloc, &NAMED, cell(row, 2)?)?)?;
+    let ad = bytes_named(alloc, &NAMED, cell(row, 3)?)?;
+    let bytes = bytes_named(alloc, &NAMED, cell(row, 4)?)?;
+    let found = open_text(alloc, all, &keyset, &template, &bytes, &ad)?;
+    let expected = digits_named(&NAMED, cell(row, 5)?);
+    same_text(cell(row, 0)?, "what opens", expected, found.as_str())
+}
+
+fn assert_rows(alloc: Global, all: &Managers, table: &str, rows: usize) -> Result<(), Fail> {
+    count(table, rows)?;
+    for row in table.lines() {
+        assert_opened(alloc, all, row)?;
+    }
+    Ok(())
+}
+
+// Each byte of an envelope counts.
+fn assert_each_turned(alloc: Global, all: &Managers, keyset: &Keyset) -> Result<(), Fail> {
+    let template = template_named("AES128_GCM_RAW")?;
+    let bytes = bytes_named(alloc, &NAMED, "00000033 KEY TEXT")?;
+    for at in 0..99 {
+        let other = few(turned(alloc, &bytes, at)?)?;
+        let found = open_text(alloc, all, keyset, &template, &other, b"")?;
+        let place = format!(in alloc; "byte {at}")?;
+        same_text(place.as_str(), "what opens", "none", found.as_str())?;
+    }
+    Ok(())
+}
+
+// What is sealed of a plaintext under a keyset with a template, of so many zero bytes, where the call of this
+// number fails.
+fn assert_draws(
     alloc: Global,
     all: &Managers,
-    row: &str,
-    keyset: &str,
-    envelope: &str,
-    plain: &str,
-) -> Result<(), Fail> {
-    let keyset = keyset_of(alloc, &bytes_named(alloc, keyset)?)?;
-    let template = template_named(cell(row, 1)?)?;
-    let bytes = bytes_named(alloc, envelope)?;
-    let ad = bytes_named(alloc, cell(row, 3)?)?;
-    let found = open_text(alloc, all, &keyset, &template, &bytes, &ad)?;
-    holds_text(
-        cell(row, 0)?,
-        "what opens",
-        digits_named(plain),
-        found.as_str(),
-    )
+    keyset: &Keyset,
+    plain: &[u8],
+    draws: &[(&str, &str, usize, u64, &str)],
+) -> Result<(), Fail>
+    requires few { length plain.now ≤ 1000 }
+{
+    for (shows, name, random, fails, expected) in draws {
+        let template = template_named(name)?;
+        let entropy = MemEntropy::new(vec![in alloc; 0; *random]?, vec![in alloc; *fails; 1]?);
+        let found = seal_text(alloc, all, keyset, &template, plain, entropy)?;
+        same_text(shows, "the answer", expected, found.as_str())?;
+    }
+    Ok(())
 }
 
 // Seals under the keyset with a data key of this template, and opens what was sealed.
-fn assert_back(alloc: Global, all: &Managers, keyset: &str, place: usize) -> Result<(), Fail> {
+fn assert_back(alloc: Global, all: &Managers, keyset: &Keyset, place: usize) -> Result<(), Fail> {
     let template = template_at(place).ok_or("a row of the table")?;
-    let keyset = keyset_of(alloc, &bytes_named(alloc, keyset)?)?;
     let entropy = MemEntropy::new(counting(alloc, 200)?, Vec::new(alloc));
-    let sealed = seal_text(alloc, all, &keyset, &template, b"plaintext", entropy)?;
+    let sealed = seal_text(alloc, all, keyset, &template, b"plaintext", entropy)?;
     let (envelope, _) = sealed.as_str().split_once(' ').ok_or("what is left")?;
+    let envelope = if envelope == "NotAead" { "" } else { envelope };
+    let bytes = few(bytes_of(alloc, envelope)?)?;
+    let found = open_text(alloc, all, keyset, &template, &bytes, b"")?;
     let expected = match template.primitive() {
         Primitive::Aead => "706c61696e74657874",
         _ => "NotAead",
     };
-    let bytes = match envelope {
-        "NotAead" => Vec::new(alloc),
-        _ => few(bytes_of(alloc, envelope)?)?,
-    };
-    let found = open_text(alloc, all, &keyset, &template, &bytes, b"")?;
-    holds_text(template.name(), "what opens", expected, found.as_str())
+    same_text(template.name(), "what opens", expected, found.as_str())
 }
 
-#[test]
-fn opens_what_tink_sealed(rt: HostRuntime) -> Result<(), Fail> {
-    let alloc = rt.alloc();
-    let mut aead: Vec<Box<dyn AeadManager>> = Vec::new(alloc);
-    for (url, scheme) in URLS {
-        aead.push(aead_under(alloc, url, scheme)?)?;
-    }
-    let all = Managers::new(aead, Vec::new(alloc), Vec::new(alloc), Vec::new(alloc))?;
-    count(OF_TINK_GO, 11)?;
-    for row in OF_TINK_GO.lines() {
-        assert_opened(
-            alloc,
-            &all,
-            row,
-            cell(row, 2)?,
-            cell(row, 4)?,
-            cell(row, 5)?,
-        )?;
-    }
-    count(ENVELOPES, 26)?;
-    for row in ENVELOPES.lines() {
-        assert_opened(alloc, &all, row, "K1", cell(row, 2)?, cell(row, 4)?)?;
+fn assert_all_back(alloc: Global, all: &Managers, keyset: &str) -> Result<(), Fail> {
+    let keyset = keyset_of(alloc, &bytes_named(alloc, &NAMED, keyset)?)?;
+    for place in 0..36 {
+        assert_back(alloc, all, &keyset, place)?;
     }
     Ok(())
 }
 
 #[test]
-fn each_byte_of_an_envelope_counts(rt: HostRuntime) -> Result<(), Fail> {
+fn envelopes_open_and_each_byte_of_them_counts(rt: HostRuntime) -> Result<(), Fail> {
     let alloc = rt.alloc();
     let mut aead: Vec<Box<dyn AeadManager>> = Vec::new(alloc);
     for (url, scheme) in URLS {
         aead.push(aead_under(alloc, url, scheme)?)?;
     }
     let all = Managers::new(aead, Vec::new(alloc), Vec::new(alloc), Vec::new(alloc))?;
-    let keyset = keyset_of(alloc, &bytes_named(alloc, "K1")?)?;
-    let template = template_named("AES128_GCM_RAW")?;
-    let bytes = bytes_named(alloc, "00000033 KEY TEXT")?;
-    for at in 0..99 {
-        let other = few(turned(alloc, &bytes, at)?)?;
-        let found = open_text(alloc, &all, &keyset, &template, &other, b"")?;
-        let place = format!(in alloc; "byte {at}")?;
-        holds_text(place.as_str(), "what opens", "none", found.as_str())?;
-    }
-    Ok(())
-}
-
-#[test]
-fn draws_a_data_key_and_two_ivs(rt: HostRuntime) -> Result<(), Fail> {
-    let alloc = rt.alloc();
-    let mut aead: Vec<Box<dyn AeadManager>> = Vec::new(alloc);
-    for (url, scheme) in URLS {
-        aead.push(aead_under(alloc, url, scheme)?)?;
-    }
-    let all = Managers::new(aead, Vec::new(alloc), Vec::new(alloc), Vec::new(alloc))?;
-    let keyset = keyset_of(alloc, &bytes_named(alloc, "K1")?)?;
-    for (shows, name, random, fails, expected) in DRAWS {
-        let template = template_named(name)?;
-        let entropy = MemEntropy::new(vec![in alloc; 0; random]?, vec![in alloc; fails; 1]?);
-        let found = seal_text(alloc, &all, &keyset, &template, &[0; 16], entropy)?;
-        holds_text(shows, "the answer", expected, found.as_str())?;
-    }
+    let keyset = keyset_of(alloc, &bytes_named(alloc, &NAMED, "K1")?)?;
+    assert_rows(alloc, &all, OF_TINK_GO, 11)?;
+    assert_rows(alloc, &all, ENVELOPES, 26)?;
+    assert_each_turned(alloc, &all, &keyset)?;
+    assert_draws(alloc, &all, &keyset, &[0; 16], &DRAWS)?;
     for (keyset, _) in NAMED.iter().take(4) {
-        for place in 0..36 {
-            assert_back(alloc, &all, keyset, place)?;
-        }
+        assert_all_back(alloc, &all, keyset)?;
     }
     Ok(())
 }
 
-// Under the type URL of AES-GCM keys stands a manager of EAX keys, and none stands under that of EAX keys.
+// The same of no byte under GCM_SIV, where a manager of EAX keys stands under the type URL of AES-GCM keys, and
+// none under that of EAX keys.
+const REFUSED: [(&str, &str, usize, u64, &str); 5] = [
+    ("a whole key", "AES128_GCM", 40, 0, "Refused(IvSize) 24"),
+    (
+        "no byte behind a key",
+        "AES256_GCM",
+        32,
+        0,
+        "Refused(IvSize) 0",
+    ),
+    ("31 of a data key", "AES256_GCM", 31, 0, "EntropyFault 31"),
+    ("no manager", "AES128_EAX", 40, 0, "NoManager 40"),
+    ("another primitive", "AES256_SIV", 40, 0, "NotAead 40"),
+];
+
 #[test]
 fn refuses_a_data_key_before_it_is_sealed(rt: HostRuntime) -> Result<(), Fail> {
     let alloc = rt.alloc();
@@ -401,19 +374,6 @@ fn refuses_a_data_key_before_it_is_sealed(rt: HostRuntime) -> Result<(), Fail> {
     aead.push(aead_under(alloc, URLS[0].0, AeadScheme::Eax)?)?;
     aead.push(aead_under(alloc, URLS[3].0, AeadScheme::GcmSiv)?)?;
     let all = Managers::new(aead, Vec::new(alloc), Vec::new(alloc), Vec::new(alloc))?;
-    let keyset = keyset_of(alloc, &bytes_named(alloc, "GCM_SIV")?)?;
-    let cases = [
-        ("AES128_GCM", 40, "Refused(IvSize) 24"),
-        ("AES256_GCM", 32, "Refused(IvSize) 0"),
-        ("AES256_GCM", 31, "EntropyFault 31"),
-        ("AES128_EAX", 40, "NoManager 40"),
-        ("AES256_SIV", 40, "NotAead 40"),
-    ];
-    for (name, random, expected) in cases {
-        let template = template_named(name)?;
-        let entropy = MemEntropy::new(vec![in alloc; 0; random]?, Vec::new(alloc));
-        let found = seal_text(alloc, &all, &keyset, &template, b"", entropy)?;
-        holds_text(name, "the answer", expected, found.as_str())?;
-    }
-    Ok(())
+    let keyset = keyset_of(alloc, &bytes_named(alloc, &NAMED, "GCM_SIV")?)?;
+    assert_draws(alloc, &all, &keyset, b"", &REFUSED)
 }

@@ -129,38 +129,22 @@ fn answer(alloc: Global, row: &str, part: &[u8]) -> Result<String, Fail> {
     Ok(text?)
 }
 
-fn assert_row(alloc: Global, row: &str) -> Result<(), Fail> {
-    let part = bytes_in(alloc, row, 1)?;
-    let found = answer(alloc, row, &part)?;
-    holds(row, 3, "the answer", found.as_str())
-}
-
 fn assert_table(alloc: Global, table: &str, rows: usize) -> Result<(), Fail> {
     count(table, rows)?;
     for row in table.lines() {
-        assert_row(alloc, row)?;
+        let part = bytes_in(alloc, row, 1)?;
+        let found = answer(alloc, row, &part)?;
+        holds(row, 3, "the answer", found.as_str())?;
     }
     Ok(())
 }
 
 #[test]
-fn reads_the_examples_of_the_encoding_guide(rt: HostRuntime) -> Result<(), Fail> {
-    assert_table(rt.alloc(), GUIDE, 8)
-}
-
-#[test]
 fn cuts_a_part_or_names_the_first_field_at_fault(rt: HostRuntime) -> Result<(), Fail> {
-    assert_table(rt.alloc(), PARTS, 27)
-}
-
-#[test]
-fn the_last_scalar_counts(rt: HostRuntime) -> Result<(), Fail> {
-    assert_table(rt.alloc(), LAST, 1)
-}
-
-#[test]
-fn ten_bytes_give_64_bits(rt: HostRuntime) -> Result<(), Fail> {
-    assert_table(rt.alloc(), LONG, 4)
+    for (table, rows) in [(GUIDE, 8), (PARTS, 27), (LAST, 1), (LONG, 4)] {
+        assert_table(rt.alloc(), table, rows)?;
+    }
+    Ok(())
 }
 
 // Two messages in field 1 with a number between them, and a third message, which is cut short.

@@ -5,7 +5,7 @@ ghost use Rattle.std.specs.Prelude.{◌≤◌, length};
 use crate::boxes::{aead_under, daead_under, mac_under, prf_under};
 use crate::keysets::keyset_of;
 use crate::manager_answers::opened_text;
-use crate::rows::{bytes_in, count, holds};
+use crate::rows::{bytes_in, count, digits_named, holds};
 use key_msgs::Primitive;
 use keyset_model::Keyset;
 use managers::{
@@ -102,6 +102,14 @@ keys of an id apart|09;01 01 07 g ZERO;01 01 09 g ZERO;02 01 07 g ZERO;01 01 07 
 CRUNCHY and LEGACY of one id|08;01 04 07 g ZERO;01 02 07 g ZERO;01 01 07 g ZERO;01 03 08 g ZERO|prefixes|||0000000007 [0, 1], 0100000007 [2]
 a RAW key of the same id|08;01 03 07 g ZERO;01 01 07 g ZERO;01 03 08 g ZERO|prefixes|||0100000007 [1]";
 
+// The tables of each primitive, with the numbers of their rows.
+const TABLES: [(&str, usize, Primitive); 4] = [
+    (AEAD, 26, Primitive::Aead),
+    (MAC, 15, Primitive::Mac),
+    (DAEAD, 6, Primitive::Daead),
+    (PRF, 4, Primitive::Prf),
+];
+
 // Key messages that have a name in the tables.
 const NAMED: [(&str, &str); 7] = [
     ("ZERO", "1a1000000000000000000000000000000000"),
@@ -128,178 +136,110 @@ const NAMED: [(&str, &str); 7] = [
     ),
 ];
 
-// The bytes of digits, or of the key message that has a name.
-fn bytes_named(alloc: Global, word: &str) -> Result<Vec<u8>, Fail> {
-    for (name, digits) in NAMED {
-        if name == word {
-            return bytes_of(alloc, digits);
-        }
-    }
-    bytes_of(alloc, word)
-}
-
 // A word of a record.
 fn word(record: &str, place: usize) -> Result<&str, Fail> {
     Ok(record.split(' ').nth(place).ok_or("a word of a record")?)
 }
 
-// A field of bytes, fewer than 128 of them.
-fn push_field(out: &mut Vec<u8>, tag: u8, bytes: &[u8]) -> Result<(), Fail> {
-    out.push(tag)?;
-    out.push(u8::try_from(bytes.len())?)?;
-    out.extend_from_slice(bytes)?;
-    Ok(())
+// A field of bytes, fewer than 128 of them: its tag, their number and themselves, in digits.
+fn field(alloc: Global, tag: &str, digits: &str) -> Result<String, Fail> {
+    Ok(format!(in alloc; "{tag}{:02x}{digits}", digits.len() / 2)?)
 }
 
-// A field of a number, which is a word of the record.
-fn push_number(
-    alloc: Global,
-    out: &mut Vec<u8>,
-    tag: u8,
-    record: &str,
-    place: usize,
-) -> Result<(), Fail> {
-    out.push(tag)?;
-    out.extend_from_slice(&bytes_of(alloc, word(record, place)?)?)?;
-    Ok(())
+// A record's key data (`KeyData` of tink.proto), in digits.
+fn key_data(alloc: Global, record: &str) -> Result<String, Fail> {
+    let url = digits_of(alloc, word(record, 3)?.as_bytes())?;
+    let url = field(alloc, "0a", url.as_str())?;
+    let value = field(alloc, "12", digits_named(&NAMED, word(record, 4)?))?;
+    Ok(format!(in alloc; "{url}{value}1801")?)
 }
 
-// A record's key data (`KeyData` of tink.proto).
-fn key_data(alloc: Global, record: &str) -> Result<Vec<u8>, Fail> {
-    let mut data = Vec::new(alloc);
-    push_field(&mut data, 0x0a, word(record, 3)?.as_bytes())?;
-    push_field(&mut data, 0x12, &bytes_named(alloc, word(record, 4)?)?)?;
-    data.extend_from_slice(&[0x18, 1])?;
-    Ok(data)
-}
-
-// A record's message (`Key` of tink.proto).
-fn push_record(alloc: Global, out: &mut Vec<u8>, record: &str) -> Result<(), Fail> {
-    let mut key = Vec::new(alloc);
-    push_field(&mut key, 0x0a, &key_data(alloc, record)?)?;
-    push_number(alloc, &mut key, 0x10, record, 0)?;
-    push_number(alloc, &mut key, 0x18, record, 2)?;
-    push_number(alloc, &mut key, 0x20, record, 1)?;
-    push_field(out, 0x12, &key)
+// A record's message (`Key` of tink.proto), in digits.
+fn record_digits(alloc: Global, record: &str) -> Result<String, Fail> {
+    let data = field(alloc, "0a", key_data(alloc, record)?.as_str())?;
+    let (status, prefix, id) = (word(record, 0)?, word(record, 1)?, word(record, 2)?);
+    let key = format!(in alloc; "{data}10{status}18{id}20{prefix}")?;
+    field(alloc, "12", key.as_str())
 }
 
 // The keyset of a row (`Keyset` of tink.proto).
 fn keyset_in(alloc: Global, row: &str) -> Result<Keyset, Fail> {
     let (primary, records) = cell(row, 1)?.split_once(';').ok_or("a record")?;
-    let mut out = Vec::new(alloc);
-    out.push(8)?;
-    out.extend_from_slice(&bytes_of(alloc, primary)?)?;
+    let mut digits = format!(in alloc; "08{primary}")?;
     for record in records.split(';') {
-        push_record(alloc, &mut out, record)?;
+        digits.push_str(record_digits(alloc, record)?.as_str())?;
     }
-    keyset_of(alloc, &out)
+    keyset_of(alloc, &bytes_of(alloc, digits.as_str())?)
 }
 
-fn seal_text(
+// What a row's first bytes are sealed as with an IV of zero bytes, or what they open to; and why not.
+fn aead_text(
     alloc: Global,
     all: &Managers,
+    row: &str,
     keyset: &Keyset,
-    plain: &[u8],
+    given: &[u8],
     ad: &[u8],
 ) -> Result<String, Fail>
-    requires few_plain { length plain.now ≤ 1000 }
+    requires few_given { length given.now ≤ 1000 }
     requires few_ad { length ad.now ≤ 1000 }
 {
     let handle = match Handle::new(alloc, keyset, all, Primitive::Aead) {
         Ok(handle) => handle,
         Err(fault) => return Ok(format!(in alloc; "{fault:?}")?),
     };
-    let mut entropy = MemEntropy::new(vec![in alloc; 0; 12]?, Vec::new(alloc));
-    match handle.seal(alloc, plain, ad, &mut entropy) {
-        Ok(sealed) => digits_of(alloc, &sealed),
-        Err(fault) => Ok(format!(in alloc; "{fault:?}")?),
+    if cell(row, 2)? == "seal" {
+        let mut entropy = MemEntropy::new(vec![in alloc; 0; 12]?, Vec::new(alloc));
+        return digits_of(alloc, &handle.seal(alloc, given, ad, &mut entropy)?);
     }
-}
-
-fn open_text(
-    alloc: Global,
-    all: &Managers,
-    keyset: &Keyset,
-    sealed: &[u8],
-    ad: &[u8],
-) -> Result<String, Fail>
-    requires few_sealed { length sealed.now ≤ 1000 }
-    requires few_ad { length ad.now ≤ 1000 }
-{
-    let handle = match Handle::new(alloc, keyset, all, Primitive::Aead) {
-        Ok(handle) => handle,
-        Err(fault) => return Ok(format!(in alloc; "{fault:?}")?),
-    };
     let mut trials = Trials::new();
-    let plain = handle.open(alloc, sealed, ad, &mut trials)?;
+    let plain = handle.open(alloc, given, ad, &mut trials)?;
     opened_text(alloc, plain, &trials)
 }
 
-fn dseal_text(
+// The same without an IV.
+fn daead_text(
     alloc: Global,
     all: &Managers,
+    row: &str,
     keyset: &Keyset,
-    plain: &[u8],
+    given: &[u8],
     ad: &[u8],
 ) -> Result<String, Fail>
-    requires few_plain { length plain.now ≤ 1000 }
+    requires few_given { length given.now ≤ 1000 }
     requires few_ad { length ad.now ≤ 1000 }
 {
-    let handle = match Handle::new(alloc, keyset, all, Primitive::Daead) {
-        Ok(handle) => handle,
-        Err(fault) => return Ok(format!(in alloc; "{fault:?}")?),
-    };
-    digits_of(alloc, &handle.dseal(alloc, plain, ad)?)
-}
-
-fn dopen_text(
-    alloc: Global,
-    all: &Managers,
-    keyset: &Keyset,
-    sealed: &[u8],
-    ad: &[u8],
-) -> Result<String, Fail>
-    requires few_sealed { length sealed.now ≤ 1000 }
-    requires few_ad { length ad.now ≤ 1000 }
-{
-    let handle = match Handle::new(alloc, keyset, all, Primitive::Daead) {
-        Ok(handle) => handle,
-        Err(fault) => return Ok(format!(in alloc; "{fault:?}")?),
-    };
+    let handle = Handle::new(alloc, keyset, all, Primitive::Daead)?;
+    if cell(row, 2)? == "dseal" {
+        return digits_of(alloc, &handle.dseal(alloc, given, ad)?);
+    }
     let mut trials = Trials::new();
-    let plain = handle.dopen(alloc, sealed, ad, &mut trials)?;
+    let plain = handle.dopen(alloc, given, ad, &mut trials)?;
     opened_text(alloc, plain, &trials)
 }
 
-fn tag_text(alloc: Global, all: &Managers, keyset: &Keyset, body: &[u8]) -> Result<String, Fail>
-    requires few { length body.now ≤ 1000 }
-{
-    let handle = match Handle::new(alloc, keyset, all, Primitive::Mac) {
-        Ok(handle) => handle,
-        Err(fault) => return Ok(format!(in alloc; "{fault:?}")?),
-    };
-    digits_of(alloc, &handle.tag(alloc, body)?)
-}
-
-fn verify_text(
+// The tag of a row's body, or whether this tag verifies and how many keys were tried.
+fn mac_text(
     alloc: Global,
     all: &Managers,
+    row: &str,
     keyset: &Keyset,
     body: &[u8],
     tag: &[u8],
 ) -> Result<String, Fail>
     requires few { length body.now ≤ 1000 }
 {
-    let handle = match Handle::new(alloc, keyset, all, Primitive::Mac) {
-        Ok(handle) => handle,
-        Err(fault) => return Ok(format!(in alloc; "{fault:?}")?),
-    };
+    let handle = Handle::new(alloc, keyset, all, Primitive::Mac)?;
+    if cell(row, 2)? == "tag" {
+        return digits_of(alloc, &handle.tag(alloc, body)?);
+    }
     let mut trials = Trials::new();
     let holds = handle.verify(tag, body, &mut trials);
     Ok(format!(in alloc; "{holds} {}", trials.spent())?)
 }
 
-fn derive_text(
+// What is derived of an input, or why not.
+fn prf_text(
     alloc: Global,
     all: &Managers,
     keyset: &Keyset,
@@ -318,12 +258,38 @@ fn derive_text(
     }
 }
 
-// Each prefix of the index in digits, with its places.
-fn prefixes_text(alloc: Global, all: &Managers, keyset: &Keyset) -> Result<String, Fail> {
-    let handle = match Handle::new(alloc, keyset, all, Primitive::Aead) {
-        Ok(handle) => handle,
-        Err(fault) => return Ok(format!(in alloc; "{fault:?}")?),
-    };
+// What a row's keyset answers for a primitive.
+fn answer(alloc: Global, all: &Managers, primitive: Primitive, row: &str) -> Result<String, Fail> {
+    let keyset = keyset_in(alloc, row)?;
+    let first = bytes_in(alloc, row, 3)?;
+    let second = bytes_in(alloc, row, 4)?;
+    match primitive {
+        Primitive::Aead => aead_text(alloc, all, row, &keyset, &first, &second),
+        Primitive::Daead => daead_text(alloc, all, row, &keyset, &first, &second),
+        Primitive::Mac => mac_text(alloc, all, row, &keyset, &first, &second),
+        Primitive::Prf => prf_text(alloc, all, &keyset, &first, &second),
+        Primitive::Stream => Err("a primitive that handles have".into()),
+    }
+}
+
+fn assert_table(
+    alloc: Global,
+    all: &Managers,
+    primitive: Primitive,
+    table: &str,
+    rows: usize,
+) -> Result<(), Fail> {
+    count(table, rows)?;
+    for row in table.lines() {
+        let found = answer(alloc, all, primitive, row)?;
+        holds(row, 5, cell(row, 2)?, found.as_str())?;
+    }
+    Ok(())
+}
+
+// Each prefix of a row's keyset in digits, with its places.
+fn prefixes_text(alloc: Global, all: &Managers, row: &str) -> Result<String, Fail> {
+    let handle = Handle::new(alloc, &keyset_in(alloc, row)?, all, Primitive::Aead)?;
     let mut text = String::new(alloc);
     for (prefix, places) in handle.prefixes() {
         let before = if text.is_empty() { "" } else { ", " };
@@ -333,60 +299,10 @@ fn prefixes_text(alloc: Global, all: &Managers, keyset: &Keyset) -> Result<Strin
     Ok(text)
 }
 
-#[derive(Clone, Copy)]
-enum Work {
-    Seal,
-    Open,
-    Dseal,
-    Dopen,
-    Tag,
-    Verify,
-    Derive,
-    Prefixes,
-}
-
-const WORKS: [(&str, Work); 8] = [
-    ("seal", Work::Seal),
-    ("open", Work::Open),
-    ("dseal", Work::Dseal),
-    ("dopen", Work::Dopen),
-    ("tag", Work::Tag),
-    ("verify", Work::Verify),
-    ("derive", Work::Derive),
-    ("prefixes", Work::Prefixes),
-];
-
-fn work_in(row: &str) -> Result<Work, Fail> {
-    let word = cell(row, 2)?;
-    for (known, work) in WORKS {
-        if known == word {
-            return Ok(work);
-        }
-    }
-    Err("a work".into())
-}
-
-// What a row's keyset answers.
-fn answer(alloc: Global, all: &Managers, row: &str) -> Result<String, Fail> {
-    let keyset = keyset_in(alloc, row)?;
-    let first = bytes_in(alloc, row, 3)?;
-    let second = bytes_in(alloc, row, 4)?;
-    match work_in(row)? {
-        Work::Seal => seal_text(alloc, all, &keyset, &first, &second),
-        Work::Open => open_text(alloc, all, &keyset, &first, &second),
-        Work::Dseal => dseal_text(alloc, all, &keyset, &first, &second),
-        Work::Dopen => dopen_text(alloc, all, &keyset, &first, &second),
-        Work::Tag => tag_text(alloc, all, &keyset, &first),
-        Work::Verify => verify_text(alloc, all, &keyset, &first, &second),
-        Work::Derive => derive_text(alloc, all, &keyset, &first, &second),
-        Work::Prefixes => prefixes_text(alloc, all, &keyset),
-    }
-}
-
-fn assert_table(alloc: Global, all: &Managers, table: &str, rows: usize) -> Result<(), Fail> {
-    count(table, rows)?;
-    for row in table.lines() {
-        let found = answer(alloc, all, row)?;
+fn assert_prefixes(alloc: Global, all: &Managers) -> Result<(), Fail> {
+    count(PREFIXES, 10)?;
+    for row in PREFIXES.lines() {
+        let found = prefixes_text(alloc, all, row)?;
         holds(row, 5, cell(row, 2)?, found.as_str())?;
     }
     Ok(())
@@ -404,8 +320,8 @@ fn a_keyset_answers_by_its_candidates(rt: HostRuntime) -> Result<(), Fail> {
     let mut prf: Vec<Box<dyn PrfManager>> = Vec::new(alloc);
     prf.push(prf_under(alloc, "p", PrfScheme::Hmac)?)?;
     let all = Managers::new(aead, daead, mac, prf)?;
-    for (table, rows) in [(AEAD, 26), (MAC, 15), (DAEAD, 6), (PRF, 4), (PREFIXES, 10)] {
-        assert_table(alloc, &all, table, rows)?;
+    for (table, rows, primitive) in TABLES {
+        assert_table(alloc, &all, primitive, table, rows)?;
     }
-    Ok(())
+    assert_prefixes(alloc, &all)
 }

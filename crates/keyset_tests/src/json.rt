@@ -1,11 +1,16 @@
 //! Keysets as JSON: other writers' texts, other spellings, and what is refused.
 
-use crate::rows::{count, few, holds, holds_text};
+ghost use Rattle.std.specs.Prelude.{IfOk};
+ghost use Rattle.std.specs.List.{AllByRecursion};
+ghost use Rattle.keyset_model.specs.Keyset.{IsShort};
+
+use crate::keysets::keyset_of;
+use crate::rows::{count, few, holds};
 use keyset_json::{Member, read_bytes, read_json, write_json};
-use keyset_model::{read_binary, write_binary};
+use keyset_model::{Keyset, write_binary};
 use std::alloc::Global;
 use std::test::Fail;
-use test_words::{cell, digits_of, same_bytes};
+use test_words::{cell, digits_of, same_bytes, same_text};
 
 // Keysets as protoc 3.21.12 encodes them, and as python's json prints the same values (with sorted
 // names, no spaces and characters beyond ASCII as they are).
@@ -51,23 +56,26 @@ const FORMS: [(&str, &[u8], &str); 3] = [
     ("all kinds of characters", ODD_KEYS, ODD_KEYS_JSON),
 ];
 
-fn assert_written(alloc: Global, shows: &str, bytes: &[u8], text: &str) -> Result<(), Fail> {
-    let bytes = few(bytes.to_vec(alloc)?)?;
-    let found = write_json(alloc, &read_binary(alloc, &bytes)?)?;
-    holds_text(shows, "the JSON", text, str::from_utf8(&found)?)
+// The keyset of a JSON text.
+fn keyset_in_json(alloc: Global, text: &str) -> Result<Keyset, Fail>
+    ensures short { IfOk result (λ keyset. AllByRecursion IsShort keyset.records) }
+{
+    let text = few(text.as_bytes().to_vec(alloc)?)?;
+    Ok(read_json(alloc, &text)?)
 }
 
-fn assert_read(alloc: Global, shows: &str, bytes: &[u8], text: &str) -> Result<(), Fail> {
-    let text = few(text.as_bytes().to_vec(alloc)?)?;
-    let found = write_binary(alloc, &read_json(alloc, &text)?)?;
-    same_bytes(alloc, shows, "the binary form", bytes, &found)
+fn assert_json(alloc: Global, shows: &str, keyset: &Keyset, want: &str) -> Result<(), Fail> {
+    let found = write_json(alloc, keyset)?;
+    same_text(shows, "the JSON", want, str::from_utf8(&found)?)
 }
 
 #[test]
 fn takes_keysets_from_one_form_to_the_other_and_back(rt: HostRuntime) -> Result<(), Fail> {
+    let alloc = rt.alloc();
     for (shows, bytes, text) in &FORMS {
-        assert_written(rt.alloc(), shows, bytes, text)?;
-        assert_read(rt.alloc(), shows, bytes, text)?;
+        assert_json(alloc, shows, &keyset_of(alloc, bytes)?, text)?;
+        let found = write_binary(alloc, &keyset_in_json(alloc, text)?)?;
+        same_bytes(alloc, shows, "the binary form", bytes, &found)?;
     }
     Ok(())
 }
@@ -105,16 +113,11 @@ const SPELLINGS: [(&str, &str); 4] = [
     ),
 ];
 
-fn assert_spelled(alloc: Global, shows: &str, text: &str) -> Result<(), Fail> {
-    let text = few(text.as_bytes().to_vec(alloc)?)?;
-    let found = write_json(alloc, &read_json(alloc, &text)?)?;
-    holds_text(shows, "the JSON", ONE_JSON, str::from_utf8(&found)?)
-}
-
 #[test]
 fn reads_other_spellings_of_one_keyset(rt: HostRuntime) -> Result<(), Fail> {
     for (shows, text) in &SPELLINGS {
-        assert_spelled(rt.alloc(), shows, text)?;
+        let keyset = keyset_in_json(rt.alloc(), text)?;
+        assert_json(rt.alloc(), shows, &keyset, ONE_JSON)?;
     }
     Ok(())
 }
@@ -137,15 +140,11 @@ const NOT_JSON: [(&str, &[u8]); 6] = [
     ("a number too large for a float", b"{\"keyId\":1e999}"),
 ];
 
-fn assert_not_json(alloc: Global, shows: &str, text: &[u8]) -> Result<(), Fail> {
-    let found = refusal(alloc, text)?;
-    holds_text(shows, "the refusal", "NotJson", found.as_str())
-}
-
 #[test]
 fn refuses_what_is_no_json(rt: HostRuntime) -> Result<(), Fail> {
     for (shows, text) in &NOT_JSON {
-        assert_not_json(rt.alloc(), shows, text)?;
+        let found = refusal(rt.alloc(), text)?;
+        same_text(shows, "the refusal", "NotJson", found.as_str())?;
     }
     Ok(())
 }
@@ -156,37 +155,26 @@ const LEVELS: [(usize, &str); 3] = [
     (200, "NotJson"),
 ];
 
-fn assert_levels(alloc: Global, levels: usize, want: &str) -> Result<(), Fail> {
+// So many lists, each in the one before.
+fn nested(alloc: Global, levels: usize) -> Result<Vec<u8>, Fail> {
     let mut text = b"[".repeat(alloc, levels)?;
     text.extend_from_slice(&b"]".repeat(alloc, levels)?)?;
-    let found = refusal(alloc, &text)?;
-    let shows = format!(in alloc; "{levels} levels")?;
-    holds_text(shows.as_str(), "the refusal", want, found.as_str())
+    Ok(text)
 }
 
 #[test]
 fn takes_127_levels_of_lists(rt: HostRuntime) -> Result<(), Fail> {
     for (levels, want) in &LEVELS {
-        assert_levels(rt.alloc(), *levels, want)?;
+        let found = refusal(rt.alloc(), &nested(rt.alloc(), *levels)?)?;
+        let shows = format!(in rt.alloc(); "{levels} levels")?;
+        same_text(shows.as_str(), "the refusal", want, found.as_str())?;
     }
     Ok(())
 }
 
-// A row has what it shows, a text, and its refusal.
-fn assert_row(alloc: Global, row: &str) -> Result<(), Fail> {
-    let found = refusal(alloc, cell(row, 1)?.as_bytes())?;
-    holds(row, 2, "the refusal", found.as_str())
-}
-
-fn assert_refused(alloc: Global, table: &str, rows: usize) -> Result<(), Fail> {
-    count(table, rows)?;
-    for row in table.lines() {
-        assert_row(alloc, row)?;
-    }
-    Ok(())
-}
-
-const KEYSET_MEMBERS: &str = "\
+// A row has what it shows, a text, and its refusal: members of the keyset that aren't of their form, members
+// of keys, and keysets at fault.
+const REFUSED: &str = "\
 a list|[]|Shape(Path { key: None, member: Keyset })
 a number past 32 bits|{\"primaryKeyId\":4294967296,\"key\":5}|Shape(Path { key: None, member: PrimaryKeyId })
 eleven digits|{\"primaryKeyId\":\"00000000001\"}|Shape(Path { key: None, member: PrimaryKeyId })
@@ -195,9 +183,7 @@ a fraction|{\"primaryKeyId\":7.0}|Shape(Path { key: None, member: PrimaryKeyId }
 an exponent|{\"primaryKeyId\":1e1}|Shape(Path { key: None, member: PrimaryKeyId })
 minus zero|{\"primaryKeyId\":-0}|Shape(Path { key: None, member: PrimaryKeyId })
 by its field's name|{\"primary_key_id\":[]}|Shape(Path { key: None, member: PrimaryKeyId })
-an object as the list|{\"key\":{}}|Shape(Path { key: None, member: Key })";
-
-const KEY_MEMBERS: &str = "\
+an object as the list|{\"key\":{}}|Shape(Path { key: None, member: Key })
 a number as a key|{\"key\":[7]}|Shape(Path { key: Some(0), member: Key })
 null as a key|{\"key\":[{},null]}|Shape(Path { key: Some(1), member: Key })
 a list as key data|{\"key\":[{\"keyData\":[],\"status\":[]}]}|Shape(Path { key: Some(0), member: KeyData })
@@ -207,9 +193,7 @@ a name of another enum|{\"key\":[{\"keyData\":{\"keyMaterialType\":\"RAW\"},\"st
 a name in lower case|{\"key\":[{\"status\":\"enabled\",\"keyId\":-1}]}|Shape(Path { key: Some(0), member: Status })
 a number as a text is no enum|{\"key\":[{},{\"status\":\"1\"}]}|Shape(Path { key: Some(1), member: Status })
 an id below 0|{\"key\":[{\"keyId\":-1,\"outputPrefixType\":\"\"}]}|Shape(Path { key: Some(0), member: KeyId })
-an enum past 32 bits|{\"key\":[{\"outputPrefixType\":4294967296},7]}|Shape(Path { key: Some(0), member: OutputPrefixType })";
-
-const FAULTS: &str = "\
+an enum past 32 bits|{\"key\":[{\"outputPrefixType\":4294967296},7]}|Shape(Path { key: Some(0), member: OutputPrefixType })
 nothing|{}|Fault(Empty)
 null as the list|{\"key\":null,\"primaryKeyId\":null}|Fault(Empty)
 an empty object as a key|{\"key\":[{}]}|Fault(UnknownStatus(0))
@@ -218,20 +202,15 @@ a status without a name|{\"key\":[{\"status\":4294967295}]}|Fault(UnknownStatus(
 no primary key|{\"key\":[{\"status\":3,\"outputPrefixType\":1}],\"primaryKeyId\":1}|Fault(NoPrimary)";
 
 #[test]
-fn names_the_first_member_of_the_keyset_that_is_not_of_its_form(
+fn names_the_first_member_that_is_not_of_its_form_or_the_fault(
     rt: HostRuntime,
 ) -> Result<(), Fail> {
-    assert_refused(rt.alloc(), KEYSET_MEMBERS, 9)
-}
-
-#[test]
-fn names_the_first_member_of_a_key_that_is_not_of_its_form(rt: HostRuntime) -> Result<(), Fail> {
-    assert_refused(rt.alloc(), KEY_MEMBERS, 10)
-}
-
-#[test]
-fn names_the_faults_of_a_keyset(rt: HostRuntime) -> Result<(), Fail> {
-    assert_refused(rt.alloc(), FAULTS, 6)
+    count(REFUSED, 25)?;
+    for row in REFUSED.lines() {
+        let found = refusal(rt.alloc(), cell(row, 1)?.as_bytes())?;
+        holds(row, 2, "the refusal", found.as_str())?;
+    }
+    Ok(())
 }
 
 // RFC 4648, section 10, and by hand: what it shows, a text, and the digits of its bytes.
@@ -258,15 +237,11 @@ fn digits_read(alloc: Global, text: &str) -> Result<String, Fail> {
     }
 }
 
-fn assert_digits(alloc: Global, shows: &str, text: &str, want: &str) -> Result<(), Fail> {
-    let found = digits_read(alloc, text)?;
-    holds_text(shows, "the bytes", want, found.as_str())
-}
-
 #[test]
 fn reads_bytes_in_both_alphabets(rt: HostRuntime) -> Result<(), Fail> {
     for (shows, text, want) in &ALPHABETS {
-        assert_digits(rt.alloc(), shows, text, want)?;
+        let found = digits_read(rt.alloc(), text)?;
+        same_text(shows, "the bytes", want, found.as_str())?;
     }
     Ok(())
 }
@@ -281,7 +256,7 @@ const MEMBERS: [(Member, &str); 4] = [
 #[test]
 fn names_members_as_json_does() -> Result<(), Fail> {
     for (member, name) in &MEMBERS {
-        holds_text(name, "the name", name, member.name())?;
+        same_text(name, "the name", name, member.name())?;
     }
     Ok(())
 }

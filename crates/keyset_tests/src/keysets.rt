@@ -4,11 +4,11 @@ ghost use Rattle.std.specs.Prelude.{IfOk};
 ghost use Rattle.std.specs.List.{AllByRecursion};
 ghost use Rattle.keyset_model.specs.Keyset.{IsShort};
 
-use crate::rows::{bytes_in, count, holds, holds_text};
+use crate::rows::{bytes_in, count, holds};
 use keyset_model::{Keyset, Record, info_text, prefix_name, read_binary, status_name};
 use std::alloc::Global;
 use std::test::Fail;
-use test_words::digits_of;
+use test_words::{digits_of, same_text};
 
 // One AES-GCM key of 16 zero bytes, as protoc 3.21.12 encodes it.
 pub(crate) const KEYSET: &[u8] = b"\x08\x84\x86\x88\x08\x12\x53\x0a\x48\x0a\x30\
@@ -73,15 +73,11 @@ const LISTINGS: [(&str, &[u8], &str); 3] = [
     ("escapes in the URL", ODD_URL, ODD_LISTING),
 ];
 
-fn assert_listed(alloc: Global, shows: &str, bytes: &[u8], want: &str) -> Result<(), Fail> {
-    let text = info_text(alloc, &keyset_of(alloc, bytes)?)?;
-    holds_text(shows, "the listing", want, str::from_utf8(&text)?)
-}
-
 #[test]
 fn lists_keysets_as_protobuf_prints_them(rt: HostRuntime) -> Result<(), Fail> {
     for (shows, bytes, want) in &LISTINGS {
-        assert_listed(rt.alloc(), shows, bytes, want)?;
+        let text = info_text(rt.alloc(), &keyset_of(rt.alloc(), bytes)?)?;
+        same_text(shows, "the listing", want, str::from_utf8(&text)?)?;
     }
     Ok(())
 }
@@ -122,7 +118,7 @@ fn gives_what_was_read(rt: HostRuntime) -> Result<(), Fail> {
     let text = record_text(rt.alloc(), keyset.record_at(0))?;
     let want = "16909060 1 1 type.googleapis.com/google.crypto.tink.AesGcmKey \
         1a1000000000000000000000000000000000 1";
-    holds_text("one key", "the record", want, text.as_str())
+    same_text("one key", "the record", want, text.as_str())
 }
 
 // tink.proto, KeyStatusType and OutputPrefixType.

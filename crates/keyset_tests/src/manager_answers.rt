@@ -4,32 +4,29 @@
 ghost use Rattle.std.specs.Prelude.{◌≡◌, ◌+◌, ◌≤◌, length, IfOk};
 
 use crate::boxes::{aead_under, daead_under, mac_under, prf_under};
-use crate::rows::{bytes_in, few, holds, holds_bytes, holds_text};
+use crate::rows::{bytes_in, few, holds_bytes};
 use key_msgs::Primitive;
 use managers::{
     AeadManager, AeadScheme, DaeadManager, MacManager, MacScheme, Managers, PrfManager, PrfScheme,
 };
 use std::alloc::Global;
 use std::test::Fail;
-use test_words::{cell, digits_of, turned};
+use test_words::{bytes_of, cell, digits_of, opened_in, same_text, turned};
 use tink_base::Trials;
 
 // A row has what it shows, the URL, and the key message, written by hand from Tink's definitions;
 // then three cells, which stand above each table.
 
-// Associated data, IV with ciphertext and tag, plaintext. AES-GCM is from its authors' appendix, EAX
-// from its paper, AES-CTR-HMAC an answer of Google's Tink (tink-go 2.4.0) without its prefix, and
-// AES-GCM-SIV from RFC 8452.
-const AEAD: &str = "\
+// Associated data, IV or SIV with ciphertext and tag, plaintext. AES-GCM is from its authors' appendix, EAX
+// from its paper, AES-CTR-HMAC an answer of Google's Tink (tink-go 2.4.0) without its prefix,
+// AES-GCM-SIV from RFC 8452, and AES-SIV an answer of Python's cryptography.
+const SEALINGS: &str = "\
 AES-GCM, case 2|AesGcmKey|1a1000000000000000000000000000000000||0000000000000000000000000388dace60b6a392f328c2b971b2fe78ab6e47d42cec13bdf53a67b21257bddf|00000000000000000000000000000000
 EAX, the first|AesEaxKey|120208101a10233952dee4d5ed5f9b9c6d6ff80ff478|6bfb914fd07eae6b|62ec67f9c3a4a407fcb2a8c49031a8b3e037830e8389f27b025a2d6527e79d01|
 AES-CTR-HMAC, Tink's|AesCtrHmacAeadKey|12161202080f1a10d6f33471a9dc83db908c3a80de20f0e11a99011204080510141a9001134fe916a0ed1eecb1169beec55c5adda66ec00b22059a2421980d2beab5df846fb68efbdabb5282a79fc47a96615e3bc97ce293b77cf5bbeabd4e8113e888de4c5d73f61756b692a547c7bafef639a37ffdfad2638dd24f2b411b733c5bc0116654e3366cec75ea187ace8c564ea020a5bdb127eebbaa12fb58b78ae4f5a082c967f59717ab7b51135fa5a79bf401f5|f9b03c1d7acb1a8bdc7278f4c6b4ec0a7fe7e9db|f9590019a0715c03f1d42e10cd5fedfd44ad47eb920d4fa29bc97fbf62fba09ec82fada8|ea
 AES-GCM-SIV, C.1|AesGcmSivKey|1a1001000000000000000000000000000000|01|0300000000000000000000001e6daba35669f4273b0a1a2560969cdf790d99759abd1508|0200000000000000
 AES-GCM-SIV, C.2|AesGcmSivKey|1a200100000000000000000000000000000000000000000000000000000000000000||030000000000000000000000c2ef328e5c71c83b843122130f7364b761e0b97427e3df28|0100000000000000
-AES-GCM-SIV, C.3|AesGcmSivKey|1a200000000000000000000000000000000000000000000000000000000000000000||000000000000000000000000f3f80f2cf0cb2dd9c5984fcda908456cc537703b5ba70324a6793a7bf218d3eaffffffff000000000000000000000000|000000000000000000000000000000004db923dc793ee6497c76dcc03a98e108";
-
-// Associated data, SIV with ciphertext, plaintext: an answer of Python's cryptography.
-const DAEAD: &str = "\
+AES-GCM-SIV, C.3|AesGcmSivKey|1a200000000000000000000000000000000000000000000000000000000000000000||000000000000000000000000f3f80f2cf0cb2dd9c5984fcda908456cc537703b5ba70324a6793a7bf218d3eaffffffff000000000000000000000000|000000000000000000000000000000004db923dc793ee6497c76dcc03a98e108
 AES-SIV|AesSivKey|1240fffefdfcfbfaf9f8f7f6f5f4f3f2f1f0f0f1f2f3f4f5f6f7f8f9fafbfcfdfeff000102030405060708090a0b0c0d0e0f101112131415161718191a1b1c1d1e1f|101112131415161718191a1b1c1d1e1f2021222324252627|22a4e63521fcdc685fe4eb0984d60745d47a88f6c39e7902ec4f28efab6dcb6a|000102030405060708090a0b0c0d0e0f";
 
 // The body, the tag, and what stands behind the body. Rows with a byte 0 are answers of Python's
@@ -89,24 +86,6 @@ pub(crate) fn opened_text(
     Ok(format!(in alloc; "{text} {}", trials.spent())?)
 }
 
-// Holds a text to the plaintext of a row, and one trial.
-fn holds_opened(alloc: Global, row: &str, found: &str) -> Result<(), Fail> {
-    let expected = format!(in alloc; "{} 1", cell(row, 5)?)?;
-    holds_text(cell(row, 0)?, "what opens", expected.as_str(), found)
-}
-
-// What stands before a sealing.
-const FRONT: [u8; 5] = [1, 2, 3, 4, 5];
-
-// What stands behind that.
-fn behind_front(alloc: Global, sealed: &[u8]) -> Result<Vec<u8>, Fail> {
-    let (front, rest) = sealed.split_first_chunk::<5>().ok_or("a front")?;
-    if *front != FRONT {
-        return Err("the front".into());
-    }
-    Ok(Vec::from_slice(alloc, rest)?)
-}
-
 // A plaintext behind a front and room of so many bytes, in which others stand.
 fn with_room(alloc: Global, front: &[u8], room: usize, plain: &[u8]) -> Result<Vec<u8>, Fail>
     requires few_front { length front.now ≤ 1000 }
@@ -147,32 +126,9 @@ fn aead_opens(
     let Ok(key) = manager.check(alloc, &cells.value) else {
         return Err("no key".into());
     };
-    let mut trials = Trials::new();
-    let plain = manager.open(alloc, &key, sealed, &cells.given, &mut trials)?;
-    opened_text(alloc, plain, &trials)
-}
-
-fn assert_aead(alloc: Global, manager: &dyn AeadManager, row: &str) -> Result<(), Fail> {
-    let cells = cells_of(alloc, row)?;
-    holds_bytes(
-        alloc,
-        row,
-        4,
-        "the sealing",
-        &aead_seals(alloc, manager, &cells, b"")?,
-    )?;
-    let behind = behind_front(alloc, &aead_seals(alloc, manager, &cells, &FRONT)?)?;
-    holds_bytes(alloc, row, 4, "the sealing behind a front", &behind)?;
-    let opened = aead_opens(alloc, manager, &cells, &cells.made)?;
-    holds_opened(alloc, row, opened.as_str())?;
-    let other = few(altered(alloc, &cells.made)?)?;
-    let refused = aead_opens(alloc, manager, &cells, &other)?;
-    holds_text(
-        cell(row, 0)?,
-        "the last bit turned",
-        "none 1",
-        refused.as_str(),
-    )
+    let (mut bytes, mut trials) = (sealed.to_vec(alloc)?, Trials::new());
+    let range = manager.open(&key, &mut bytes, &cells.given, &mut trials);
+    opened_text(alloc, opened_in(alloc, &bytes, range, sealed)?, &trials)
 }
 
 fn daead_seals(
@@ -201,31 +157,84 @@ fn daead_opens(
     let Ok(key) = manager.check(alloc, &cells.value) else {
         return Err("no key".into());
     };
-    let mut trials = Trials::new();
-    let plain = manager.open(alloc, &key, sealed, &cells.given, &mut trials)?;
-    opened_text(alloc, plain, &trials)
+    let (mut bytes, mut trials) = (sealed.to_vec(alloc)?, Trials::new());
+    let range = manager.open(&key, &mut bytes, &cells.given, &mut trials);
+    opened_text(alloc, opened_in(alloc, &bytes, range, sealed)?, &trials)
 }
 
-fn assert_daead(alloc: Global, manager: &dyn DaeadManager, row: &str) -> Result<(), Fail> {
+// What the manager that a row's URL names seals of its plaintext, behind these bytes.
+fn sealed(
+    alloc: Global,
+    all: &Managers,
+    row: &str,
+    cells: &Cells,
+    front: &[u8],
+) -> Result<Vec<u8>, Fail>
+    requires few { length front.now ≤ 1000 }
+{
+    let url = cell(row, 1)?;
+    if let Some(place) = all.find(Primitive::Aead, url) {
+        return aead_seals(alloc, all.aead_at(place), cells, front);
+    }
+    let place = all.find(Primitive::Daead, url).ok_or("a manager")?;
+    daead_seals(alloc, all.daead_at(place), cells, front)
+}
+
+// What it opens of these bytes.
+fn opened(
+    alloc: Global,
+    all: &Managers,
+    row: &str,
+    cells: &Cells,
+    sealed: &[u8],
+) -> Result<String, Fail>
+    requires few { length sealed.now ≤ 1000 }
+{
+    let url = cell(row, 1)?;
+    if let Some(place) = all.find(Primitive::Aead, url) {
+        return aead_opens(alloc, all.aead_at(place), cells, sealed);
+    }
+    let place = all.find(Primitive::Daead, url).ok_or("a manager")?;
+    daead_opens(alloc, all.daead_at(place), cells, sealed)
+}
+
+// What stands before a sealing.
+const FRONTS: [&str; 2] = ["", "0102030405"];
+
+fn assert_sealed(alloc: Global, all: &Managers, row: &str, cells: &Cells) -> Result<(), Fail> {
+    for front in FRONTS {
+        let found = sealed(alloc, all, row, cells, &few(bytes_of(alloc, front)?)?)?;
+        let expected = format!(in alloc; "{front}{}", cell(row, 4)?)?;
+        let found = digits_of(alloc, &found)?;
+        same_text(
+            cell(row, 0)?,
+            "the sealing",
+            expected.as_str(),
+            found.as_str(),
+        )?;
+    }
+    Ok(())
+}
+
+// Each sealing opens in one trial, and with its last bit turned it doesn't.
+fn assert_sealing(alloc: Global, all: &Managers, row: &str) -> Result<(), Fail> {
     let cells = cells_of(alloc, row)?;
-    holds_bytes(
-        alloc,
-        row,
-        4,
-        "the sealing",
-        &daead_seals(alloc, manager, &cells, b"")?,
+    assert_sealed(alloc, all, row, &cells)?;
+    let expected = format!(in alloc; "{} 1", cell(row, 5)?)?;
+    let found = opened(alloc, all, row, &cells, &cells.made)?;
+    same_text(
+        cell(row, 0)?,
+        "what opens",
+        expected.as_str(),
+        found.as_str(),
     )?;
-    let behind = behind_front(alloc, &daead_seals(alloc, manager, &cells, &FRONT)?)?;
-    holds_bytes(alloc, row, 4, "the sealing behind a front", &behind)?;
-    let opened = daead_opens(alloc, manager, &cells, &cells.made)?;
-    holds_opened(alloc, row, opened.as_str())?;
     let other = few(altered(alloc, &cells.made)?)?;
-    let refused = daead_opens(alloc, manager, &cells, &other)?;
-    holds_text(
+    let found = opened(alloc, all, row, &cells, &other)?;
+    same_text(
         cell(row, 0)?,
         "the last bit turned",
         "none 1",
-        refused.as_str(),
+        found.as_str(),
     )
 }
 
@@ -257,154 +266,89 @@ fn mac_verifies(
     Ok(format!(in alloc; "{verified} {}", trials.spent())?)
 }
 
-fn assert_refused(
-    alloc: Global,
-    manager: &dyn MacManager,
-    cells: &Cells,
-    row: &str,
-    part: &str,
-    tag: &[u8],
-    zero: bool,
-) -> Result<(), Fail> {
-    let found = mac_verifies(alloc, manager, cells, tag, zero)?;
-    holds_text(cell(row, 0)?, part, "false 1", found.as_str())
-}
-
-fn assert_mac(alloc: Global, manager: &dyn MacManager, row: &str) -> Result<(), Fail> {
+// The tag is made and verifies, and it doesn't for the other body, nor where it is altered.
+fn assert_mac(alloc: Global, all: &Managers, row: &str) -> Result<(), Fail> {
+    let place = all.find(Primitive::Mac, cell(row, 1)?).ok_or("a manager")?;
+    let manager = all.mac_at(place);
     let cells = cells_of(alloc, row)?;
     let zero = !cells.last.is_empty();
-    holds_bytes(
-        alloc,
-        row,
-        4,
-        "the tag",
-        &mac_tags(alloc, manager, &cells, zero)?,
-    )?;
-    let tag = cells.made.as_slice();
-    let verified = mac_verifies(alloc, manager, &cells, tag, zero)?;
-    holds_text(
-        cell(row, 0)?,
-        "the tag verified",
-        "true 1",
-        verified.as_str(),
-    )?;
-    let other = altered(alloc, tag)?;
-    let shorter = tag.get(1..).ok_or("a byte")?;
-    assert_refused(
-        alloc,
-        manager,
-        &cells,
-        row,
-        "under the other body",
-        tag,
-        !zero,
-    )?;
-    assert_refused(
-        alloc,
-        manager,
-        &cells,
-        row,
-        "the last bit turned",
-        &other,
-        zero,
-    )?;
-    assert_refused(
-        alloc,
-        manager,
-        &cells,
-        row,
-        "the first byte gone",
-        shorter,
-        zero,
-    )?;
-    assert_refused(alloc, manager, &cells, row, "no tag", &[], zero)
-}
-
-// How many bytes can be derived, as the cell has them.
-fn prf_greatest(alloc: Global, manager: &dyn PrfManager, cells: &Cells) -> Result<String, Fail> {
-    let Ok(key) = manager.check(alloc, &cells.value) else {
-        return Err("no key".into());
-    };
-    Ok(format!(in alloc; "{:04x}", manager.greatest(&key))?)
-}
-
-fn prf_derives(alloc: Global, manager: &dyn PrfManager, cells: &Cells) -> Result<Vec<u8>, Fail> {
-    let Ok(key) = manager.check(alloc, &cells.value) else {
-        return Err("no key".into());
-    };
-    let size = cells.made.len();
-    if size > manager.greatest(&key) {
-        return Err("a size that can be derived".into());
-    }
-    Ok(manager.derive(alloc, &key, &cells.given, size)?)
-}
-
-fn assert_prf(alloc: Global, manager: &dyn PrfManager, row: &str) -> Result<(), Fail> {
-    let cells = cells_of(alloc, row)?;
-    let greatest = prf_greatest(alloc, manager, &cells)?;
-    holds(row, 5, "the greatest size", greatest.as_str())?;
-    let derived = prf_derives(alloc, manager, &cells)?;
-    holds_bytes(alloc, row, 4, "the bytes", &derived)
-}
-
-// Each row under the manager that its URL names.
-
-fn assert_aead_in(alloc: Global, all: &Managers, row: &str) -> Result<(), Fail> {
-    let place = all.find(Primitive::Aead, cell(row, 1)?).ok_or("a manager")?;
-    assert_aead(alloc, all.aead_at(place), row)
-}
-
-fn assert_aeads(alloc: Global, aead: Vec<Box<dyn AeadManager>>) -> Result<(), Fail> {
-    let all = Managers::new(aead, Vec::new(alloc), Vec::new(alloc), Vec::new(alloc))?;
-    for row in AEAD.lines() {
-        assert_aead_in(alloc, &all, row)?;
+    let made = mac_tags(alloc, manager, &cells, zero)?;
+    holds_bytes(alloc, row, 4, "the tag", &made)?;
+    let other = altered(alloc, &made)?;
+    let shorter = made.get(1..).ok_or("a byte")?;
+    let none: &[u8] = &[];
+    for (part, tag, zero, expected) in [
+        ("the tag verified", made.as_slice(), zero, "true 1"),
+        ("under the other body", made.as_slice(), !zero, "false 1"),
+        ("the last bit turned", other.as_slice(), zero, "false 1"),
+        ("the first byte gone", shorter, zero, "false 1"),
+        ("no tag", none, zero, "false 1"),
+    ] {
+        let found = mac_verifies(alloc, manager, &cells, tag, zero)?;
+        same_text(cell(row, 0)?, part, expected, found.as_str())?;
     }
     Ok(())
 }
+
+// The bytes that are derived, and how many can be, as the cell has them.
+fn prf_derives(alloc: Global, manager: &dyn PrfManager, cells: &Cells) -> Result<String, Fail> {
+    let Ok(key) = manager.check(alloc, &cells.value) else {
+        return Err("no key".into());
+    };
+    let greatest = manager.greatest(&key);
+    let size = cells.made.len();
+    if size > greatest {
+        return Err("a size that can be derived".into());
+    }
+    let derived = manager.derive(alloc, &key, &cells.given, size)?;
+    let digits = digits_of(alloc, &derived)?;
+    Ok(format!(in alloc; "{digits} of {greatest:04x}")?)
+}
+
+fn assert_prf(alloc: Global, all: &Managers, row: &str) -> Result<(), Fail> {
+    let place = all.find(Primitive::Prf, cell(row, 1)?).ok_or("a manager")?;
+    let cells = cells_of(alloc, row)?;
+    let found = prf_derives(alloc, all.prf_at(place), &cells)?;
+    let expected = format!(in alloc; "{} of {}", cell(row, 4)?, cell(row, 5)?)?;
+    same_text(
+        cell(row, 0)?,
+        "the bytes",
+        expected.as_str(),
+        found.as_str(),
+    )
+}
+
+// The managers under the URLs of the tables.
+const AEADS: [(&str, AeadScheme); 4] = [
+    ("AesGcmKey", AeadScheme::Gcm),
+    ("AesEaxKey", AeadScheme::Eax),
+    ("AesCtrHmacAeadKey", AeadScheme::CtrHmac),
+    ("AesGcmSivKey", AeadScheme::GcmSiv),
+];
+
+const MACS: [(&str, MacScheme); 2] = [
+    ("HmacKey", MacScheme::Hmac),
+    ("AesCmacKey", MacScheme::Cmac),
+];
+
+const PRFS: [(&str, PrfScheme); 3] = [
+    ("HkdfPrfKey", PrfScheme::Hkdf),
+    ("HmacPrfKey", PrfScheme::Hmac),
+    ("AesCmacPrfKey", PrfScheme::Cmac),
+];
 
 #[test]
 fn managers_of_aeads_answer_their_standards(rt: HostRuntime) -> Result<(), Fail> {
     let alloc = rt.alloc();
     let mut aead: Vec<Box<dyn AeadManager>> = Vec::new(alloc);
-    aead.push(aead_under(alloc, "AesGcmKey", AeadScheme::Gcm)?)?;
-    aead.push(aead_under(alloc, "AesEaxKey", AeadScheme::Eax)?)?;
-    aead.push(aead_under(alloc, "AesCtrHmacAeadKey", AeadScheme::CtrHmac)?)?;
-    aead.push(aead_under(alloc, "AesGcmSivKey", AeadScheme::GcmSiv)?)?;
-    assert_aeads(alloc, aead)
-}
-
-fn assert_daead_in(alloc: Global, all: &Managers, row: &str) -> Result<(), Fail> {
-    let place = all
-        .find(Primitive::Daead, cell(row, 1)?)
-        .ok_or("a manager")?;
-    assert_daead(alloc, all.daead_at(place), row)
-}
-
-fn assert_daeads(alloc: Global, daead: Vec<Box<dyn DaeadManager>>) -> Result<(), Fail> {
-    let all = Managers::new(Vec::new(alloc), daead, Vec::new(alloc), Vec::new(alloc))?;
-    for row in DAEAD.lines() {
-        assert_daead_in(alloc, &all, row)?;
+    for (url, scheme) in AEADS {
+        aead.push(aead_under(alloc, url, scheme)?)?;
     }
-    Ok(())
-}
-
-#[test]
-fn the_manager_of_siv_answers_its_standard(rt: HostRuntime) -> Result<(), Fail> {
-    let alloc = rt.alloc();
     let mut daead: Vec<Box<dyn DaeadManager>> = Vec::new(alloc);
     daead.push(daead_under(alloc, "AesSivKey")?)?;
-    assert_daeads(alloc, daead)
-}
-
-fn assert_mac_in(alloc: Global, all: &Managers, row: &str) -> Result<(), Fail> {
-    let place = all.find(Primitive::Mac, cell(row, 1)?).ok_or("a manager")?;
-    assert_mac(alloc, all.mac_at(place), row)
-}
-
-fn assert_macs(alloc: Global, mac: Vec<Box<dyn MacManager>>) -> Result<(), Fail> {
-    let all = Managers::new(Vec::new(alloc), Vec::new(alloc), mac, Vec::new(alloc))?;
-    for row in MAC.lines() {
-        assert_mac_in(alloc, &all, row)?;
+    let all = Managers::new(aead, daead, Vec::new(alloc), Vec::new(alloc))?;
+    for row in SEALINGS.lines() {
+        assert_sealing(alloc, &all, row)?;
     }
     Ok(())
 }
@@ -413,20 +357,12 @@ fn assert_macs(alloc: Global, mac: Vec<Box<dyn MacManager>>) -> Result<(), Fail>
 fn managers_of_macs_answer_their_standards(rt: HostRuntime) -> Result<(), Fail> {
     let alloc = rt.alloc();
     let mut mac: Vec<Box<dyn MacManager>> = Vec::new(alloc);
-    mac.push(mac_under(alloc, "HmacKey", MacScheme::Hmac)?)?;
-    mac.push(mac_under(alloc, "AesCmacKey", MacScheme::Cmac)?)?;
-    assert_macs(alloc, mac)
-}
-
-fn assert_prf_in(alloc: Global, all: &Managers, row: &str) -> Result<(), Fail> {
-    let place = all.find(Primitive::Prf, cell(row, 1)?).ok_or("a manager")?;
-    assert_prf(alloc, all.prf_at(place), row)
-}
-
-fn assert_prfs(alloc: Global, prf: Vec<Box<dyn PrfManager>>) -> Result<(), Fail> {
-    let all = Managers::new(Vec::new(alloc), Vec::new(alloc), Vec::new(alloc), prf)?;
-    for row in PRF.lines() {
-        assert_prf_in(alloc, &all, row)?;
+    for (url, scheme) in MACS {
+        mac.push(mac_under(alloc, url, scheme)?)?;
+    }
+    let all = Managers::new(Vec::new(alloc), Vec::new(alloc), mac, Vec::new(alloc))?;
+    for row in MAC.lines() {
+        assert_mac(alloc, &all, row)?;
     }
     Ok(())
 }
@@ -435,70 +371,122 @@ fn assert_prfs(alloc: Global, prf: Vec<Box<dyn PrfManager>>) -> Result<(), Fail>
 fn managers_of_prfs_answer_their_standards(rt: HostRuntime) -> Result<(), Fail> {
     let alloc = rt.alloc();
     let mut prf: Vec<Box<dyn PrfManager>> = Vec::new(alloc);
-    prf.push(prf_under(alloc, "HkdfPrfKey", PrfScheme::Hkdf)?)?;
-    prf.push(prf_under(alloc, "HmacPrfKey", PrfScheme::Hmac)?)?;
-    prf.push(prf_under(alloc, "AesCmacPrfKey", PrfScheme::Cmac)?)?;
-    assert_prfs(alloc, prf)
+    for (url, scheme) in PRFS {
+        prf.push(prf_under(alloc, url, scheme)?)?;
+    }
+    let all = Managers::new(Vec::new(alloc), Vec::new(alloc), Vec::new(alloc), prf)?;
+    for row in PRF.lines() {
+        assert_prf(alloc, &all, row)?;
+    }
+    Ok(())
 }
 
-// Where a URL is found among AES-GCM, EAX and HMAC under these URLs, or none where it is refused.
+// Where a URL is found among AES-GCM, EAX and HMAC under these URLs, or that they are refused.
 fn place(
     alloc: Global,
     urls: [&str; 3],
     primitive: Primitive,
     wanted: &str,
-) -> Result<Option<Option<usize>>, Fail> {
+) -> Result<String, Fail> {
     let mut aead: Vec<Box<dyn AeadManager>> = Vec::new(alloc);
     aead.push(aead_under(alloc, urls[0], AeadScheme::Gcm)?)?;
     aead.push(aead_under(alloc, urls[1], AeadScheme::Eax)?)?;
     let mut mac: Vec<Box<dyn MacManager>> = Vec::new(alloc);
     mac.push(mac_under(alloc, urls[2], MacScheme::Hmac)?)?;
     match Managers::new(aead, Vec::new(alloc), mac, Vec::new(alloc)) {
-        Ok(all) => Ok(Some(all.find(primitive, wanted))),
-        Err(_) => Ok(None),
+        Ok(all) => Ok(format!(in alloc; "{:?}", all.find(primitive, wanted))?),
+        Err(fault) => Ok(format!(in alloc; "{fault:?}")?),
     }
 }
 
-const PLACES: [(Primitive, &str, Option<usize>); 8] = [
-    (Primitive::Aead, "a", Some(0)),
-    (Primitive::Aead, "b", Some(1)),
-    (Primitive::Aead, "", None),
-    (Primitive::Aead, "A", None),
-    (Primitive::Mac, "", Some(0)),
-    (Primitive::Mac, "a", None),
-    (Primitive::Prf, "a", None),
-    (Primitive::Stream, "a", None),
+// What a case shows, the URLs, and the place of a URL in the list of a primitive.
+const PLACES: [(&str, [&str; 3], Primitive, &str, &str); 13] = [
+    ("the first", ["a", "b", ""], Primitive::Aead, "a", "Some(0)"),
+    (
+        "the second",
+        ["a", "b", ""],
+        Primitive::Aead,
+        "b",
+        "Some(1)",
+    ),
+    (
+        "the URL of a MAC",
+        ["a", "b", ""],
+        Primitive::Aead,
+        "",
+        "None",
+    ),
+    (
+        "a letter of another case",
+        ["a", "b", ""],
+        Primitive::Aead,
+        "A",
+        "None",
+    ),
+    ("no letter", ["a", "b", ""], Primitive::Mac, "", "Some(0)"),
+    (
+        "the URL of an AEAD",
+        ["a", "b", ""],
+        Primitive::Mac,
+        "a",
+        "None",
+    ),
+    (
+        "no manager of a PRF",
+        ["a", "b", ""],
+        Primitive::Prf,
+        "a",
+        "None",
+    ),
+    (
+        "no manager of streams",
+        ["a", "b", ""],
+        Primitive::Stream,
+        "a",
+        "None",
+    ),
+    (
+        "three URLs",
+        ["a", "b", "c"],
+        Primitive::Aead,
+        "a",
+        "Some(0)",
+    ),
+    (
+        "one URL that begins another",
+        ["a", "aa", ""],
+        Primitive::Aead,
+        "a",
+        "Some(0)",
+    ),
+    (
+        "one URL twice in a list",
+        ["a", "a", "c"],
+        Primitive::Aead,
+        "a",
+        "SameUrl",
+    ),
+    (
+        "one URL in two lists",
+        ["a", "b", "a"],
+        Primitive::Aead,
+        "a",
+        "SameUrl",
+    ),
+    (
+        "no letter twice",
+        ["a", "", ""],
+        Primitive::Aead,
+        "a",
+        "SameUrl",
+    ),
 ];
 
 #[test]
-fn finds_the_place_in_the_list_of_the_primitive(rt: HostRuntime) -> Result<(), Fail> {
-    for (primitive, wanted, at) in PLACES {
-        let found = place(rt.alloc(), ["a", "b", ""], primitive, wanted)?;
-        assert_eq!(rt; found, Some(at), "{primitive:?} {wanted}");
-    }
-    Ok(())
-}
-
-const TABLES: [([&str; 3], bool); 5] = [
-    (["a", "b", "c"], false),
-    (["a", "aa", ""], false),
-    (["a", "a", "c"], true),
-    (["a", "b", "a"], true),
-    (["a", "", ""], true),
-];
-
-#[test]
-fn refuses_one_url_twice(rt: HostRuntime) -> Result<(), Fail> {
-    for (urls, refused) in TABLES {
-        let found = place(rt.alloc(), urls, Primitive::Aead, "a")?;
-        assert_eq!(rt;
-            found.is_none(),
-            refused,
-            "{} {} {}",
-            urls[0],
-            urls[1],
-            urls[2]
-        );
+fn finds_the_place_in_a_list_and_refuses_one_url_twice(rt: HostRuntime) -> Result<(), Fail> {
+    for (shows, urls, primitive, wanted, expected) in PLACES {
+        let found = place(rt.alloc(), urls, primitive, wanted)?;
+        same_text(shows, "the place", expected, found.as_str())?;
     }
     Ok(())
 }

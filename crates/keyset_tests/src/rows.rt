@@ -5,7 +5,7 @@ ghost use Rattle.std.specs.Prelude.{◌≤◌, length, IfOk};
 
 use std::alloc::Global;
 use std::test::Fail;
-use test_words::{bytes_of, cell, same_bytes, unlike};
+use test_words::{bytes_of, cell, same_bytes, same_text};
 
 /// The most bytes that a cell writes.
 const MOST: usize = 1000;
@@ -27,17 +27,34 @@ pub(crate) fn few(bytes: Vec<u8>) -> Result<Vec<u8>, Fail>
     Ok(bytes)
 }
 
-/// Holds a text to another, in the row that shows this.
-pub(crate) fn holds_text(shows: &str, part: &str, expected: &str, found: &str) -> Result<(), Fail> {
-    if expected != found {
-        return Err(unlike(shows, part, expected, found));
+/// The digits that have this name, or the word itself.
+pub(crate) fn digits_named<'n>(names: &[(&'n str, &'n str)], word: &'n str) -> &'n str {
+    for (name, digits) in names {
+        if *name == word {
+            return *digits;
+        }
     }
-    Ok(())
+    word
+}
+
+/// The bytes of words with a space between them, each of them digits or a name.
+pub(crate) fn bytes_named(
+    alloc: Global,
+    names: &[(&str, &str)],
+    words: &str,
+) -> Result<Vec<u8>, Fail>
+    ensures few { IfOk result (λ bytes. length bytes.items ≤ 1000) }
+{
+    let mut bytes = Vec::new(alloc);
+    for word in words.split(' ') {
+        bytes.extend_from_slice(&bytes_of(alloc, digits_named(names, word))?)?;
+    }
+    few(bytes)
 }
 
 /// Holds a text to the cell at this place.
 pub(crate) fn holds(row: &str, place: usize, part: &str, found: &str) -> Result<(), Fail> {
-    holds_text(cell(row, 0)?, part, cell(row, place)?, found)
+    same_text(cell(row, 0)?, part, cell(row, place)?, found)
 }
 
 /// Holds bytes to the digits in the cell at this place.

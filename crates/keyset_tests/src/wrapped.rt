@@ -6,14 +6,14 @@ ghost use Rattle.keyset_model.specs.Writing.{binary_of};
 
 use crate::boxes::aead_under;
 use crate::keysets::keyset_of;
-use crate::rows::{count, few, holds_text};
+use crate::rows::{bytes_named, count, digits_named, few};
 use key_msgs::Primitive;
 use keyset_model::{Keyset, write_binary};
 use managers::{AeadManager, AeadScheme, Managers};
 use seal_wrap::{unwrap_keyset, wrap};
 use std::alloc::Global;
 use std::test::Fail;
-use test_words::{bytes_of, cell, digits_of, turned};
+use test_words::{cell, digits_of, same_text, turned};
 use tink_base::MemEntropy;
 use wrapped_prims::Handle;
 
@@ -168,27 +168,6 @@ const TURNED: [(usize, usize, &str); 7] = [
     (136, 200, "K2"),
 ];
 
-// The digits of a name, or the word itself.
-fn digits_named(word: &str) -> &str {
-    for (name, digits) in &NAMED {
-        if *name == word {
-            return digits;
-        }
-    }
-    word
-}
-
-// The bytes of words with a space between them, each of them digits or a name.
-fn bytes_named(alloc: Global, words: &str) -> Result<Vec<u8>, Fail>
-    ensures few { IfOk result (λ bytes. length bytes.items ≤ 1000) }
-{
-    let mut bytes = Vec::new(alloc);
-    for word in words.split(' ') {
-        bytes.extend_from_slice(&bytes_of(alloc, digits_named(word))?)?;
-    }
-    few(bytes)
-}
-
 // A JSON text with base64 in the place of its name.
 fn json_named(alloc: Global, text: &str) -> Result<Vec<u8>, Fail>
     ensures few { IfOk result (λ bytes. length bytes.items ≤ 1000) }
@@ -206,7 +185,7 @@ fn json_named(alloc: Global, text: &str) -> Result<Vec<u8>, Fail>
 fn keyset_named(alloc: Global, words: &str) -> Result<Keyset, Fail>
     ensures short { IfOk result (λ keyset. length (binary_of keyset) ≤ 1000) }
 {
-    let keyset = keyset_of(alloc, &bytes_named(alloc, words)?)?;
+    let keyset = keyset_of(alloc, &bytes_named(alloc, &NAMED, words)?)?;
     let bytes = write_binary(alloc, &keyset)?;
     if bytes.len() > 1000 {
         return Err("no more than 1,000 bytes".into());
@@ -224,10 +203,7 @@ fn unwrapped_text(
 ) -> Result<String, Fail>
     requires few { length text.now ≤ 1000 }
 {
-    let handle = match Handle::new(alloc, master, all, Primitive::Aead) {
-        Ok(handle) => handle,
-        Err(fault) => return Ok(format!(in alloc; "{fault:?}")?),
-    };
+    let handle = Handle::new(alloc, master, all, Primitive::Aead)?;
     match unwrap_keyset(alloc, &handle, text, json) {
         Ok(keyset) => digits_of(alloc, &write_binary(alloc, &keyset)?),
         Err(fault) => Ok(format!(in alloc; "{fault:?}")?),
@@ -243,10 +219,7 @@ fn wrapped_text(
     json: bool,
 ) -> Result<String, Fail> {
     let master = keyset_named(alloc, "K1")?;
-    let handle = match Handle::new(alloc, &master, all, Primitive::Aead) {
-        Ok(handle) => handle,
-        Err(fault) => return Ok(format!(in alloc; "{fault:?}")?),
-    };
+    let handle = Handle::new(alloc, &master, all, Primitive::Aead)?;
     let keyset = keyset_named(alloc, keyset)?;
     let mut entropy = MemEntropy::new(vec![in alloc; 0; random]?, Vec::new(alloc));
     match wrap(alloc, &handle, &keyset, json, &mut entropy) {
@@ -262,17 +235,17 @@ fn text_in(alloc: Global, row: &str, json: bool) -> Result<Vec<u8>, Fail>
     if json {
         json_named(alloc, cell(row, 3)?)
     } else {
-        bytes_named(alloc, cell(row, 3)?)
+        bytes_named(alloc, &NAMED, cell(row, 3)?)
     }
 }
 
 fn assert_unwrapped(alloc: Global, all: &Managers, row: &str) -> Result<(), Fail> {
     let json = cell(row, 2)? == "json";
-    let master = keyset_of(alloc, &bytes_named(alloc, cell(row, 1)?)?)?;
+    let master = keyset_of(alloc, &bytes_named(alloc, &NAMED, cell(row, 1)?)?)?;
     let text = text_in(alloc, row, json)?;
     let found = unwrapped_text(alloc, all, &master, &text, json)?;
-    let expected = digits_named(cell(row, 4)?);
-    holds_text(cell(row, 0)?, "what is unwrapped", expected, found.as_str())
+    let expected = digits_named(&NAMED, cell(row, 4)?);
+    same_text(cell(row, 0)?, "what is unwrapped", expected, found.as_str())
 }
 
 /// Holds what a keyset is wrapped as to this text, in one form.
@@ -287,31 +260,21 @@ fn assert_wrapped(
     let part = if json { "the JSON" } else { "the binary form" };
     let expected = digits_of(alloc, text)?;
     let found = wrapped_text(alloc, all, keyset, 12, json)?;
-    holds_text(shows, part, expected.as_str(), found.as_str())
+    same_text(shows, part, expected.as_str(), found.as_str())
 }
 
 fn assert_all_wrapped(alloc: Global, all: &Managers) -> Result<(), Fail> {
     for (shows, keyset, binary, json) in &WRAPPED {
-        let binary = bytes_named(alloc, binary)?;
+        let binary = bytes_named(alloc, &NAMED, binary)?;
         assert_wrapped(alloc, all, shows, keyset, false, &binary)?;
         assert_wrapped(alloc, all, shows, keyset, true, json.as_bytes())?;
     }
-    Ok(())
-}
-
-#[test]
-fn wraps_keysets_as_protobuf_writes_them(rt: HostRuntime) -> Result<(), Fail> {
-    let alloc = rt.alloc();
-    let mut aead: Vec<Box<dyn AeadManager>> = Vec::new(alloc);
-    aead.push(aead_under(alloc, AES_GCM, AeadScheme::Gcm)?)?;
-    let all = Managers::new(aead, Vec::new(alloc), Vec::new(alloc), Vec::new(alloc))?;
-    assert_all_wrapped(alloc, &all)?;
-    let short = wrapped_text(alloc, &all, "K2", 11, true)?;
-    holds_text(
+    let found = wrapped_text(alloc, all, "K2", 11, true)?;
+    same_text(
         "too few random bytes",
         "the fault",
         "EntropyFault",
-        short.as_str(),
+        found.as_str(),
     )
 }
 
@@ -321,16 +284,6 @@ fn assert_rows(alloc: Global, all: &Managers, table: &str, rows: usize) -> Resul
         assert_unwrapped(alloc, all, row)?;
     }
     Ok(())
-}
-
-#[test]
-fn unwraps_what_the_master_opens(rt: HostRuntime) -> Result<(), Fail> {
-    let alloc = rt.alloc();
-    let mut aead: Vec<Box<dyn AeadManager>> = Vec::new(alloc);
-    aead.push(aead_under(alloc, AES_GCM, AeadScheme::Gcm)?)?;
-    let all = Managers::new(aead, Vec::new(alloc), Vec::new(alloc), Vec::new(alloc))?;
-    assert_rows(alloc, &all, TEXTS, 37)?;
-    assert_rows(alloc, &all, OF_TINK_GO, 7)
 }
 
 /// Unwraps a text with the lowest bit of this byte turned.
@@ -345,12 +298,17 @@ fn assert_turned(
     let other = few(turned(alloc, text, at)?)?;
     let found = unwrapped_text(alloc, all, master, &other, false)?;
     let place = format!(in alloc; "byte {at}")?;
-    holds_text(place.as_str(), "it", digits_named(expected), found.as_str())
+    same_text(
+        place.as_str(),
+        "it",
+        digits_named(&NAMED, expected),
+        found.as_str(),
+    )
 }
 
 fn assert_each_turned(alloc: Global, all: &Managers) -> Result<(), Fail> {
     let master = keyset_named(alloc, "K1")?;
-    let text = bytes_named(alloc, "128301 SEALED 1a40 INFO")?;
+    let text = bytes_named(alloc, &NAMED, "128301 SEALED 1a40 INFO")?;
     for (first, behind, expected) in &TURNED {
         for at in *first..*behind {
             assert_turned(alloc, all, &master, &text, at, expected)?;
@@ -359,11 +317,16 @@ fn assert_each_turned(alloc: Global, all: &Managers) -> Result<(), Fail> {
     Ok(())
 }
 
+// They are wrapped as protobuf writes them, and unwrapped where the master opens them; and each byte of a
+// wrapped text counts but those of the info.
 #[test]
-fn each_byte_of_a_wrapped_text_counts_but_those_of_the_info(rt: HostRuntime) -> Result<(), Fail> {
+fn keysets_are_wrapped_and_unwrapped(rt: HostRuntime) -> Result<(), Fail> {
     let alloc = rt.alloc();
     let mut aead: Vec<Box<dyn AeadManager>> = Vec::new(alloc);
     aead.push(aead_under(alloc, AES_GCM, AeadScheme::Gcm)?)?;
     let all = Managers::new(aead, Vec::new(alloc), Vec::new(alloc), Vec::new(alloc))?;
+    assert_all_wrapped(alloc, &all)?;
+    assert_rows(alloc, &all, TEXTS, 37)?;
+    assert_rows(alloc, &all, OF_TINK_GO, 7)?;
     assert_each_turned(alloc, &all)
 }

@@ -5,11 +5,10 @@ ghost use Rattle.std.specs.List.{AllByRecursion};
 ghost use Rattle.keyset_model.specs.Keyset.{IsWithin};
 
 use crate::keysets::{KEYSET, keyset_of, record_text};
-use crate::rows::holds_text;
 use keyset_model::{Keyset, ReadError, Record, write_binary};
 use std::alloc::Global;
 use std::test::Fail;
-use test_words::same_bytes;
+use test_words::{same_bytes, same_text};
 use tink_base::{Bytes, DESTROYED, ENABLED, LEGACY, NoMemory, RAW, TINK, Text};
 
 // Two AES-GCM keys of 16 zero bytes, the second one primary: 175 bytes.
@@ -128,7 +127,7 @@ fn a_copy_is_the_same_keyset(rt: HostRuntime) -> Result<(), Fail> {
     assert_eq!(rt; copy.len(), 3);
     let key = copy.record_at(2).copy(rt.alloc())?;
     let text = record_text(rt.alloc(), &key)?;
-    holds_text(
+    same_text(
         "a copy",
         "the last record",
         "7 3 2 a 6f6c64 1",
