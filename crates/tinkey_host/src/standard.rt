@@ -2,7 +2,7 @@
 
 ghost use Rattle.std.specs.Prelude.{◌≡◌, IfOk, map, string_bytes};
 ghost use Rattle.key_msgs.specs.KeyTypes.{url_of_type};
-ghost use Rattle.managers.specs.Schemes.{aead_scheme};
+ghost use Rattle.managers.specs.Schemes.{Siv, aead_scheme, mac_scheme, prf_scheme, type_under};
 ghost use Rattle.managers.specs.Standard.{standard_table};
 ghost use Rattle.tinkey_plans.specs.Ends.{world};
 ghost use Rattle.tinkey_plans.specs.Promises.{Promised};
@@ -43,14 +43,14 @@ pub fn start<S: Source, K: Sink, G: Sink, E: Entropy, D: Store>(
         (world (S.state source.new) (K.state sink.new) (D.state store.new) (E.state entropy.new)) }
 {
     sessions_are_readable();
-    match with_prfs(alloc, words, source, sink, diag, entropy, store) {
+    match run_standard(alloc, words, source, sink, diag, entropy, store) {
         Ok(status) => status,
         Err(_) => starve(diag),
     }
 }
 
-/// Makes the managers of pseudo-random functions, and goes on.
-fn with_prfs<S: Source, K: Sink, G: Sink, E: Entropy, D: Store>(
+/// Makes the managers of AEADs and of MACs, and goes on.
+fn run_standard<S: Source, K: Sink, G: Sink, E: Entropy, D: Store>(
     alloc: Global,
     words: &[String],
     source: &mut S,
@@ -59,34 +59,6 @@ fn with_prfs<S: Source, K: Sink, G: Sink, E: Entropy, D: Store>(
     entropy: &mut E,
     store: &mut D,
 ) -> Result<Status, NoMemory>
-    ensures { IsStarted (map string_bytes words.now)
-        (world (S.state source.old) (K.state sink.old) (D.state store.old) (E.state entropy.old))
-        (G.state diag.old) result
-        (world (S.state source.new) (K.state sink.new) (D.state store.new) (E.state entropy.new))
-        (G.state diag.new) }
-{
-    let mut prf: Vec<Box<dyn PrfManager>> = Vec::new(alloc);
-    let hkdf = String::from_str(alloc, KeyType::HkdfPrf.url())?;
-    prf.push(Box::new(alloc, StandardPrf::new(hkdf, PrfScheme::Hkdf))?)?;
-    let hmac = String::from_str(alloc, KeyType::HmacPrf.url())?;
-    prf.push(Box::new(alloc, StandardPrf::new(hmac, PrfScheme::Hmac))?)?;
-    let cmac = String::from_str(alloc, KeyType::CmacPrf.url())?;
-    prf.push(Box::new(alloc, StandardPrf::new(cmac, PrfScheme::Cmac))?)?;
-    with_aeads(alloc, words, prf, source, sink, diag, entropy, store)
-}
-
-/// Makes the managers of AEADs, and goes on.
-fn with_aeads<S: Source, K: Sink, G: Sink, E: Entropy, D: Store>(
-    alloc: Global,
-    words: &[String],
-    prf: Vec<Box<dyn PrfManager>>,
-    source: &mut S,
-    sink: &mut K,
-    diag: &mut G,
-    entropy: &mut E,
-    store: &mut D,
-) -> Result<Status, NoMemory>
-    requires prf { ⟦<Vec<Box<dyn PrfManager>> as KeyList>⟧.entries prf ≡ standard_table.prf }
     ensures { IsStarted (map string_bytes words.now)
         (world (S.state source.old) (K.state sink.old) (D.state store.old) (E.state entropy.old))
         (G.state diag.old) result
@@ -94,61 +66,20 @@ fn with_aeads<S: Source, K: Sink, G: Sink, E: Entropy, D: Store>(
         (G.state diag.new) }
 {
     let mut aead: Vec<Box<dyn AeadManager>> = Vec::new(alloc);
-    aead.push(aead_manager(alloc, KeyType::AesGcm, AeadScheme::Gcm)?)?;
-    aead.push(aead_manager(alloc, KeyType::AesEax, AeadScheme::Eax)?)?;
-    aead.push(aead_manager(alloc, KeyType::AesCtrHmac, AeadScheme::CtrHmac)?)?;
-    aead.push(aead_manager(alloc, KeyType::AesGcmSiv, AeadScheme::GcmSiv)?)?;
-    with_macs(alloc, words, prf, aead, source, sink, diag, entropy, store)
-}
-
-/// A manager of a scheme of AEADs, under the type URL of these keys.
-fn aead_manager(
-    alloc: Global,
-    of: KeyType,
-    scheme: AeadScheme,
-) -> Result<Box<StandardAead>, NoMemory>
-    ensures url { IfOk result (λ m. ⟦<StandardAead as KeyManager>⟧.url m.value ≡ url_of_type of) }
-    ensures scheme { IfOk result (λ m. ⟦<StandardAead as KeyManager>⟧.scheme m.value ≡ aead_scheme scheme) }
-{
-    let url = String::from_str(alloc, of.url())?;
-    Ok(Box::new(alloc, StandardAead::new(url, scheme))?)
-}
-
-/// Makes the managers of MACs, and goes on.
-fn with_macs<S: Source, K: Sink, G: Sink, E: Entropy, D: Store>(
-    alloc: Global,
-    words: &[String],
-    prf: Vec<Box<dyn PrfManager>>,
-    aead: Vec<Box<dyn AeadManager>>,
-    source: &mut S,
-    sink: &mut K,
-    diag: &mut G,
-    entropy: &mut E,
-    store: &mut D,
-) -> Result<Status, NoMemory>
-    requires prf { ⟦<Vec<Box<dyn PrfManager>> as KeyList>⟧.entries prf ≡ standard_table.prf }
-    requires aead { ⟦<Vec<Box<dyn AeadManager>> as KeyList>⟧.entries aead ≡ standard_table.aead }
-    ensures { IsStarted (map string_bytes words.now)
-        (world (S.state source.old) (K.state sink.old) (D.state store.old) (E.state entropy.old))
-        (G.state diag.old) result
-        (world (S.state source.new) (K.state sink.new) (D.state store.new) (E.state entropy.new))
-        (G.state diag.new) }
-{
+    aead.push(aead_manager(alloc, AeadScheme::Gcm)?)?;
+    aead.push(aead_manager(alloc, AeadScheme::Eax)?)?;
+    aead.push(aead_manager(alloc, AeadScheme::CtrHmac)?)?;
+    aead.push(aead_manager(alloc, AeadScheme::GcmSiv)?)?;
     let mut mac: Vec<Box<dyn MacManager>> = Vec::new(alloc);
-    let hmac = String::from_str(alloc, KeyType::Hmac.url())?;
-    mac.push(Box::new(alloc, StandardMac::new(hmac, MacScheme::Hmac))?)?;
-    let cmac = String::from_str(alloc, KeyType::AesCmac.url())?;
-    mac.push(Box::new(alloc, StandardMac::new(cmac, MacScheme::Cmac))?)?;
-    with_daead(
-        alloc, words, prf, aead, mac, source, sink, diag, entropy, store,
-    )
+    mac.push(mac_manager(alloc, MacScheme::Hmac)?)?;
+    mac.push(mac_manager(alloc, MacScheme::Cmac)?)?;
+    run_with_rest(alloc, words, aead, mac, source, sink, diag, entropy, store)
 }
 
-/// Makes the manager of the deterministic AEAD, and goes on.
-fn with_daead<S: Source, K: Sink, G: Sink, E: Entropy, D: Store>(
+/// Makes the other managers, and runs over all of them.
+fn run_with_rest<S: Source, K: Sink, G: Sink, E: Entropy, D: Store>(
     alloc: Global,
     words: &[String],
-    prf: Vec<Box<dyn PrfManager>>,
     aead: Vec<Box<dyn AeadManager>>,
     mac: Vec<Box<dyn MacManager>>,
     source: &mut S,
@@ -157,7 +88,6 @@ fn with_daead<S: Source, K: Sink, G: Sink, E: Entropy, D: Store>(
     entropy: &mut E,
     store: &mut D,
 ) -> Result<Status, NoMemory>
-    requires prf { ⟦<Vec<Box<dyn PrfManager>> as KeyList>⟧.entries prf ≡ standard_table.prf }
     requires aead { ⟦<Vec<Box<dyn AeadManager>> as KeyList>⟧.entries aead ≡ standard_table.aead }
     requires mac { ⟦<Vec<Box<dyn MacManager>> as KeyList>⟧.entries mac ≡ standard_table.mac }
     ensures { IsStarted (map string_bytes words.now)
@@ -167,11 +97,54 @@ fn with_daead<S: Source, K: Sink, G: Sink, E: Entropy, D: Store>(
         (G.state diag.new) }
 {
     let mut daead: Vec<Box<dyn DaeadManager>> = Vec::new(alloc);
-    let siv = String::from_str(alloc, KeyType::AesSiv.url())?;
-    daead.push(Box::new(alloc, StandardDaead::new(siv))?)?;
+    daead.push(daead_manager(alloc)?)?;
+    let mut prf: Vec<Box<dyn PrfManager>> = Vec::new(alloc);
+    prf.push(prf_manager(alloc, PrfScheme::Hkdf)?)?;
+    prf.push(prf_manager(alloc, PrfScheme::Hmac)?)?;
+    prf.push(prf_manager(alloc, PrfScheme::Cmac)?)?;
     run_over(
         alloc, words, aead, daead, mac, prf, source, sink, diag, entropy, store,
     )
+}
+
+/// The manager of a scheme of AEADs, under the type URL of its keys.
+fn aead_manager(alloc: Global, scheme: AeadScheme) -> Result<Box<StandardAead>, NoMemory>
+    ensures url { IfOk result (λ m. ⟦<StandardAead as KeyManager>⟧.url m.value
+        ≡ url_of_type (type_under (aead_scheme scheme))) }
+    ensures scheme { IfOk result (λ m. ⟦<StandardAead as KeyManager>⟧.scheme m.value ≡ aead_scheme scheme) }
+{
+    let url = String::from_str(alloc, scheme.key_type().url())?;
+    Ok(Box::new(alloc, StandardAead::new(url, scheme))?)
+}
+
+/// The manager of AES-SIV, under the type URL of its keys.
+fn daead_manager(alloc: Global) -> Result<Box<StandardDaead>, NoMemory>
+    ensures url { IfOk result (λ m. ⟦<StandardDaead as KeyManager>⟧.url m.value
+        ≡ url_of_type (type_under Siv)) }
+    ensures scheme { IfOk result (λ m. ⟦<StandardDaead as KeyManager>⟧.scheme m.value ≡ Siv) }
+{
+    let url = String::from_str(alloc, KeyType::AesSiv.url())?;
+    Ok(Box::new(alloc, StandardDaead::new(url))?)
+}
+
+/// The manager of a scheme of MACs, under the type URL of its keys.
+fn mac_manager(alloc: Global, scheme: MacScheme) -> Result<Box<StandardMac>, NoMemory>
+    ensures url { IfOk result (λ m. ⟦<StandardMac as KeyManager>⟧.url m.value
+        ≡ url_of_type (type_under (mac_scheme scheme))) }
+    ensures scheme { IfOk result (λ m. ⟦<StandardMac as KeyManager>⟧.scheme m.value ≡ mac_scheme scheme) }
+{
+    let url = String::from_str(alloc, scheme.key_type().url())?;
+    Ok(Box::new(alloc, StandardMac::new(url, scheme))?)
+}
+
+/// The manager of a scheme of pseudo-random functions, under the type URL of its keys.
+fn prf_manager(alloc: Global, scheme: PrfScheme) -> Result<Box<StandardPrf>, NoMemory>
+    ensures url { IfOk result (λ m. ⟦<StandardPrf as KeyManager>⟧.url m.value
+        ≡ url_of_type (type_under (prf_scheme scheme))) }
+    ensures scheme { IfOk result (λ m. ⟦<StandardPrf as KeyManager>⟧.scheme m.value ≡ prf_scheme scheme) }
+{
+    let url = String::from_str(alloc, scheme.key_type().url())?;
+    Ok(Box::new(alloc, StandardPrf::new(url, scheme))?)
 }
 
 /// Runs over all these managers.
