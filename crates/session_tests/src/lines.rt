@@ -1,8 +1,6 @@
 //! Sessions over new keysets, line by line, against independent answers.
 
 ghost use Rattle.std.specs.Prelude.{IfSome};
-ghost use Rattle.std.specs.List.{AllByRecursion};
-ghost use Rattle.keyset_model.specs.Keyset.{IsShort};
 ghost use Rattle.tinkey_session.specs.Keeping.{IsKept};
 
 use key_msgs::template_named;
@@ -61,11 +59,9 @@ fn expect(
     requires kept { IfSome session.old.kept (λ h. IsKept
         (⟦<Managers as KeyTable>⟧.table session.old.managers.now)
         (⟦<Managers as KeyTable>⟧.table h.managers.now) h.primitive session.old.keyset h.held) }
-    requires short { AllByRecursion IsShort session.old.keyset.records }
     ensures kept { IfSome session.new.kept (λ h. IsKept
         (⟦<Managers as KeyTable>⟧.table session.new.managers.now)
         (⟦<Managers as KeyTable>⟧.table h.managers.now) h.primitive session.new.keyset h.held) }
-    ensures short { AllByRecursion IsShort session.new.keyset.records }
 {
     assert!(rt; line.len() <= MOST);
     let read = read_line(alloc, line.as_bytes())?;
@@ -84,7 +80,6 @@ fn expect_all(
     requires kept { IfSome session.old.kept (λ h. IsKept
         (⟦<Managers as KeyTable>⟧.table session.old.managers.now)
         (⟦<Managers as KeyTable>⟧.table h.managers.now) h.primitive session.old.keyset h.held) }
-    requires short { AllByRecursion IsShort session.old.keyset.records }
 {
     match rows {
         [] => Ok(()),

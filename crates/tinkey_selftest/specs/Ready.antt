@@ -1,7 +1,7 @@
 -- What the code's trial stands for, what lasts from line to line, and what is answered.
 use Rattle.std.specs.Prelude.{◌≡◌, ℕ, ◌+◌, ◌<◌, ◌≤◌, ◌^◌, ◌-◌, List, [], length, true, Some, Result, Ok, Err}
 use Rattle.std.specs.List.{AllByRecursion}
-use Rattle.keyset_model.specs.Keyset.{IsShort, Keys}
+use Rattle.keyset_model.specs.Keyset.{Keys}
 use Rattle.keyset_model.specs.declared.keyset.Keyset.{Keyset}
 use Rattle.keyset_model.specs.declared.record.Record.{Record}
 use Rattle.tink_base.specs.Memory.{EntropyInMemory, told_entropy}
@@ -30,7 +30,6 @@ pub record IsSmall (sealing : Sealing) : Type 0 where
 pub record IsReady (keys : Keys) (entropy : EntropyInMemory) (sealings : List Sealing)
     : Type 0 where
   pub keyset : IsKeyset keys
-  pub short : AllByRecursion IsShort keys.records
   pub steady : (told_entropy entropy).steady ≡ true
   pub small : AllByRecursion IsSmall sealings
 

@@ -1,9 +1,12 @@
 -- The keys that lines need, what a session keeps of them, and the edits that lines ask for.
-use Rattle.std.specs.Prelude.{◌≡◌, ℕ, List, Option, Some, None, Result, Ok, Err}
+use Rattle.std.specs.Prelude.{◌≡◌, ℕ, List, [], ◌∷◌, Option, Some, None, Result, Ok, Err}
+use Rattle.std.specs.Coded.{×_prop, Unit-prop, le_prop}
+use Rattle.std.specs.List.{AllByRecursion}
 use Rattle.key_msgs.specs.declared.primitive.Primitive.{Primitive}
 use Rattle.key_msgs.specs.declared.template.Template.{Template}
 use Rattle.key_msgs.specs.declared.primitive.Primitive.TheVariants.{Aead, Daead, Mac, Prf}
-use Rattle.keyset_model.specs.Keyset.{Keys}
+use Rattle.keyset_model.specs.Keyset.{IsShort, Keys}
+use Rattle.keyset_model.specs.declared.record.Record.{Record}
 use Rattle.managers.specs.Table.{Table}
 use Rattle.tink_spec.specs.Outside.{EntropyState}
 use Rattle.tinkey_cmds.specs.Edits.{seen_edit}
@@ -35,6 +38,11 @@ needs (Tag body) = Some Mac
 needs (Verify tag body) = Some Mac
 needs (Derive size input) = Some Prf
 needs _ = None
+
+-- that all records can be written has at most one proof
+pub short-prop : (records : List Record) → IsProp (AllByRecursion IsShort records)
+short-prop [] = Unit-prop
+short-prop (r ∷ records) = ×_prop le_prop (short-prop records)
 
 -- what is held are the keys that a line needs, of this keyset
 abbrev pub IsHeldFor : Option Primitive → Table → Keys → Held → Type 0

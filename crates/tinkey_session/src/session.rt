@@ -8,7 +8,7 @@ ghost use Rattle.key_msgs.specs.declared.primitive.Primitive.TheVariants.{Stream
 ghost use Rattle.keyset_model.specs.Keyset.{IsShort};
 ghost use Rattle.tinkey_cmds.specs.Edits.{seen_edit};
 ghost use Rattle.tinkey_session.specs.Answered.{Serves};
-ghost use Rattle.tinkey_session.specs.Keeping.{Asks, IsKept, needs, unedited, unserved};
+ghost use Rattle.tinkey_session.specs.Keeping.{Asks, IsKept, needs, short-prop, unedited, unserved};
 ghost use Rattle.tinkey_session.specs.Reading.{IsWithin, seen_line};
 ghost use Rattle.tinkey_session.specs.Serving.{edit_line, edited_reply, serve as served, template_of};
 ghost use Rattle.tinkey_session.specs.declared.line.Line.TheVariants as lines;
@@ -37,16 +37,21 @@ pub enum LineFault {
 
 /// A keyset, and the handle of its keys that a line needed last. An edit lets the handle go, and any
 /// other line leaves it.
+///
+/// A record's URL and value have together at most 256 bytes less than 2^31.
 #[derive(Drop)]
 pub struct Session<'m> {
     pub managers: &'m Managers,
     pub keyset: Keyset,
     pub kept: Option<Handle<'m>>,
+    ghost short: { AllByRecursion IsShort keyset.records } by { short-prop keyset.records },
 }
 
 impl<'m> Session<'m> {
-    /// A session over a keyset, whose keys these managers serve. No memory is taken.
+    /// A session over a keyset, whose keys these managers serve. A record's URL and value have
+    /// together at most 256 bytes less than 2^31. No memory is taken.
     pub fn new(keyset: Keyset, managers: &'m Managers) -> Session<'m>
+        requires short { AllByRecursion IsShort keyset.records }
         ensures keyset { result.keyset ≡ keyset }
         ensures table { ⟦<Managers as KeyTable>⟧.table result.managers.now
             ≡ ⟦<Managers as KeyTable>⟧.table managers.now }
@@ -74,7 +79,6 @@ impl<'m> Session<'m> {
         requires kept { IfSome self.old.kept (λ h. IsKept
             (⟦<Managers as KeyTable>⟧.table self.old.managers.now)
             (⟦<Managers as KeyTable>⟧.table h.managers.now) h.primitive self.old.keyset h.held) }
-        requires short { AllByRecursion IsShort self.old.keyset.records }
         requires within { IsWithin (2 ^ 20) (seen_line line.now) }
         ensures serves { Serves
             (λ random. served (⟦<Managers as KeyTable>⟧.table self.old.managers.now)
@@ -91,7 +95,6 @@ impl<'m> Session<'m> {
             (⟦<Managers as KeyTable>⟧.table self.new.managers.now)
             (⟦<Managers as KeyTable>⟧.table h.managers.now) h.primitive self.new.keyset h.held) }
         ensures unchanged { OnErr result (self.new.keyset ≡ self.old.keyset) }
-        ensures short { AllByRecursion IsShort self.new.keyset.records }
         ensures table { ⟦<Managers as KeyTable>⟧.table self.new.managers.now
             ≡ ⟦<Managers as KeyTable>⟧.table self.old.managers.now }
     {
@@ -189,7 +192,6 @@ impl<'m> Session<'m> {
         requires kept { IfSome self.old.kept (λ h. IsKept
             (⟦<Managers as KeyTable>⟧.table self.old.managers.now)
             (⟦<Managers as KeyTable>⟧.table h.managers.now) h.primitive self.old.keyset h.held) }
-        requires short { AllByRecursion IsShort self.old.keyset.records }
         ensures serves { Serves
             (λ random. edit_line self.old.keyset random (seen_edit command.now))
             result self.new.keyset (E.state entropy.old) (E.state entropy.new) }
@@ -197,7 +199,6 @@ impl<'m> Session<'m> {
             (⟦<Managers as KeyTable>⟧.table self.new.managers.now)
             (⟦<Managers as KeyTable>⟧.table h.managers.now) h.primitive self.new.keyset h.held) }
         ensures unchanged { OnErr result (self.new.keyset ≡ self.old.keyset) }
-        ensures short { AllByRecursion IsShort self.new.keyset.records }
         ensures table { ⟦<Managers as KeyTable>⟧.table self.new.managers.now
             ≡ ⟦<Managers as KeyTable>⟧.table self.old.managers.now }
     {

@@ -111,13 +111,11 @@ fn take_piece<K: Sink, E: Entropy>(
     requires kept { IfSome talk.old.session.kept (λ h. IsKept
         (⟦<Managers as KeyTable>⟧.table talk.old.session.managers.now)
         (⟦<Managers as KeyTable>⟧.table h.managers.now) h.primitive talk.old.session.keyset h.held) }
-    requires short { AllByRecursion IsShort talk.old.session.keyset.records }
     requires few { talk.old.count ≤ count_limit }
     requires fits { length talk.old.line.items ≤ line_limit }
     ensures kept { OnOk result (IfSome talk.new.session.kept (λ h. IsKept
         (⟦<Managers as KeyTable>⟧.table talk.new.session.managers.now)
         (⟦<Managers as KeyTable>⟧.table h.managers.now) h.primitive talk.new.session.keyset h.held)) }
-    ensures short { OnOk result (AllByRecursion IsShort talk.new.session.keyset.records) }
     ensures few { OnOk result (talk.new.count ≤ count_limit) }
     ensures fits { OnOk result (length talk.new.line.items ≤ line_limit) }
     ensures table { OnOk result (⟦<Managers as KeyTable>⟧.table talk.new.session.managers.now
@@ -157,13 +155,11 @@ fn take_byte<K: Sink, E: Entropy>(
     requires kept { IfSome talk.old.session.kept (λ h. IsKept
         (⟦<Managers as KeyTable>⟧.table talk.old.session.managers.now)
         (⟦<Managers as KeyTable>⟧.table h.managers.now) h.primitive talk.old.session.keyset h.held) }
-    requires short { AllByRecursion IsShort talk.old.session.keyset.records }
     requires few { talk.old.count ≤ count_limit }
     requires fits { length talk.old.line.items ≤ line_limit }
     ensures kept { OnOk result (IfSome talk.new.session.kept (λ h. IsKept
         (⟦<Managers as KeyTable>⟧.table talk.new.session.managers.now)
         (⟦<Managers as KeyTable>⟧.table h.managers.now) h.primitive talk.new.session.keyset h.held)) }
-    ensures short { OnOk result (AllByRecursion IsShort talk.new.session.keyset.records) }
     ensures few { OnOk result (talk.new.count ≤ count_limit) }
     ensures fits { OnOk result (length talk.new.line.items ≤ line_limit) }
     ensures table { OnOk result (⟦<Managers as KeyTable>⟧.table talk.new.session.managers.now
@@ -210,13 +206,11 @@ fn take_line<K: Sink, E: Entropy>(
     requires kept { IfSome talk.old.session.kept (λ h. IsKept
         (⟦<Managers as KeyTable>⟧.table talk.old.session.managers.now)
         (⟦<Managers as KeyTable>⟧.table h.managers.now) h.primitive talk.old.session.keyset h.held) }
-    requires short { AllByRecursion IsShort talk.old.session.keyset.records }
     requires few { talk.old.count ≤ count_limit }
     requires fits { length talk.old.line.items ≤ line_limit }
     ensures kept { OnOk result (IfSome talk.new.session.kept (λ h. IsKept
         (⟦<Managers as KeyTable>⟧.table talk.new.session.managers.now)
         (⟦<Managers as KeyTable>⟧.table h.managers.now) h.primitive talk.new.session.keyset h.held)) }
-    ensures short { OnOk result (AllByRecursion IsShort talk.new.session.keyset.records) }
     ensures table { OnOk result (⟦<Managers as KeyTable>⟧.table talk.new.session.managers.now
         ≡ ⟦<Managers as KeyTable>⟧.table talk.old.session.managers.now) }
     ensures count { OnOk result (talk.new.count ≡ talk.old.count + 1) }
@@ -256,12 +250,10 @@ fn answer_line<E: Entropy>(
     requires kept { IfSome session.old.kept (λ h. IsKept
         (⟦<Managers as KeyTable>⟧.table session.old.managers.now)
         (⟦<Managers as KeyTable>⟧.table h.managers.now) h.primitive session.old.keyset h.held) }
-    requires short { AllByRecursion IsShort session.old.keyset.records }
     requires fits { length line.now ≤ line_limit }
     ensures kept { OnOk result (IfSome session.new.kept (λ h. IsKept
         (⟦<Managers as KeyTable>⟧.table session.new.managers.now)
         (⟦<Managers as KeyTable>⟧.table h.managers.now) h.primitive session.new.keyset h.held)) }
-    ensures short { OnOk result (AllByRecursion IsShort session.new.keyset.records) }
     ensures table { OnOk result (⟦<Managers as KeyTable>⟧.table session.new.managers.now
         ≡ ⟦<Managers as KeyTable>⟧.table session.old.managers.now) }
     ensures replied { IfOk result (λ text. IsReplied
@@ -296,7 +288,6 @@ fn finish<K: Sink, E: Entropy>(
     requires kept { IfSome talk.session.kept (λ h. IsKept
         (⟦<Managers as KeyTable>⟧.table talk.session.managers.now)
         (⟦<Managers as KeyTable>⟧.table h.managers.now) h.primitive talk.session.keyset h.held) }
-    requires short { AllByRecursion IsShort talk.session.keyset.records }
     requires few { talk.count ≤ count_limit }
     requires fits { length talk.line.items ≤ line_limit }
     ensures short { IfOk result (λ last. AllByRecursion IsShort last.records) }

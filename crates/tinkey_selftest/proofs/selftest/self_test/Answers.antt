@@ -1,7 +1,6 @@
 use Rattle.std.proofs.Common.{◌≡◌, ◌∙◌, sym, ap, subst, length, [], arith}
 use Rattle.std.specs.Prelude.{◌*◌, ◌+◌}
 use Rattle.std.specs.List.{AllByRecursion}
-use Rattle.keyset_model.specs.Keyset.{IsShort}
 use Rattle.tinkey_selftest.proofs.CountLemmas.{has_room}
 use Rattle.tinkey_selftest.proofs.EntropyLemmas.{length-random}
 use Rattle.tinkey_selftest.proofs.LoopLemmas.{generator_done, line_done}
@@ -28,7 +27,6 @@ loop-line-init g c =
       managers = c.new-2.ensures.table;
       ready = record {
         keyset = subst IsKeyset (sym c.new-2.ensures.keyset) first.3;
-        short = subst (λ k. AllByRecursion IsShort k.records) (sym c.new-2.ensures.keyset) c.in_ok-keyset.ensures.short;
         steady = first.2;
         small = subst (AllByRecursion IsSmall) (sym c.new-3.ensures.items) tt;
       };

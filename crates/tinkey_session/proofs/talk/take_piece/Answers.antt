@@ -8,7 +8,6 @@ pub loop-i-init : goal.loop-i-init
 loop-i-init g c = record {
   within = omega arith;
   kept = c.requires.kept;
-  short = c.requires.short;
   few = c.requires.few;
   fits = c.requires.fits;
   table = refl;
@@ -23,7 +22,6 @@ loop-i-preserved g c =
     record {
       within = omega arith;
       kept = c.in-Ok.ensures.kept;
-      short = c.in-Ok.ensures.short;
       few = c.in-Ok.ensures.few;
       fits = c.in-Ok.ensures.fits;
       table = c.in-Ok.ensures.table ∙ c.loop-i.invariant.table;

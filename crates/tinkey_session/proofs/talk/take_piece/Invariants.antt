@@ -1,6 +1,4 @@
 use Rattle.std.proofs.Common.{◌≡◌, ◌≤◌, ◌+◌, ◌-◌, List, ℕ, length, take, IfSome}
-use Rattle.std.specs.List.{AllByRecursion}
-use Rattle.keyset_model.specs.Keyset.{IsShort}
 use Rattle.managers.specs.contracts.table.ManagersKeyTable.TheImpl.{ghosts}
 use Rattle.tinkey_session.specs.Feeding.{Fed, outside, point, progress}
 use Rattle.tinkey_session.specs.Keeping.{IsKept}
@@ -11,7 +9,6 @@ abbrev pub invariant-loop-i : goal.invariant-loop-i
 invariant-loop-i g l = record {
   within : l.i ≤ length l.piece;
   kept : IfSome l.talk.session.kept (λ h. IsKept ((ghosts g.dyn-1 g.dyn-2 g.dyn-3 g.dyn-4).table l.talk.session.managers.now) ((ghosts g.dyn-1 g.dyn-2 g.dyn-3 g.dyn-4).table h.managers.now) h.primitive l.talk.session.keyset h.held);
-  short : AllByRecursion IsShort l.talk.session.keyset.records;
   few : l.talk.count ≤ count_limit;
   fits : length l.talk.line.items ≤ line_limit;
   table : (ghosts g.dyn-1 g.dyn-2 g.dyn-3 g.dyn-4).table l.talk.session.managers.now ≡ (ghosts g.dyn-1 g.dyn-2 g.dyn-3 g.dyn-4).table l.fn.talk.session.managers.now;

@@ -6,7 +6,6 @@ use Rattle.tinkey_session.proofs.talk.talk.Goals as goal
 pub loop-n-init : goal.loop-n-init
 loop-n-init g c = record {
   kept = if_none _ _ c.new.ensures.kept;
-  short = rw c.new.ensures.keyset c.requires.short;
   few = omega arith;
   goes_on = nothing_goes_on (g.S.Source.state c.args.source.now);
   room = omega arith;
@@ -25,7 +24,6 @@ returns-then-n-eq0-clause-talks g c =
 pub loop-n-preserved : goal.loop-n-preserved
 loop-n-preserved g c = record {
   kept = c.in-Ok-take_piece.ensures.kept;
-  short = c.in-Ok-take_piece.ensures.short;
   few = c.in-Ok-take_piece.ensures.few;
   goes_on = goes_on_more (g.S.Source.state c.args.source.now) (g.S.Source.state c.loop-n.source) (g.S.Source.state c.read.new.self) c.loop-n.invariant.goes_on (read_goes_on (g.S.Source.state c.loop-n.source) (g.S.Source.state c.read.new.self) c.read.ensures.late (c.in-Ok.ensures.goes_on (omega (arith, c.if-n-eq0.false))));
   room = omega arith;

@@ -1,7 +1,5 @@
 use Rattle.std.proofs.Common.{◌≡◌, ◌<◌, ◌≤◌, ◌-◌, length, IfSome}
 use Rattle.tink_spec.specs.Outside.{GoesOn}
-use Rattle.std.specs.List.{AllByRecursion}
-use Rattle.keyset_model.specs.Keyset.{IsShort}
 use Rattle.managers.specs.contracts.table.ManagersKeyTable.TheImpl.{ghosts}
 use Rattle.tinkey_session.proofs.EndLemmas.{Talking}
 use Rattle.tinkey_session.specs.Feeding.{point, progress}
@@ -13,7 +11,6 @@ use Rattle.tinkey_session.proofs.talk.talk.Given as goal
 abbrev pub invariant-loop-n : goal.invariant-loop-n
 invariant-loop-n g l = record {
   kept : IfSome l.talk.session.kept (λ h. IsKept ((ghosts g.dyn-1 g.dyn-2 g.dyn-3 g.dyn-4).table l.talk.session.managers.now) ((ghosts g.dyn-1 g.dyn-2 g.dyn-3 g.dyn-4).table h.managers.now) h.primitive l.talk.session.keyset h.held);
-  short : AllByRecursion IsShort l.talk.session.keyset.records;
   few : l.talk.count ≤ count_limit;
   goes_on : GoesOn (g.S.Source.state l.fn.source) (g.S.Source.state l.source);
   room : 0 < length l.buffer;

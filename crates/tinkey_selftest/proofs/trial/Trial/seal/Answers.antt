@@ -29,7 +29,6 @@ returns-clause-ready g c =
     let own : c.in_ok-ad.ad ≡ to_le_bytes w32 c.args.words.d = c.in_ok-ad.ensures ∙ c.to_le_bytes-2.ensures in
     record {
       keyset = ready.keyset;
-      short = ready.short;
       steady = ready.steady;
       small = all_small _ old.session.keyset _ c.own.result c.in_ok-copy.field-0 c.in_ok-ad.ad old.entropy.left _ c.in_ok-sealer.sealer c.in_ok-reply.reply _ _
           c.requires.ready.keyset.faultless c.requires.enough (plain_small c.own.result c.args.words.b c.args.words.c plain) (word_small c.in_ok-ad.ad c.args.words.d own)

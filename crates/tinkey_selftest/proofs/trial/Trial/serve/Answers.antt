@@ -15,7 +15,6 @@ returns-in-Ok-clause-few g c =
 pub returns-in-Ok-clause-ready : goal.returns-in-Ok-clause-ready
 returns-in-Ok-clause-ready g c = record {
   keyset = keyset_now _ c.args.self.now.session.keyset c.serve.new.self.keyset (seen_line c.args.line.now) c.in-Ok.reply c.args.self.now.entropy c.serve.new.entropy c.requires.ready.keyset c.in-Ok.ensures.serves;
-  short = c.in-Ok.ensures.short;
   steady = c.in-Ok.ensures.serves.drew.steady ∙ c.requires.ready.steady;
   small = c.requires.ready.small;
 }
