@@ -51,6 +51,7 @@ struct TalkState<'m> {
     session: Session<'m>,
     line: Vec<u8>,
     count: usize,
+    ghost fits: { length line.items ≤ line_limit },
 }
 
 /// Answers each line of an input over a keyset, under these managers, and then gives the keyset that
@@ -112,12 +113,10 @@ fn take_piece<K: Sink, E: Entropy>(
         (⟦<Managers as KeyTable>⟧.table talk.old.session.managers.now)
         (⟦<Managers as KeyTable>⟧.table h.managers.now) h.primitive talk.old.session.keyset h.held) }
     requires few { talk.old.count ≤ count_limit }
-    requires fits { length talk.old.line.items ≤ line_limit }
     ensures kept { OnOk result (IfSome talk.new.session.kept (λ h. IsKept
         (⟦<Managers as KeyTable>⟧.table talk.new.session.managers.now)
         (⟦<Managers as KeyTable>⟧.table h.managers.now) h.primitive talk.new.session.keyset h.held)) }
     ensures few { OnOk result (talk.new.count ≤ count_limit) }
-    ensures fits { OnOk result (length talk.new.line.items ≤ line_limit) }
     ensures table { OnOk result (⟦<Managers as KeyTable>⟧.table talk.new.session.managers.now
         ≡ ⟦<Managers as KeyTable>⟧.table talk.old.session.managers.now) }
     ensures less { OnOk result (progress talk.old.count talk.old.line.items + length piece.now ≤ progress talk.new.count talk.new.line.items) }
@@ -156,12 +155,10 @@ fn take_byte<K: Sink, E: Entropy>(
         (⟦<Managers as KeyTable>⟧.table talk.old.session.managers.now)
         (⟦<Managers as KeyTable>⟧.table h.managers.now) h.primitive talk.old.session.keyset h.held) }
     requires few { talk.old.count ≤ count_limit }
-    requires fits { length talk.old.line.items ≤ line_limit }
     ensures kept { OnOk result (IfSome talk.new.session.kept (λ h. IsKept
         (⟦<Managers as KeyTable>⟧.table talk.new.session.managers.now)
         (⟦<Managers as KeyTable>⟧.table h.managers.now) h.primitive talk.new.session.keyset h.held)) }
     ensures few { OnOk result (talk.new.count ≤ count_limit) }
-    ensures fits { OnOk result (length talk.new.line.items ≤ line_limit) }
     ensures table { OnOk result (⟦<Managers as KeyTable>⟧.table talk.new.session.managers.now
         ≡ ⟦<Managers as KeyTable>⟧.table talk.old.session.managers.now) }
     ensures less { OnOk result (progress talk.old.count talk.old.line.items + 1 ≤ progress talk.new.count talk.new.line.items) }
@@ -207,7 +204,6 @@ fn take_line<K: Sink, E: Entropy>(
         (⟦<Managers as KeyTable>⟧.table talk.old.session.managers.now)
         (⟦<Managers as KeyTable>⟧.table h.managers.now) h.primitive talk.old.session.keyset h.held) }
     requires few { talk.old.count ≤ count_limit }
-    requires fits { length talk.old.line.items ≤ line_limit }
     ensures kept { OnOk result (IfSome talk.new.session.kept (λ h. IsKept
         (⟦<Managers as KeyTable>⟧.table talk.new.session.managers.now)
         (⟦<Managers as KeyTable>⟧.table h.managers.now) h.primitive talk.new.session.keyset h.held)) }
@@ -289,7 +285,6 @@ fn finish<K: Sink, E: Entropy>(
         (⟦<Managers as KeyTable>⟧.table talk.session.managers.now)
         (⟦<Managers as KeyTable>⟧.table h.managers.now) h.primitive talk.session.keyset h.held) }
     requires few { talk.count ≤ count_limit }
-    requires fits { length talk.line.items ≤ line_limit }
     ensures short { IfOk result (λ last. AllByRecursion IsShort last.records) }
     ensures finished { IfOk result (λ last. (output : List ℕ) → Finished
         (⟦<Managers as KeyTable>⟧.table talk.entry.session.managers.now) (going talk.entry.session.keyset talk.entry.line.items talk.entry.count) last output

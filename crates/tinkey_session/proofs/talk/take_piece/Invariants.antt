@@ -2,7 +2,7 @@ use Rattle.std.proofs.Common.{◌≡◌, ◌≤◌, ◌+◌, ◌-◌, List, ℕ,
 use Rattle.managers.specs.contracts.table.ManagersKeyTable.TheImpl.{ghosts}
 use Rattle.tinkey_session.specs.Feeding.{Fed, outside, point, progress}
 use Rattle.tinkey_session.specs.Keeping.{IsKept}
-use Rattle.tinkey_session.specs.Talking.{count_limit, going, line_limit, over}
+use Rattle.tinkey_session.specs.Talking.{count_limit, going, over}
 use Rattle.tinkey_session.proofs.talk.take_piece.Given as goal
 
 abbrev pub invariant-loop-i : goal.invariant-loop-i
@@ -10,7 +10,6 @@ invariant-loop-i g l = record {
   within : l.i ≤ length l.piece;
   kept : IfSome l.talk.session.kept (λ h. IsKept ((ghosts g.dyn-1 g.dyn-2 g.dyn-3 g.dyn-4).table l.talk.session.managers.now) ((ghosts g.dyn-1 g.dyn-2 g.dyn-3 g.dyn-4).table h.managers.now) h.primitive l.talk.session.keyset h.held);
   few : l.talk.count ≤ count_limit;
-  fits : length l.talk.line.items ≤ line_limit;
   table : (ghosts g.dyn-1 g.dyn-2 g.dyn-3 g.dyn-4).table l.talk.session.managers.now ≡ (ghosts g.dyn-1 g.dyn-2 g.dyn-3 g.dyn-4).table l.fn.talk.session.managers.now;
   less : progress l.fn.talk.count l.fn.talk.line.items + l.i ≤ progress l.talk.count l.talk.line.items;
   fed : (output : List ℕ) → Fed (going l.fn.talk.session.keyset l.fn.talk.line.items l.fn.talk.count) (point l.talk.session.keyset l.talk.line.items l.talk.count)

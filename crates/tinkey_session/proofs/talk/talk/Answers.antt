@@ -9,7 +9,6 @@ loop-n-init g c = record {
   few = omega arith;
   goes_on = nothing_goes_on (g.S.Source.state c.args.source.now);
   room = omega arith;
-  fits = rw c.new-2.ensures.items (omega arith);
   table = c.new.ensures.table;
   is = talking_none _ _ _ _ c.new.ensures.keyset c.new-2.ensures.items refl;
 }
@@ -27,7 +26,6 @@ loop-n-preserved g c = record {
   few = c.in-Ok-take_piece.ensures.few;
   goes_on = goes_on_more (g.S.Source.state c.args.source.now) (g.S.Source.state c.loop-n.source) (g.S.Source.state c.read.new.self) c.loop-n.invariant.goes_on (read_goes_on (g.S.Source.state c.loop-n.source) (g.S.Source.state c.read.new.self) c.read.ensures.late (c.in-Ok.ensures.goes_on (omega (arith, c.if-n-eq0.false))));
   room = omega arith;
-  fits = c.in-Ok-take_piece.ensures.fits;
   table = c.in-Ok-take_piece.ensures.table ∙ c.loop-n.invariant.table;
   is = talking_more _ _ _ _ _ (take c.in-Ok.n c.read.new.out) _ _ _ c.loop-n.invariant.table c.loop-n.invariant.is c.in-Ok.ensures.gives c.in-Ok.ensures.no_fault c.in-Ok-take_piece.ensures.fed;
 }

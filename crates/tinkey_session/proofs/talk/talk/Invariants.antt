@@ -4,7 +4,7 @@ use Rattle.managers.specs.contracts.table.ManagersKeyTable.TheImpl.{ghosts}
 use Rattle.tinkey_session.proofs.EndLemmas.{Talking}
 use Rattle.tinkey_session.specs.Feeding.{point, progress}
 use Rattle.tinkey_session.specs.Keeping.{IsKept}
-use Rattle.tinkey_session.specs.Talking.{count_limit, line_limit}
+use Rattle.tinkey_session.specs.Talking.{count_limit}
 use Rattle.tinkey_session.specs.Talks.{sides}
 use Rattle.tinkey_session.proofs.talk.talk.Given as goal
 
@@ -14,7 +14,6 @@ invariant-loop-n g l = record {
   few : l.talk.count ≤ count_limit;
   goes_on : GoesOn (g.S.Source.state l.fn.source) (g.S.Source.state l.source);
   room : 0 < length l.buffer;
-  fits : length l.talk.line.items ≤ line_limit;
   table : (ghosts g.dyn-1 g.dyn-2 g.dyn-3 g.dyn-4).table l.talk.session.managers.now ≡ (ghosts g.dyn-1 g.dyn-2 g.dyn-3 g.dyn-4).table l.fn.managers;
   is : Talking ((ghosts g.dyn-1 g.dyn-2 g.dyn-3 g.dyn-4).table l.fn.managers) l.fn.keyset (point l.talk.session.keyset l.talk.line.items l.talk.count)
       (sides (g.S.Source.state l.fn.source) (g.K.Sink.state l.fn.sink) (g.E.Entropy.state l.fn.entropy)) (sides (g.S.Source.state l.source) (g.K.Sink.state l.sink) (g.E.Entropy.state l.entropy));
