@@ -60,6 +60,13 @@ fn has_key(sealer: &Record, keyset: &Keyset) -> bool
     false
 }
 
+/// The same of the session's keyset.
+fn session_has_key(sealer: &Record, session: &Session<'_>) -> bool
+    ensures { result ≡ has_key sealer.now session.now.keyset }
+{
+    has_key(sealer, &session.keyset)
+}
+
 /// Keeps what was sealed, if it was, with its associated data and the record that sealed.
 fn keep(
     sealings: &mut Vec<Sealing>,
@@ -232,7 +239,7 @@ impl<'m> Trial<'m> {
         };
         let bytes = Bytes::copy(alloc, sealing.bytes.as_slice())?;
         let line = Line::Open(bytes, Bytes::copy(alloc, sealing.ad.as_slice())?);
-        let is_there = has_key(&sealing.sealer, &self.session.keyset);
+        let is_there = session_has_key(&sealing.sealer, &self.session);
         let reply = self.serve(alloc, &line)?;
         self.counts = self.counts.with_open(&reply, is_there);
         Ok(())
