@@ -1,7 +1,7 @@
 //! Plaintexts sealed in envelopes and opened again: answers of Google's Tink, envelopes altered, and each
 //! draw that fails.
 
-ghost use Rattle.std.specs.Prelude.{◌≤◌, length, IfOk};
+ghost use Rattle.std.specs.Prelude.{◌≡◌, ◌+◌, ◌≤◌, length, IfOk};
 
 use crate::boxes::aead_under;
 use crate::keysets::keyset_of;
@@ -9,7 +9,7 @@ use crate::rows::{bytes_named, count, digits_named, few};
 use key_msgs::{Primitive, Template, template_at, template_named};
 use keyset_model::Keyset;
 use managers::{AeadManager, AeadScheme, Managers};
-use seal_wrap::{data_key, envelope_open, envelope_seal};
+use seal_wrap::{ENVELOPE_ROOM, data_key, envelope_open, envelope_seal};
 use std::alloc::Global;
 use std::test::Fail;
 use test_words::{bytes_of, cell, counting, digits_of, same_text, turned};
@@ -211,6 +211,16 @@ const DRAWS: [(&str, &str, usize, u64, &str); 12] = [
     ("another primitive", "AES256_SIV", 200, 0, "NotAead 200"),
 ];
 
+// A plaintext behind the room of an envelope.
+fn in_room(alloc: Global, plain: &[u8]) -> Result<Vec<u8>, Fail>
+    requires few { length plain.now ≤ 1000 }
+    ensures { IfOk result (λ bytes. length bytes.items ≡ ENVELOPE_ROOM + length plain.now) }
+{
+    let mut bytes = vec![in alloc; 7; ENVELOPE_ROOM]?;
+    bytes.extend_from_slice(plain)?;
+    Ok(bytes)
+}
+
 // What is sealed, or the fault, and how many random bytes are left.
 fn seal_text(
     alloc: Global,
@@ -227,7 +237,8 @@ fn seal_text(
         Ok(manager) => manager,
         Err(fault) => return Ok(format!(in alloc; "{fault:?} {}", entropy.left())?),
     };
-    let text = match envelope_seal(alloc, &handle, manager, template, plain, b"", &mut entropy) {
+    let bytes = in_room(alloc, plain)?;
+    let text = match envelope_seal(alloc, &handle, manager, template, bytes, b"", &mut entropy) {
         Ok(bytes) => digits_of(alloc, &bytes)?,
         Err(fault) => format!(in alloc; "{fault:?}")?,
     };

@@ -1,12 +1,13 @@
 -- What sealing in an envelope says of the entropy, and what an envelope is made of.
-use Rattle.std.proofs.Common.{◌≡◌, ◌∙◌, inl, inr, refl, sym, ap, subst, ℕ, cond, Bool, false, List, [], ◌++◌, length, take, drop, Option, Some, None, Ok}
-use Rattle.std.specs.Prelude.{slice_get}
+use Rattle.std.proofs.Common.{◌≡◌, ◌≤◌, ◌∙◌, inl, inr, refl, sym, ap, subst, arith, ℕ, cond, Bool, false, List, [], ◌++◌, length, take, drop, Option, Some, None, Ok}
+use Rattle.std.specs.Prelude.{slice_get, slice_range}
 use Rattle.std.specs.Int.{to_be_bytes, w32}
 use Rattle.std.specs.Option.{option_and_then, option_map}
 use Rattle.std.specs.Str.{bytes_eq}
-use Rattle.std.proofs.lemmas.List.{append_assoc, append-nil, drop_at, take_at}
+use Rattle.std.proofs.lemmas.List.{append_assoc, append-nil, drop-append-le, drop_at, take_at}
 use Rattle.std.proofs.lemmas.List.Quantifiers.{position-Some}
 use Rattle.std.proofs.lemmas.Option.{get_or_from_slice_get}
+use Rattle.std.proofs.lemmas.Slice.{between_to_end}
 use Rattle.std.proofs.lemmas.Slice.Eq.{bytes_eq-Decides}
 use Rattle.key_msgs.specs.Templates.{Row, random_of}
 use Rattle.key_msgs.specs.declared.key.KeyKind.{KeyKind}
@@ -65,6 +66,16 @@ enveloping keys table scheme row plain ad old one two new value sealed front byt
           ∙ ap (option_map (λ (p : Sealed). record { answer = Ok (envelope sealed p.bytes); left = p.left })) (seal-drawn [] plain ad last.drawn more key last.whole)
           ∙ ap (λ (b : List ℕ). Some (record { answer = Ok b; left = more })) (sym whole);
     }
+
+-- what was sealed behind a longer front, cut where the envelope begins
+pub cut_sealing : (key : KeyKind) (front plain ad : List ℕ) (old new : EntropyState) (bytes : List ℕ) (start : ℕ) → start ≤ length front → IsKeySealing key front plain ad old new bytes
+    → IsKeySealing key (drop start front) plain ad old new (slice_range bytes start (length bytes))
+cut_sealing key front plain ad old new bytes start within is = record {
+  drawn = is.drawn;
+  drew = is.drew;
+  whole = is.whole;
+  made = between_to_end bytes start (length bytes) (omega arith) ∙ ap (drop start) is.made ∙ drop-append-le start front (seal_of key is.drawn plain ad) within;
+}
 
 -- ---- faults
 
@@ -187,12 +198,6 @@ fault_payload keys table scheme row plain ad old two new key faults.NoMemory beh
   drew = drew_more old two new behind.before is.fill behind.drew is.drew;
   stood = is.stood ∙ behind.stood;
 }
-
--- memory was wanting behind the sealing of the data key
-pub fault_room : (keys : Keys) (table : Table) (scheme : Scheme) (row : Row) (old two : EntropyState) (key : KeyKind)
-    → IsBehind keys table scheme row old two key → StoodAtFill keys table scheme row old two
-fault_room keys table scheme row old two key behind =
-    fault_payload keys table scheme row [] [] old two two key faults.NoMemory behind (record { fill = []; part = inl refl; drew = drew_nothing two; stood = refl })
 
 -- ---- the manager of a data key
 

@@ -82,6 +82,11 @@ wanting_behind table master plain ad old new sealed is stood =
 pub sealing-bound : (table : Table) (master : Keys) (plain ad : List ℕ) (old new : EntropyState) (sealed : List ℕ) → IsSealing master table plain ad old new sealed → length sealed ≤ length plain + 85
 sealing-bound table master plain ad old new sealed is = sealing-long table master plain ad (is.drawn ++ []) (record { bytes = sealed; left = [] }) (is.answer [])
 
+-- that of a short message too
+pub sealing-short : (table : Table) (master : Keys) (shown plain ad : List ℕ) (old new : EntropyState) (sealed : List ℕ) → IsSealing master table shown ad old new sealed → shown ≡ plain → length plain ≤ 1000 → length sealed ≤ 1085
+sealing-short table master shown plain ad old new sealed is same most =
+    omega (arith, ap length same, sealing-bound table master shown ad old new sealed is)
+
 -- the text of a sealing
 pub wrapping : (table : Table) (keys master : Keys) (json : Bool) (old new : EntropyState) (plain sealed text : List ℕ) → plain ≡ binary_of keys → IsSealing master table plain [] old new sealed → IsBytes sealed
     → text ≡ wrapped_text json sealed (info_of keys) → IsWrapping keys master table json old new text

@@ -5,7 +5,7 @@
 //! key, and the payload: IV, ciphertext and tag under the data key, without a prefix. The data key's
 //! message is sealed with empty associated data.
 
-ghost use Rattle.std.specs.Prelude.{◌≡◌, ◌+◌, ◌^◌, ◌<◌, ◌≤◌, ◌++◌, ℕ, drop, length, take, IfOk, IfErr, OnOk, option_map};
+ghost use Rattle.std.specs.Prelude.{◌≡◌, ◌+◌, ◌^◌, ◌<◌, ◌≤◌, ℕ, drop, length, slice_range, take, IfOk, IfErr, OnOk, option_map};
 ghost use Rattle.key_msgs.specs.Templates.{Row, seen};
 ghost use Rattle.key_msgs.specs.declared.primitive.Primitive.TheVariants.{Aead};
 ghost use Rattle.keyset_model.specs.Keyset.{Keys};
@@ -41,29 +41,35 @@ pub enum EnvelopeFault {
 /// The bytes of the length of a sealed data key.
 const LENGTH: usize = 4;
 
-/// The bytes of the longest tag, which is a digest of SHA-512.
-const LONGEST_TAG: usize = 64;
+/// How many bytes stand before the plaintext that `envelope_seal` takes, for the length of the sealed data
+/// key, that key, and an IV of the data key. They are more than these ever have: the message of a data key
+/// has at most 1,000 bytes, its sealing at most 85 more, and an IV at most 16.
+pub const ENVELOPE_ROOM: usize = 4096;
 
-/// What stands before a payload, room of so many bytes for its IV, and the plaintext. There is capacity
-/// for any tag behind it.
-fn with_room(alloc: Global, sealed: &[u8], room: usize, plain: &[u8]) -> Result<Vec<u8>, NoMemory>
+/// Writes what stands before a payload over `front`, which has its size.
+fn write_before(sealed: &[u8], front: &mut [u8])
     requires sealed_bound { length sealed.now < 2 ^ 32 }
-    requires room_bound { room ≤ 2 ^ 10 }
-    requires plain_bound { length plain.now ≤ 16777216 }
-    ensures size { IfOk result (λ bytes.
-        length bytes.items ≡ 4 + length sealed.now + room + length plain.now) }
-    ensures before { IfOk result (λ bytes.
-        take (4 + length sealed.now) bytes.items ≡ before_payload sealed.now) }
-    ensures plain { IfOk result (λ bytes.
-        drop (4 + length sealed.now + room) bytes.items ≡ plain.now) }
+    requires size { length front.old ≡ 4 + length sealed.now }
+    ensures { front.new ≡ before_payload sealed.now }
 {
-    let at = LENGTH + sealed.len() + room;
-    let mut bytes = Vec::with_capacity(alloc, at + plain.len() + LONGEST_TAG)?;
-    bytes.extend_from_slice(&(sealed.len() as u32).to_be_bytes())?;
-    bytes.extend_from_slice(sealed)?;
-    bytes.resize(at, 0)?;
-    bytes.extend_from_slice(plain)?;
-    Ok(bytes)
+    let (size, key) = front.split_at_mut(LENGTH);
+    size.copy_from_slice(&(sealed.len() as u32).to_be_bytes());
+    key.copy_from_slice(sealed);
+}
+
+/// The list with what stands before a payload in it, from `start` on.
+fn with_before(sealed: &[u8], start: usize, mut bytes: Vec<u8>) -> Vec<u8>
+    requires sealed_bound { length sealed.now < 2 ^ 32 }
+    requires within { start + (4 + length sealed.now) ≤ length bytes.items }
+    ensures size { length result.items ≡ length bytes.items }
+    ensures before { slice_range result.items start (start + (4 + length sealed.now))
+        ≡ before_payload sealed.now }
+    ensures behind { (n : ℕ) → start + (4 + length sealed.now) ≤ n
+        → drop n result.items ≡ drop n bytes.items }
+{
+    let end = start + LENGTH + sealed.len();
+    write_before(sealed, &mut bytes[start..end]);
+    bytes
 }
 
 /// Makes the payload in place, behind the first `at` bytes and room for an IV: the plaintext that stands
@@ -96,14 +102,14 @@ fn seal_payload<E: Entropy>(
     }
 }
 
-/// Seals under a data key that was made, whose message is short. What was drawn before is told by the
-/// caller.
+/// Seals under a data key that was made, whose message is short, as `envelope_seal` does. What was drawn
+/// before is told by the caller.
 fn seal_made<E: Entropy>(
     alloc: Global,
     handle: &Handle<'_>,
     manager: &dyn AeadManager,
     made: &DataKey,
-    plain: &[u8],
+    bytes: Vec<u8>,
     ad: &[u8],
     entropy: &mut E,
 ) -> Result<Vec<u8>, EnvelopeFault>
@@ -112,17 +118,18 @@ fn seal_made<E: Entropy>(
     requires admitted { IsAdmitted
         ((⟦<dyn AeadManager as KeyManager>⟧ manager.now.0).scheme manager.now.1) made.now.key }
     requires value_bound { length made.now.value.items ≤ 1000 }
-    requires plain_bound { length plain.now ≤ 16777216 }
+    requires room { ENVELOPE_ROOM ≤ length bytes.items }
+    requires bound { length bytes.items ≤ ENVELOPE_ROOM + 16777216 }
     requires ad_bound { length ad.now ≤ 16777216 }
     ensures sealed { (keys : Keys)
         → IsOver (⟦<Managers as KeyTable>⟧.table handle.now.managers.now) Aead keys handle.now.held
         → (row : Row) (before : EntropyState)
         → Makes ((⟦<dyn AeadManager as KeyManager>⟧ manager.now.0).scheme manager.now.1) row before
         (E.state entropy.old) made.now.value.items made.now.key
-        → IfOk result (λ bytes. IsEnveloping keys
+        → IfOk result (λ envelope. IsEnveloping keys
         (⟦<Managers as KeyTable>⟧.table handle.now.managers.now)
-        ((⟦<dyn AeadManager as KeyManager>⟧ manager.now.0).scheme manager.now.1) row plain.now ad.now
-        before (E.state entropy.new) bytes.items) }
+        ((⟦<dyn AeadManager as KeyManager>⟧ manager.now.0).scheme manager.now.1) row
+        (drop ENVELOPE_ROOM bytes.items) ad.now before (E.state entropy.new) envelope.items) }
     ensures no_fault { OnOk result (Stood (E.state entropy.old).faults (E.state entropy.new).faults) }
     ensures fault { (keys : Keys)
         → IsOver (⟦<Managers as KeyTable>⟧.table handle.now.managers.now) Aead keys handle.now.held
@@ -131,25 +138,27 @@ fn seal_made<E: Entropy>(
         (E.state entropy.old) made.now.value.items made.now.key
         → IfErr result (IsEnvelopeFault keys
         (⟦<Managers as KeyTable>⟧.table handle.now.managers.now)
-        ((⟦<dyn AeadManager as KeyManager>⟧ manager.now.0).scheme manager.now.1) row plain.now ad.now
-        before (E.state entropy.new)) }
+        ((⟦<dyn AeadManager as KeyManager>⟧ manager.now.0).scheme manager.now.1) row
+        (drop ENVELOPE_ROOM bytes.items) ad.now before (E.state entropy.new)) }
 {
     let sealed = match handle.seal(alloc, &made.value, b"", entropy) {
         Ok(sealed) => sealed,
         Err(SealFault::EntropyFault) => return Err(EnvelopeFault::EntropyFault),
         Err(SealFault::NoMemory) => return Err(EnvelopeFault::NoMemory),
     };
-    let Ok(bytes) = with_room(alloc, &sealed, manager.iv_size(&made.key), plain) else {
-        return Err(EnvelopeFault::NoMemory);
-    };
-    let at = LENGTH + sealed.len();
-    let envelope = seal_payload(alloc, manager, &made.key, at, bytes, ad, entropy)?;
-    Ok(envelope)
+    let at = ENVELOPE_ROOM - manager.iv_size(&made.key);
+    let start = at - LENGTH - sealed.len();
+    let bytes = with_before(&sealed, start, bytes);
+    let bytes = seal_payload(alloc, manager, &made.key, at, bytes, ad, entropy)?;
+    let end = bytes.len();
+    Ok(part_of(bytes, start..end))
 }
 
-/// Seals a plaintext in an envelope: under a fresh data key of the template, and that key under the
-/// primary key of the handle's keyset. Plaintext and associated data have at most 16,777,216 bytes each.
-/// The manager is that of the template's keys, as `data_key` gives it.
+/// Seals a plaintext in an envelope, in place: under a fresh data key of the template, and that key under
+/// the primary key of the handle's keyset. The plaintext is what stands in `bytes` behind the first
+/// `ENVELOPE_ROOM` bytes, whatever these are, and the envelope is all that the list holds then. Plaintext
+/// and associated data have at most 16,777,216 bytes each. The manager is that of the template's keys, as
+/// `data_key` gives it.
 ///
 /// The data key is drawn in one fill, then an IV of the primary key, then one of the data key, each in one
 /// fill unless it has no bytes. `EntropyFault` comes only where the entropy failed at one of these, and
@@ -162,7 +171,7 @@ pub fn envelope_seal<E: Entropy>(
     handle: &Handle<'_>,
     manager: &dyn AeadManager,
     template: &Template,
-    plain: &[u8],
+    bytes: Vec<u8>,
     ad: &[u8],
     entropy: &mut E,
 ) -> Result<Vec<u8>, EnvelopeFault>
@@ -171,25 +180,27 @@ pub fn envelope_seal<E: Entropy>(
     requires aead { IsAead (seen template.now) }
     requires url { (⟦<dyn AeadManager as KeyManager>⟧ manager.now.0).url manager.now.1
         ≡ url_made (seen template.now) }
-    requires plain_bound { length plain.now ≤ 16777216 }
+    requires room { ENVELOPE_ROOM ≤ length bytes.items }
+    requires bound { length bytes.items ≤ ENVELOPE_ROOM + 16777216 }
     requires ad_bound { length ad.now ≤ 16777216 }
     ensures sealed { (keys : Keys)
         → IsOver (⟦<Managers as KeyTable>⟧.table handle.now.managers.now) Aead keys handle.now.held
-        → IfOk result (λ bytes. IsEnveloping keys
+        → IfOk result (λ envelope. IsEnveloping keys
         (⟦<Managers as KeyTable>⟧.table handle.now.managers.now)
         ((⟦<dyn AeadManager as KeyManager>⟧ manager.now.0).scheme manager.now.1)
-        (seen template.now) plain.now ad.now (E.state entropy.old) (E.state entropy.new)
-        bytes.items) }
+        (seen template.now) (drop ENVELOPE_ROOM bytes.items) ad.now (E.state entropy.old)
+        (E.state entropy.new) envelope.items) }
     ensures no_fault { OnOk result (Stood (E.state entropy.old).faults (E.state entropy.new).faults) }
     ensures fault { (keys : Keys)
         → IsOver (⟦<Managers as KeyTable>⟧.table handle.now.managers.now) Aead keys handle.now.held
         → IfErr result (IsEnvelopeFault keys
         (⟦<Managers as KeyTable>⟧.table handle.now.managers.now)
         ((⟦<dyn AeadManager as KeyManager>⟧ manager.now.0).scheme manager.now.1)
-        (seen template.now) plain.now ad.now (E.state entropy.old) (E.state entropy.new)) }
+        (seen template.now) (drop ENVELOPE_ROOM bytes.items) ad.now (E.state entropy.old)
+        (E.state entropy.new)) }
 {
     let made = make(alloc, manager, template, entropy)?;
-    seal_made(alloc, handle, manager, &made, plain, ad, entropy)
+    seal_made(alloc, handle, manager, &made, bytes, ad, entropy)
 }
 
 /// Opens a payload in place under the data key with this message, and answers where the plaintext stands

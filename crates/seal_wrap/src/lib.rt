@@ -15,6 +15,6 @@ mod unwrapping;
 mod wrapping;
 
 pub use data_keys::{DataKeyFault, data_key};
-pub use envelope::{EnvelopeFault, envelope_open, envelope_seal};
+pub use envelope::{ENVELOPE_ROOM, EnvelopeFault, envelope_open, envelope_seal};
 pub use unwrapping::{UnwrapFault, unwrap_keyset};
 pub use wrapping::{WrapFault, wrap};

@@ -1,6 +1,6 @@
 -- Room in front of an input, which is sealed where it stands.
 use Rattle.std.specs.Prelude.{ℕ}
-use Rattle.tinkey_words.specs.Words.{AskedWork, to_seal, to_open, to_dseal, to_dopen, to_tag, to_verify, to_derive}
+use Rattle.tinkey_words.specs.Words.{AskedEnvelope, AskedWork, to_seal, to_open, to_dseal, to_dopen, to_tag, to_verify, to_derive, to_eseal, to_eopen}
 use Rattle.wrapped_prims.specs.Rooms.{seal_room, dseal_room}
 use Rattle.wrapped_prims.specs.declared.held.Held.{Held}
 
@@ -13,3 +13,8 @@ room_for held (to_dopen ad) = 0
 room_for held to_tag = 0
 room_for held (to_verify tag) = 0
 room_for held (to_derive size) = 0
+
+-- how many go before the plaintext that is sealed in an envelope: ENVELOPE_ROOM of seal_wrap
+abbrev pub envelope_room : AskedEnvelope → ℕ
+envelope_room (to_eseal ad) = 4096
+envelope_room (to_eopen ad) = 0

@@ -1,6 +1,6 @@
 //! Envelope sealing: eseal and eopen.
 
-ghost use Rattle.std.specs.Prelude.{◌≡◌, ◌≤◌, ◌^◌, length, IfOk};
+ghost use Rattle.std.specs.Prelude.{◌≡◌, ◌+◌, ◌≤◌, ◌^◌, drop, length, IfOk};
 ghost use Rattle.key_msgs.specs.Templates.{Row, seen};
 ghost use Rattle.key_msgs.specs.declared.primitive.Primitive.TheVariants.{Aead};
 ghost use Rattle.keyset_model.specs.Keyset.{Keys};
@@ -11,12 +11,13 @@ ghost use Rattle.tinkey_plans.specs.Envelopes.{envelope_limit, envelope_output, 
 ghost use Rattle.tinkey_plans.specs.Steps.{Passes, PassesAs};
 ghost use Rattle.tinkey_plans.specs.Using.{IsServing};
 ghost use Rattle.tinkey_words.specs.Words.{seen_datum, seen_envelope, to_eseal, to_eopen};
+ghost use Rattle.tinkey_run.specs.Rooms.{envelope_room};
 
-use crate::steps::{find_template, load_keyset, read_input};
+use crate::steps::{find_template, load_keyset, read_input_behind};
 use crate::using::{INPUT_LIMIT, SEALED_LIMIT, datum, handle_of, or_failed};
 use key_msgs::{Primitive, Template};
 use managers::{AeadManager, KeyManager, KeyTable, Managers};
-use seal_wrap::{EnvelopeFault, data_key, envelope_open, envelope_seal};
+use seal_wrap::{ENVELOPE_ROOM, EnvelopeFault, data_key, envelope_open, envelope_seal};
 use std::alloc::Global;
 use tink_base::{Bytes, Entropy, Source, Store};
 use tinkey_plans::Status;
@@ -54,11 +55,10 @@ pub(crate) fn use_envelope<S: Source, E: Entropy, D: Store>(
     let keyset = load_keyset(alloc, name, form, store)?;
     let handle = handle_of(alloc, &keyset, managers, Primitive::Aead)?;
     let manager = find_manager(managers, &template)?;
-    let input = read_input(alloc, envelope_limit(work), source)?;
+    let input = read_input_behind(alloc, envelope_room(work), envelope_limit(work), source)?;
     match work {
         Envelope::Seal(ad) => {
-            let plain = input.as_slice();
-            seal_envelope(alloc, &handle, manager, &template, ad, plain, entropy)
+            seal_envelope(alloc, &handle, manager, &template, ad, input, entropy)
         }
         Envelope::Open(ad) => open_envelope(alloc, &handle, manager, ad, input),
     }
@@ -94,14 +94,15 @@ fn find_manager<'m>(
     }
 }
 
-/// eseal: the envelope, under a data key that is made for it.
+/// eseal, in place: the envelope of what stands behind the room of one, under a data key that is made for
+/// it.
 fn seal_envelope<E: Entropy>(
     alloc: Global,
     handle: &Handle<'_>,
     manager: &dyn AeadManager,
     template: &Template,
     ad: Datum<'_>,
-    plain: &[u8],
+    input: Vec<u8>,
     entropy: &mut E,
 ) -> Result<Bytes, Status>
     requires serving { IsServing (⟦<Managers as KeyTable>⟧.table handle.now.managers.now) Aead
@@ -109,12 +110,13 @@ fn seal_envelope<E: Entropy>(
     requires aead { IsAead (seen template.now) }
     requires url { (⟦<dyn AeadManager as KeyManager>⟧ manager.now.0).url manager.now.1
         ≡ url_made (seen template.now) }
-    requires bound { length plain.now ≤ 16777216 }
+    requires room { ENVELOPE_ROOM ≤ length input.items }
+    requires bound { length input.items ≤ ENVELOPE_ROOM + 16777216 }
     ensures { (w : World) (keys : Keys)
         → IsOver (⟦<Managers as KeyTable>⟧.table handle.now.managers.now) Aead keys handle.now.held
         → Passes (envelopes (⟦<Managers as KeyTable>⟧.table handle.now.managers.now) keys
         ((⟦<dyn AeadManager as KeyManager>⟧ manager.now.0).scheme manager.now.1)
-        (seen template.now) (to_eseal (seen_datum ad.entry)) plain.now)
+        (seen template.now) (to_eseal (seen_datum ad.entry)) (drop ENVELOPE_ROOM input.items))
         (record w { entropy = E.state entropy.old }) result (record w { entropy = E.state entropy.new }) }
 {
     let ad = datum(alloc, ad)?;
@@ -123,7 +125,7 @@ fn seal_envelope<E: Entropy>(
         handle,
         manager,
         template,
-        plain,
+        input,
         ad.as_slice(),
         entropy,
     ) {
@@ -140,21 +142,32 @@ fn open_envelope(
     handle: &Handle<'_>,
     manager: &dyn AeadManager,
     ad: Datum<'_>,
-    envelope: Bytes,
+    envelope: Vec<u8>,
 ) -> Result<Bytes, Status>
     requires serving { IsServing (⟦<Managers as KeyTable>⟧.table handle.now.managers.now) Aead
         handle.now.held }
-    requires bound { length envelope ≤ 16778240 }
+    requires bound { length envelope.items ≤ 16778240 }
     ensures { (w : World) (keys : Keys) (row : Row)
         → IsOver (⟦<Managers as KeyTable>⟧.table handle.now.managers.now) Aead keys handle.now.held
         → Passes (envelopes (⟦<Managers as KeyTable>⟧.table handle.now.managers.now) keys
         ((⟦<dyn AeadManager as KeyManager>⟧ manager.now.0).scheme manager.now.1)
-        row (to_eopen (seen_datum ad.entry)) envelope) w result w }
+        row (to_eopen (seen_datum ad.entry)) envelope.items) w result w }
 {
     let ad = datum(alloc, ad)?;
-    match envelope_open(alloc, handle, manager, envelope.into_vec(), ad.as_slice()) {
+    match envelope_open(alloc, handle, manager, envelope, ad.as_slice()) {
         Ok(opened) => or_failed(opened),
         Err(_) => Err(Status::NoMemory),
+    }
+}
+
+/// How many bytes go before what is read, where the work seals.
+fn envelope_room(work: Envelope<'_>) -> usize
+    ensures room { result ≡ envelope_room (seen_envelope work.entry) }
+    ensures bound { result ≤ ENVELOPE_ROOM }
+{
+    match work {
+        Envelope::Seal(_) => ENVELOPE_ROOM,
+        Envelope::Open(_) => 0,
     }
 }
 

@@ -151,24 +151,6 @@ fn refusal(e: ReadError) -> Status
     }
 }
 
-/// The whole input, of at most `limit` bytes.
-pub(crate) fn read_input<S: Source>(
-    alloc: Global,
-    limit: usize,
-    source: &mut S,
-) -> Result<Bytes, Status>
-    requires limit_bound { limit ≤ 2 ^ 30 }
-    ensures passes { (w : World) → Passes (reads_input limit)
-        (record w { source = S.state source.old }) result
-        (record w { source = S.state source.new }) }
-    ensures within { IfOk result (λ input. length input ≤ limit) }
-{
-    match read_input_behind(alloc, 0, limit, source) {
-        Ok(input) => Ok(Bytes::own(input)),
-        Err(status) => Err(status),
-    }
-}
-
 /// The whole input, of at most `limit` bytes, behind `room` bytes for the caller to fill.
 pub(crate) fn read_input_behind<S: Source>(
     alloc: Global,

@@ -12,3 +12,6 @@ returns-in_err-made-clause-fault g c = λ keys over.
 pub seal_made-requires-clause-value_bound : goal.seal_made-requires-clause-value_bound
 seal_made-requires-clause-value_bound g c =
     message-long _ (seen c.args.template.now) _ _ _ _ (record { known = c.in_ok-made.ensures.known; aead = c.requires.aead }) c.in_ok-made.ensures.made
+
+pub returns-clause-sealed : goal.returns-clause-sealed
+returns-clause-sealed g c = λ keys over. c.seal_made.ensures.sealed keys over (seen c.args.template.now) _ c.in_ok-made.ensures.made

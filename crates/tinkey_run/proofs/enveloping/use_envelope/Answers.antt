@@ -1,5 +1,7 @@
+use Rattle.std.proofs.Common.{drop}
 use Rattle.tinkey_words.specs.Words.{seen_envelope}
 use Rattle.key_msgs.specs.Templates.{seen}
+use Rattle.tinkey_run.specs.Rooms.{envelope_room}
 use Rattle.tinkey_run.proofs.EnvelopeLemmas.{envelope_no_handle, envelope_no_input, envelope_no_keyset, envelope_no_manager, envelope_no_template, envelope_with_handle, envelope_with_input}
 use Rattle.tinkey_run.proofs.enveloping.use_envelope.Goals as goal
 
@@ -40,42 +42,45 @@ returns-in_err-input g c = λ w.
     let first = record w { source = g.S.Source.state c.args.source.now; entropy = g.E.Entropy.state c.args.entropy.now } in
     let old = record first { store = g.D.Store.state c.args.store.now } in
     let mid = record first { store = g.D.Store.state c.load_keyset.new.store } in
-    let new = record mid { source = g.S.Source.state c.read_input.new.source } in
+    let new = record mid { source = g.S.Source.state c.read_input_behind.new.source } in
     let row = seen c.in_ok-template.template in
     let keys = c.in_ok-keyset.keyset in
     let work = seen_envelope c.args.work in
     envelope_no_input _ c.args.name.now c.args.form c.args.template.now work old mid new row keys _ _ _ (c.in_ok-template.ensures.passes old) (c.in_ok-keyset.ensures.passes first) (c.in_ok-handle.ensures.passes mid)
     (c.in_ok-manager.ensures.passes mid) c.from_residual-in_err-input.ensures.1 (rw c.envelope_limit.ensures.limit at (c.in_err-input.ensures.passes mid))
 
+pub seal_envelope-requires-clause-room : goal.seal_envelope-requires-clause-room
+seal_envelope-requires-clause-room g c = rw (c.envelope_room.ensures.room, c.in-Seal.is) at c.in_ok-input.ensures.room
+
 pub seal_envelope-requires-clause-bound : goal.seal_envelope-requires-clause-bound
-seal_envelope-requires-clause-bound g c = rw c.as_slice-plain.ensures (rw (c.envelope_limit.ensures.limit, c.in-Seal.is) at c.in_ok-input.ensures.within)
+seal_envelope-requires-clause-bound g c = rw (c.envelope_room.ensures.room, c.envelope_limit.ensures.limit, c.in-Seal.is) at c.in_ok-input.ensures.within
 
 pub open_envelope-requires-clause-bound : goal.open_envelope-requires-clause-bound
-open_envelope-requires-clause-bound g c = rw (c.envelope_limit.ensures.limit, c.in-Open.is) at c.in_ok-input.ensures.within
+open_envelope-requires-clause-bound g c = rw (c.envelope_room.ensures.room, c.envelope_limit.ensures.limit, c.in-Open.is) at c.in_ok-input.ensures.within
 
 pub returns-in-Seal : goal.returns-in-Seal
 returns-in-Seal g c = λ w.
     let first = record w { source = g.S.Source.state c.args.source.now; entropy = g.E.Entropy.state c.args.entropy.now } in
     let old = record first { store = g.D.Store.state c.args.store.now } in
     let mid = record first { store = g.D.Store.state c.load_keyset.new.store } in
-    let behind = record mid { source = g.S.Source.state c.read_input.new.source } in
+    let behind = record mid { source = g.S.Source.state c.read_input_behind.new.source } in
     let new = record behind { entropy = g.E.Entropy.state c.seal_envelope.new.entropy } in
     let row = seen c.in_ok-template.template in
     let keys = c.in_ok-keyset.keyset in
     let work = seen_envelope c.args.work in
     envelope_with_handle _ c.args.name.now c.args.form c.args.template.now work old mid new row keys _ (c.in_ok-template.ensures.passes old) (c.in_ok-keyset.ensures.passes first) (c.in_ok-handle.ensures.passes mid)
-    (envelope_with_input _ _ row work keys _ mid behind new c.in_ok-input.input _ c.in_ok-handle.ensures.table (c.in_ok-manager.ensures.passes mid) (rw c.envelope_limit.ensures.limit at (c.in_ok-input.ensures.passes mid))
-    (rw c.in-Seal.is (rw c.as_slice-plain.ensures at (c.seal_envelope.ensures behind keys c.in_ok-handle.ensures.over))))
+    (envelope_with_input _ _ row work keys _ mid behind new (drop (envelope_room work) c.in_ok-input.input.items) _ c.in_ok-handle.ensures.table (c.in_ok-manager.ensures.passes mid) (rw (c.envelope_limit.ensures.limit, c.envelope_room.ensures.room) at (c.in_ok-input.ensures.passes mid))
+    (rw c.in-Seal.is (c.seal_envelope.ensures behind keys c.in_ok-handle.ensures.over)))
 
 pub returns : goal.returns
 returns g c = λ w.
     let first = record w { source = g.S.Source.state c.args.source.now; entropy = g.E.Entropy.state c.args.entropy.now } in
     let old = record first { store = g.D.Store.state c.args.store.now } in
     let mid = record first { store = g.D.Store.state c.load_keyset.new.store } in
-    let behind = record mid { source = g.S.Source.state c.read_input.new.source } in
+    let behind = record mid { source = g.S.Source.state c.read_input_behind.new.source } in
     let row = seen c.in_ok-template.template in
     let keys = c.in_ok-keyset.keyset in
     let work = seen_envelope c.args.work in
     envelope_with_handle _ c.args.name.now c.args.form c.args.template.now work old mid behind row keys _ (c.in_ok-template.ensures.passes old) (c.in_ok-keyset.ensures.passes first) (c.in_ok-handle.ensures.passes mid)
-    (envelope_with_input _ _ row work keys _ mid behind behind c.in_ok-input.input _ c.in_ok-handle.ensures.table (c.in_ok-manager.ensures.passes mid) (rw c.envelope_limit.ensures.limit at (c.in_ok-input.ensures.passes mid))
+    (envelope_with_input _ _ row work keys _ mid behind behind (drop (envelope_room work) c.in_ok-input.input.items) _ c.in_ok-handle.ensures.table (c.in_ok-manager.ensures.passes mid) (rw (c.envelope_limit.ensures.limit, c.envelope_room.ensures.room) at (c.in_ok-input.ensures.passes mid))
     (rw c.in-Open.is (c.open_envelope.ensures behind keys row c.in_ok-handle.ensures.over)))
