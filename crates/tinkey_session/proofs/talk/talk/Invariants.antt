@@ -1,4 +1,4 @@
-use Rattle.std.proofs.Common.{◌≡◌, ◌<◌, ◌≤◌, ◌-◌, length, IfSome}
+use Rattle.std.proofs.Common.{◌≡◌, ◌<◌, ◌≤◌, ◌-◌, [], length, IfSome}
 use Rattle.tink_spec.specs.Outside.{GoesOn}
 use Rattle.std.specs.List.{AllByRecursion}
 use Rattle.keyset_model.specs.Keyset.{IsShort}
@@ -15,6 +15,7 @@ invariant-loop-n g l = record {
   kept : IfSome l.talk.session.kept (λ h. IsKept ((ghosts g.dyn-1 g.dyn-2 g.dyn-3 g.dyn-4).table l.talk.session.managers.now) ((ghosts g.dyn-1 g.dyn-2 g.dyn-3 g.dyn-4).table h.managers.now) h.primitive l.talk.session.keyset h.held);
   short : AllByRecursion IsShort l.talk.session.keyset.records;
   few : l.talk.count ≤ count_limit;
+  none : l.talk.replies.items ≡ [];
   goes_on : GoesOn (g.S.Source.state l.fn.source) (g.S.Source.state l.source);
   room : 0 < length l.buffer;
   fits : length l.talk.line.items ≤ line_limit;
