@@ -58,7 +58,7 @@ impl<'a> Opens for OpensMetered<'a> {
 }
 
 /// The random bytes of such a device, one of whose reads fails.
-fn failing<'a>(
+pub(crate) fn failing<'a>(
     bytes: &'a [u8],
     piece: usize,
     fails: usize,

@@ -47,7 +47,7 @@ impl Store for NoRoom {
 }
 
 /// A keyset after tink.proto: a key for AES-GCM of 16 zero bytes, TINK, whose id is 0x01020304.
-const GCM: &str =
+pub(crate) const GCM: &str =
     "088486880812530a480a30747970652e676f6f676c65617069732e636f6d2f676f6f676c652e63727970746f2e74696e6b2e41657347636d4b657912121a10000000000000000000000000000000001801100118848688082001";
 
 /// The same for HMAC: SHA-256, 20 bytes 0b, tags of 16 bytes.

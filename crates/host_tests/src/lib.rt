@@ -22,6 +22,8 @@ mod opened;
 #[cfg(test)]
 mod placed;
 #[cfg(test)]
+mod sessions;
+#[cfg(test)]
 mod streams;
 #[cfg(test)]
 mod words;

@@ -11,12 +11,13 @@ ghost use Rattle.tinkey_plans.specs.Status.{Reports};
 ghost use Rattle.tinkey_host.specs.Program.{start_plan, IsStarted};
 
 use key_msgs::KeyType;
+use lookahead::Lookahead;
 use managers::{
     AeadManager, AeadScheme, DaeadManager, KeyList, KeyManager, MacManager, MacScheme, Managers,
     PrfManager, PrfScheme, SameUrl, StandardAead, StandardDaead, StandardMac, StandardPrf,
 };
 use std::alloc::Global;
-use tink_base::{Entropy, NoMemory, Sink, Source, Store};
+use tink_base::{NoMemory, Sink, Source, Store};
 use tinkey_run::laws::sessions_are_readable;
 use tinkey_run::{Status, run, starve};
 
@@ -25,7 +26,7 @@ use tinkey_run::{Status, run, starve};
 ///
 /// The promises are those of `run` over the table of these managers, but that `NoMemory` may come
 /// before any other step too; `line` and `readable` are those of `run`.
-pub fn start<S: Source, K: Sink, G: Sink, E: Entropy, D: Store>(
+pub fn start<S: Source, K: Sink, G: Sink, E: Lookahead, D: Store>(
     alloc: Global,
     words: &[String],
     source: &mut S,
@@ -50,7 +51,7 @@ pub fn start<S: Source, K: Sink, G: Sink, E: Entropy, D: Store>(
 }
 
 /// Makes the managers of AEADs and of MACs, and goes on.
-fn run_standard<S: Source, K: Sink, G: Sink, E: Entropy, D: Store>(
+fn run_standard<S: Source, K: Sink, G: Sink, E: Lookahead, D: Store>(
     alloc: Global,
     words: &[String],
     source: &mut S,
@@ -77,7 +78,7 @@ fn run_standard<S: Source, K: Sink, G: Sink, E: Entropy, D: Store>(
 }
 
 /// Makes the other managers, and runs over all of them.
-fn run_with_rest<S: Source, K: Sink, G: Sink, E: Entropy, D: Store>(
+fn run_with_rest<S: Source, K: Sink, G: Sink, E: Lookahead, D: Store>(
     alloc: Global,
     words: &[String],
     aead: Vec<Box<dyn AeadManager>>,
@@ -148,7 +149,7 @@ fn prf_manager(alloc: Global, scheme: PrfScheme) -> Result<Box<StandardPrf>, NoM
 }
 
 /// Runs over all these managers.
-fn run_over<S: Source, K: Sink, G: Sink, E: Entropy, D: Store>(
+fn run_over<S: Source, K: Sink, G: Sink, E: Lookahead, D: Store>(
     alloc: Global,
     words: &[String],
     aead: Vec<Box<dyn AeadManager>>,

@@ -6,12 +6,13 @@ ghost use Rattle.tinkey_plans.specs.Ends.{world};
 ghost use Rattle.tinkey_host.specs.Program.{HasRun, HasObeyed};
 
 use crate::standard::start;
+use lookahead::Lookahead;
 use real_objects::{
     Arguments, DirStore, FileEntropy, NoWords, RandomDevice, StdSink, StdSource, words,
 };
 use std::alloc::Global;
 use std::process::ExitCode;
-use tink_base::{Entropy, Sink, Source, Store};
+use tink_base::{Sink, Source, Store};
 
 /// The exit code where memory for the words is refused, as where a run's memory is.
 const OUT_OF_MEMORY: u8 = 7;
@@ -37,7 +38,7 @@ pub fn program(rt: &HostRuntime) -> ExitCode {
 ///
 /// The answer is 8 where one of these words isn't UTF-8, and 7 where memory for them is refused;
 /// nothing is done then. In all other cases it is the exit code of the run.
-pub fn obey_listed<A: Arguments, S: Source, K: Sink, G: Sink, E: Entropy, D: Store>(
+pub fn obey_listed<A: Arguments, S: Source, K: Sink, G: Sink, E: Lookahead, D: Store>(
     from: &A,
     alloc: Global,
     source: &mut S,
@@ -61,7 +62,7 @@ pub fn obey_listed<A: Arguments, S: Source, K: Sink, G: Sink, E: Entropy, D: Sto
 /// Runs the words over these objects: what is read comes from `source`, the output goes to `sink`
 /// and the diagnostic line to `diag`, random bytes come from `entropy`, and files are those of `store`.
 /// The answer is the exit code of the run's status.
-pub fn obey<S: Source, K: Sink, G: Sink, E: Entropy, D: Store>(
+pub fn obey<S: Source, K: Sink, G: Sink, E: Lookahead, D: Store>(
     alloc: Global,
     words: &[String],
     source: &mut S,

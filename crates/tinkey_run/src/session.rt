@@ -12,9 +12,10 @@ ghost use Rattle.tinkey_words.specs.Words.{seen_name, seen_place};
 
 use crate::output::{create_file, written};
 use keyset_model::Keyset;
+use lookahead::Lookahead;
 use managers::{KeyTable, Managers};
 use std::alloc::Global;
-use tink_base::{Entropy, Sink, Source, Store};
+use tink_base::{Sink, Source, Store};
 use tinkey_plans::Status;
 use tinkey_session::TalkFault;
 use tinkey_session::talk::talk;
@@ -22,7 +23,7 @@ use tinkey_words::{Format, Place};
 
 /// session: answers the lines of the input over a keyset, and puts the last keyset into a new file,
 /// where one is named. Or hands on why there is no keyset.
-pub(crate) fn answer_lines<S: Source, K: Sink, E: Entropy, D: Store>(
+pub(crate) fn answer_lines<S: Source, K: Sink, E: Lookahead, D: Store>(
     alloc: Global,
     managers: &Managers,
     keyset: Result<Keyset, Status>,
@@ -49,7 +50,7 @@ pub(crate) fn answer_lines<S: Source, K: Sink, E: Entropy, D: Store>(
 
 /// Answers the lines of the input over this keyset, and saves the last one, unless the name that it is to
 /// have is taken.
-fn answer_over<S: Source, K: Sink, E: Entropy, D: Store>(
+fn answer_over<S: Source, K: Sink, E: Lookahead, D: Store>(
     alloc: Global,
     managers: &Managers,
     keyset: Keyset,
@@ -91,7 +92,7 @@ fn find_free<D: Store>(file: Option<&str>, store: &mut D) -> Result<(), Status>
 }
 
 /// Answers all lines of the input over this keyset, and saves the last one.
-fn answer_all<S: Source, K: Sink, E: Entropy, D: Store>(
+fn answer_all<S: Source, K: Sink, E: Lookahead, D: Store>(
     alloc: Global,
     managers: &Managers,
     keyset: Keyset,

@@ -21,9 +21,10 @@ use crate::streaming::{load_stream_keys, open_stream, seal_stream};
 use crate::templates::list_templates;
 use crate::using::use_keyset;
 use crate::wrapping::{unwrap_keyset, wrap_keyset};
+use lookahead::Lookahead;
 use managers::{KeyTable, Managers};
 use std::alloc::Global;
-use tink_base::{Entropy, Sink, Source, Store};
+use tink_base::{Sink, Source, Store};
 use tinkey_plans::{Status, help_text, report, version_text};
 use tinkey_readable::laws::sessions_are_readable;
 use tinkey_words::{Misuse, Request, parse};
@@ -41,7 +42,7 @@ use tinkey_words::{Misuse, Request, parse};
 /// line sealed under a key with an output prefix, a later one opens to its plaintext, with its associated
 /// data, while that key is ENABLED and alone under its prefix; while it is there, ENABLED, to some
 /// plaintext, whatever its prefix type, and a tag verifies.
-pub fn run<S: Source, K: Sink, G: Sink, E: Entropy, D: Store>(
+pub fn run<S: Source, K: Sink, G: Sink, E: Lookahead, D: Store>(
     alloc: Global,
     words: &[String],
     managers: &Managers,
@@ -68,7 +69,7 @@ pub fn run<S: Source, K: Sink, G: Sink, E: Entropy, D: Store>(
 }
 
 /// Does what the words ask for.
-fn obey<S: Source, K: Sink, E: Entropy, D: Store>(
+fn obey<S: Source, K: Sink, E: Lookahead, D: Store>(
     alloc: Global,
     words: &[String],
     managers: &Managers,
@@ -101,7 +102,7 @@ fn unasked(words: &[String], misuse: Misuse) -> Status
 }
 
 /// Does the command.
-fn dispatch<S: Source, K: Sink, E: Entropy, D: Store>(
+fn dispatch<S: Source, K: Sink, E: Lookahead, D: Store>(
     alloc: Global,
     command: Request<'_>,
     managers: &Managers,

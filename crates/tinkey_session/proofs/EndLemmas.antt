@@ -4,7 +4,7 @@ use Rattle.keyset_model.specs.Keyset.{Keys}
 use Rattle.managers.specs.Table.{Table}
 use Rattle.tink_spec.proofs.Moves.{drew_more, drew_nothing, gave_more, gave_nothing, took_more, took_nothing}
 use Rattle.tink_spec.specs.Outside.{SourceState, Drew, Gave, IsAtEnd, Rose, Stood, Took, TookPrefix}
-use Rattle.tinkey_session.proofs.FeedLemmas.{IsStart, fed_more, fed_over, front_behind, rose_later, stopped_more}
+use Rattle.tinkey_session.proofs.FeedLemmas.{IsStart, fed_more, fed_over, rose_later, stopped_more, told_cut, told_nothing, told_took, told_with}
 use Rattle.tinkey_session.specs.Feeding.{Fed, Finished, InLine, InPiece, Outside, Start, Stopped, dry, full, Point, from, outside, past, torn}
 use Rattle.tinkey_session.specs.Lines.{line_of}
 use Rattle.tinkey_session.specs.Serving.{Served, serve}
@@ -20,8 +20,9 @@ begun keys output random = going keys [] 0 output random
 begun_start : (keys : Keys) → IsStart (begun keys)
 begun_start keys output drawn more = refl
 
+-- where no reply is held back
 abbrev pub outside_of : Sides → Outside
-outside_of x = outside x.sink x.entropy
+outside_of x = outside x.sink [] x.entropy
 
 -- so far each line that has ended was answered
 pub record Talking (table : Table) (keys : Keys) (at : Point) (old new : Sides) : Type 0 where
@@ -41,12 +42,15 @@ talking_none table keys at old same line count = record {
     drawn = [];
     written = [];
     drew = drew_nothing old.entropy;
-    took = took_nothing old.sink;
+    told = told_nothing old.sink [];
     no_draw_fault = refl;
     no_write_fault = refl;
     is = ap (λ k. going k [] 0 [] []) (sym same) ∙ ap (λ l. going at.keys l 0 [] []) (sym line) ∙ ap (λ n. going at.keys at.line n [] []) (sym count);
   };
 }
+
+written_of : (table : Table) (keys : Keys) (at : Point) (old mid : Sides) (so : Talking table keys at old mid) → Took old.sink mid.sink so.fed.written
+written_of table keys at old mid so = told_took old.sink mid.sink [] so.fed.written so.fed.told
 
 -- one piece more
 pub talking_more : (table own : Table) (keys : Keys) (at last : Point) (piece : List ℕ) (old mid new : Sides) → own ≡ table → Talking table keys at old mid → Gave mid.source new.source piece → Stood mid.source.faults new.source.faults
@@ -74,7 +78,7 @@ ends_unread table keys at old mid new so gave rose sink entropy =
     (record {
       gave = gave_all _ _ _ so.taken so.gave gave;
       drew = subst (λ s. Drew old.entropy s so.fed.drawn) entropy so.fed.drew;
-      took = subst (λ s. Took old.sink s (talk table keys so.taken so.fed.drawn false).output) sink (subst (Took old.sink mid.sink) (sym (ap (λ x. x.output) e)) so.fed.took);
+      took = subst (λ s. Took old.sink s (talk table keys so.taken so.fed.drawn false).output) sink (subst (Took old.sink mid.sink) (sym (ap (λ x. x.output) e)) (written_of table keys at old mid so));
       stands = ap (λ x. x.stop) e;
       used = ap (λ x. x.random) e;
       end = λ never. absurd cc;
@@ -93,7 +97,7 @@ ends_talked table keys last at old mid new so gave stood end finished =
     (record {
       gave = gave_all _ _ _ so.taken so.gave gave;
       drew = drew_more _ _ _ _ _ so.fed.drew f.drew;
-      took = subst (Took old.sink new.sink) (sym (ap (λ x. x.output) e ∙ f.told)) (took_more _ _ _ _ _ so.fed.took f.took);
+      took = subst (Took old.sink new.sink) (sym (ap (λ x. x.output) e ∙ f.told)) (took_more _ _ _ _ _ (written_of table keys at old mid so) f.took);
       stands = ap (λ x. x.stop) e ∙ f.goes';
       used = ap (λ x. x.random) e ∙ f.left;
       end = λ seen. end;
@@ -156,7 +160,7 @@ ends_last table keys at fault old mid new so gave stood end stopped = by (stoppe
         (record {
           gave = all;
           drew = drew_more _ _ _ _ _ so.fed.drew drew;
-          took = subst (Took old.sink new.sink) (sym (ap (λ x. x.output) e ∙ told)) (took_more _ _ _ _ _ so.fed.took took);
+          took = subst (Took old.sink new.sink) (sym (ap (λ x. x.output) e ∙ told)) (took_more _ _ _ _ _ (written_of table keys at old mid so) took);
           stands = ap (λ x. x.stop) e ∙ stop;
           used = ap (λ x. x.random) e ∙ left;
           end = λ seen. end;
@@ -165,11 +169,11 @@ ends_last table keys at fault old mid new so gave stood end stopped = by (stoppe
     by (torn drawn written same drew took told no_draw_fault rose) =
         let e = ended_as table keys at so.taken so.fed.drawn so.fed.written drawn so.fed.is in
         unwritten so.taken (so.fed.drawn ++ drawn) true (ap Err same) all (drew_more _ _ _ _ _ so.fed.drew drew)
-        (subst (TookPrefix old.sink new.sink) (ap (λ l. so.fed.written ++ l) (append-nil written) ∙ sym (ap (λ x. x.output) e ∙ told)) (front_behind _ _ _ so.fed.written written [] so.fed.took took))
-        (λ seen. end) (rose_later _ _ _ so.fed.took.faults rose) read (no_draw_fault ∙ so.fed.no_draw_fault)
+        (subst (TookPrefix old.sink new.sink) (sym (ap (λ x. x.output) e ∙ told)) (told_cut _ _ _ _ _ _ (told_with _ _ _ _ _ written so.fed.told) took))
+        (λ seen. end) (rose_later _ _ _ so.fed.told.took.faults rose) read (no_draw_fault ∙ so.fed.no_draw_fault)
     by (full drawn part written same drew took inside no_draw_fault no_write_fault) =
         starved so.taken [] so.fed.drawn (drawn ++ part) (ap Err same) (subst (Gave old.source new.source) (sym (append-nil so.taken)) all) (drew_more _ _ _ _ _ so.fed.drew drew)
-        (subst (Took old.sink new.sink) (append-nil so.fed.written ∙ sym (ap (λ x. x.output) so.fed.is)) (took_more _ _ _ _ _ so.fed.took (subst (Took mid.sink new.sink) inside.1 took)))
+        (subst (Took old.sink new.sink) (append-nil so.fed.written ∙ sym (ap (λ x. x.output) so.fed.is)) (took_more _ _ _ _ _ (written_of table keys at old mid so) (subst (Took mid.sink new.sink) inside.1 took)))
         (ap (λ x. x.stop) so.fed.is)
         (record { read = read; write = no_write_fault ∙ so.fed.no_write_fault; draw = no_draw_fault ∙ so.fed.no_draw_fault })
 

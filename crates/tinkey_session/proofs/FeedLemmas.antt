@@ -8,7 +8,7 @@ use Rattle.tink_spec.proofs.Moves.{drew_more, drew_nothing, took_more, took_noth
 use Rattle.tink_spec.specs.Outside.{SinkState, EntropyState, Drew, Rose, Stood, Took, TookPrefix}
 use Rattle.tinkey_session.proofs.TalkLemmas.{byte_by, over-append, over-more, over-stopped, with_more}
 use Rattle.tinkey_session.specs.Answered.{DrewSome, Gives, IsUnanswered}
-use Rattle.tinkey_session.specs.Feeding.{Fed, Finished, InLine, InPiece, IsReplied, Outside, Start, Stopped, dry, full, Point, from, past, torn}
+use Rattle.tinkey_session.specs.Feeding.{Ended, Fed, Finished, InLine, InPiece, IsReplied, Outside, Start, Stopped, Told, all_told, cut_off, dry, full, outside, Point, from, past, torn}
 use Rattle.tinkey_session.specs.Lines.{line_of}
 use Rattle.tinkey_session.specs.Serving.{Served, serve}
 use Rattle.tinkey_session.specs.Talking.{Limit, long_line, many_lines, Stop, goes, wants, passes, Talk, replied, line_ended, byte_taken, count_limit, line_limit, on_go, over, last_line, finish, going}
@@ -32,142 +32,59 @@ pub rose_later : (a b c : ℕ) → a ≤ b → Rose b c → Rose a c
 rose_later a b c le (inl less) = inl (omega (arith, le, less))
 rose_later a b c le (inr last) = inr last
 
--- ---- a line
+-- ---- replies that are held back
 
-same_going : (keys : Keys) (line line' : List ℕ) (count count' : ℕ) (output output' : List ℕ) → line ≡ line' → count ≡ count' → output ≡ output' → going keys line count output [] ≡ going keys line' count' output' []
-same_going keys line line' count count' output output' a b c =
-    ap (λ l. going keys l count output []) a ∙ ap (λ n. going keys line' n output []) b ∙ ap (λ l. going keys line' count' l []) c
+pub told_nothing : (s : SinkState) (held : List ℕ) → Told s s held held []
+told_nothing s held = record { piece = []; took = took_nothing s; whole = sym (append-nil held) }
 
--- what a line gives of the bytes drawn for it
-given : (gives : Gives) (text : List ℕ) (keys : Keys) (old new : EntropyState) (r : IsReplied gives text keys old new) → gives r.answered.drawn ≡ Some (record { reply = r.reply; keys = keys; left = [] })
-given gives text keys old new r = ap gives (sym (append-nil r.answered.drawn)) ∙ r.answered.is []
-
--- the line was answered, and its reply written
-pub fed_line : (table : Table) (old last : Point) (line text written output : List ℕ) (a b : Outside) → line ≡ old.line → written ≡ text → last.line ≡ [] → last.count ≡ old.count + 1
-    → IsReplied (serve table old.keys (line_of line)) text last.keys a.entropy b.entropy → Took a.sink b.sink written → Stood a.sink.faults b.sink.faults
-    → Fed (from old) last (line_ended table) output a b
-fed_line table old last line text written output a b is whole cleared counted so took stood =
-    let r : IsReplied (serve table old.keys (line_of old.line)) text last.keys a.entropy b.entropy = subst (λ l. IsReplied (serve table old.keys (line_of l)) text last.keys a.entropy b.entropy) is so in
-    record {
-      drawn = r.answered.drawn;
-      written = written;
-      drew = r.answered.drew;
-      took = took;
-      no_draw_fault = r.answered.stood;
-      no_write_fault = stood;
-      is = ap (replied (from old output r.answered.drawn)) (given _ _ _ _ _ r)
-          ∙ same_going last.keys [] last.line (suc old.count) last.count (output ++ reply_text r.reply) (output ++ written) (sym cleared) (omega (arith, counted)) (ap (λ l. output ++ l) (sym (whole ∙ r.spelled)));
-    }
-
--- it was answered, but not all of the reply written
-pub torn_line : (table : Table) (old : Point) (keys : Keys) (line text written output : List ℕ) (a b : Outside) → line ≡ old.line → written ≡ text
-    → IsReplied (serve table old.keys (line_of line)) text keys a.entropy b.entropy → TookPrefix a.sink b.sink written → Rose a.sink.faults b.sink.faults
-    → Stopped (from old) (line_ended table) InLine output faults.WriteFault a b
-torn_line table old keys line text written output a b is whole so took rose =
-    let r : IsReplied (serve table old.keys (line_of old.line)) text keys a.entropy b.entropy = subst (λ l. IsReplied (serve table old.keys (line_of l)) text keys a.entropy b.entropy) is so in
-    torn r.answered.drawn written refl r.answered.drew took
-    (ap (λ o. (replied (from old output r.answered.drawn) o).output) (given _ _ _ _ _ r) ∙ ap (λ l. output ++ l) (sym (whole ∙ r.spelled)))
-    r.answered.stood rose
-
--- it wants more random bytes
-pub dry_line : (table : Table) (old : Point) (line output : List ℕ) (a b : Outside) → line ≡ old.line → a.sink ≡ b.sink
-    → IsUnanswered (serve table old.keys (line_of line)) a.entropy b.entropy
-    → Stopped (from old) (line_ended table) InLine output faults.EntropyFault a b
-dry_line table old line output a b is same so =
-    let r : IsUnanswered (serve table old.keys (line_of old.line)) a.entropy b.entropy = subst (λ l. IsUnanswered (serve table old.keys (line_of l)) a.entropy b.entropy) is so in
-    dry r.drawn [] refl r.drew (subst (λ s. Took a.sink s []) same (took_nothing a.sink))
-    (ap (λ o. (replied (from old output r.drawn) o).stop) r.undecided)
-    (ap (λ o. (replied (from old output r.drawn) o).output) r.undecided ∙ sym (append-nil output))
-    (ap (λ o. (replied (from old output r.drawn) o).random) r.undecided)
-    r.rose (ap (λ s. s.faults) (sym same))
-
--- memory was refused
-pub full_line : (takes : Talk → Talk) (start : Start) (output : List ℕ) (a b : Outside) → a.sink ≡ b.sink → DrewSome a.entropy b.entropy → Stopped start takes InLine output faults.NoMemory a b
-full_line takes start output a b same r =
-    full [] r.drawn [] refl r.drew (subst (λ s. Took a.sink s []) same (took_nothing a.sink)) (refl, refl) r.stood (ap (λ s. s.faults) (sym same))
-
--- ---- a byte
-
-over_byte : (table : Table) (old : Point) (b : ℕ) (output drawn : List ℕ) → over table (from old output drawn) (b ∷ []) ≡ byte_taken table (from old output drawn) b
-unfolding over
-over_byte table old b output drawn = refl
-
-by_tests : (table : Table) (old : Point) (b : ℕ) (output drawn : List ℕ) (many ends long : Bool) → nat_le count_limit old.count ≡ many → (b == 10) ≡ ends → nat_le line_limit (length old.line) ≡ long
-    → over table (from old output drawn) (b ∷ []) ≡ byte_by many ends long table (from old output drawn) b
-by_tests table old b output drawn many ends long m e l =
-    over_byte table old b output drawn
-    ∙ ap (λ t. byte_by t (b == 10) (nat_le line_limit (length old.line)) table (from old output drawn) b) m
-    ∙ ap (λ t. byte_by many t (nat_le line_limit (length old.line)) table (from old output drawn) b) e
-    ∙ ap (λ t. byte_by many ends t table (from old output drawn) b) l
-
-newline : (table : Table) (old : Point) (b : ℕ) (output drawn : List ℕ) → b ≡ 10 → old.count < count_limit → over table (from old output drawn) (b ∷ []) ≡ line_ended table (from old output drawn)
-newline table old b output drawn is less = by_tests table old b output drawn false true (nat_le line_limit (length old.line)) (lt-leb _ _ less) (eq-eqb b 10 is) refl
-
-pub fed_newline : (table : Table) (old last : Point) (byte : ℕ) (output : List ℕ) (a b : Outside) → byte ≡ 10 → old.count < count_limit → Fed (from old) last (line_ended table) output a b → Fed (from old) last (λ x. over table x (byte ∷ [])) output a b
-fed_newline table old last byte output a b is less fed = record {
-  drawn = fed.drawn;
-  written = fed.written;
-  drew = fed.drew;
-  took = fed.took;
-  no_draw_fault = fed.no_draw_fault;
-  no_write_fault = fed.no_write_fault;
-  is = newline table old byte output fed.drawn is less ∙ fed.is;
+pub told_more : (a b c : SinkState) (h i j p q : List ℕ) → Told a b h i p → Told b c i j q → Told a c h j (p ++ q)
+told_more a b c h i j p q first second = record {
+  piece = first.piece ++ second.piece;
+  took = took_more _ _ _ _ _ first.took second.took;
+  whole = append_assoc first.piece second.piece j ∙ ap (λ l. first.piece ++ l) second.whole ∙ sym (append_assoc first.piece i q) ∙ ap (λ l. l ++ q) first.whole ∙ append_assoc h p q;
 }
 
--- where a session is stopped by what it takes, it is by what does the same
-pub stopped_as : (start : Start) (takes other : Talk → Talk) (Leaves Others : List ℕ → List ℕ → Type 0) (output : List ℕ) (fault : TalkFault) (a b : Outside) → ((drawn : List ℕ) → other (start output drawn) ≡ takes (start output drawn))
-    → ((drawn written : List ℕ) → Leaves drawn written → Others drawn written) → Stopped start takes Leaves output fault a b → Stopped start other Others output fault a b
-stopped_as start takes other Leaves Others output fault a b same leaves (past drawn written limit is drew took stop told left no_draw_fault no_write_fault) =
-    past drawn written limit is drew took (ap (λ x. x.stop) (same drawn) ∙ stop) (ap (λ x. x.output) (same drawn) ∙ told) (ap (λ x. x.random) (same drawn) ∙ left) no_draw_fault no_write_fault
-stopped_as start takes other Leaves Others output fault a b same leaves (dry drawn written is drew took stop told left rose no_write_fault) =
-    dry drawn written is drew took (ap (λ x. x.stop) (same drawn) ∙ stop) (ap (λ x. x.output) (same drawn) ∙ told) (ap (λ x. x.random) (same drawn) ∙ left) rose no_write_fault
-stopped_as start takes other Leaves Others output fault a b same leaves (torn drawn written is drew took told no_draw_fault rose) =
-    torn drawn written is drew took (ap (λ x. x.output) (same drawn) ∙ told) no_draw_fault rose
-stopped_as start takes other Leaves Others output fault a b same leaves (full drawn part written is drew took inside no_draw_fault no_write_fault) =
-    full drawn part written is drew took (leaves drawn written inside) no_draw_fault no_write_fault
-
--- memory is refused in front of a byte
-in_front : (table : Table) (old : Point) (bytes output : List ℕ) (drawn written : List ℕ) → InLine drawn written → InPiece table (from old) bytes output drawn written
-unfolding over
-in_front table old bytes output drawn written inside = record { first = []; more = bytes; whole = refl; goes' = refl; told = sym (append-nil output) ∙ ap (λ l. output ++ l) (sym inside.1) }
-
-pub stopped_newline : (table : Table) (old : Point) (byte : ℕ) (output : List ℕ) (fault : TalkFault) (a b : Outside) → byte ≡ 10 → old.count < count_limit → Stopped (from old) (line_ended table) InLine output fault a b
-    → Stopped (from old) (λ x. over table x (byte ∷ [])) (InPiece table (from old) (byte ∷ []) output) output fault a b
-stopped_newline table old byte output fault a b is less stopped =
-    stopped_as (from old) (line_ended table) (λ x. over table x (byte ∷ [])) InLine (InPiece table (from old) (byte ∷ []) output) output fault a b (λ drawn. newline table old byte output drawn is less) (in_front table old (byte ∷ []) output) stopped
-
--- a byte past a limit
-stopped_past : (table : Table) (old : Point) (byte : ℕ) (output : List ℕ) (limit : Limit) (a : Outside) → over table (from old output []) (byte ∷ []) ≡ record (from old output []) { stop = passes limit }
-    → Stopped (from old) (λ x. over table x (byte ∷ [])) (InPiece table (from old) (byte ∷ []) output) output (limit_fault limit) a a
-stopped_past table old byte output limit a e =
-    past [] [] limit refl (drew_nothing a.entropy) (took_nothing a.sink) (ap (λ x. x.stop) e) (ap (λ x. x.output) e ∙ sym (append-nil output)) (ap (λ x. x.random) e) refl refl
-
-pub stopped_many : (table : Table) (old : Point) (byte : ℕ) (output : List ℕ) (a : Outside) → count_limit ≤ old.count
-    → Stopped (from old) (λ x. over table x (byte ∷ [])) (InPiece table (from old) (byte ∷ []) output) output faults.TooManyLines a a
-stopped_many table old byte output a le = stopped_past table old byte output many_lines a (by_tests table old byte output [] true (byte == 10) (nat_le line_limit (length old.line)) (le-leb _ _ le) refl refl)
-
-pub stopped_long : (table : Table) (old : Point) (byte : ℕ) (output : List ℕ) (a : Outside) → old.count < count_limit → (byte == 10) ≡ false → line_limit ≤ length old.line
-    → Stopped (from old) (λ x. over table x (byte ∷ [])) (InPiece table (from old) (byte ∷ []) output) output faults.LineTooLong a a
-stopped_long table old byte output a less other le = stopped_past table old byte output long_line a (by_tests table old byte output [] false false true (lt-leb _ _ less) other (le-leb _ _ le))
-
-pub full_byte : (table : Table) (old : Point) (byte : ℕ) (output : List ℕ) (a : Outside) → Stopped (from old) (λ x. over table x (byte ∷ [])) (InPiece table (from old) (byte ∷ []) output) output faults.NoMemory a a
-full_byte table old byte output a = full [] [] [] refl (drew_nothing a.entropy) (took_nothing a.sink) (in_front table old (byte ∷ []) output [] [] (refl, refl)) refl refl
-
--- a byte of the line
-pub fed_byte : (table : Table) (old last : Point) (byte : ℕ) (output : List ℕ) (a : Outside) → old.count < count_limit → (byte == 10) ≡ false → length old.line < line_limit
-    → last.keys ≡ old.keys → last.count ≡ old.count → last.line ≡ old.line ++ byte ∷ []
-    → Fed (from old) last (λ x. over table x (byte ∷ [])) output a a
-fed_byte table old last byte output a less other short keys count line = record {
-  drawn = [];
-  written = [];
-  drew = drew_nothing a.entropy;
-  took = took_nothing a.sink;
-  no_draw_fault = refl;
-  no_write_fault = refl;
-  is = by_tests table old byte output [] false false false (lt-leb _ _ less) other (lt-leb _ _ short)
-      ∙ ap (λ k. going k (old.line ++ byte ∷ []) old.count output []) (sym keys)
-      ∙ same_going last.keys (old.line ++ byte ∷ []) last.line old.count last.count output (output ++ []) (sym line) (sym count) (sym (append-nil output));
+-- with more replies behind, which are held back
+pub told_with : (a b : SinkState) (h i p q : List ℕ) → Told a b h i p → Told a b h (i ++ q) (p ++ q)
+told_with a b h i p q told = record {
+  piece = told.piece;
+  took = told.took;
+  whole = sym (append_assoc told.piece i q) ∙ ap (λ l. l ++ q) told.whole ∙ append_assoc h p q;
 }
+
+-- what was held back is written
+pub told_written : (a b c : SinkState) (h i p : List ℕ) → Told a b h i p → Took b c i → Took a c (h ++ p)
+told_written a b c h i p told took = subst (Took a c) told.whole (took_more _ _ _ _ _ told.took took)
+
+pub told_all : (a b c : SinkState) (h i p : List ℕ) → Told a b h i p → Took b c i → Told a c h [] p
+told_all a b c h i p told took = record { piece = h ++ p; took = told_written a b c h i p told took; whole = append-nil (h ++ p) }
+
+-- what was held back is written in part
+pub told_cut : (a b c : SinkState) (h i p : List ℕ) → Told a b h i p → TookPrefix b c i → TookPrefix a c (h ++ p)
+told_cut a b c h i p told front = record {
+  front = told.piece ++ front.front;
+  rest = front.rest;
+  some = front.some;
+  whole = append_assoc told.piece front.front front.rest ∙ ap (λ l. told.piece ++ l) front.whole ∙ told.whole;
+  took = took_more _ _ _ _ _ told.took front.took;
+}
+
+-- nothing is held back
+pub told_took : (a b : SinkState) (h p : List ℕ) → Told a b h [] p → Took a b (h ++ p)
+told_took a b h p told = subst (Took a b) (sym (append-nil told.piece) ∙ told.whole) told.took
+
+pub prefix_more : (a b : SinkState) (bytes more : List ℕ) → TookPrefix a b bytes → TookPrefix a b (bytes ++ more)
+prefix_more a b bytes more front = record {
+  front = front.front;
+  rest = front.rest ++ more;
+  some = let some = front.some in omega (arith, some, length-append front.rest more);
+  whole = sym (append_assoc front.front front.rest more) ∙ ap (λ l. l ++ more) front.whole;
+  took = front.took;
+}
+
+-- with no reply behind those that are held back
+none_behind : (a b : SinkState) (held : List ℕ) → Took a b held → Took a b (held ++ [])
+none_behind a b held took = subst (Took a b) (sym (append-nil held)) took
 
 -- ---- the output only grows
 
@@ -204,6 +121,167 @@ unfolding over
 over_grows table x [] = same_grows x.output
 over_grows table x (b ∷ bytes) = grows_twice _ _ _ (next_grows x.stop x (byte_taken table x b) (byte_grows table x b)) (over_grows table (on_go x.stop x (byte_taken table x b)) bytes)
 
+-- ---- a line
+
+same_going : (keys : Keys) (line line' : List ℕ) (count count' : ℕ) (output output' : List ℕ) → line ≡ line' → count ≡ count' → output ≡ output' → going keys line count output [] ≡ going keys line' count' output' []
+same_going keys line line' count count' output output' a b c =
+    ap (λ l. going keys l count output []) a ∙ ap (λ n. going keys line' n output []) b ∙ ap (λ l. going keys line' count' l []) c
+
+-- what a line gives of the bytes drawn for it
+given : (gives : Gives) (text : List ℕ) (keys : Keys) (old new : EntropyState) (r : IsReplied gives text keys old new) → gives r.answered.drawn ≡ Some (record { reply = r.reply; keys = keys; left = [] })
+given gives text keys old new r = ap gives (sym (append-nil r.answered.drawn)) ∙ r.answered.is []
+
+-- the line was answered, and its reply written or held back
+pub fed_line : (table : Table) (old last : Point) (line text written output : List ℕ) (a b : Outside) → line ≡ old.line → written ≡ text → last.line ≡ [] → last.count ≡ old.count + 1
+    → IsReplied (serve table old.keys (line_of line)) text last.keys a.entropy b.entropy → Told a.sink b.sink a.held b.held written → Stood a.sink.faults b.sink.faults
+    → Fed (from old) last (line_ended table) output a b
+fed_line table old last line text written output a b is whole cleared counted so told stood =
+    let r : IsReplied (serve table old.keys (line_of old.line)) text last.keys a.entropy b.entropy = subst (λ l. IsReplied (serve table old.keys (line_of l)) text last.keys a.entropy b.entropy) is so in
+    record {
+      drawn = r.answered.drawn;
+      written = written;
+      drew = r.answered.drew;
+      told = told;
+      no_draw_fault = r.answered.stood;
+      no_write_fault = stood;
+      is = ap (replied (from old output r.answered.drawn)) (given _ _ _ _ _ r)
+          ∙ same_going last.keys [] last.line (suc old.count) last.count (output ++ reply_text r.reply) (output ++ written) (sym cleared) (omega (arith, counted)) (ap (λ l. output ++ l) (sym (whole ∙ r.spelled)));
+    }
+
+-- it was answered, but not all of the reply written
+pub torn_line : (table : Table) (old : Point) (keys : Keys) (line text written output : List ℕ) (a b : Outside) → line ≡ old.line → written ≡ text
+    → IsReplied (serve table old.keys (line_of line)) text keys a.entropy b.entropy → TookPrefix a.sink b.sink (a.held ++ written) → Rose a.sink.faults b.sink.faults
+    → Stopped (from old) (line_ended table) InLine output faults.WriteFault a b
+torn_line table old keys line text written output a b is whole so took rose =
+    let r : IsReplied (serve table old.keys (line_of old.line)) text keys a.entropy b.entropy = subst (λ l. IsReplied (serve table old.keys (line_of l)) text keys a.entropy b.entropy) is so in
+    torn r.answered.drawn written refl r.answered.drew took
+    (ap (λ o. (replied (from old output r.answered.drawn) o).output) (given _ _ _ _ _ r) ∙ ap (λ l. output ++ l) (sym (whole ∙ r.spelled)))
+    r.answered.stood rose
+
+-- it wants more random bytes
+pub dry_line : (table : Table) (old : Point) (line output : List ℕ) (a b : Outside) → line ≡ old.line → Took a.sink b.sink a.held → Stood a.sink.faults b.sink.faults
+    → IsUnanswered (serve table old.keys (line_of line)) a.entropy b.entropy
+    → Stopped (from old) (line_ended table) InLine output faults.EntropyFault a b
+dry_line table old line output a b is took stood so =
+    let r : IsUnanswered (serve table old.keys (line_of old.line)) a.entropy b.entropy = subst (λ l. IsUnanswered (serve table old.keys (line_of l)) a.entropy b.entropy) is so in
+    dry r.drawn [] refl r.drew (none_behind _ _ _ took)
+    (ap (λ o. (replied (from old output r.drawn) o).stop) r.undecided)
+    (ap (λ o. (replied (from old output r.drawn) o).output) r.undecided ∙ sym (append-nil output))
+    (ap (λ o. (replied (from old output r.drawn) o).random) r.undecided)
+    r.rose stood
+
+-- the same, of a session that is as it was
+pub unanswered_as : (table own : Table) (keys other : Keys) (line : List ℕ) (d e f : EntropyState) → own ≡ table → other ≡ keys → d ≡ e → IsUnanswered (serve own other (line_of line)) d f → IsUnanswered (serve table keys (line_of line)) e f
+unanswered_as table own keys other line d e f t k s so =
+    subst (λ x. IsUnanswered (serve x keys (line_of line)) e f) t (subst (λ x. IsUnanswered (serve own x (line_of line)) e f) k (subst (λ x. IsUnanswered (serve own other (line_of line)) x f) s so))
+
+-- memory was refused
+pub full_line : (takes : Talk → Talk) (start : Start) (output : List ℕ) (a b : Outside) → Took a.sink b.sink a.held → Stood a.sink.faults b.sink.faults → DrewSome a.entropy b.entropy → Stopped start takes InLine output faults.NoMemory a b
+full_line takes start output a b took stood r = full [] r.drawn [] refl r.drew (none_behind _ _ _ took) (refl, refl) r.stood stood
+
+-- a write failed before the bytes were taken
+cut_before : (takes : Talk → Talk) (start : Start) (Leaves : List ℕ → List ℕ → Type 0) (output : List ℕ) (fault : TalkFault) (s t : SinkState) (held : List ℕ) (e : EntropyState) → fault ≡ faults.WriteFault → Grows output (takes (start output [])).output
+    → TookPrefix s t held → Rose s.faults t.faults → Stopped start takes Leaves output fault (outside s held e) (outside t [] e)
+cut_before takes start Leaves output fault s t held e same grows front rose = torn [] grows.more same (drew_nothing e) (prefix_more s t held grows.more front) grows.is refl rose
+
+-- memory was refused, or a write failed, before the line was answered
+pub ended_line : (table : Table) (old : Point) (output : List ℕ) (fault : TalkFault) (s t : SinkState) (held : List ℕ) (d e : EntropyState) → d ≡ e → Ended faults.NoMemory fault s t held
+    → Stopped (from old) (line_ended table) InLine output fault (outside s held e) (outside t [] d)
+ended_line table old output fault s t held d e stays ended = subst (λ x. Stopped (from old) (line_ended table) InLine output fault (outside s held e) (outside t [] x)) (sym stays) (by ended)
+  where
+    by : Ended faults.NoMemory fault s t held → Stopped (from old) (line_ended table) InLine output fault (outside s held e) (outside t [] e)
+    by (all_told same took stood) = full [] [] [] same (drew_nothing e) (none_behind _ _ _ took) (refl, refl) refl stood
+    by (cut_off same front rose) = cut_before (line_ended table) (from old) InLine output fault s t held e same (replied_grows (from old output []) (serve table old.keys (line_of old.line) [])) front rose
+
+-- ---- a byte
+
+over_byte : (table : Table) (old : Point) (b : ℕ) (output drawn : List ℕ) → over table (from old output drawn) (b ∷ []) ≡ byte_taken table (from old output drawn) b
+unfolding over
+over_byte table old b output drawn = refl
+
+by_tests : (table : Table) (old : Point) (b : ℕ) (output drawn : List ℕ) (many ends long : Bool) → nat_le count_limit old.count ≡ many → (b == 10) ≡ ends → nat_le line_limit (length old.line) ≡ long
+    → over table (from old output drawn) (b ∷ []) ≡ byte_by many ends long table (from old output drawn) b
+by_tests table old b output drawn many ends long m e l =
+    over_byte table old b output drawn
+    ∙ ap (λ t. byte_by t (b == 10) (nat_le line_limit (length old.line)) table (from old output drawn) b) m
+    ∙ ap (λ t. byte_by many t (nat_le line_limit (length old.line)) table (from old output drawn) b) e
+    ∙ ap (λ t. byte_by many ends t table (from old output drawn) b) l
+
+newline : (table : Table) (old : Point) (b : ℕ) (output drawn : List ℕ) → b ≡ 10 → old.count < count_limit → over table (from old output drawn) (b ∷ []) ≡ line_ended table (from old output drawn)
+newline table old b output drawn is less = by_tests table old b output drawn false true (nat_le line_limit (length old.line)) (lt-leb _ _ less) (eq-eqb b 10 is) refl
+
+pub fed_newline : (table : Table) (old last : Point) (byte : ℕ) (output : List ℕ) (a b : Outside) → byte ≡ 10 → old.count < count_limit → Fed (from old) last (line_ended table) output a b → Fed (from old) last (λ x. over table x (byte ∷ [])) output a b
+fed_newline table old last byte output a b is less fed = record {
+  drawn = fed.drawn;
+  written = fed.written;
+  drew = fed.drew;
+  told = fed.told;
+  no_draw_fault = fed.no_draw_fault;
+  no_write_fault = fed.no_write_fault;
+  is = newline table old byte output fed.drawn is less ∙ fed.is;
+}
+
+-- where a session is stopped by what it takes, it is by what does the same
+pub stopped_as : (start : Start) (takes other : Talk → Talk) (Leaves Others : List ℕ → List ℕ → Type 0) (output : List ℕ) (fault : TalkFault) (a b : Outside) → ((drawn : List ℕ) → other (start output drawn) ≡ takes (start output drawn))
+    → ((drawn written : List ℕ) → Leaves drawn written → Others drawn written) → Stopped start takes Leaves output fault a b → Stopped start other Others output fault a b
+stopped_as start takes other Leaves Others output fault a b same leaves (past drawn written limit is drew took stop told left no_draw_fault no_write_fault) =
+    past drawn written limit is drew took (ap (λ x. x.stop) (same drawn) ∙ stop) (ap (λ x. x.output) (same drawn) ∙ told) (ap (λ x. x.random) (same drawn) ∙ left) no_draw_fault no_write_fault
+stopped_as start takes other Leaves Others output fault a b same leaves (dry drawn written is drew took stop told left rose no_write_fault) =
+    dry drawn written is drew took (ap (λ x. x.stop) (same drawn) ∙ stop) (ap (λ x. x.output) (same drawn) ∙ told) (ap (λ x. x.random) (same drawn) ∙ left) rose no_write_fault
+stopped_as start takes other Leaves Others output fault a b same leaves (torn drawn written is drew took told no_draw_fault rose) =
+    torn drawn written is drew took (ap (λ x. x.output) (same drawn) ∙ told) no_draw_fault rose
+stopped_as start takes other Leaves Others output fault a b same leaves (full drawn part written is drew took inside no_draw_fault no_write_fault) =
+    full drawn part written is drew took (leaves drawn written inside) no_draw_fault no_write_fault
+
+-- memory is refused in front of a byte
+in_front : (table : Table) (old : Point) (bytes output : List ℕ) (drawn written : List ℕ) → InLine drawn written → InPiece table (from old) bytes output drawn written
+unfolding over
+in_front table old bytes output drawn written inside = record { first = []; more = bytes; whole = refl; goes' = refl; told = sym (append-nil output) ∙ ap (λ l. output ++ l) (sym inside.1) }
+
+pub stopped_newline : (table : Table) (old : Point) (byte : ℕ) (output : List ℕ) (fault : TalkFault) (a b : Outside) → byte ≡ 10 → old.count < count_limit → Stopped (from old) (line_ended table) InLine output fault a b
+    → Stopped (from old) (λ x. over table x (byte ∷ [])) (InPiece table (from old) (byte ∷ []) output) output fault a b
+stopped_newline table old byte output fault a b is less stopped =
+    stopped_as (from old) (line_ended table) (λ x. over table x (byte ∷ [])) InLine (InPiece table (from old) (byte ∷ []) output) output fault a b (λ drawn. newline table old byte output drawn is less) (in_front table old (byte ∷ []) output) stopped
+
+-- a byte past a limit
+stopped_past : (table : Table) (old : Point) (byte : ℕ) (output : List ℕ) (limit : Limit) (fault : TalkFault) (s t : SinkState) (held : List ℕ) (d : EntropyState) → over table (from old output []) (byte ∷ []) ≡ record (from old output []) { stop = passes limit } → Ended (limit_fault limit) fault s t held
+    → Stopped (from old) (λ x. over table x (byte ∷ [])) (InPiece table (from old) (byte ∷ []) output) output fault (outside s held d) (outside t [] d)
+stopped_past table old byte output limit fault s t held d e (all_told same took stood) =
+    past [] [] limit same (drew_nothing d) (none_behind _ _ _ took) (ap (λ x. x.stop) e) (ap (λ x. x.output) e ∙ sym (append-nil output)) (ap (λ x. x.random) e) refl stood
+stopped_past table old byte output limit fault s t held d e (cut_off same front rose) =
+    cut_before (λ x. over table x (byte ∷ [])) (from old) (InPiece table (from old) (byte ∷ []) output) output fault s t held d same (over_grows table (from old output []) (byte ∷ [])) front rose
+
+pub stopped_many : (table : Table) (old : Point) (byte : ℕ) (output : List ℕ) (fault : TalkFault) (s t : SinkState) (held : List ℕ) (d : EntropyState) → count_limit ≤ old.count → Ended faults.TooManyLines fault s t held
+    → Stopped (from old) (λ x. over table x (byte ∷ [])) (InPiece table (from old) (byte ∷ []) output) output fault (outside s held d) (outside t [] d)
+stopped_many table old byte output fault s t held d le ended = stopped_past table old byte output many_lines fault s t held d (by_tests table old byte output [] true (byte == 10) (nat_le line_limit (length old.line)) (le-leb _ _ le) refl refl) ended
+
+pub stopped_long : (table : Table) (old : Point) (byte : ℕ) (output : List ℕ) (fault : TalkFault) (s t : SinkState) (held : List ℕ) (d : EntropyState) → old.count < count_limit → (byte == 10) ≡ false → line_limit ≤ length old.line → Ended faults.LineTooLong fault s t held
+    → Stopped (from old) (λ x. over table x (byte ∷ [])) (InPiece table (from old) (byte ∷ []) output) output fault (outside s held d) (outside t [] d)
+stopped_long table old byte output fault s t held d less other le ended = stopped_past table old byte output long_line fault s t held d (by_tests table old byte output [] false false true (lt-leb _ _ less) other (le-leb _ _ le)) ended
+
+-- memory was refused for a byte
+pub full_byte : (table : Table) (old : Point) (byte : ℕ) (output : List ℕ) (fault : TalkFault) (s t : SinkState) (held : List ℕ) (d : EntropyState) → Ended faults.NoMemory fault s t held
+    → Stopped (from old) (λ x. over table x (byte ∷ [])) (InPiece table (from old) (byte ∷ []) output) output fault (outside s held d) (outside t [] d)
+full_byte table old byte output fault s t held d (all_told same took stood) = full [] [] [] same (drew_nothing d) (none_behind _ _ _ took) (in_front table old (byte ∷ []) output [] [] (refl, refl)) refl stood
+full_byte table old byte output fault s t held d (cut_off same front rose) =
+    cut_before (λ x. over table x (byte ∷ [])) (from old) (InPiece table (from old) (byte ∷ []) output) output fault s t held d same (over_grows table (from old output []) (byte ∷ [])) front rose
+
+-- a byte of the line
+pub fed_byte : (table : Table) (old last : Point) (byte : ℕ) (output : List ℕ) (a : Outside) → old.count < count_limit → (byte == 10) ≡ false → length old.line < line_limit
+    → last.keys ≡ old.keys → last.count ≡ old.count → last.line ≡ old.line ++ byte ∷ []
+    → Fed (from old) last (λ x. over table x (byte ∷ [])) output a a
+fed_byte table old last byte output a less other short keys count line = record {
+  drawn = [];
+  written = [];
+  drew = drew_nothing a.entropy;
+  told = told_nothing a.sink a.held;
+  no_draw_fault = refl;
+  no_write_fault = refl;
+  is = by_tests table old byte output [] false false false (lt-leb _ _ less) other (lt-leb _ _ short)
+      ∙ ap (λ k. going k (old.line ++ byte ∷ []) old.count output []) (sym keys)
+      ∙ same_going last.keys (old.line ++ byte ∷ []) last.line old.count last.count output (output ++ []) (sym line) (sym count) (sym (append-nil output));
+}
+
 -- ---- one piece behind another
 
 -- more random bytes behind are only that
@@ -232,7 +310,7 @@ fed_more table start mid last p q output a b c is first behind =
       drawn = first.drawn ++ second.drawn;
       written = first.written ++ second.written;
       drew = drew_more _ _ _ _ _ first.drew second.drew;
-      took = took_more _ _ _ _ _ first.took second.took;
+      told = told_more _ _ _ _ _ _ _ _ first.told second.told;
       no_draw_fault = second.no_draw_fault ∙ first.no_draw_fault;
       no_write_fault = second.no_write_fault ∙ first.no_write_fault;
       is = fed_then table start mid p q output first.drawn (output ++ first.written) second.drawn is first.is ∙ second.is
@@ -247,14 +325,29 @@ stopped_at table start mid p q r piece output drawn written more is whole e stil
     ∙ ap (λ x. over table x r) (fed_then table start mid p q output drawn written more is e)
     ∙ over-stopped table (over table (from mid written more) q) r still
 
--- what was written, and the front of what comes behind it
-pub front_behind : (a b c : SinkState) (written bytes more : List ℕ) → Took a b written → TookPrefix b c bytes → TookPrefix a c (written ++ (bytes ++ more))
-front_behind a b c written bytes more took front = record {
-  front = written ++ front.front;
-  rest = front.rest ++ more;
-  some = let some = front.some in omega (arith, some, length-append front.rest more);
-  whole = append_assoc written front.front (front.rest ++ more) ∙ ap (λ l. written ++ l) (sym (append_assoc front.front front.rest more) ∙ ap (λ l. l ++ more) front.whole);
-  took = took_more _ _ _ _ _ took front.took;
+-- what was told, and the front of what comes behind it
+pub front_behind : (a b c : SinkState) (h i written bytes more : List ℕ) → Told a b h i written → TookPrefix b c (i ++ bytes) → TookPrefix a c (h ++ (written ++ (bytes ++ more)))
+front_behind a b c h i written bytes more told front =
+    subst (TookPrefix a c) (append_assoc h (written ++ bytes) more ∙ ap (λ l. h ++ l) (append_assoc written bytes more))
+    (prefix_more a c (h ++ (written ++ bytes)) more (told_cut a b c h (i ++ bytes) (written ++ bytes) (told_with a b h i written bytes told) front))
+
+-- a write failed behind bytes that were taken
+pub cut_behind : (start : Start) (last : Point) (takes : Talk → Talk) (Leaves : List ℕ → List ℕ → Type 0) (output : List ℕ) (s t u : SinkState) (h i : List ℕ) (d e : EntropyState) → Fed start last takes output (outside s h d) (outside t i e)
+    → TookPrefix t u i → Rose t.faults u.faults → Stopped start takes Leaves output faults.WriteFault (outside s h d) (outside u [] e)
+cut_behind start last takes Leaves output s t u h i d e fed front rose =
+    torn fed.drawn fed.written refl fed.drew (told_cut _ _ _ _ _ _ fed.told front) (ap (λ x. x.output) fed.is) fed.no_draw_fault (rose_later _ _ _ fed.told.took.faults rose)
+
+-- what is held back behind bytes that were taken is written
+pub fed_written : (start : Start) (last : Point) (takes : Talk → Talk) (output : List ℕ) (s t u : SinkState) (h i j : List ℕ) (d e : EntropyState) → j ≡ [] → Fed start last takes output (outside s h d) (outside t i e)
+    → Took t u i → Stood t.faults u.faults → Fed start last takes output (outside s h d) (outside u j e)
+fed_written start last takes output s t u h i j d e none fed took stood = record {
+  drawn = fed.drawn;
+  written = fed.written;
+  drew = fed.drew;
+  told = subst (λ l. Told s u h l fed.written) (sym none) (told_all _ _ _ _ _ _ fed.told took);
+  no_draw_fault = fed.no_draw_fault;
+  no_write_fault = stood ∙ fed.no_write_fault;
+  is = fed.is;
 }
 
 -- a stop in the next bytes, whatever follows them
@@ -264,25 +357,25 @@ pub stopped_more : (table : Table) (start : Start) (mid : Point) (p q r piece ou
     → Stopped start (λ x. over table x piece) (InPiece table start piece output) output fault a c
 stopped_more table start mid p q r piece output fault a b c is whole first (past drawn written limit same drew took stop told left no_draw_fault no_write_fault) =
     let e = stopped_at table start mid p q r piece output first.drawn (output ++ first.written) drawn is whole first.is (λ g. passes≢goes limit (sym stop ∙ g)) in
-    past (first.drawn ++ drawn) (first.written ++ written) limit same (drew_more _ _ _ _ _ first.drew drew) (took_more _ _ _ _ _ first.took took)
+    past (first.drawn ++ drawn) (first.written ++ written) limit same (drew_more _ _ _ _ _ first.drew drew) (told_written _ _ _ _ _ _ (told_with _ _ _ _ _ written first.told) took)
     (ap (λ x. x.stop) e ∙ stop) (ap (λ x. x.output) e ∙ told ∙ append_assoc output first.written written) (ap (λ x. x.random) e ∙ left)
     (no_draw_fault ∙ first.no_draw_fault) (no_write_fault ∙ first.no_write_fault)
 stopped_more table start mid p q r piece output fault a b c is whole first (dry drawn written same drew took stop told left rose no_write_fault) =
     let e = stopped_at table start mid p q r piece output first.drawn (output ++ first.written) drawn is whole first.is (λ g. wants≢goes (sym stop ∙ g)) in
-    dry (first.drawn ++ drawn) (first.written ++ written) same (drew_more _ _ _ _ _ first.drew drew) (took_more _ _ _ _ _ first.took took)
+    dry (first.drawn ++ drawn) (first.written ++ written) same (drew_more _ _ _ _ _ first.drew drew) (told_written _ _ _ _ _ _ (told_with _ _ _ _ _ written first.told) took)
     (ap (λ x. x.stop) e ∙ stop) (ap (λ x. x.output) e ∙ told ∙ append_assoc output first.written written) (ap (λ x. x.random) e ∙ left)
     (rose_later _ _ _ first.drew.faults rose) (no_write_fault ∙ first.no_write_fault)
 stopped_more table start mid p q r piece output fault a b c is whole first (torn drawn written same drew took told no_draw_fault rose) =
     let g = over_grows table (over table (from mid (output ++ first.written) drawn) q) r in
-    torn (first.drawn ++ drawn) (first.written ++ (written ++ g.more)) same (drew_more _ _ _ _ _ first.drew drew) (front_behind _ _ _ first.written written g.more first.took took)
+    torn (first.drawn ++ drawn) (first.written ++ (written ++ g.more)) same (drew_more _ _ _ _ _ first.drew drew) (front_behind _ _ _ _ _ first.written written g.more first.told took)
     (ap (λ l. (over table (start output (first.drawn ++ drawn)) l).output) whole
     ∙ ap (λ x. x.output) (over-append table (start output (first.drawn ++ drawn)) (p ++ q) r ∙ ap (λ x. over table x r) (fed_then table start mid p q output first.drawn (output ++ first.written) drawn is first.is))
     ∙ g.is ∙ ap (λ l. l ++ g.more) told ∙ append_assoc (output ++ first.written) written g.more ∙ append_assoc output first.written (written ++ g.more))
-    (no_draw_fault ∙ first.no_draw_fault) (rose_later _ _ _ first.took.faults rose)
+    (no_draw_fault ∙ first.no_draw_fault) (rose_later _ _ _ first.told.took.faults rose)
 stopped_more table start mid p q r piece output fault a b c is whole first (full drawn part written same drew took inside no_draw_fault no_write_fault) =
     let e = fed_then table start mid p inside.first output first.drawn (output ++ first.written) drawn is first.is in
     full (first.drawn ++ drawn) part (first.written ++ written) same
-    (subst (Drew a.entropy c.entropy) (sym (append_assoc first.drawn drawn part)) (drew_more _ _ _ _ _ first.drew drew)) (took_more _ _ _ _ _ first.took took)
+    (subst (Drew a.entropy c.entropy) (sym (append_assoc first.drawn drawn part)) (drew_more _ _ _ _ _ first.drew drew)) (told_written _ _ _ _ _ _ (told_with _ _ _ _ _ written first.told) took)
     (record {
       first = p ++ inside.first;
       more = inside.more ++ r;
@@ -302,14 +395,14 @@ last_none : (table : Table) (line : List ℕ) (x : Talk) → length line ≡ 0 �
 last_none table [] x none = refl
 last_none table (b ∷ bytes) x none = absurd (omega (arith, none))
 
-pub finished_line : (table : Table) (old last : Point) (output : List ℕ) (a b : Outside) → 0 < length old.line → Fed (from old) last (line_ended table) output a b → Finished table (from old) last.keys output a b
-finished_line table old last output a b some fed =
+pub finished_line : (table : Table) (old last : Point) (output : List ℕ) (a b : Outside) → 0 < length old.line → b.held ≡ [] → Fed (from old) last (line_ended table) output a b → Finished table (from old) last.keys output a b
+finished_line table old last output a b some none fed =
     let e = last_some table old.line (from old output fed.drawn) some ∙ fed.is in
     record {
       drawn = fed.drawn;
       written = fed.written;
       drew = fed.drew;
-      took = fed.took;
+      took = told_took _ _ _ _ (subst (λ l. Told a.sink b.sink a.held l fed.written) none fed.told);
       no_draw_fault = fed.no_draw_fault;
       no_write_fault = fed.no_write_fault;
       goes' = ap (λ x. x.stop) e;
@@ -318,14 +411,14 @@ finished_line table old last output a b some fed =
       last = ap (λ x. x.keys) e;
     }
 
-pub finished_none : (table : Table) (old : Point) (output : List ℕ) (a : Outside) → length old.line ≡ 0 → Finished table (from old) old.keys output a a
-finished_none table old output a none =
+pub finished_none : (table : Table) (old : Point) (output : List ℕ) (s : SinkState) (d : EntropyState) → length old.line ≡ 0 → Finished table (from old) old.keys output (outside s [] d) (outside s [] d)
+finished_none table old output s d none =
     let e = last_none table old.line (from old output []) none in
     record {
       drawn = [];
       written = [];
-      drew = drew_nothing a.entropy;
-      took = took_nothing a.sink;
+      drew = drew_nothing d;
+      took = took_nothing s;
       no_draw_fault = refl;
       no_write_fault = refl;
       goes' = ap (λ x. x.stop) e;
@@ -346,7 +439,7 @@ fed_none table at output a = record {
   drawn = [];
   written = [];
   drew = drew_nothing a.entropy;
-  took = took_nothing a.sink;
+  told = told_nothing a.sink a.held;
   no_draw_fault = refl;
   no_write_fault = refl;
   is = ap (λ l. from at l []) (sym (append-nil output));

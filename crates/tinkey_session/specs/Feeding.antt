@@ -1,5 +1,8 @@
--- What becomes of a piece of a session's input, over the objects that answering lines moves.
+-- What becomes of a piece of a session's input, over the objects that answering lines moves. Replies may
+-- be held back for a while, before they are written.
 --
+--   Told          replies came in, and some of them are held back
+--   Ended         those that were held back are written where a session ends
 --   Point         how far the code has come
 --   Fed, Stopped  the piece was taken, and the lines that end in it answered; or something of it
 --                 ended the session
@@ -17,14 +20,29 @@ use Rattle.tinkey_session.specs.declared.session.LineFault.TheVariants as line_f
 use Rattle.tinkey_session.specs.declared.talk.TalkFault.{TalkFault}
 use Rattle.tinkey_session.specs.declared.talk.TalkFault.TheVariants as faults
 
--- the objects at one moment
+-- the objects at one moment, and the replies that are held back
 pub record Outside : Type 0 where
   pub sink : SinkState
+  pub held : List ℕ
   pub entropy : EntropyState
 
--- sink and entropy at one moment
-abbrev pub outside : SinkState → EntropyState → Outside
-outside sink entropy = record { sink = sink; entropy = entropy }
+-- sink, replies held back and entropy at one moment
+abbrev pub outside : SinkState → List ℕ → EntropyState → Outside
+outside sink held entropy = record { sink = sink; held = held; entropy = entropy }
+
+-- Of the replies that were held back, and these that came in behind them, the sink took the first, and the
+-- others are held back.
+pub record Told (old new : SinkState) (before after replies : List ℕ) : Type 0 where
+  pub piece : List ℕ
+  pub took : Took old new piece
+  pub whole : piece ++ after ≡ before ++ replies
+
+-- A session is to end with a fault, and replies are held back: the sink took them all, or a write failed.
+pub data Ended (asked fault : TalkFault) (old new : SinkState) (held : List ℕ) : Type 0 where
+  all_told : fault ≡ asked → Took old new held → Stood old.faults new.faults
+      → Ended asked fault old new held
+  cut_off : fault ≡ faults.WriteFault → TookPrefix old new held → Rose old.faults new.faults
+      → Ended asked fault old new held
 
 -- a session with these replies so far, and these random bytes to draw from
 abbrev pub Start : Type 0
@@ -64,43 +82,43 @@ IsUnreplied gives line_faults.NoMemory old new = DrewSome old new
 
 -- ---- a piece
 
--- Bytes were taken, and the replies to the lines among them written. What they do to a session is
--- `takes`.
+-- Bytes were taken, and the lines among them answered; the replies were written, or are held back. What
+-- the bytes do to a session is `takes`.
 pub record Fed (start : Start) (last : Point) (takes : Talk → Talk) (output : List ℕ)
     (old new : Outside) : Type 0 where
   pub drawn : List ℕ
   pub written : List ℕ
   pub drew : Drew old.entropy new.entropy drawn
-  pub took : Took old.sink new.sink written
+  pub told : Told old.sink new.sink old.held new.held written
   pub no_draw_fault : Stood old.entropy.faults new.entropy.faults
   pub no_write_fault : Stood old.sink.faults new.sink.faults
   pub is : takes (start output drawn) ≡ from last (output ++ written) []
 
--- Something of them ended the session. Where memory was refused, `Leaves` says how it stands with
--- the bytes drawn and written before.
+-- Something of them ended the session, and no reply is held back any more. Where memory was refused,
+-- `Leaves` says how it stands with the bytes drawn and written before.
 pub data Stopped (start : Start) (takes : Talk → Talk) (Leaves : (drawn written : List ℕ) → Type 0)
     (output : List ℕ) (fault : TalkFault) (old new : Outside) : Type 0 where
   past : (drawn written : List ℕ) (limit : Limit) → fault ≡ limit_fault limit
-      → Drew old.entropy new.entropy drawn → Took old.sink new.sink written
+      → Drew old.entropy new.entropy drawn → Took old.sink new.sink (old.held ++ written)
       → (takes (start output drawn)).stop ≡ passes limit
       → (takes (start output drawn)).output ≡ output ++ written
       → (takes (start output drawn)).random ≡ []
       → Stood old.entropy.faults new.entropy.faults → Stood old.sink.faults new.sink.faults
       → Stopped start takes Leaves output fault old new
   dry : (drawn written : List ℕ) → fault ≡ faults.EntropyFault
-      → Drew old.entropy new.entropy drawn → Took old.sink new.sink written
+      → Drew old.entropy new.entropy drawn → Took old.sink new.sink (old.held ++ written)
       → (takes (start output drawn)).stop ≡ wants
       → (takes (start output drawn)).output ≡ output ++ written
       → (takes (start output drawn)).random ≡ []
       → Rose old.entropy.faults new.entropy.faults → Stood old.sink.faults new.sink.faults
       → Stopped start takes Leaves output fault old new
   torn : (drawn written : List ℕ) → fault ≡ faults.WriteFault
-      → Drew old.entropy new.entropy drawn → TookPrefix old.sink new.sink written
+      → Drew old.entropy new.entropy drawn → TookPrefix old.sink new.sink (old.held ++ written)
       → (takes (start output drawn)).output ≡ output ++ written
       → Stood old.entropy.faults new.entropy.faults → Rose old.sink.faults new.sink.faults
       → Stopped start takes Leaves output fault old new
   full : (drawn part written : List ℕ) → fault ≡ faults.NoMemory
-      → Drew old.entropy new.entropy (drawn ++ part) → Took old.sink new.sink written
+      → Drew old.entropy new.entropy (drawn ++ part) → Took old.sink new.sink (old.held ++ written)
       → Leaves drawn written
       → Stood old.entropy.faults new.entropy.faults → Stood old.sink.faults new.sink.faults
       → Stopped start takes Leaves output fault old new
@@ -118,13 +136,13 @@ pub record InPiece (table : Table) (start : Start) (piece output drawn written :
   pub goes' : (over table (start output drawn) first).stop ≡ goes
   pub told : (over table (start output drawn) first).output ≡ output ++ written
 
--- the last line was answered, or there was none
+-- the last line was answered, or there was none, and no reply is held back any more
 pub record Finished (table : Table) (start : Start) (keys : Keys) (output : List ℕ)
     (old new : Outside) : Type 0 where
   pub drawn : List ℕ
   pub written : List ℕ
   pub drew : Drew old.entropy new.entropy drawn
-  pub took : Took old.sink new.sink written
+  pub took : Took old.sink new.sink (old.held ++ written)
   pub no_draw_fault : Stood old.entropy.faults new.entropy.faults
   pub no_write_fault : Stood old.sink.faults new.sink.faults
   pub goes' : (finish table true (start output drawn)).stop ≡ goes

@@ -1,10 +1,10 @@
 //! A session over its input: lines come in, and each has a reply.
 
-ghost use Rattle.std.specs.Prelude.{◌≡◌, ◌≤◌, ◌+◌, ℕ, List, [], ◌∷◌, length, true, IfOk, IfErr, IfSome, OnOk};
+ghost use Rattle.std.specs.Prelude.{◌≡◌, ◌≤◌, ◌+◌, ℕ, List, [], ◌∷◌, ◌++◌, length, true, IfOk, IfErr, IfSome, IsErrOf, OnOk, OnErr};
 ghost use Rattle.std.specs.List.{AllByRecursion};
-ghost use Rattle.tink_spec.specs.Outside.{StopsAtEnd};
+ghost use Rattle.tink_spec.specs.Outside.{Rose, Stood, StopsAtEnd, Took, TookPrefix};
 ghost use Rattle.keyset_model.specs.Keyset.{IsShort};
-ghost use Rattle.tinkey_session.specs.Feeding.{Fed, Finished, InLine, InPiece, IsReplied, IsUnreplied, Stopped, outside, point, progress};
+ghost use Rattle.tinkey_session.specs.Feeding.{Ended, Fed, Finished, InLine, InPiece, IsReplied, IsUnreplied, Stopped, Told, outside, point, progress};
 ghost use Rattle.tinkey_session.specs.Keeping.{IsKept};
 ghost use Rattle.tinkey_session.specs.Lines.{line_of};
 ghost use Rattle.tinkey_session.specs.Serving.{serve};
@@ -15,9 +15,10 @@ use crate::line::read_line;
 use crate::reply::reply_text;
 use crate::session::{LineFault, Session};
 use keyset_model::Keyset;
+use lookahead::{Drawn, Lookahead};
 use managers::{KeyTable, Managers};
 use std::alloc::Global;
-use tink_base::{Entropy, Failed, NoMemory, Sink, Source, write_all};
+use tink_base::{Entropy, Failed, Sink, Source, write_all};
 
 /// Why a session ends before its input.
 #[derive(Clone, Copy, Debug, PartialEq, Eq)]
@@ -45,12 +46,16 @@ const COUNT_LIMIT: usize = 100_000;
 /// How many bytes one read asks for at the most.
 const PIECE: usize = 4096;
 
-/// A session, the line so far, and how many lines came before it.
+/// Replies of more bytes aren't held back.
+const HELD_LIMIT: usize = 32_768;
+
+/// A session, the line so far, how many lines came before it, and the replies that are held back.
 #[derive(Drop)]
 struct TalkState<'m> {
     session: Session<'m>,
     line: Vec<u8>,
     count: usize,
+    replies: Vec<u8>,
     ghost fits: { length line.items ≤ line_limit },
 }
 
@@ -64,8 +69,12 @@ struct TalkState<'m> {
 /// then. Every other fault comes only where the object failed in this call. After any fault the
 /// keyset is gone, with what lines changed of it. Nothing is read after the end was answered.
 ///
-/// Memory is taken for one line, one reply, the keyset, and the keys that lines need of it.
-pub fn talk<S: Source, K: Sink, E: Entropy>(
+/// Replies may be held back until then, and are written together. Random bytes that the entropy doesn't
+/// hold are drawn only where no reply is held back.
+///
+/// Memory is taken for one line, one reply, up to 32,768 bytes of replies before it, the keyset, and the
+/// keys that lines need of it.
+pub fn talk<S: Source, K: Sink, E: Lookahead>(
     alloc: Global,
     keyset: Keyset,
     managers: &Managers,
@@ -84,6 +93,7 @@ pub fn talk<S: Source, K: Sink, E: Entropy>(
         session: Session::new(keyset, managers),
         line: Vec::new(alloc),
         count: 0,
+        replies: Vec::new(alloc),
     };
     let mut buffer = [0u8; PIECE];
     loop {
@@ -101,8 +111,8 @@ pub fn talk<S: Source, K: Sink, E: Entropy>(
     }
 }
 
-/// Takes a piece of the input, and answers each line that ends in it.
-fn take_piece<K: Sink, E: Entropy>(
+/// Takes a piece of the input, and answers each line that ends in it. No reply is held back afterwards.
+fn take_piece<K: Sink, E: Lookahead>(
     alloc: Global,
     talk: &mut TalkState<'_>,
     piece: &[u8],
@@ -119,19 +129,20 @@ fn take_piece<K: Sink, E: Entropy>(
     ensures few { OnOk result (talk.new.count ≤ count_limit) }
     ensures table { OnOk result (⟦<Managers as KeyTable>⟧.table talk.new.session.managers.now
         ≡ ⟦<Managers as KeyTable>⟧.table talk.old.session.managers.now) }
+    ensures none { OnOk result (talk.new.replies.items ≡ []) }
     ensures less { OnOk result (progress talk.old.count talk.old.line.items + length piece.now ≤ progress talk.new.count talk.new.line.items) }
     ensures fed { OnOk result ((output : List ℕ) → Fed
         (going talk.old.session.keyset talk.old.line.items talk.old.count)
         (point talk.new.session.keyset talk.new.line.items talk.new.count)
         (λ x. over (⟦<Managers as KeyTable>⟧.table talk.old.session.managers.now) x piece.now)
-        output (outside (K.state sink.old) (E.state entropy.old))
-        (outside (K.state sink.new) (E.state entropy.new))) }
+        output (outside (K.state sink.old) talk.old.replies.items (E.state entropy.old))
+        (outside (K.state sink.new) talk.new.replies.items (E.state entropy.new))) }
     ensures stopped { IfErr result (λ fault. (output : List ℕ) → Stopped (going talk.old.session.keyset talk.old.line.items talk.old.count)
         (λ x. over (⟦<Managers as KeyTable>⟧.table talk.old.session.managers.now) x piece.now)
         (InPiece (⟦<Managers as KeyTable>⟧.table talk.old.session.managers.now)
         (going talk.old.session.keyset talk.old.line.items talk.old.count) piece.now output) output fault
-        (outside (K.state sink.old) (E.state entropy.old))
-        (outside (K.state sink.new) (E.state entropy.new))) }
+        (outside (K.state sink.old) talk.old.replies.items (E.state entropy.old))
+        (outside (K.state sink.new) [] (E.state entropy.new))) }
 {
     let mut i = 0;
     while i < piece.len() {
@@ -140,11 +151,14 @@ fn take_piece<K: Sink, E: Entropy>(
             Err(fault) => return Err(fault),
         }
     }
-    Ok(())
+    match flush(&mut talk.replies, sink) {
+        Ok(()) => Ok(()),
+        Err(_) => Err(TalkFault::WriteFault),
+    }
 }
 
 /// Takes a byte.
-fn take_byte<K: Sink, E: Entropy>(
+fn take_byte<K: Sink, E: Lookahead>(
     alloc: Global,
     talk: &mut TalkState<'_>,
     byte: u8,
@@ -166,17 +180,17 @@ fn take_byte<K: Sink, E: Entropy>(
         (going talk.old.session.keyset talk.old.line.items talk.old.count)
         (point talk.new.session.keyset talk.new.line.items talk.new.count)
         (λ x. over (⟦<Managers as KeyTable>⟧.table talk.old.session.managers.now) x (byte ∷ []))
-        output (outside (K.state sink.old) (E.state entropy.old))
-        (outside (K.state sink.new) (E.state entropy.new))) }
+        output (outside (K.state sink.old) talk.old.replies.items (E.state entropy.old))
+        (outside (K.state sink.new) talk.new.replies.items (E.state entropy.new))) }
     ensures stopped { IfErr result (λ fault. (output : List ℕ) → Stopped (going talk.old.session.keyset talk.old.line.items talk.old.count)
         (λ x. over (⟦<Managers as KeyTable>⟧.table talk.old.session.managers.now) x (byte ∷ []))
         (InPiece (⟦<Managers as KeyTable>⟧.table talk.old.session.managers.now)
         (going talk.old.session.keyset talk.old.line.items talk.old.count) (byte ∷ []) output) output fault
-        (outside (K.state sink.old) (E.state entropy.old))
-        (outside (K.state sink.new) (E.state entropy.new))) }
+        (outside (K.state sink.old) talk.old.replies.items (E.state entropy.old))
+        (outside (K.state sink.new) [] (E.state entropy.new))) }
 {
     if talk.count >= COUNT_LIMIT {
-        return Err(TalkFault::TooManyLines);
+        return Err(end(TalkFault::TooManyLines, &mut talk.replies, sink));
     }
     if byte == b'\n' {
         match take_line(alloc, talk, sink, entropy) {
@@ -185,16 +199,16 @@ fn take_byte<K: Sink, E: Entropy>(
         }
     }
     if talk.line.len() >= LINE_LIMIT {
-        return Err(TalkFault::LineTooLong);
+        return Err(end(TalkFault::LineTooLong, &mut talk.replies, sink));
     }
     match talk.line.push(byte) {
         Ok(()) => Ok(()),
-        Err(_) => Err(TalkFault::NoMemory),
+        Err(_) => Err(end(TalkFault::NoMemory, &mut talk.replies, sink)),
     }
 }
 
 /// Answers the line so far, which ends, and begins the next one.
-fn take_line<K: Sink, E: Entropy>(
+fn take_line<K: Sink, E: Lookahead>(
     alloc: Global,
     talk: &mut TalkState<'_>,
     sink: &mut K,
@@ -215,15 +229,22 @@ fn take_line<K: Sink, E: Entropy>(
         (going talk.old.session.keyset talk.old.line.items talk.old.count)
         (point talk.new.session.keyset talk.new.line.items talk.new.count)
         (line_ended (⟦<Managers as KeyTable>⟧.table talk.old.session.managers.now))
-        output (outside (K.state sink.old) (E.state entropy.old))
-        (outside (K.state sink.new) (E.state entropy.new))) }
+        output (outside (K.state sink.old) talk.old.replies.items (E.state entropy.old))
+        (outside (K.state sink.new) talk.new.replies.items (E.state entropy.new))) }
     ensures stopped { IfErr result (λ fault. (output : List ℕ) → Stopped (going talk.old.session.keyset talk.old.line.items talk.old.count)
         (line_ended (⟦<Managers as KeyTable>⟧.table talk.old.session.managers.now)) InLine output
-        fault (outside (K.state sink.old) (E.state entropy.old))
-        (outside (K.state sink.new) (E.state entropy.new))) }
+        fault (outside (K.state sink.old) talk.old.replies.items (E.state entropy.old))
+        (outside (K.state sink.new) [] (E.state entropy.new))) }
 {
-    match answer_line(alloc, &mut talk.session, &talk.line, entropy) {
-        Ok(reply) => match write_all(sink, &reply) {
+    match reply_to(
+        alloc,
+        &mut talk.session,
+        &talk.line,
+        &mut talk.replies,
+        sink,
+        entropy,
+    ) {
+        Ok(reply) => match tell(&mut talk.replies, sink, &reply) {
             Ok(()) => {
                 talk.line.clear();
                 talk.count += 1;
@@ -231,18 +252,20 @@ fn take_line<K: Sink, E: Entropy>(
             }
             Err(_) => Err(TalkFault::WriteFault),
         },
-        Err(LineFault::EntropyFault) => Err(TalkFault::EntropyFault),
-        Err(LineFault::NoMemory) => Err(TalkFault::NoMemory),
+        Err(fault) => Err(fault),
     }
 }
 
-/// The text of the reply to a line.
-fn answer_line<E: Entropy>(
+/// The text of the reply to a line. Where the random bytes that are held suffice, they are used, and no
+/// object is called. Else the replies that are held back are written, and the line is answered anew.
+fn reply_to<K: Sink, E: Lookahead>(
     alloc: Global,
     session: &mut Session<'_>,
     line: &[u8],
+    replies: &mut Vec<u8>,
+    sink: &mut K,
     entropy: &mut E,
-) -> Result<Vec<u8>, LineFault>
+) -> Result<Vec<u8>, TalkFault>
     requires kept { IfSome session.old.kept (λ h. IsKept
         (⟦<Managers as KeyTable>⟧.table session.old.managers.now)
         (⟦<Managers as KeyTable>⟧.table h.managers.now) h.primitive session.old.keyset h.held) }
@@ -256,9 +279,94 @@ fn answer_line<E: Entropy>(
         (serve (⟦<Managers as KeyTable>⟧.table session.old.managers.now) session.old.keyset
         (line_of line.now)) text.items session.new.keyset
         (E.state entropy.old) (E.state entropy.new)) }
+    ensures told { OnOk result
+        (Told (K.state sink.old) (K.state sink.new) replies.old.items replies.new.items []) }
+    ensures no_fault { OnOk result (Stood (K.state sink.old).faults (K.state sink.new).faults) }
+    ensures stopped { IfErr result (λ fault. (count : ℕ) (output : List ℕ) → Stopped
+        (going session.old.keyset line.now count)
+        (line_ended (⟦<Managers as KeyTable>⟧.table session.old.managers.now)) InLine output fault
+        (outside (K.state sink.old) replies.old.items (E.state entropy.old))
+        (outside (K.state sink.new) [] (E.state entropy.new))) }
+{
+    match answer_held(alloc, session, line, entropy) {
+        Ok(reply) => return Ok(reply),
+        Err(LineFault::EntropyFault) => {}
+        Err(LineFault::NoMemory) => return Err(end(TalkFault::NoMemory, replies, sink)),
+    }
+    match flush(replies, sink) {
+        Ok(()) => {}
+        Err(_) => return Err(TalkFault::WriteFault),
+    }
+    match answer_line(alloc, session, line, entropy) {
+        Ok(reply) => Ok(reply),
+        Err(LineFault::EntropyFault) => Err(TalkFault::EntropyFault),
+        Err(LineFault::NoMemory) => Err(TalkFault::NoMemory),
+    }
+}
+
+/// The text of the reply to a line, by the random bytes that the entropy holds, which are used up then. They
+/// don't suffice where the answer is `EntropyFault`. With any fault none is used.
+fn answer_held<E: Lookahead>(
+    alloc: Global,
+    session: &mut Session<'_>,
+    line: &[u8],
+    entropy: &mut E,
+) -> Result<Vec<u8>, LineFault>
+    requires kept { IfSome session.old.kept (λ h. IsKept
+        (⟦<Managers as KeyTable>⟧.table session.old.managers.now)
+        (⟦<Managers as KeyTable>⟧.table h.managers.now) h.primitive session.old.keyset h.held) }
+    requires fits { length line.now ≤ line_limit }
+    ensures kept { IfSome session.new.kept (λ h. IsKept
+        (⟦<Managers as KeyTable>⟧.table session.new.managers.now)
+        (⟦<Managers as KeyTable>⟧.table h.managers.now) h.primitive session.new.keyset h.held) }
+    ensures table { ⟦<Managers as KeyTable>⟧.table session.new.managers.now
+        ≡ ⟦<Managers as KeyTable>⟧.table session.old.managers.now }
+    ensures replied { IfOk result (λ text. IsReplied
+        (serve (⟦<Managers as KeyTable>⟧.table session.old.managers.now) session.old.keyset
+        (line_of line.now)) text.items session.new.keyset
+        (E.state entropy.old) (E.state entropy.new)) }
+    ensures unchanged { IsErrOf result LineFault.EntropyFault →
+        session.new.keyset ≡ session.old.keyset }
+    ensures unused { OnErr result (E.state entropy.new ≡ E.state entropy.old) }
+{
+    let held = entropy.held();
+    let before = held.len();
+    let mut drawn = Drawn::new(held);
+    match answer_line(alloc, session, line, &mut drawn) {
+        Ok(reply) => {
+            let used = before - drawn.left();
+            entropy.skip(used);
+            Ok(reply)
+        }
+        Err(fault) => Err(fault),
+    }
+}
+
+/// The text of the reply to a line, by random bytes of any entropy.
+fn answer_line<E: Entropy>(
+    alloc: Global,
+    session: &mut Session<'_>,
+    line: &[u8],
+    entropy: &mut E,
+) -> Result<Vec<u8>, LineFault>
+    requires kept { IfSome session.old.kept (λ h. IsKept
+        (⟦<Managers as KeyTable>⟧.table session.old.managers.now)
+        (⟦<Managers as KeyTable>⟧.table h.managers.now) h.primitive session.old.keyset h.held) }
+    requires fits { length line.now ≤ line_limit }
+    ensures kept { IfSome session.new.kept (λ h. IsKept
+        (⟦<Managers as KeyTable>⟧.table session.new.managers.now)
+        (⟦<Managers as KeyTable>⟧.table h.managers.now) h.primitive session.new.keyset h.held) }
+    ensures table { ⟦<Managers as KeyTable>⟧.table session.new.managers.now
+        ≡ ⟦<Managers as KeyTable>⟧.table session.old.managers.now }
+    ensures replied { IfOk result (λ text. IsReplied
+        (serve (⟦<Managers as KeyTable>⟧.table session.old.managers.now) session.old.keyset
+        (line_of line.now)) text.items session.new.keyset
+        (E.state entropy.old) (E.state entropy.new)) }
     ensures unreplied { IfErr result (λ fault. IsUnreplied
         (serve (⟦<Managers as KeyTable>⟧.table session.old.managers.now) session.old.keyset
         (line_of line.now)) fault (E.state entropy.old) (E.state entropy.new)) }
+    ensures unchanged { IsErrOf result LineFault.EntropyFault →
+        session.new.keyset ≡ session.old.keyset }
 {
     let asked = match read_line(alloc, line) {
         Ok(asked) => asked,
@@ -274,8 +382,73 @@ fn answer_line<E: Entropy>(
     }
 }
 
-/// Answers a last line that isn't empty, and answers the keyset.
-fn finish<K: Sink, E: Entropy>(
+/// Holds a reply back behind those that are held, or writes it with them: where they are many, or where
+/// memory is refused.
+fn tell<K: Sink>(replies: &mut Vec<u8>, sink: &mut K, reply: &[u8]) -> Result<(), Failed>
+    ensures told { OnOk result
+        (Told (K.state sink.old) (K.state sink.new) replies.old.items replies.new.items reply.now) }
+    ensures no_fault { OnOk result (Stood (K.state sink.old).faults (K.state sink.new).faults) }
+    ensures failed { OnErr result (Rose (K.state sink.old).faults (K.state sink.new).faults) }
+    ensures prefix { OnErr result (TookPrefix (K.state sink.old) (K.state sink.new)
+        (replies.old.items ++ reply.now)) }
+{
+    match replies.extend_from_slice(reply) {
+        Ok(()) => {}
+        Err(_) => return write_both(replies, sink, reply),
+    }
+    if replies.len() > HELD_LIMIT {
+        return flush(replies, sink);
+    }
+    Ok(())
+}
+
+/// Writes the replies that are held back, and a reply behind them.
+fn write_both<K: Sink>(replies: &mut Vec<u8>, sink: &mut K, reply: &[u8]) -> Result<(), Failed>
+    ensures all { OnOk result
+        (Took (K.state sink.old) (K.state sink.new) (replies.old.items ++ reply.now)) }
+    ensures none { replies.new.items ≡ [] }
+    ensures no_fault { OnOk result (Stood (K.state sink.old).faults (K.state sink.new).faults) }
+    ensures failed { OnErr result (Rose (K.state sink.old).faults (K.state sink.new).faults) }
+    ensures prefix { OnErr result (TookPrefix (K.state sink.old) (K.state sink.new)
+        (replies.old.items ++ reply.now)) }
+{
+    match flush(replies, sink) {
+        Ok(()) => {}
+        Err(fault) => return Err(fault),
+    }
+    match write_all(sink, reply) {
+        Ok(()) => Ok(()),
+        Err(fault) => Err(fault),
+    }
+}
+
+/// Writes the replies that are held back. None is held back afterwards.
+fn flush<K: Sink>(replies: &mut Vec<u8>, sink: &mut K) -> Result<(), Failed>
+    ensures all { OnOk result (Took (K.state sink.old) (K.state sink.new) replies.old.items) }
+    ensures none { replies.new.items ≡ [] }
+    ensures no_fault { OnOk result (Stood (K.state sink.old).faults (K.state sink.new).faults) }
+    ensures failed { OnErr result (Rose (K.state sink.old).faults (K.state sink.new).faults) }
+    ensures prefix { OnErr result
+        (TookPrefix (K.state sink.old) (K.state sink.new) replies.old.items) }
+{
+    let written = write_all(sink, replies);
+    replies.clear();
+    written
+}
+
+/// Writes the replies that are held back, where this fault ends the session. The answer is the fault, or
+/// `WriteFault` where a write fails.
+fn end<K: Sink>(fault: TalkFault, replies: &mut Vec<u8>, sink: &mut K) -> TalkFault
+    ensures { Ended fault result (K.state sink.old) (K.state sink.new) replies.old.items }
+{
+    match flush(replies, sink) {
+        Ok(()) => fault,
+        Err(_) => TalkFault::WriteFault,
+    }
+}
+
+/// Answers a last line that isn't empty, writes its reply, and answers the keyset.
+fn finish<K: Sink, E: Lookahead>(
     alloc: Global,
     talk: TalkState<'_>,
     sink: &mut K,
@@ -285,22 +458,27 @@ fn finish<K: Sink, E: Entropy>(
         (⟦<Managers as KeyTable>⟧.table talk.session.managers.now)
         (⟦<Managers as KeyTable>⟧.table h.managers.now) h.primitive talk.session.keyset h.held) }
     requires few { talk.count ≤ count_limit }
+    requires none { talk.replies.items ≡ [] }
     ensures short { IfOk result (λ last. AllByRecursion IsShort last.records) }
     ensures finished { IfOk result (λ last. (output : List ℕ) → Finished
         (⟦<Managers as KeyTable>⟧.table talk.entry.session.managers.now) (going talk.entry.session.keyset talk.entry.line.items talk.entry.count) last output
-        (outside (K.state sink.old) (E.state entropy.old))
-        (outside (K.state sink.new) (E.state entropy.new))) }
+        (outside (K.state sink.old) [] (E.state entropy.old))
+        (outside (K.state sink.new) [] (E.state entropy.new))) }
     ensures stopped { IfErr result (λ fault. (output : List ℕ) → Stopped (going talk.entry.session.keyset talk.entry.line.items talk.entry.count)
         (finished (⟦<Managers as KeyTable>⟧.table talk.entry.session.managers.now) true) InLine output
-        fault (outside (K.state sink.old) (E.state entropy.old))
-        (outside (K.state sink.new) (E.state entropy.new))) }
+        fault (outside (K.state sink.old) [] (E.state entropy.old))
+        (outside (K.state sink.new) [] (E.state entropy.new))) }
 {
     let mut talk = talk;
     if talk.line.is_empty() {
         return Ok(talk.session.keyset);
     }
     match take_line(alloc, &mut talk, sink, entropy) {
+        Ok(()) => {}
+        Err(fault) => return Err(fault),
+    }
+    match flush(&mut talk.replies, sink) {
         Ok(()) => Ok(talk.session.keyset),
-        Err(fault) => Err(fault),
+        Err(_) => Err(TalkFault::WriteFault),
     }
 }

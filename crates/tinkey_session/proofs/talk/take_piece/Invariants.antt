@@ -14,7 +14,7 @@ invariant-loop-i g l = record {
   less : progress l.fn.talk.count l.fn.talk.line.items + l.i ≤ progress l.talk.count l.talk.line.items;
   fed : (output : List ℕ) → Fed (going l.fn.talk.session.keyset l.fn.talk.line.items l.fn.talk.count) (point l.talk.session.keyset l.talk.line.items l.talk.count)
       (λ x. over ((ghosts g.dyn-1 g.dyn-2 g.dyn-3 g.dyn-4).table l.fn.talk.session.managers.now) x (take l.i l.piece)) output
-      (outside (g.K.Sink.state l.fn.sink) (g.E.Entropy.state l.fn.entropy)) (outside (g.K.Sink.state l.sink) (g.E.Entropy.state l.entropy));
+      (outside (g.K.Sink.state l.fn.sink) l.fn.talk.replies.items (g.E.Entropy.state l.fn.entropy)) (outside (g.K.Sink.state l.sink) l.talk.replies.items (g.E.Entropy.state l.entropy));
 }
 
 abbrev pub decreases-loop-i : goal.decreases-loop-i

@@ -7,6 +7,7 @@ pub loop-n-init : goal.loop-n-init
 loop-n-init g c = record {
   kept = if_none _ _ c.new.ensures.kept;
   few = omega arith;
+  none = c.new-3.ensures.items;
   goes_on = nothing_goes_on (g.S.Source.state c.args.source.now);
   room = omega arith;
   table = c.new.ensures.table;
@@ -24,12 +25,13 @@ pub loop-n-preserved : goal.loop-n-preserved
 loop-n-preserved g c = record {
   kept = c.in-Ok-take_piece.ensures.kept;
   few = c.in-Ok-take_piece.ensures.few;
+  none = c.in-Ok-take_piece.ensures.none;
   goes_on = goes_on_more (g.S.Source.state c.args.source.now) (g.S.Source.state c.loop-n.source) (g.S.Source.state c.read.new.self) c.loop-n.invariant.goes_on (read_goes_on (g.S.Source.state c.loop-n.source) (g.S.Source.state c.read.new.self) c.read.ensures.late (c.in-Ok.ensures.goes_on (omega (arith, c.if-n-eq0.false))));
   room = omega arith;
   table = c.in-Ok-take_piece.ensures.table ∙ c.loop-n.invariant.table;
-  is = talking_more _ _ _ _ _ (take c.in-Ok.n c.read.new.out) _ _ _ c.loop-n.invariant.table c.loop-n.invariant.is c.in-Ok.ensures.gives c.in-Ok.ensures.no_fault c.in-Ok-take_piece.ensures.fed;
+  is = talking_more _ _ _ _ _ (take c.in-Ok.n c.read.new.out) _ _ _ c.loop-n.invariant.table c.loop-n.invariant.is c.in-Ok.ensures.gives c.in-Ok.ensures.no_fault (rw (c.loop-n.invariant.none, c.in-Ok-take_piece.ensures.none) at c.in-Ok-take_piece.ensures.fed);
 }
 
 pub returns-in-Err-take_piece-clause-talks : goal.returns-in-Err-take_piece-clause-talks
 returns-in-Err-take_piece-clause-talks g c =
-    ends_stopped _ _ _ _ (take c.in-Ok.n c.read.new.out) _ _ _ _ c.loop-n.invariant.table c.loop-n.invariant.is c.in-Ok.ensures.gives c.in-Ok.ensures.no_fault c.in-Err-take_piece.ensures.stopped
+    ends_stopped _ _ _ _ (take c.in-Ok.n c.read.new.out) _ _ _ _ c.loop-n.invariant.table c.loop-n.invariant.is c.in-Ok.ensures.gives c.in-Ok.ensures.no_fault (rw c.loop-n.invariant.none at c.in-Err-take_piece.ensures.stopped)

@@ -1,4 +1,4 @@
-use Rattle.std.proofs.Common.{◌≡◌, ◌<◌, ◌≤◌, ◌-◌, length, IfSome}
+use Rattle.std.proofs.Common.{◌≡◌, ◌<◌, ◌≤◌, ◌-◌, [], length, IfSome}
 use Rattle.tink_spec.specs.Outside.{GoesOn}
 use Rattle.managers.specs.contracts.table.ManagersKeyTable.TheImpl.{ghosts}
 use Rattle.tinkey_session.proofs.EndLemmas.{Talking}
@@ -12,6 +12,7 @@ abbrev pub invariant-loop-n : goal.invariant-loop-n
 invariant-loop-n g l = record {
   kept : IfSome l.talk.session.kept (λ h. IsKept ((ghosts g.dyn-1 g.dyn-2 g.dyn-3 g.dyn-4).table l.talk.session.managers.now) ((ghosts g.dyn-1 g.dyn-2 g.dyn-3 g.dyn-4).table h.managers.now) h.primitive l.talk.session.keyset h.held);
   few : l.talk.count ≤ count_limit;
+  none : l.talk.replies.items ≡ [];
   goes_on : GoesOn (g.S.Source.state l.fn.source) (g.S.Source.state l.source);
   room : 0 < length l.buffer;
   table : (ghosts g.dyn-1 g.dyn-2 g.dyn-3 g.dyn-4).table l.talk.session.managers.now ≡ (ghosts g.dyn-1 g.dyn-2 g.dyn-3 g.dyn-4).table l.fn.managers;

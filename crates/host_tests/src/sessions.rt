@@ -1,0 +1,167 @@
+//! Sessions over random bytes that are drawn ahead, over a device in memory: each line has the bytes behind
+//! those of the line before it, and replies are written together.
+
+use crate::ahead::{Calls, failing};
+use crate::codes::GCM;
+use crate::metered::{WHOLE, counts};
+use std::alloc::Global;
+use std::process::ExitCode;
+use std::test::Fail;
+use test_words::{bytes_of, counting, same_bytes};
+use tink_base::{MemSink, MemSource, MemStore};
+use tinkey_host::obey;
+
+/// How many lines a session has, each of which adds a key.
+const LINES: usize = 60;
+
+/// How many random bytes a line draws: an id, and a key of AES128_GCM.
+const DRAWN: usize = 20;
+
+/// The words of a session.
+const WORDS: [&str; 5] = ["session", "--keyset", "k", "--keyset-format", "binary"];
+
+/// The reads of the device and the writes: how many bytes a read gives at the most, and the numbers of the
+/// read and the write that fail, from 1; none does where the number is 0.
+#[derive(Clone, Copy)]
+struct Objects {
+    piece: usize,
+    read: usize,
+    write: u64,
+}
+
+/// What came of a session: its exit code, what it wrote, and how often the device was read.
+#[derive(Drop)]
+struct Told {
+    code: ExitCode,
+    written: Vec<u8>,
+    reads: usize,
+}
+
+fn words_of(alloc: Global) -> Result<Vec<String>, Fail> {
+    let mut words = Vec::new(alloc);
+    for word in WORDS {
+        words.push(String::from_str(alloc, word)?)?;
+    }
+    Ok(words)
+}
+
+/// A session over a device of these bytes. All lines come by one read of the input.
+fn answered(alloc: Global, bytes: &[u8], objects: Objects) -> Result<Told, Fail> {
+    let calls = Calls::new();
+    let mut entropy = failing(bytes, objects.piece, objects.read, &calls);
+    let input = b"add AES128_GCM\n".repeat(alloc, LINES)?;
+    let mut source = MemSource::new(input, 4_096, Vec::new(alloc));
+    let fails = vec![in alloc; objects.write; 1]?;
+    let mut sink = MemSink::new(alloc, 4_096, 4_096, fails)?;
+    let mut diag = MemSink::new(alloc, 256, 256, Vec::new(alloc))?;
+    let mut store = MemStore::new(alloc, Vec::new(alloc));
+    store.put("k", &bytes_of(alloc, GCM)?)?;
+    let code = obey(
+        alloc,
+        &words_of(alloc)?,
+        &mut source,
+        &mut sink,
+        &mut diag,
+        &mut entropy,
+        &mut store,
+    );
+    Ok(Told {
+        code,
+        written: sink.written().to_vec(alloc)?,
+        reads: calls.reads.get(),
+    })
+}
+
+/// The replies to so many lines over these random bytes: the id of a line is the first four of its bytes,
+/// the highest first.
+fn replies(alloc: Global, bytes: &[u8], count: usize) -> Result<Vec<u8>, Fail> {
+    let mut all = Vec::new(alloc);
+    for line in bytes.chunks(DRAWN).take(count) {
+        let id = line.first_chunk::<4>().ok_or("four bytes of an id")?;
+        let text = format!(in alloc; "ok {}\n", u32::from_be_bytes(*id))?;
+        all.extend_from_slice(text.as_bytes())?;
+    }
+    Ok(all)
+}
+
+/// Holds a session to an exit code and the replies to so many lines. Gives how often the device was read.
+fn holds(
+    alloc: Global,
+    bytes: &[u8],
+    shows: &str,
+    objects: Objects,
+    code: u8,
+    count: usize,
+) -> Result<usize, Fail> {
+    let told = answered(alloc, bytes, objects)?;
+    if told.code != ExitCode::from(code) {
+        return Err(Fail::new(format_args!("{shows}: another exit code than {code}")));
+    }
+    let want = replies(alloc, bytes, count)?;
+    same_bytes(alloc, shows, "the replies", &want, &told.written)?;
+    Ok(told.reads)
+}
+
+/// Holds sessions whose device gives so many bytes at once, with each read of the device failing in turn, and
+/// each write. A line whose bytes aren't all held has the replies before it written.
+fn assert_each_failing(
+    alloc: Global,
+    bytes: &[u8],
+    shows: &str,
+    objects: Objects,
+    block: usize,
+    calls: usize,
+) -> Result<(), Fail> {
+    let reads = holds(alloc, bytes, shows, objects, 0, LINES)?;
+    counts(shows, reads, calls)?;
+    for before in 0..calls {
+        let count = before.saturating_mul(block) / DRAWN;
+        let number = before.saturating_add(1);
+        let read = Objects {
+            read: number,
+            ..objects
+        };
+        counts(shows, holds(alloc, bytes, shows, read, 5, count)?, number)?;
+        let write = Objects {
+            write: number as u64,
+            ..objects
+        };
+        holds(alloc, bytes, shows, write, 5, count)?;
+    }
+    let behind = calls.saturating_add(1);
+    let read = Objects {
+        read: behind,
+        ..objects
+    };
+    holds(alloc, bytes, shows, read, 0, LINES)?;
+    let write = Objects {
+        write: behind as u64,
+        ..objects
+    };
+    holds(alloc, bytes, shows, write, 0, LINES)?;
+    Ok(())
+}
+
+// What a read of the device gives at the most, how many bytes are drawn ahead by it, and how many reads there
+// are. 60 lines draw 1,200 bytes. The read behind `n` blocks comes in the line that isn't whole in them, behind
+// as many lines as are. The replies to these are written then, and the last ones at the end, so there are as
+// many writes as reads.
+const ROWS: [(&str, usize, usize, usize); 3] = [
+    ("as many at once as are asked for", WHOLE, 1_024, 2),
+    ("pieces that end within a line", 90, 90, 14),
+    ("pieces of ten lines", 200, 200, 6),
+];
+
+#[test]
+fn writes_replies_before_it_draws_anew(rt: HostRuntime) -> Result<(), Fail> {
+    let bytes = counting(rt.alloc(), 4_096)?;
+    for (shows, piece, block, calls) in ROWS {
+        let objects = Objects {
+            piece,
+            read: 0,
+            write: 0,
+        };
+        assert_each_failing(rt.alloc(), &bytes, shows, objects, block, calls)?;
+    }
+    Ok(())
+}
