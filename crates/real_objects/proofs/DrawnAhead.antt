@@ -1,6 +1,7 @@
 -- Bytes that are held in a part of an array, and handed out from its front.
-use Rattle.std.proofs.Common.{◌≡◌, ℕ, ◌+◌, ◌-◌, ◌≤◌, List, ◌++◌, arith, length, take, drop, replicate, slice_range, sym, ap, ◌∙◌}
-use Rattle.std.proofs.lemmas.List.{replicate-append-replicate, take_at, drop-drop}
+use Rattle.std.proofs.Common.{◌≡◌, ℕ, ◌+◌, ◌-◌, ◌≤◌, List, ◌++◌, arith, length, take, drop, replicate, slice_range, Option, None, Some, append_assoc, sym, ap, ◌∙◌}
+use Rattle.std.specs.Io.KnownBytes.{Consumes, prepend_known}
+use Rattle.std.proofs.lemmas.List.{replicate-append-replicate, take_at, take-append-drop, drop-drop, drop-take}
 use Rattle.std.proofs.lemmas.Slice.{take-put_mid, drop-put_mid}
 use borrow.Rule.Slice.PartMut.{put_mid}
 use lib.Seq.{take-add}
@@ -31,3 +32,16 @@ copied_out a n to bytes given rest fits long is = handed_on a n to bytes bytes g
 pub handed_out : (a k n to : ℕ) (bytes over given rest : List ℕ) → a ≤ length bytes → k ≡ n → length over ≡ n → a + n ≤ to → length given ≡ n → given ≡ take n (drop a bytes) → slice_range bytes a to ≡ take n (given ++ rest) ++ slice_range (put_mid a k bytes over) (a + n) to
 handed_out a k n to bytes over given rest within room size fits long is =
     handed_on a n to bytes (put_mid a k bytes over) given rest fits long is (drop-put_mid a k bytes over (a + n) (omega (arith, room)) within (omega (arith, room, size)) ∙ sym (drop-drop n a bytes))
+
+-- what is held once the front was let go
+pub let_go : (a k n to : ℕ) (bytes over : List ℕ) → a ≤ length bytes → k ≡ n → length over ≡ n → a + n ≤ to → slice_range (put_mid a k bytes over) (a + n) to ≡ drop n (slice_range bytes a to)
+let_go a k n to bytes over within room size fits =
+    let whole : n + (to - (a + n)) ≡ to - a = omega (arith, fits) in
+    ap (take (to - (a + n))) (drop-put_mid a k bytes over (a + n) (omega (arith, room)) within (omega (arith, room, size)) ∙ sym (drop-drop n a bytes))
+    ∙ sym (drop-take n (to - (a + n)) (drop a bytes))
+    ∙ ap (λ m. drop n (take m (drop a bytes))) whole
+
+-- its front is gone, of what is held and what is behind it
+pub front_gone : (n : ℕ) (held : List ℕ) (behind : Option (List ℕ)) → Consumes (prepend_known held behind) (prepend_known (drop n held) behind) (take n held)
+front_gone n held None = tt
+front_gone n held (Some rest) = ap (λ l. l ++ rest) (sym (take-append-drop n held)) ∙ append_assoc (take n held) (drop n held) rest

@@ -1,5 +1,5 @@
 -- A device that is opened at the first fill and kept, and whose bytes are drawn ahead.
-use Rattle.std.specs.Prelude.{◌≤◌, ℕ, List, length, Option, Some, None}
+use Rattle.std.specs.Prelude.{◌≤◌, ℕ, List, [], length, Option, Some, None}
 use Rattle.std.specs.Io.KnownBytes.{Consumes, prepend_known}
 use Rattle.real_objects.specs.declared.ahead.Ahead.{Ahead}
 use Rattle.real_objects.specs.declared.entropy.FileEntropy.{FileEntropy}
@@ -15,6 +15,10 @@ device_left given remaining entropy = elim entropy.device [ None ↦ given entro
 -- the bytes that were drawn ahead, once the device is open
 abbrev pub drawn_ahead : {O D : Type 0} → FileEntropy O D → Option (List ℕ)
 drawn_ahead entropy = elim entropy.device [ None ↦ None | Some ahead ↦ Some ahead.held ]
+
+-- the bytes that are held: those that were drawn ahead, and none before the device is open
+abbrev pub held_ahead : {O D : Type 0} → FileEntropy O D → List ℕ
+held_ahead entropy = elim entropy.device [ None ↦ [] | Some ahead ↦ ahead.held ]
 
 -- some of the bytes to come are gone, at most so many
 pub record Skips (old new : Option (List ℕ)) (most : ℕ) : Type 0 where

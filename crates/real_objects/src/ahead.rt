@@ -1,6 +1,6 @@
 //! A device whose bytes are drawn ahead, so that many small draws cost one read of it.
 
-ghost use Rattle.std.specs.Prelude.{◌≡◌, ◌<◌, ◌≤◌, [], ◌++◌, length, take, min, true, false, IsOk, OnOk, OnErr};
+ghost use Rattle.std.specs.Prelude.{◌≡◌, ◌<◌, ◌≤◌, [], ◌++◌, length, take, drop, min, true, false, IsOk, OnOk, OnErr};
 ghost use Rattle.std.specs.Io.KnownBytes.{Consumes, IsAtEnd, Keeps};
 ghost use Rattle.real_objects.specs.Device.{ahead_left, Skips};
 
@@ -86,6 +86,23 @@ impl Held {
         self.from = end;
         n
     }
+
+    /// The bytes.
+    fn bytes(&self) -> &[u8]
+        ensures { result.now ≡ self.now }
+    {
+        &self.bytes[self.from..self.to]
+    }
+
+    /// Lets so many bytes go from the front, which are overwritten with zeros.
+    fn skip(&mut self, count: usize)
+        requires within { count ≤ length self.old }
+        ensures { self.new ≡ drop count self.old }
+    {
+        let end = self.from + count;
+        self.bytes[self.from..end].fill(0);
+        self.from += count;
+    }
 }
 
 /// A device and the bytes that were drawn ahead of it.
@@ -117,6 +134,22 @@ impl<R: Read> Ahead<R> {
     {
         let n = self.held.hand_out(out);
         fill_from(self, &mut out[n..])
+    }
+
+    /// The bytes that were drawn ahead.
+    pub(crate) fn held(&self) -> &[u8]
+        ensures { result.now ≡ self.now.held }
+    {
+        self.held.bytes()
+    }
+
+    /// Lets so many go of the bytes that were drawn ahead. The device isn't called.
+    pub(crate) fn skip(&mut self, count: usize)
+        requires within { count ≤ length self.old.held }
+        ensures { Consumes (ahead_left R.remaining self.old)
+            (ahead_left R.remaining self.new) (take count self.old.held) }
+    {
+        self.held.skip(count);
     }
 }
 

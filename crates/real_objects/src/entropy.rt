@@ -4,13 +4,14 @@
 //! The entropy tells no bytes of its own and isn't steady; the clauses of what fills a slice speak of the
 //! bytes of the device, where it knows them.
 
-ghost use Rattle.std.specs.Prelude.{◌≡◌, ◌≤◌, ℕ, List, [], Option, None, length, IfOk, IfSome, IsOk, OnOk, OnErr};
+ghost use Rattle.std.specs.Prelude.{◌≡◌, ◌≤◌, ℕ, List, [], Option, None, length, take, IfOk, IfSome, IsOk, OnOk, OnErr};
 ghost use Rattle.std.specs.Io.KnownBytes.{Consumes, Keeps};
 ghost use Rattle.tink_spec.specs.Outside.{Drew, RanShort, RoseOnce, Stood};
 ghost use Rattle.real_objects.specs.Streams.{untold_entropy};
-ghost use Rattle.real_objects.specs.Device.{device_left, drawn_ahead, Skips};
+ghost use Rattle.real_objects.specs.Device.{device_left, drawn_ahead, held_ahead, Skips};
 
 use crate::ahead::Ahead;
+use lookahead::Lookahead;
 use std::fs::{self, File, Metadata};
 use std::io::{self, ErrorKind, Read};
 use std::os::unix::fs::{FileTypeExt, MetadataExt};
@@ -153,6 +154,35 @@ impl<O: Opens> Entropy for FileEntropy<O> {
                 self.faults = self.faults.saturating_add(1);
                 Err(Failed)
             }
+        }
+    }
+}
+
+impl<O: Opens> Lookahead for FileEntropy<O> {
+    ghost held = { λ s. held_ahead s };
+
+    /// The bytes that were drawn ahead. Before the first draw there are none.
+    fn held(&self) -> &[u8] {
+        match &self.device {
+            Some(device) => device.held(),
+            None => &[],
+        }
+    }
+
+    /// Uses up so many of them, which are overwritten with zeros. The device isn't called.
+    fn skip(&mut self, count: usize)
+        requires within { count ≤ length (held_ahead self.old) }
+        ensures drew { Drew (untold_entropy self.old.faults) (untold_entropy self.new.faults)
+            (take count (held_ahead self.old)) }
+        ensures stood { Stood self.old.faults self.new.faults }
+
+        // What goes out of the device.
+        ensures skipped { Consumes (device_left O.given O.Device.remaining self.old)
+            (device_left O.given O.Device.remaining self.new) (take count (held_ahead self.old)) }
+    {
+        match &mut self.device {
+            Some(device) => device.skip(count),
+            None => {}
         }
     }
 }

@@ -1,0 +1,23 @@
+//! An entropy that holds bytes which come next.
+
+ghost use Rattle.std.specs.Prelude.{◌≡◌, ◌≤◌, ℕ, List, length, take};
+ghost use Rattle.tink_spec.specs.Outside.{Drew, Stood};
+
+use tink_base::Entropy;
+
+/// An entropy that may hold bytes which come next. To use those that it holds can't fail.
+pub trait Lookahead: Entropy {
+    /// The bytes that are held.
+    ghost held: { Self → List ℕ };
+
+    /// The bytes that are held, none of which is used by that.
+    fn held(&self) -> &[u8]
+        ensures { result.now ≡ held self.now };
+
+    /// Draws so many of the bytes that are held, without giving them.
+    fn skip(&mut self, count: usize)
+        requires within { count ≤ length (held self.old) }
+        ensures drew { Drew (Self.state self.old) (Self.state self.new)
+            (take count (held self.old)) }
+        ensures stood { Stood (Self.state self.old).faults (Self.state self.new).faults };
+}
