@@ -35,6 +35,18 @@ impl Read for Metered<'_> {
     }
 }
 
+/// Holds bytes to so many at the front of a device or a stream.
+pub(crate) fn are_first(
+    alloc: Global,
+    shows: &str,
+    bytes: &[u8],
+    size: usize,
+    found: &[u8],
+) -> Result<(), Fail> {
+    let want = bytes.get(..size).unwrap_or_default();
+    same_bytes(alloc, shows, "what was read", want, found)
+}
+
 /// Holds bytes to those of a device or a stream from a place on.
 pub(crate) fn are_those_from(
     alloc: Global,
@@ -48,10 +60,10 @@ pub(crate) fn are_those_from(
     same_bytes(alloc, shows, "what was read", want, found)
 }
 
-/// Holds a number of calls.
+/// Holds a number, as of calls, to the one that is wanted.
 pub(crate) fn counts(shows: &str, found: usize, want: usize) -> Result<(), Fail> {
     if found != want {
-        return Err(Fail::new(format_args!("{shows}: {found} calls, and not {want}")));
+        return Err(Fail::new(format_args!("{shows}: {found}, and not {want}")));
     }
     Ok(())
 }

@@ -1,6 +1,6 @@
 //! Streams that are read ahead, that fail, and that a signal interrupts.
 
-use crate::metered::{Metered, WHOLE, are_those_from, counts};
+use crate::metered::{Metered, WHOLE, are_first, are_those_from, counts};
 use real_objects::{StdSink, StdSource};
 use std::alloc::Global;
 use std::cell::Cell;
@@ -75,6 +75,21 @@ fn writes_on_after_a_signal(rt: HostRuntime) -> Result<(), Fail> {
     )
 }
 
+/// A source over a stream in memory, one of whose reads fails.
+fn source_over<'a>(
+    bytes: &'a [u8],
+    piece: usize,
+    fails: usize,
+    reads: &'a Cell<usize>,
+) -> StdSource<Metered<'a>> {
+    StdSource::new(Metered {
+        left: bytes,
+        piece,
+        fails,
+        reads,
+    })
+}
+
 /// What so many reads into `size` bytes give, one behind another. None of them may fail.
 fn given(
     alloc: Global,
@@ -104,16 +119,23 @@ fn reads(
     let (shows, size, times, want, beneath) = row;
     let bytes = counting(alloc, whole)?;
     let reads = Cell::new(0);
-    let mut source = StdSource::new(Metered {
-        left: &bytes,
-        piece,
-        fails: 0,
-        reads: &reads,
-    });
+    let mut source = source_over(&bytes, piece, 0, &reads);
     let all = given(alloc, &mut source, size, times)?;
-    let first = bytes.get(..want).ok_or("so many bytes")?;
-    same_bytes(alloc, shows, "what was read", first, &all)?;
+    are_first(alloc, shows, &bytes, want, &all)?;
     counts(shows, reads.get(), beneath)
+}
+
+/// Holds reads to each of these rows.
+fn each_reads(
+    alloc: Global,
+    whole: usize,
+    piece: usize,
+    rows: &[(&str, usize, usize, usize, usize)],
+) -> Result<(), Fail> {
+    for row in rows {
+        reads(alloc, whole, piece, *row)?;
+    }
+    Ok(())
 }
 
 // A row has the size of each read, how many there are, how many bytes they give, and how often the stream
@@ -153,16 +175,9 @@ const LONG: [(&str, usize, usize, usize, usize); 9] = [
 
 #[test]
 fn reads_ahead_what_the_stream_gives_at_once(rt: HostRuntime) -> Result<(), Fail> {
-    for row in ONE_BYTE {
-        reads(rt.alloc(), 10, 1, row)?;
-    }
-    for row in AT_ONCE {
-        reads(rt.alloc(), 10_000, WHOLE, row)?;
-    }
-    for row in LONG {
-        reads(rt.alloc(), 40_000, WHOLE, row)?;
-    }
-    Ok(())
+    each_reads(rt.alloc(), 10, 1, &ONE_BYTE)?;
+    each_reads(rt.alloc(), 10_000, WHOLE, &AT_ONCE)?;
+    each_reads(rt.alloc(), 40_000, WHOLE, &LONG)
 }
 
 /// Holds a read of a stream to a fault.
@@ -183,15 +198,9 @@ fn goes_on_behind(
 ) -> Result<(), Fail> {
     let (shows, piece, fault, size, times, before) = row;
     let reads = Cell::new(0);
-    let mut source = StdSource::new(Metered {
-        left: bytes,
-        piece,
-        fails: fault,
-        reads: &reads,
-    });
+    let mut source = source_over(bytes, piece, fault, &reads);
     let first = given(alloc, &mut source, size, times)?;
-    let want = bytes.get(..before).ok_or("so many bytes")?;
-    same_bytes(alloc, shows, "what came first", want, &first)?;
+    are_first(alloc, shows, bytes, before, &first)?;
     fails(alloc, &mut source, size)?;
     counts(shows, reads.get(), fault)?;
     let behind = given(alloc, &mut source, size, 1)?;
@@ -227,8 +236,8 @@ const FAULTS: [(&str, usize, usize, usize, usize, usize); 6] = [
 #[test]
 fn tells_a_fault_behind_all_that_came_before_it(rt: HostRuntime) -> Result<(), Fail> {
     let bytes = counting(rt.alloc(), 40_000)?;
-    for row in FAULTS {
-        goes_on_behind(rt.alloc(), &bytes, row)?;
+    for row in &FAULTS {
+        goes_on_behind(rt.alloc(), &bytes, *row)?;
     }
     Ok(())
 }

@@ -1,11 +1,12 @@
 //! Words of command lines, in memory and of the process.
 
 use crate::listed::in_digits;
+use crate::metered::counts;
 use real_objects::{NoWords, words};
 use std::alloc::Global;
 use std::env;
 use std::test::Fail;
-use test_words::{bytes_of, cell, same_bytes, same_text};
+use test_words::{cell, same_bytes, same_text, unlike};
 
 // The room for a word is 256 bytes at first.
 const TOLD: [&str; 8] = [
@@ -19,24 +20,30 @@ const TOLD: [&str; 8] = [
     "a name that isn't UTF-8 | ff, 61",
 ];
 
-/// Holds words to the bytes of a line, behind the name.
-fn assert_words(alloc: Global, row: &str, line: &str, told: &[String]) -> Result<(), Fail> {
-    for (word, digits) in told.iter().zip(line.split(',').skip(1)) {
-        let bytes = bytes_of(alloc, digits.trim())?;
-        same_bytes(alloc, row, "a word", &bytes, word.as_bytes())?;
+/// The word at this place of a line, or none of its bytes.
+fn word_at(line: &[Vec<u8>], place: usize) -> &[u8] {
+    match line.get(place) {
+        Some(word) => word,
+        None => b"",
+    }
+}
+
+/// Holds words to these, behind the name.
+fn assert_words(alloc: Global, row: &str, line: &[Vec<u8>], told: &[String]) -> Result<(), Fail> {
+    counts(row, told.len().wrapping_add(1), line.len())?;
+    for (place, word) in told.iter().enumerate() {
+        let want = word_at(line, place.wrapping_add(1));
+        same_bytes(alloc, row, "a word", want, word.as_bytes())?;
     }
     Ok(())
 }
 
 fn assert_told(alloc: Global, row: &str) -> Result<(), Fail> {
-    let line = cell(row, 1)?;
-    let Ok(told) = words(&in_digits(alloc, line)?, alloc) else {
-        return Err(Fail::new(format_args!("{row}: no words")));
+    let line = in_digits(alloc, cell(row, 1)?)?;
+    let Ok(told) = words(&line, alloc) else {
+        return Err(unlike(row, "the answer", "words", "none"));
     };
-    if told.len() + 1 != line.split(',').count() {
-        return Err(Fail::new(format_args!("{row}: {} words", told.len())));
-    }
-    assert_words(alloc, row, line, &told)
+    assert_words(alloc, row, &line.words, &told)
 }
 
 #[test]
@@ -87,9 +94,11 @@ fn tells_the_words_of_the_process(rt: HostRuntime) -> Result<(), Fail> {
         return Err("no words")?;
     };
     let count = count_alike(&rt, &told)?;
-    let all = env::args(&rt)?.count();
-    assert_eq!(rt; count, told.len());
-    assert_eq!(rt; count.wrapping_add(1), all);
-    assert!(rt; count > 0, "the test's name is a word");
-    Ok(())
+    counts("the words", count, told.len())?;
+    counts(
+        "with the name",
+        count.wrapping_add(1),
+        env::args(&rt)?.count(),
+    )?;
+    counts("of at least one", count, count.max(1))
 }
