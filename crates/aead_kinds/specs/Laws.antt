@@ -10,17 +10,18 @@ use Rattle.aead_kinds.specs.Gcm.{gcm_open, gcm_seal}
 use Rattle.aead_kinds.specs.declared.aead.AeadKey.{AeadKey}
 use Rattle.aead_kinds.specs.declared.aead.AeadKey.TheVariants.{CtrHmac, Eax, Gcm}
 
--- the tag has at least a byte, and is no longer than what it is cut from
-abbrev pub HasTag : AeadKey → Type 0
-HasTag (Gcm key) = ⊤
-HasTag (Eax key iv_size) = ⊤
-HasTag (CtrHmac aes iv_size hash mac tag_size) = (1 ≤ tag_size) × (tag_size ≤ hash_size hash)
+-- the tag has at least a byte, and is no longer than what it is cut from under this hash function
+abbrev pub HasTag : AeadKey → Hash → Type 0
+HasTag (Gcm key) hash = ⊤
+HasTag (Eax key iv_size) hash = ⊤
+HasTag (CtrHmac aes iv_size keyed tag_size) hash = (1 ≤ tag_size) × (tag_size ≤ hash_size hash)
 
--- under a key of any kind, bytes open to a plaintext exactly where they are its sealing under the IV
--- at their own front
+-- under a key of any kind, and any hash function and key of HMAC, bytes open to a plaintext exactly
+-- where they are its sealing under the IV at their own front
 abbrev pub OpensSealings : Type 0
-OpensSealings = (key : AeadKey) (bytes plain ad : List ℕ) → HasTag key
-    → open_key key bytes ad ≡ Some plain ↔ bytes ≡ seal_of key (take (iv_size_of key) bytes) plain ad
+OpensSealings = (key : AeadKey) (hash : Hash) (mac bytes plain ad : List ℕ) → HasTag key hash
+    → open_key key hash mac bytes ad ≡ Some plain
+    ↔ bytes ≡ seal_of key hash mac (take (iv_size_of key) bytes) plain ad
 
 -- the same of AES-GCM, whose IV has 12 bytes
 abbrev pub GcmOpensSealings : Type 0

@@ -1,15 +1,17 @@
 //! Sealing and opening under a key of any kind.
 
-ghost use Rattle.std.specs.Prelude.{◌≡◌, ◌↔◌, ◌+◌, ◌^◌, ◌≤◌, ◌++◌, drop, length, take, IfOk, IsTrue};
+ghost use Rattle.std.specs.Prelude.{◌≡◌, ◌↔◌, ◌+◌, ◌^◌, ◌≤◌, ◌++◌, ℕ, List, drop, length, take, IfOk, IsTrue};
+ghost use Rattle.tink_base.specs.declared.hash.Hash.{Hash};
 ghost use Rattle.tink_spec.specs.InPlace.{OpensTo};
-ghost use Rattle.aead_kinds.specs.Aead.{IsFit, iv_size_of, open_key, seal_of};
+ghost use Rattle.aead_kinds.specs.Aead.{IsFit, IsUnder, iv_size_of, open_key, seal_of};
 ghost use Rattle.aead_kinds.specs.Gcm.{gcm_open, gcm_seal};
 
 use crate::gcm::{gcm_open_in_place, gcm_seal_in_place};
 use crate::scheme::Scheme;
 use aes_core::Aes;
+use mac_prf::Hmac;
 use std::ops::Range;
-use tink_base::{Hash, NoMemory};
+use tink_base::NoMemory;
 
 /// The bytes of an IV of AES-GCM.
 const GCM_IV: usize = 12;
@@ -17,7 +19,8 @@ const GCM_IV: usize = 12;
 /// The bytes of its tag.
 const TAG: usize = 16;
 
-/// A key of some kind of AEAD, whose AES key is expanded.
+/// A key of some kind of AEAD, with what is made of it for all of its work: the AES key is expanded,
+/// and a key of HMAC is in an `Hmac` that holds no message.
 #[derive(Clone, Copy)]
 pub enum AeadKey<'k> {
     /// AES-GCM (SP 800-38D) with an IV of 12 bytes and a tag of 16.
@@ -30,19 +33,19 @@ pub enum AeadKey<'k> {
         iv_size: usize,
     },
     /// AES-CTR-HMAC by Tink's wire format: counter mode under `aes`, and the first bytes of HMAC
-    /// under `mac`.
+    /// by `mac`.
     CtrHmac {
         aes: &'k Aes,
         iv_size: usize,
-        hash: Hash,
-        mac: &'k [u8],
+        mac: &'k Hmac,
         tag_size: usize,
     },
 }
 
 impl AeadKey<'_> {
     /// Whether the key's sizes are those of its kind: an IV of EAX has 12 or 16 bytes, one of
-    /// AES-CTR-HMAC 12 to 16, its key of HMAC at least 16, and its tag 10 up to a digest's.
+    /// AES-CTR-HMAC 12 to 16, and its tag 10 up to a digest's. How long its key of HMAC was is no
+    /// more to be seen.
     pub fn fits(&self) -> bool
         ensures { IsTrue result ↔ IsFit self.now }
     {
@@ -51,16 +54,11 @@ impl AeadKey<'_> {
             AeadKey::Eax { iv_size, .. } => *iv_size == 12 || *iv_size == 16,
             AeadKey::CtrHmac {
                 iv_size,
-                hash,
                 mac,
                 tag_size,
                 ..
             } => {
-                12 <= *iv_size
-                    && *iv_size <= 16
-                    && 16 <= mac.len()
-                    && 10 <= *tag_size
-                    && *tag_size <= hash.size()
+                12 <= *iv_size && *iv_size <= 16 && 10 <= *tag_size && *tag_size <= mac.tag_size()
             }
         }
     }
@@ -96,27 +94,21 @@ pub fn seal(
     requires room { at + length iv.now ≤ length bytes.items }
     requires plain_bound { length bytes.items ≤ at + length iv.now + 2 ^ 30 }
     requires ad_bound { length ad.now ≤ 2 ^ 30 }
-    ensures { IfOk result (λ v. v.items ≡ take at bytes.items
-        ++ seal_of key.now iv.now (drop (at + length iv.now) bytes.items) ad.now) }
+    ensures { (hash : Hash) (mac : List ℕ) → IsUnder key.now hash mac
+        → IfOk result (λ v. v.items ≡ take at bytes.items
+        ++ seal_of key.now hash mac iv.now (drop (at + length iv.now) bytes.items) ad.now) }
 {
     match key {
         AeadKey::Gcm { key } => gcm_sealed(key, at, bytes, iv, ad),
         AeadKey::Eax { key, .. } => Scheme::Eax { key }.seal(at, bytes, iv, ad),
         AeadKey::CtrHmac {
             aes,
-            hash,
             mac,
             tag_size,
             ..
         } => {
-            let (hash, tag_size) = (*hash, *tag_size);
-            Scheme::CtrHmac {
-                aes,
-                hash,
-                mac,
-                tag_size,
-            }
-            .seal(at, bytes, iv, ad)
+            let tag_size = *tag_size;
+            Scheme::CtrHmac { aes, mac, tag_size }.seal(at, bytes, iv, ad)
         }
     }
 }
@@ -132,7 +124,8 @@ pub fn open(key: &AeadKey<'_>, bytes: &mut [u8], ad: &[u8]) -> Option<Range<usiz
     requires fits { IsFit key.now }
     requires bytes_bound { length bytes.old ≤ 2 ^ 30 + 96 }
     requires ad_bound { length ad.now ≤ 2 ^ 30 }
-    ensures { OpensTo (open_key key.now bytes.old ad.now) bytes.old bytes.new result }
+    ensures { (hash : Hash) (mac : List ℕ) → IsUnder key.now hash mac
+        → OpensTo (open_key key.now hash mac bytes.old ad.now) bytes.old bytes.new result }
 {
     match key {
         AeadKey::Gcm { key } => gcm_opened(key, bytes, ad),
@@ -140,18 +133,11 @@ pub fn open(key: &AeadKey<'_>, bytes: &mut [u8], ad: &[u8]) -> Option<Range<usiz
         AeadKey::CtrHmac {
             aes,
             iv_size,
-            hash,
             mac,
             tag_size,
         } => {
-            let (hash, tag_size) = (*hash, *tag_size);
-            Scheme::CtrHmac {
-                aes,
-                hash,
-                mac,
-                tag_size,
-            }
-            .open(*iv_size, bytes, ad)
+            let tag_size = *tag_size;
+            Scheme::CtrHmac { aes, mac, tag_size }.open(*iv_size, bytes, ad)
         }
     }
 }

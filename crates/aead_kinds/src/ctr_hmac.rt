@@ -2,20 +2,23 @@
 //!
 //! No branch and no place in memory depends on a key or on a byte of text or associated data.
 
-ghost use Rattle.std.specs.Prelude.{◌≡◌, ◌^◌, ◌≤◌, length};
+ghost use Rattle.std.specs.Prelude.{◌≡◌, ◌^◌, ◌≤◌, ℕ, List, [], length};
+ghost use Rattle.mac_prf.specs.HmacState.{hash_of, Holds};
 ghost use Rattle.tink_base.specs.Hash.{hash_size};
+ghost use Rattle.tink_base.specs.declared.hash.Hash.{Hash};
 ghost use Rattle.aead_kinds.specs.CtrHmac.{ctr_hmac_tag, first_counter};
 
 use mac_prf::Hmac;
-use tink_base::Hash;
 
 /// Writes the tag of IV, associated data and ciphertext: as many of its first bytes as `tag` has.
-pub(crate) fn write_tag(hash: Hash, mac: &[u8], iv: &[u8], ad: &[u8], text: &[u8], tag: &mut [u8])
+/// `mac` is under the key of tags, and holds no message.
+pub(crate) fn write_tag(mac: &Hmac, iv: &[u8], ad: &[u8], text: &[u8], tag: &mut [u8])
     requires ad_bound { length ad.now ≤ 2 ^ 30 }
-    requires tag_bound { length tag.old ≤ hash_size hash }
-    ensures { tag.new ≡ ctr_hmac_tag hash mac.now (length tag.old) iv.now ad.now text.now }
+    requires tag_bound { length tag.old ≤ hash_size (hash_of mac.now) }
+    ensures { (hash : Hash) (key : List ℕ) → Holds mac.now hash key []
+        → tag.new ≡ ctr_hmac_tag hash key (length tag.old) iv.now ad.now text.now }
 {
-    let mut hmac = Hmac::new(hash, mac);
+    let mut hmac = mac.copy();
     hmac.update(ad);
     hmac.update(iv);
     hmac.update(text);

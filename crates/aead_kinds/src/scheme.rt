@@ -3,13 +3,15 @@
 ghost use Rattle.std.specs.Prelude.{◌≡◌, ◌↔◌, ◌+◌, ◌^◌, ◌≤◌, ℕ, List, ◌++◌, drop, length, take, IfOk, IsTrue};
 ghost use Rattle.tink_spec.specs.InPlace.{OpensTo};
 ghost use Rattle.aead_kinds.specs.EncryptThenTag.{opened_by, sealed_by};
-ghost use Rattle.aead_kinds.specs.SchemeState.{crypt_under, IsSound, start_under, tag_size_of, tag_under};
+ghost use Rattle.aead_kinds.specs.SchemeState.{crypt_under, IsSound, IsUnder, start_under, tag_size_of, tag_under};
+ghost use Rattle.tink_base.specs.declared.hash.Hash.{Hash};
 
 use crate::{ctr_hmac, eax};
 use aes_core::{Aes, CtrKind};
+use mac_prf::Hmac;
 use mac_prf::blocks::same_bytes;
 use std::ops::Range;
-use tink_base::{Hash, NoMemory};
+use tink_base::NoMemory;
 
 /// The bytes of the longest tag, which is a digest of SHA-512.
 pub(crate) const LONGEST_TAG: usize = 64;
@@ -21,11 +23,10 @@ pub(crate) enum Scheme<'k> {
     Eax {
         key: &'k Aes,
     },
-    /// AES-CTR-HMAC.
+    /// AES-CTR-HMAC, whose HMAC is under its key and holds no message.
     CtrHmac {
         aes: &'k Aes,
-        hash: Hash,
-        mac: &'k [u8],
+        mac: &'k Hmac,
         tag_size: usize,
     },
 }
@@ -45,8 +46,9 @@ impl Scheme<'_> {
         requires room { at + length iv.now ≤ length bytes.items }
         requires plain_bound { length bytes.items ≤ at + length iv.now + 2 ^ 30 }
         requires ad_bound { length ad.now ≤ 2 ^ 30 }
-        ensures { IfOk result (λ v. v.items ≡ take at bytes.items
-            ++ sealed_by (crypt_under self.now) (tag_under self.now) iv.now
+        ensures { (hash : Hash) (mac : List ℕ) → IsUnder self.now hash mac
+            → IfOk result (λ v. v.items ≡ take at bytes.items
+            ++ sealed_by (crypt_under self.now) (tag_under self.now hash mac) iv.now
             (drop (at + length iv.now) bytes.items) ad.now) }
     {
         let mut longest = [0; LONGEST_TAG];
@@ -62,7 +64,8 @@ impl Scheme<'_> {
         requires sound { IsSound self.now }
         requires iv_bound { iv_size ≤ 16 }
         requires ad_bound { length ad.now ≤ 2 ^ 30 }
-        ensures { OpensTo (opened_by (crypt_under self.now) (tag_under self.now) iv_size
+        ensures { (hash : Hash) (mac : List ℕ) → IsUnder self.now hash mac
+            → OpensTo (opened_by (crypt_under self.now) (tag_under self.now hash mac) iv_size
             (tag_size_of self.now) bytes.old ad.now) bytes.old bytes.new result }
     {
         let (len, tag_size) = (bytes.len(), self.tag_size());
@@ -87,8 +90,9 @@ impl Scheme<'_> {
         requires room { at + length iv.now ≤ length bytes.old }
         requires ad_bound { length ad.now ≤ 2 ^ 30 }
         requires tag_size { length tag.old ≡ tag_size_of self.now }
-        ensures { bytes.new ++ tag.new ≡ take at bytes.old
-            ++ sealed_by (crypt_under self.now) (tag_under self.now) iv.now
+        ensures { (hash : Hash) (mac : List ℕ) → IsUnder self.now hash mac
+            → bytes.new ++ tag.new ≡ take at bytes.old
+            ++ sealed_by (crypt_under self.now) (tag_under self.now hash mac) iv.now
             (drop (length iv.now) (drop at bytes.old)) ad.now }
     {
         self.seal_in_place(&mut bytes[at..], iv, ad, tag);
@@ -101,8 +105,9 @@ impl Scheme<'_> {
         requires room { length iv.now ≤ length sealed.old }
         requires ad_bound { length ad.now ≤ 2 ^ 30 }
         requires tag_size { length tag.old ≡ tag_size_of self.now }
-        ensures { sealed.new ++ tag.new
-            ≡ sealed_by (crypt_under self.now) (tag_under self.now) iv.now
+        ensures { (hash : Hash) (mac : List ℕ) → IsUnder self.now hash mac
+            → sealed.new ++ tag.new
+            ≡ sealed_by (crypt_under self.now) (tag_under self.now hash mac) iv.now
             (drop (length iv.now) sealed.old) ad.now }
     {
         let (room, body) = sealed.split_at_mut(iv.len());
@@ -152,13 +157,12 @@ impl Scheme<'_> {
         requires start { start.now ≡ start_under self.now iv.now }
         requires ad_bound { length ad.now ≤ 2 ^ 30 }
         requires tag_size { length tag.old ≡ tag_size_of self.now }
-        ensures { tag.new ≡ tag_under self.now iv.now ad.now text.now }
+        ensures { (hash : Hash) (mac : List ℕ) → IsUnder self.now hash mac
+            → tag.new ≡ tag_under self.now hash mac iv.now ad.now text.now }
     {
         match self {
             Scheme::Eax { key } => tag.copy_from_slice(&eax::tag_of(key, start, ad, text)),
-            Scheme::CtrHmac { hash, mac, .. } => {
-                ctr_hmac::write_tag(*hash, mac, iv, ad, text, tag);
-            }
+            Scheme::CtrHmac { mac, .. } => ctr_hmac::write_tag(mac, iv, ad, text, tag),
         }
     }
 
@@ -168,7 +172,8 @@ impl Scheme<'_> {
         requires start { start.now ≡ start_under self.now iv.now }
         requires ad_bound { length ad.now ≤ 2 ^ 30 }
         requires tag_size { length tag.now ≡ tag_size_of self.now }
-        ensures { IsTrue result ↔ (tag_under self.now iv.now ad.now text.now ≡ tag.now) }
+        ensures { (hash : Hash) (mac : List ℕ) → IsUnder self.now hash mac
+            → IsTrue result ↔ (tag_under self.now hash mac iv.now ad.now text.now ≡ tag.now) }
     {
         let mut longest = [0; LONGEST_TAG];
         let anew = &mut longest[..tag.len()];

@@ -1,6 +1,7 @@
 //! HMAC against printed and independent tags, by the calls that other crates make.
 
 ghost use Rattle.std.specs.Prelude.{◌<◌, ◌≤◌, length};
+ghost use Rattle.mac_prf.specs.HmacState.{hash_of};
 ghost use Rattle.tink_base.specs.Hash.{hash_size};
 
 mod cmac;
@@ -80,12 +81,13 @@ const CUTS: [(usize, &str); 4] = [
     (200, "the tag in pieces of 200 bytes"),
 ];
 
-// The first bytes of the tag of a message that comes in pieces of `cut` bytes.
-fn tag_in_pieces(hash: Hash, key: &[u8], message: &[u8], cut: usize, tag: &mut [u8])
+// The first bytes of the tag of a message that comes in pieces of `cut` bytes, by a copy of what is
+// kept under the key.
+fn tag_in_pieces(kept: &Hmac, message: &[u8], cut: usize, tag: &mut [u8])
     requires positive { 0 < cut }
-    requires fits { length tag.old ≤ hash_size hash }
+    requires fits { length tag.old ≤ hash_size (hash_of kept.now) }
 {
-    let mut hmac = Hmac::new(hash, key);
+    let mut hmac = kept.copy();
     for piece in message.chunks(cut) {
         hmac.update(piece);
     }
@@ -101,9 +103,10 @@ fn assert_row(alloc: Global, row: &str) -> Result<(), Fail> {
     if want.len() > hash.size() {
         return Err("a tag".into());
     }
+    let kept = Hmac::new(hash, &key);
     for (cut, part) in CUTS {
         let mut tag = vec![in alloc; 0_u8; want.len()]?;
-        tag_in_pieces(hash, &key, &message, cut, &mut tag);
+        tag_in_pieces(&kept, &message, cut, &mut tag);
         same_bytes(alloc, &shows, part, &want, &tag)?;
     }
     Ok(())

@@ -7,9 +7,11 @@ use crate::sealing::{
 };
 use aead_kinds::AeadKey;
 use aes_core::Aes;
+use mac_prf::Hmac;
 use std::alloc::Global;
 use std::test::Fail;
 use test_words::{cell, hash_named, number_in};
+use tink_base::Hash;
 
 // A row of a table has what it shows, the kind (GCM, EAX, or the hash function of HMAC), the AES
 // key, HMAC's key, the sizes of IV and tag, the associated data, IV, ciphertext and tag as one, and
@@ -84,8 +86,19 @@ a counter that begins at its last value|SHA-1|000102030405060708090a0b0c0d0e0f|0
 an IV of 12 bytes, a whole digest|SHA-384|000102030405060708090a0b0c0d0e0f101112131415161718191a1b1c1d1e1f|808182838485868788898a8b8c8d8e8f909192939495969798999a9b9c9d9e9f|12|48|000102|f0f1f2f3f4f5f6f7f8f9fafbe2d8c1ad20a40086f4d43ce8f14748bb2bf4c8f7578609394ad573634f2a053668a18804a5b8d76ec77b4dd266d251305555ae2e17ae9ca2efd19fa28a75a0f372|4142434445464748494a4b4c4d4e4f5051
 an IV of 13 bytes, a whole block|SHA-256|000102030405060708090a0b0c0d0e0f|808182838485868788898a8b8c8d8e8f909192939495969798999a9b9c9d9e9fa0a1a2a3a4a5a6a7a8a9aaabacadaeafb0b1b2b3b4b5b6b7b8b9babbbcbdbebfc0|13|16|000102030405060708090a0b0c0d0e0f101112131415161718191a1b1c1d1e1f20|f0f1f2f3f4f5f6f7f8f9fafbfcdb852b843fbdbf0e60ad311cc1cc69bad113227fd7f97a8d2fb9ab8ac2168be6|4142434445464748494a4b4c4d4e4f50";
 
-// The key of a row, over those of its two cells.
-fn key_of<'a>(row: &str, aes: &'a Aes, mac: &'a [u8]) -> Result<AeadKey<'a>, Fail> {
+// HMAC under the key of a row. Of a kind that has no hash function it isn't used.
+fn hmac_of(alloc: Global, row: &str) -> Result<Hmac, Fail> {
+    let kind = cell(row, 1)?;
+    let hash = if kind == "GCM" || kind == "EAX" {
+        Hash::Sha256
+    } else {
+        hash_named(kind)?
+    };
+    Ok(Hmac::new(hash, &bytes_in(alloc, row, 3)?))
+}
+
+// The key of a row, over what is made of those of its two cells.
+fn key_of<'a>(row: &str, aes: &'a Aes, mac: &'a Hmac) -> Result<AeadKey<'a>, Fail> {
     let kind = cell(row, 1)?;
     let iv_size = number_in(row, 4)?;
     let tag_size = number_in(row, 5)?;
@@ -98,7 +111,6 @@ fn key_of<'a>(row: &str, aes: &'a Aes, mac: &'a [u8]) -> Result<AeadKey<'a>, Fai
     Ok(AeadKey::CtrHmac {
         aes,
         iv_size,
-        hash: hash_named(kind)?,
         mac,
         tag_size,
     })
@@ -144,7 +156,7 @@ fn assert_sealing(
 fn assert_row(alloc: Global, row: &str) -> Result<(), Fail> {
     let shows = &title(alloc, row)?;
     let aes = Aes::new(&bytes_in(alloc, row, 2)?)?;
-    let mac = bytes_in(alloc, row, 3)?;
+    let mac = hmac_of(alloc, row)?;
     let key = key_of(row, &aes, &mac)?;
     let bytes = bytes_in(alloc, row, 7)?;
     if cell(row, 8)? != "refused" {

@@ -131,11 +131,6 @@ block-next hash prk info i =
     let next : i + 1 ≡ suc i = omega arith in
     rw next refl
 
-pub length-next : (hash : Hash) (prk info : List ℕ) (i : ℕ) →
-    length (blocks hash prk info (i + 1)) ≡ length (blocks hash prk info i) + hash_size hash
-length-next hash prk info i =
-    omega (arith, length-blocks hash prk info i, length-blocks hash prk info (i + 1))
-
 -- after the first i blocks, the front of the next one
 pub next_part : (hash : Hash) (prk info old : List ℕ) (i part : ℕ) →
     blocks hash prk info i

@@ -1,8 +1,9 @@
 //! HKDF (RFC 5869): many bytes for keys out of one secret.
 
-ghost use Rattle.std.specs.Prelude.{◌≡◌, ◌↔◌, ◌*◌, ◌<◌, ◌≤◌, [], ◌∷◌, ◌++◌, length, take, IsErr, OnErr, OnOk};
+ghost use Rattle.std.specs.Prelude.{◌≡◌, ◌↔◌, ◌*◌, ◌<◌, ◌≤◌, ℕ, List, [], ◌∷◌, ◌++◌, length, take, IsErr, OnErr, OnOk};
 ghost use Rattle.tink_base.specs.Hash.{hash_size};
 ghost use Rattle.mac_prf.specs.Hmac.{hmac};
+ghost use Rattle.mac_prf.specs.HmacState.{hash_of, Holds};
 ghost use Rattle.mac_prf.specs.Hkdf.{expand as expanded, extract as extracted, hkdf as derived};
 
 use crate::hasher::LONGEST_DIGEST;
@@ -26,18 +27,43 @@ pub fn hkdf(hash: Hash, ikm: &[u8], salt: &[u8], info: &[u8], out: &mut [u8]) ->
     ensures too_long { IsErr result ↔ (255 * hash_size hash < length out.old) }
     ensures kept { OnErr result (out.new ≡ out.old) }
 {
-    if out.len() > 255 * hash.size() {
-        return Err(TooLong);
-    }
+    hkdf_expand(&hkdf_extract(hash, ikm, salt), info, out)
+}
+
+/// PRK, extracted from the secret `ikm` under `salt` (RFC 5869, 2.2): the HMAC under it, which holds no
+/// message, for `hkdf_expand`.
+///
+/// Both may have any length, also none, as for `hkdf`. No memory is taken.
+pub fn hkdf_extract(hash: Hash, ikm: &[u8], salt: &[u8]) -> Hmac
+    ensures holds { Holds result hash (extracted hash salt.now ikm.now) [] }
+    ensures under { hash_of result ≡ hash }
+{
     let mut longest = [0; LONGEST_DIGEST];
     let prk = &mut longest[..hash.size()];
-    extract(hash, salt, ikm, prk);
-    expand(hash, prk, info, out);
+    write_extracted(hash, salt, ikm, prk);
+    Hmac::new(hash, prk)
+}
+
+/// Fills `out` with the bytes that HKDF derives for the use that `info` names (RFC 5869, 2.3), where
+/// `prk` is under the pseudorandom key and holds no message: so `hkdf_extract` gives it.
+///
+/// `TooLong` comes exactly where `out` has more than 255 times the bytes of a digest of its hash
+/// function; `out` is then as before. No memory is taken.
+pub fn hkdf_expand(prk: &Hmac, info: &[u8], out: &mut [u8]) -> Result<(), TooLong>
+    ensures derived { (hash : Hash) (key : List ℕ) → Holds prk.now hash key []
+        → OnOk result (out.new ≡ expanded hash key info.now (length out.old)) }
+    ensures too_long { IsErr result ↔ (255 * hash_size (hash_of prk.now) < length out.old) }
+    ensures kept { OnErr result (out.new ≡ out.old) }
+{
+    if out.len() > 255 * prk.tag_size() {
+        return Err(TooLong);
+    }
+    write_blocks(prk, info, out);
     Ok(())
 }
 
 // PRK, into `prk` (RFC 5869, 2.2).
-fn extract(hash: Hash, salt: &[u8], ikm: &[u8], prk: &mut [u8])
+fn write_extracted(hash: Hash, salt: &[u8], ikm: &[u8], prk: &mut [u8])
     requires { length prk.old ≡ hash_size hash }
     ensures { prk.new ≡ extracted hash salt.now ikm.now }
 {
@@ -54,11 +80,12 @@ fn extract(hash: Hash, salt: &[u8], ikm: &[u8], prk: &mut [u8])
 
 // The first bytes of T, all of `out` (RFC 5869, 2.3). Each block but the last stands whole in
 // `out`, so the next one finds it there.
-fn expand(hash: Hash, prk: &[u8], info: &[u8], out: &mut [u8])
-    requires { length out.old ≤ 255 * hash_size hash }
-    ensures { out.new ≡ expanded hash prk.now info.now (length out.old) }
+fn write_blocks(prk: &Hmac, info: &[u8], out: &mut [u8])
+    requires { length out.old ≤ 255 * hash_size (hash_of prk.now) }
+    ensures { (hash : Hash) (key : List ℕ) → Holds prk.now hash key []
+        → out.new ≡ expanded hash key info.now (length out.old) }
 {
-    let size = hash.size();
+    let size = prk.tag_size();
     let mut number = 0;
     let mut written = 0;
     while written < out.len() {
@@ -66,7 +93,6 @@ fn expand(hash: Hash, prk: &[u8], info: &[u8], out: &mut [u8])
         let (done, rest) = out.split_at_mut(written);
         let part = size.min(rest.len());
         write_block(
-            hash,
             prk,
             &done[written.saturating_sub(size)..],
             info,
@@ -78,12 +104,12 @@ fn expand(hash: Hash, prk: &[u8], info: &[u8], out: &mut [u8])
 }
 
 // The first bytes of the block of this number, all of `out` (RFC 5869, 2.3).
-fn write_block(hash: Hash, prk: &[u8], before: &[u8], info: &[u8], number: u8, out: &mut [u8])
-    requires { length out.old ≤ hash_size hash }
-    ensures { out.new ≡ take (length out.old)
-        (hmac hash prk.now (before.now ++ info.now ++ number ∷ [])) }
+fn write_block(prk: &Hmac, before: &[u8], info: &[u8], number: u8, out: &mut [u8])
+    requires { length out.old ≤ hash_size (hash_of prk.now) }
+    ensures { (hash : Hash) (key : List ℕ) → Holds prk.now hash key []
+        → out.new ≡ take (length out.old) (hmac hash key (before.now ++ info.now ++ number ∷ [])) }
 {
-    let mut hmac = Hmac::new(hash, prk);
+    let mut hmac = prk.copy();
     hmac.update(before);
     hmac.update(info);
     hmac.update(&[number]);

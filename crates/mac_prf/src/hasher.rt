@@ -49,6 +49,19 @@ impl Hasher {
         }
     }
 
+    /// A second hasher, which has taken the same message. No memory is taken.
+    pub fn copy(&self) -> Hasher
+        ensures { result ≡ self.now }
+    {
+        match self {
+            Hasher::Sha1(hasher) => Hasher::Sha1(copy_of(hasher)),
+            Hasher::Sha224(hasher) => Hasher::Sha224(copy_of(hasher)),
+            Hasher::Sha256(hasher) => Hasher::Sha256(copy_of(hasher)),
+            Hasher::Sha384(hasher) => Hasher::Sha384(copy_of(hasher)),
+            Hasher::Sha512(hasher) => Hasher::Sha512(copy_of(hasher)),
+        }
+    }
+
     /// The hash function.
     pub fn hash(&self) -> Hash
         ensures { result ≡ hash_under self.now }
@@ -90,5 +103,16 @@ impl Hasher {
             Hasher::Sha384(hasher) => out.copy_from_slice(&hasher.finalize()[..out.len()]),
             Hasher::Sha512(hasher) => out.copy_from_slice(&hasher.finalize()[..out.len()]),
         }
+    }
+}
+
+// The clone of what is always cloned.
+fn copy_of<T: Clone>(hasher: &T) -> T
+    requires { T.is_infallible hasher.now }
+    ensures { T.is_clone hasher.now result }
+{
+    match hasher.clone() {
+        Ok(copy) => copy,
+        Err(_) => unreachable!(),
     }
 }

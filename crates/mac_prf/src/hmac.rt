@@ -14,8 +14,8 @@ const IPAD: u8 = 0x36;
 /// The byte of the outer pad (RFC 2104, 2).
 const OPAD: u8 = 0x5c;
 
-/// HMAC under one key, of a message that comes in pieces: `new`, an `update` for each piece, and
-/// `finish`.
+/// HMAC under one key, of a message that comes in pieces: `new`, or a `copy` of one that is kept, an
+/// `update` for each piece, and `finish`.
 ///
 /// No call takes memory. No running time is promised, nor that a key leaves memory.
 #[derive(Drop)]
@@ -43,6 +43,27 @@ impl Hmac {
             inner: after_pad(hash, block, IPAD),
             outer: after_pad(hash, block, OPAD),
         }
+    }
+
+    /// A second HMAC, under the same key and of the same message. No memory is taken.
+    ///
+    /// One that has a key and no message is kept so, and copied for each message: neither the key nor
+    /// its two pads are hashed again then.
+    pub fn copy(&self) -> Hmac
+        ensures { result ≡ self.now }
+    {
+        Hmac {
+            inner: self.inner.copy(),
+            outer: self.outer.copy(),
+        }
+    }
+
+    /// How many bytes a whole tag has: those of a digest of the hash function.
+    #[tactic(auto, unfolding(crate::specs::HmacState::hash_of))]
+    pub fn tag_size(&self) -> usize
+        ensures { result ≡ hash_size (hash_of self.now) }
+    {
+        self.inner.hash().size()
     }
 
     /// Adds `body` to the message. How a message is cut into pieces doesn't change its tag.

@@ -11,5 +11,5 @@ mod hmac;
 pub mod laws;
 
 pub use cmac::Cmac;
-pub use derive::{TooLong, hkdf};
+pub use derive::{TooLong, hkdf, hkdf_expand, hkdf_extract};
 pub use hmac::Hmac;

@@ -59,16 +59,13 @@ fn seal_under(
         }
         KeyKind::AesCtrHmac {
             iv_size,
-            hash,
-            mac,
             tag_size,
             ..
         } => {
             let under = AeadKey::CtrHmac {
                 aes: key.aes(),
                 iv_size: *iv_size as usize,
-                hash: *hash,
-                mac: mac.as_slice(),
+                mac: key.hmac(),
                 tag_size: *tag_size as usize,
             };
             seal(&under, at, bytes, iv, ad)
@@ -120,16 +117,13 @@ fn open_under(key: &Prepared, bytes: &mut [u8], ad: &[u8]) -> Option<Range<usize
         }
         KeyKind::AesCtrHmac {
             iv_size,
-            hash,
-            mac,
             tag_size,
             ..
         } => {
             let under = AeadKey::CtrHmac {
                 aes: key.aes(),
                 iv_size: *iv_size as usize,
-                hash: *hash,
-                mac: mac.as_slice(),
+                mac: key.hmac(),
                 tag_size: *tag_size as usize,
             };
             open(&under, bytes, ad)

@@ -1,22 +1,24 @@
 //! The first bytes of HMAC and of CMAC, which tags and pseudo-random functions give.
 
-ghost use Rattle.std.specs.Prelude.{◌≡◌, ◌≤◌, length, take};
+ghost use Rattle.std.specs.Prelude.{◌≡◌, ◌≤◌, ℕ, List, [], length, take};
 ghost use Rattle.mac_prf.specs.Cmac.{cmac};
 ghost use Rattle.mac_prf.specs.Hmac.{hmac};
+ghost use Rattle.mac_prf.specs.HmacState.{hash_of, Holds};
 ghost use Rattle.tink_base.specs.Hash.{hash_size};
+ghost use Rattle.tink_base.specs.declared.hash.Hash.{Hash};
 ghost use Rattle.managers.specs.Uses.{tagged};
 
 use aes_core::Aes;
 use mac_prf::{Cmac, Hmac};
-use tink_base::Hash;
 
 /// Writes the first bytes of HMAC, as many as `out` has, of the body and of one byte 0 behind it
-/// where `zero` says so.
-pub(crate) fn write_hmac(hash: Hash, key: &[u8], body: &[u8], zero: bool, out: &mut [u8])
-    requires room { length out.old ≤ hash_size hash }
-    ensures { out.new ≡ take (length out.old) (hmac hash key.now (tagged zero body.now)) }
+/// where `zero` says so. `keyed` is under the key, and holds no message.
+pub(crate) fn write_hmac(keyed: &Hmac, body: &[u8], zero: bool, out: &mut [u8])
+    requires room { length out.old ≤ hash_size (hash_of keyed.now) }
+    ensures { (hash : Hash) (key : List ℕ) → Holds keyed.now hash key []
+        → out.new ≡ take (length out.old) (hmac hash key (tagged zero body.now)) }
 {
-    let mut state = Hmac::new(hash, key);
+    let mut state = keyed.copy();
     state.update(body);
     if zero {
         state.update(&[0]);

@@ -36,7 +36,7 @@ fn write_tag(key: &Prepared, body: &[u8], zero: bool, out: &mut [u8])
     ensures { out.new ≡ tag_of key.now (tagged zero body.now) }
 {
     match key.kind() {
-        KeyKind::Hmac { key, hash, .. } => write_hmac(*hash, key.as_slice(), body, zero, out),
+        KeyKind::Hmac { .. } => write_hmac(key.hmac(), body, zero, out),
         KeyKind::AesCmac { .. } => write_cmac(key.aes(), body, zero, out),
         _ => {}
     }

@@ -2,19 +2,22 @@
 
 ghost use Rattle.std.specs.Prelude.{◌≡◌, ◌⊎◌, length};
 ghost use Rattle.key_msgs.specs.Keys.{IsValid};
-ghost use Rattle.managers.specs.Made.{IsAes, IsSiv, aes_in, made_of, siv_in};
-ghost use Rattle.managers.specs.declared.prepared.Made.TheVariants as mades;
+ghost use Rattle.managers.specs.Made.{IsMadeOf, IsUnder, UsesAes, UsesHmac, UsesSiv, aes_in, siv_in};
 
 use aes_core::Aes;
 use key_msgs::KeyKind;
+use mac_prf::{Hmac, hkdf_extract};
 use siv_daead::SivKey;
 use std::marker::Model;
 
-/// A valid key, with what is made of it once for all of its work: an AES key is expanded (FIPS 197,
-/// 5.2), and of AES-SIV both halves are. Of keys of HMAC and HKDF, and of those for streams, nothing
-/// is made. Contracts see it as the key.
+/// A valid key, with what is made of it once for all of its work. Contracts see it as the key.
 ///
-/// It takes about 600 bytes beside the bytes of the key, so lend it rather than move it.
+/// An AES key is expanded (FIPS 197, 5.2), and of AES-SIV both halves are. Of a key of HMAC both pads
+/// are hashed (RFC 2104, 2), that of AES-CTR-HMAC among them. Of a key of HKDF the pseudorandom key is
+/// extracted (RFC 5869, 2.2), and its pads are hashed. Of keys for streams nothing is made.
+///
+/// It takes about 800 bytes beside the bytes of the key, whatever its kind, so lend it rather than move
+/// it.
 #[derive(Drop)]
 pub struct Prepared {
     kind: KeyKind,
@@ -28,21 +31,24 @@ enum Made {
     Aes(Aes),
     /// Those of both halves of an AES-SIV key.
     Siv(SivKey),
+    /// HMAC under its key, or under the pseudorandom key of HKDF, before any message.
+    Hmac(Hmac),
+    /// The expansion of its AES key, and HMAC under its other key, before any message.
+    CtrHmac(Aes, Hmac),
     /// Nothing: the key is used as it is.
     Nothing,
 }
 
 impl Model for Prepared {
-    ghost use Rattle.std.specs.Prelude.{◌≡◌};
     ghost use Rattle.key_msgs.specs.Keys.{IsValid};
     ghost use Rattle.key_msgs.specs.declared.key.KeyKind.{KeyKind};
-    ghost use Rattle.managers.specs.Made.{made_of};
+    ghost use Rattle.managers.specs.Made.{IsMadeOf};
 
     ghost Value = { KeyKind };
 
     ghost view = { λ p. p.kind };
 
-    ghost invariant = { λ p. IsValid p.kind × (p.made ≡ made_of p.kind) };
+    ghost invariant = { λ p. IsValid p.kind × IsMadeOf p.kind p.made };
 }
 
 impl Prepared {
@@ -65,22 +71,34 @@ impl Prepared {
 
     /// The expansion of its AES key.
     pub(crate) fn aes(&self) -> &Aes
-        requires { IsAes (made_of self.now) }
-        ensures { result.now ≡ aes_in (made_of self.now) }
+        requires { UsesAes self.now }
+        ensures { result.now ≡ aes_in self.now }
     {
         match &self.made {
-            Made::Aes(aes) => aes,
+            Made::Aes(aes) | Made::CtrHmac(aes, _) => aes,
             _ => unreachable!(),
         }
     }
 
     /// The expansion of its AES-SIV key.
     pub(crate) fn siv(&self) -> &SivKey
-        requires { IsSiv (made_of self.now) }
-        ensures { result.now ≡ siv_in (made_of self.now) }
+        requires { UsesSiv self.now }
+        ensures { result.now ≡ siv_in self.now }
     {
         match &self.made {
             Made::Siv(siv) => siv,
+            _ => unreachable!(),
+        }
+    }
+
+    /// HMAC under its key, or under the pseudorandom key of HKDF, before any message: to be copied for
+    /// each.
+    pub(crate) fn hmac(&self) -> &Hmac
+        requires { UsesHmac self.now }
+        ensures { IsUnder self.now result.now }
+    {
+        match &self.made {
+            Made::Hmac(hmac) | Made::CtrHmac(_, hmac) => hmac,
             _ => unreachable!(),
         }
     }
@@ -89,24 +107,32 @@ impl Prepared {
 /// What is made of a valid key.
 fn made_of(kind: &KeyKind) -> Made
     requires valid { IsValid kind.now }
-    ensures { result ≡ made_of kind.now }
+    ensures { IsMadeOf kind.now result }
 {
     match kind {
         KeyKind::AesGcm { key }
         | KeyKind::AesEax { key, .. }
-        | KeyKind::AesCtrHmac { aes: key, .. }
         | KeyKind::AesGcmSiv { key }
         | KeyKind::AesCmac { key, .. }
-        | KeyKind::CmacPrf { key } => expanded(key.as_slice()),
+        | KeyKind::CmacPrf { key } => Made::Aes(expanded(key.as_slice())),
+        KeyKind::AesCtrHmac { aes, hash, mac, .. } => {
+            Made::CtrHmac(expanded(aes.as_slice()), Hmac::new(*hash, mac.as_slice()))
+        }
         KeyKind::AesSiv { key } => Made::Siv(SivKey::new(key.as_slice()).unwrap()),
+        KeyKind::Hmac { key, hash, .. } | KeyKind::HmacPrf { key, hash } => {
+            Made::Hmac(Hmac::new(*hash, key.as_slice()))
+        }
+        KeyKind::HkdfPrf { key, hash, salt } => {
+            Made::Hmac(hkdf_extract(*hash, key.as_slice(), salt.as_slice()))
+        }
         _ => Made::Nothing,
     }
 }
 
 /// The expansion of an AES key.
-fn expanded(key: &[u8]) -> Made
+fn expanded(key: &[u8]) -> Aes
     requires key_size { (length key.now ≡ 16) ⊎ (length key.now ≡ 32) }
-    ensures { result ≡ mades.Aes key.now }
+    ensures { result ≡ key.now }
 {
-    Made::Aes(Aes::new(key).unwrap())
+    Aes::new(key).unwrap()
 }

@@ -11,7 +11,7 @@ use crate::firsts::{write_cmac, write_hmac};
 use crate::reading::read_as;
 use crate::{CheckFault, KeyManager, Prepared, PrfManager};
 use key_msgs::{KeyKind, KeyType};
-use mac_prf::hkdf;
+use mac_prf::hkdf_expand;
 use std::alloc::Global;
 use tink_base::NoMemory;
 
@@ -35,12 +35,12 @@ fn write_derived(key: &Prepared, input: &[u8], out: &mut [u8])
     ensures { out.new ≡ prf_of key.now input.now (length out.old) }
 {
     match key.kind() {
-        KeyKind::HkdfPrf { key, hash, salt } => {
-            if hkdf(*hash, key.as_slice(), salt.as_slice(), input, out).is_err() {
+        KeyKind::HkdfPrf { .. } => {
+            if hkdf_expand(key.hmac(), input, out).is_err() {
                 unreachable!()
             }
         }
-        KeyKind::HmacPrf { key, hash } => write_hmac(*hash, key.as_slice(), input, false, out),
+        KeyKind::HmacPrf { .. } => write_hmac(key.hmac(), input, false, out),
         KeyKind::CmacPrf { .. } => write_cmac(key.aes(), input, false, out),
         _ => {}
     }

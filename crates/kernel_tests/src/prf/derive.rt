@@ -1,7 +1,7 @@
 //! HKDF against the cases of RFC 5869, and of the greatest length.
 
 use crate::rows::bytes_in;
-use mac_prf::hkdf;
+use mac_prf::{hkdf, hkdf_expand, hkdf_extract};
 use std::alloc::Global;
 use std::test::Fail;
 use test_words::{cell, hash_named, same_bytes};
@@ -35,11 +35,21 @@ fn assert_row(alloc: Global, row: &str) -> Result<(), Fail> {
     let salt = bytes_in(alloc, row, 3)?;
     let info = bytes_in(alloc, row, 4)?;
     let want = bytes_in(alloc, row, 5)?;
+    let kept = hkdf_extract(hash, &secret, &salt);
     for (size, part) in SIZES {
         let want = &want[..size.min(want.len())];
         let mut out = vec![in alloc; 0_u8; want.len()]?;
         hkdf(hash, &secret, &salt, &info, &mut out)?;
         same_bytes(alloc, cell(row, 0)?, part, want, &out)?;
+        let mut again = vec![in alloc; 0_u8; want.len()]?;
+        hkdf_expand(&kept, &info, &mut again)?;
+        same_bytes(
+            alloc,
+            cell(row, 0)?,
+            "the same of a key that is kept",
+            want,
+            &again,
+        )?;
     }
     Ok(())
 }

@@ -23,16 +23,16 @@ cut_is c = record {
 }
 
 pub returns-then-len-iv_size : goal.returns-then-len-iv_size
-returns-then-len-iv_size c =
+returns-then-len-iv_size c = λ hash mac under.
     let scheme = c.args.self.now in (
-      short-closed (crypt_under scheme) (tag_under scheme) c.args.iv_size (tag_size_of scheme)
+      short-closed (crypt_under scheme) (tag_under scheme hash mac) c.args.iv_size (tag_size_of scheme)
           c.args.bytes.now c.args.ad.now
           (omega (arith, c.if-len-iv_size.true, c.tag_size-tag_size.ensures.size)),
       refl,
     )
 
 pub returns-then-not-is_tag : goal.returns-then-not-is_tag
-returns-then-not-is_tag c =
+returns-then-not-is_tag c = λ hash mac under.
     let scheme = c.args.self.now in
     let v = c.args.iv_size in
     let t = c.tag_size-tag_size.result in
@@ -44,16 +44,16 @@ returns-then-not-is_tag c =
     let text = c.split_at_mut-body.result.0.now in
     let made = c.split_at_mut-body.result.1.now in
     let cut = cut_is (goal.at.returns-then-not-is_tag c).After-is_tag in (
-      sym (ap (λ m. opened_by (crypt_under scheme) (tag_under scheme) v m bytes ad)
+      sym (ap (λ m. opened_by (crypt_under scheme) (tag_under scheme hash mac) v m bytes ad)
           c.tag_size-tag_size.ensures.size)
-          ∙ cut-closed (crypt_under scheme) (tag_under scheme) v n t bytes ad iv rest text made cut
-          (λ e. false≢true (c.if-not-is_tag.ensures.1 e)),
+          ∙ cut-closed (crypt_under scheme) (tag_under scheme hash mac) v n t bytes ad iv rest text made cut
+          (λ e. false≢true ((c.if-not-is_tag.ensures hash mac under).1 e)),
       ap (λ (l : List ℕ). iv ++ l) (sym c.split_at_mut-body.ensures.value)
           ∙ sym c.split_at_mut-iv.ensures.value,
     )
 
 pub returns : goal.returns
-returns c =
+returns c = λ hash mac under.
     let scheme = c.args.self.now in
     let v = c.args.iv_size in
     let t = c.tag_size-tag_size.result in
@@ -80,9 +80,9 @@ returns c =
         c.split_at_mut-iv.ensures.front_len,
         size,
       ),
-      sym (ap (λ m. opened_by (crypt_under scheme) (tag_under scheme) v m bytes ad)
+      sym (ap (λ m. opened_by (crypt_under scheme) (tag_under scheme hash mac) v m bytes ad)
           c.tag_size-tag_size.ensures.size)
-          ∙ cut-opens (crypt_under scheme) (tag_under scheme) v n t bytes ad iv rest text made cut
-          (c.if-not-is_tag.ensures.0 refl)
+          ∙ cut-opens (crypt_under scheme) (tag_under scheme hash mac) v n t bytes ad iv rest text made cut
+          ((c.if-not-is_tag.ensures hash mac under).0 refl)
           ∙ ap (λ p. Some p) (sym (there ∙ plain)),
     )

@@ -6,7 +6,7 @@ use Rattle.aead_kinds.proofs.scheme.Scheme.seal_in_place.Goals as goal
 
 pub returns : goal.returns
 unfolding sealed_by
-returns c =
+returns c = λ hash mac under.
     let scheme = c.args.self.now in
     let iv = c.args.iv.now in
     let ad = c.args.ad.now in
@@ -17,5 +17,5 @@ returns c =
     let crypted : text ≡ crypt_under scheme iv plain
     = c.crypt.ensures iv c.start-start.ensures ∙ ap (λ (l : List ℕ). crypt_under scheme iv l) body in
     ap (λ (l : List ℕ). (l ++ text) ++ tag) c.copy_from_slice.ensures.after
-    ∙ ap (λ (t : List ℕ). (iv ++ text) ++ t) c.write_tag.ensures
-    ∙ ap (λ (t : List ℕ). (iv ++ t) ++ tag_under scheme iv ad t) crypted
+    ∙ ap (λ (t : List ℕ). (iv ++ text) ++ t) (c.write_tag.ensures hash mac under)
+    ∙ ap (λ (t : List ℕ). (iv ++ t) ++ tag_under scheme hash mac iv ad t) crypted

@@ -5,8 +5,8 @@ use Rattle.mac_prf.specs.Hmac.{hmac}
 use Rattle.mac_prf.specs.Hkdf.{used_salt}
 use Rattle.mac_prf.proofs.HkdfLemmas.{used_salt-empty, used_salt-given}
 use Rattle.mac_prf.proofs.HmacLemmas.{length-hmac}
-use Rattle.mac_prf.proofs.derive.extract.Goals as goal
-use Rattle.mac_prf.proofs.derive.extract.Goals.{then-is_empty, else-is_empty}
+use Rattle.mac_prf.proofs.derive.write_extracted.Goals as goal
+use Rattle.mac_prf.proofs.derive.write_extracted.Goals.{then-is_empty, else-is_empty}
 
 pub returns : goal.returns
 returns c =
