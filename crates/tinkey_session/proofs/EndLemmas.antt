@@ -2,7 +2,7 @@
 use Rattle.std.proofs.Common.{◌≡◌, ◌∙◌, refl, sym, ap, subst, ℕ, true, false, List, [], ◌∷◌, ◌++◌, Result, Ok, Err, IfOk, IfErr, Option, Some, None, IfSome, append-nil}
 use Rattle.keyset_model.specs.Keyset.{Keys}
 use Rattle.managers.specs.Table.{Table}
-use Rattle.tink_spec.proofs.Moves.{drew_more, drew_nothing, gave_more, gave_nothing, took_more, took_nothing}
+use Rattle.tink_spec.proofs.Moves.{drew_more, drew_nothing, gave_more, gave_nothing, took_more}
 use Rattle.tink_spec.specs.Outside.{SourceState, Drew, Gave, IsAtEnd, Rose, Stood, Took, TookPrefix}
 use Rattle.tinkey_session.proofs.FeedLemmas.{IsStart, fed_more, fed_over, rose_later, stopped_more, told_cut, told_nothing, told_took, told_with}
 use Rattle.tinkey_session.specs.Feeding.{Fed, Finished, InLine, InPiece, Outside, Start, Stopped, dry, full, Point, from, outside, past, torn}
