@@ -1,5 +1,5 @@
 -- How much a store has given, of one call of it.
-use Rattle.std.proofs.Common.{arith, ◌≡◌, ◌^◌, ℕ, ◌+◌, ◌-◌, ◌≤◌, refl, subst, sym}
+use Rattle.std.proofs.Common.{arith, ◌≡◌, ◌^◌, ℕ, ◌+◌, ◌-◌, ◌≤◌, subst, sym}
 use Rattle.std.specs.Prelude.{min}
 use Rattle.tink_spec.specs.Files.{StoreState, more_given}
 use Rattle.tinkey_plans.specs.Ends.{GaveWithin}

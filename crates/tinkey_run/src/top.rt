@@ -63,13 +63,13 @@ pub fn run<S: Source, K: Sink, G: Sink, E: Lookahead, D: Store>(
         (world (S.state source.new) (K.state sink.new) (D.state store.new) (E.state entropy.new)) }
 {
     sessions_are_readable();
-    let status = obey(alloc, words, managers, source, sink, entropy, store);
+    let status = do_words(alloc, words, managers, source, sink, entropy, store);
     report(diag, status);
     status
 }
 
 /// Does what the words ask for.
-fn obey<S: Source, K: Sink, E: Lookahead, D: Store>(
+fn do_words<S: Source, K: Sink, E: Lookahead, D: Store>(
     alloc: Global,
     words: &[String],
     managers: &Managers,

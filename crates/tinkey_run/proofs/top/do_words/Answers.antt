@@ -1,6 +1,6 @@
 use Rattle.tinkey_plans.specs.Ends.{world}
 use Rattle.tinkey_run.proofs.WordLemmas.{unasked_ends}
-use Rattle.tinkey_run.proofs.top.obey.Goals as goal
+use Rattle.tinkey_run.proofs.top.do_words.Goals as goal
 
 pub returns-in-Err : goal.returns-in-Err
 returns-in-Err g c =
