@@ -22,7 +22,7 @@ fn fills_go_on_where_the_one_before_ended(rt: HostRuntime) -> Result<(), Fail> {
     fails(&mut entropy, "a byte behind the end", &mut [0; 1])
 }
 
-// A row has the size of a draw, and what it gives.
+// A row has what it shows, the size of a draw, and the bytes that it gives, or `fails`.
 const DRAWS: [(&str, usize, &str); 4] = [
     ("the open is refused", 3, "fails"),
     ("three bytes", 3, "byt"),

@@ -1,6 +1,5 @@
 //! Files of the file system, in the folder where the test runs.
 
-use crate::metered::counts;
 use real_objects::{DirName, DirStore, NewName};
 use std::alloc::Global;
 use std::fs::{self, DirEntry, File};
@@ -57,7 +56,10 @@ fn holds(rt: &HostRuntime, name: &str, text: &str) -> Result<(), Fail> {
 /// Holds a file to being its owner's alone.
 fn is_private(rt: &HostRuntime, name: &str) -> Result<(), Fail> {
     let mode = fs::metadata(rt, name)?.mode() & 0o777;
-    counts(name, mode as usize, 0o600)
+    if mode != 0o600 {
+        return Err(Fail::new(format_args!("{name}: the mode is {mode}")));
+    }
+    Ok(())
 }
 
 /// Nothing may have this name.
@@ -81,7 +83,10 @@ fn has_aside(rt: &HostRuntime, folder: &str, want: usize) -> Result<(), Fail> {
             count = count.wrapping_add(1);
         }
     }
-    counts(folder, count, want)
+    if count != want {
+        return Err(Fail::new(format_args!("{folder}: {count} names aside, and not {want}")));
+    }
+    Ok(())
 }
 
 /// A step over real files.
@@ -235,8 +240,9 @@ fn assert_place(store: &mut DirStore<'_>, alloc: Global, row: &str) -> Result<()
 fn is_new(rt: &HostRuntime, name: &str) -> Result<(), Fail> {
     let made = fs::metadata(rt, name)?;
     let (size, links) = (made.len(), made.nlink());
-    counts(name, size as usize, 3)?;
-    counts(name, links as usize, 1)?;
+    if size != 3 || links != 1 {
+        return Err(Fail::new(format_args!("{name}: {size} bytes and {links} names")));
+    }
     is_private(rt, name)
 }
 

@@ -43,7 +43,7 @@ pub(crate) fn are_first(
     size: usize,
     found: &[u8],
 ) -> Result<(), Fail> {
-    let want = bytes.get(..size).unwrap_or_default();
+    let want = bytes.get(..size).ok_or("so many bytes")?;
     same_bytes(alloc, shows, "what was read", want, found)
 }
 

@@ -29,13 +29,22 @@ struct Objects {
     write: u64,
 }
 
-/// What came of a session: its exit code, what it wrote, and how often the device was read.
+/// What came of a session: its exit code, its diagnostic line, what it wrote, and how often the device was
+/// read.
 #[derive(Drop)]
-struct Told {
+struct Ended {
     code: ExitCode,
+    line: Vec<u8>,
     written: Vec<u8>,
     reads: usize,
 }
+
+/// An exit code, and the diagnostic line that comes with it.
+type End = (u8, &'static str);
+
+const DONE: End = (0, "");
+const ENTROPY_FAULT: End = (5, "tinkey: entropy fault\n");
+const WRITE_FAULT: End = (5, "tinkey: write fault\n");
 
 fn words_of(alloc: Global) -> Result<Vec<String>, Fail> {
     let mut words = Vec::new(alloc);
@@ -46,7 +55,7 @@ fn words_of(alloc: Global) -> Result<Vec<String>, Fail> {
 }
 
 /// A session over a device of these bytes. All lines come by one read of the input.
-fn answered(alloc: Global, bytes: &[u8], objects: Objects) -> Result<Told, Fail> {
+fn answered(alloc: Global, bytes: &[u8], objects: Objects) -> Result<Ended, Fail> {
     let calls = Calls::new();
     let mut entropy = failing(bytes, objects.piece, objects.read, &calls);
     let input = b"add AES128_GCM\n".repeat(alloc, LINES)?;
@@ -65,8 +74,9 @@ fn answered(alloc: Global, bytes: &[u8], objects: Objects) -> Result<Told, Fail>
         &mut entropy,
         &mut store,
     );
-    Ok(Told {
+    Ok(Ended {
         code,
+        line: diag.written().to_vec(alloc)?,
         written: sink.written().to_vec(alloc)?,
         reads: calls.reads.get(),
     })
@@ -84,22 +94,24 @@ fn replies(alloc: Global, bytes: &[u8], count: usize) -> Result<Vec<u8>, Fail> {
     Ok(all)
 }
 
-/// Holds a session to an exit code and the replies to so many lines. Gives how often the device was read.
+/// Holds a session to its end and the replies to so many lines. Gives how often the device was read.
 fn holds(
     alloc: Global,
     bytes: &[u8],
     shows: &str,
     objects: Objects,
-    code: u8,
+    end: End,
     count: usize,
 ) -> Result<usize, Fail> {
-    let told = answered(alloc, bytes, objects)?;
-    if told.code != ExitCode::from(code) {
+    let (code, line) = end;
+    let ended = answered(alloc, bytes, objects)?;
+    if ended.code != ExitCode::from(code) {
         return Err(Fail::new(format_args!("{shows}: another exit code than {code}")));
     }
+    same_bytes(alloc, shows, "the line", line.as_bytes(), &ended.line)?;
     let want = replies(alloc, bytes, count)?;
-    same_bytes(alloc, shows, "the replies", &want, &told.written)?;
-    Ok(told.reads)
+    same_bytes(alloc, shows, "the replies", &want, &ended.written)?;
+    Ok(ended.reads)
 }
 
 /// Holds sessions whose device gives so many bytes at once, with each read of the device failing in turn, and
@@ -112,7 +124,7 @@ fn assert_each_failing(
     block: usize,
     calls: usize,
 ) -> Result<(), Fail> {
-    let reads = holds(alloc, bytes, shows, objects, 0, LINES)?;
+    let reads = holds(alloc, bytes, shows, objects, DONE, LINES)?;
     counts(shows, reads, calls)?;
     for before in 0..calls {
         let count = before.saturating_mul(block) / DRAWN;
@@ -121,31 +133,33 @@ fn assert_each_failing(
             read: number,
             ..objects
         };
-        counts(shows, holds(alloc, bytes, shows, read, 5, count)?, number)?;
+        let reads = holds(alloc, bytes, shows, read, ENTROPY_FAULT, count)?;
+        counts(shows, reads, number)?;
         let write = Objects {
             write: number as u64,
             ..objects
         };
-        holds(alloc, bytes, shows, write, 5, count)?;
+        let reads = holds(alloc, bytes, shows, write, WRITE_FAULT, count)?;
+        counts(shows, reads, number)?;
     }
     let behind = calls.saturating_add(1);
     let read = Objects {
         read: behind,
         ..objects
     };
-    holds(alloc, bytes, shows, read, 0, LINES)?;
+    holds(alloc, bytes, shows, read, DONE, LINES)?;
     let write = Objects {
         write: behind as u64,
         ..objects
     };
-    holds(alloc, bytes, shows, write, 0, LINES)?;
+    holds(alloc, bytes, shows, write, DONE, LINES)?;
     Ok(())
 }
 
-// What a read of the device gives at the most, how many bytes are drawn ahead by it, and how many reads there
-// are. 60 lines draw 1,200 bytes. The read behind `n` blocks comes in the line that isn't whole in them, behind
-// as many lines as are. The replies to these are written then, and the last ones at the end, so there are as
-// many writes as reads.
+// What a read of the device gives at the most, how many bytes are drawn ahead by it, and how many reads
+// there are. 60 lines draw 1,200 bytes. The read behind `n` blocks comes in the line that isn't whole in
+// them, behind as many lines as are. The replies to these are written then, and the last ones at the end, so
+// there are as many writes as reads.
 const ROWS: [(&str, usize, usize, usize); 3] = [
     ("as many at once as are asked for", WHOLE, 1_024, 2),
     ("pieces that end within a line", 90, 90, 14),

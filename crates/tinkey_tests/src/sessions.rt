@@ -54,8 +54,8 @@ fn has_answered_all_whole_lines_before_a_read_that_fails(rt: HostRuntime) -> Res
 
 // A read or a write takes 64 bytes. Replies are held back until the next read or draw. So the first one, of
 // 102 bytes, is written before the second line draws, and the second, of 13, before the second read. That one
-// gives the lines three and four, whose replies have 105 bytes together; and the later ones give two lines of
-// 18, one of 36, three of 67 and three of 45.
+// gives the lines three and four, whose replies have 105 bytes together; and the later ones give lines whose
+// replies have 18, 36, 67 and 45 bytes together.
 const WRITES: &str = "words: session --keyset k --keyset-format binary --out n --out-format binary
 file: GCM
 input: STORY
@@ -80,6 +80,24 @@ the tenth write | write 10 | REPLIES[..341] | 44
 #[test]
 fn writes_replies_in_order_until_a_write_fails(rt: HostRuntime) -> Result<(), Fail> {
     run_table(rt.alloc(), WRITES, 10)
+}
+
+// One read gives all three lines. Of the replies to the first two, 32,768 bytes are held back, and written with
+// the third one's 12; two bytes more are written at once, and then the second write fails. The derived bytes
+// are those of Python's cryptography.
+const HELD: &str = "words: session
+file: 07; ENABLED RAW 07 @HkdfPrfKey 12020804 1a20 32x01
+piece: 65536
+fails: write 2
+
+shows | input | status | line | output
+32,768 bytes of replies are held for the third one | `derive^16320^-` 0a `derive^60^-` 0a `hello` 0a | 0 Done | | `ok^fa5c70b4a6169ef56878ccb7343566e4` ~32780 `8eb0f8ca0211f592` 0a `ok^fa5c70b4a6169ef56878ccb7343566e49050a1b897b63d534219605e5a8fc68a57737bf8f4ae60016e0d1838af0163d3e244f96b08f62dcc7cc99d48` 0a `no^bad^line` 0a
+two bytes more are written before it | `derive^16320^-` 0a `derive^61^-` 0a `hello` 0a | 5 WriteFault | tinkey: write fault | `ok^fa5c70b4a6169ef56878ccb7343566e4` ~32770 `8eb0f8ca0211f592` 0a `ok^fa5c70b4a6169ef56878ccb7343566e49050a1b897b63d534219605e5a8fc68a57737bf8f4ae60016e0d1838af0163d3e244f96b08f62dcc7cc99d4823` 0a
+";
+
+#[test]
+fn holds_replies_back_up_to_a_limit(rt: HostRuntime) -> Result<(), Fail> {
+    run_by_keysets(rt.alloc(), HELD, 2)
 }
 
 // The fills are an IV, an id, a key and an IV; the calls of the store load the file, look the new one's name
