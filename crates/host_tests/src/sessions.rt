@@ -43,7 +43,9 @@ struct Ended {
 type End = (u8, &'static str);
 
 const DONE: End = (0, "");
+
 const ENTROPY_FAULT: End = (5, "tinkey: entropy fault\n");
+
 const WRITE_FAULT: End = (5, "tinkey: write fault\n");
 
 fn words_of(alloc: Global) -> Result<Vec<String>, Fail> {
