@@ -6,7 +6,7 @@ ghost use Rattle.tink_spec.specs.InPlace.{OpensTo};
 ghost use Rattle.aead_kinds.specs.Aead.{IsFit, IsUnder, iv_size_of, open_key, seal_of};
 ghost use Rattle.aead_kinds.specs.Gcm.{gcm_open, gcm_seal};
 
-use crate::gcm::{gcm_open_in_place, gcm_seal_in_place};
+use crate::gcm::GcmKey;
 use crate::scheme::Scheme;
 use aes_core::Aes;
 use mac_prf::Hmac;
@@ -19,13 +19,13 @@ const GCM_IV: usize = 12;
 /// The bytes of its tag.
 const TAG: usize = 16;
 
-/// A key of some kind of AEAD, with what is made of it for all of its work: the AES key is expanded,
-/// and a key of HMAC is in an `Hmac` that holds no message.
+/// A key of some kind of AEAD, with what is made of it for all of its work: the AES key is expanded, the
+/// hash subkey of AES-GCM is made, and a key of HMAC is in an `Hmac` that holds no message.
 #[derive(Clone, Copy)]
 pub enum AeadKey<'k> {
     /// AES-GCM (SP 800-38D) with an IV of 12 bytes and a tag of 16.
     Gcm {
-        key: &'k Aes,
+        key: &'k GcmKey,
     },
     /// EAX (Bellare, Rogaway and Wagner) with a tag of 16 bytes.
     Eax {
@@ -44,8 +44,8 @@ pub enum AeadKey<'k> {
 
 impl AeadKey<'_> {
     /// Whether the key's sizes are those of its kind: an IV of EAX has 12 or 16 bytes, one of
-    /// AES-CTR-HMAC 12 to 16, and its tag 10 up to a digest's. How long its key of HMAC was is no
-    /// more to be seen.
+    /// AES-CTR-HMAC 12 to 16, and its tag 10 up to a digest's. How long its key of HMAC is can't be
+    /// seen here.
     pub fn fits(&self) -> bool
         ensures { IsTrue result ↔ IsFit self.now }
     {
@@ -143,7 +143,7 @@ pub fn open(key: &AeadKey<'_>, bytes: &mut [u8], ad: &[u8]) -> Option<Range<usiz
 }
 
 fn gcm_sealed(
-    key: &Aes,
+    key: &GcmKey,
     at: usize,
     mut bytes: Vec<u8>,
     iv: &[u8],
@@ -165,7 +165,7 @@ fn gcm_sealed(
 }
 
 // Seals in place what stands behind the first bytes, so many as `at` says, and answers the tag.
-fn gcm_seal_behind(key: &Aes, at: usize, bytes: &mut [u8], iv: &[u8; 12], ad: &[u8]) -> [u8; 16]
+fn gcm_seal_behind(key: &GcmKey, at: usize, bytes: &mut [u8], iv: &[u8; 12], ad: &[u8]) -> [u8; 16]
     requires room { at + 12 ≤ length bytes.old }
     requires bytes_bound { length bytes.old ≤ at + 12 + 2 ^ 30 }
     requires ad_bound { length ad.now ≤ 2 ^ 30 }
@@ -176,7 +176,7 @@ fn gcm_seal_behind(key: &Aes, at: usize, bytes: &mut [u8], iv: &[u8; 12], ad: &[
 }
 
 // Writes the IV into its room, encrypts in place what stands behind that, and answers the tag.
-fn gcm_seal_under_iv(key: &Aes, sealed: &mut [u8], iv: &[u8; 12], ad: &[u8]) -> [u8; 16]
+fn gcm_seal_under_iv(key: &GcmKey, sealed: &mut [u8], iv: &[u8; 12], ad: &[u8]) -> [u8; 16]
     requires room { 12 ≤ length sealed.old }
     requires sealed_bound { length sealed.old ≤ 2 ^ 31 }
     requires ad_bound { length ad.now ≤ 2 ^ 30 }
@@ -184,11 +184,11 @@ fn gcm_seal_under_iv(key: &Aes, sealed: &mut [u8], iv: &[u8; 12], ad: &[u8]) -> 
 {
     let (room, body) = sealed.split_at_mut(GCM_IV);
     room.copy_from_slice(iv);
-    gcm_seal_in_place(key, iv, ad, body)
+    key.seal_in_place(iv, ad, body)
 }
 
 // Opens in place, and answers where the plaintext stands then.
-fn gcm_opened(key: &Aes, bytes: &mut [u8], ad: &[u8]) -> Option<Range<usize>>
+fn gcm_opened(key: &GcmKey, bytes: &mut [u8], ad: &[u8]) -> Option<Range<usize>>
     requires bytes_bound { length bytes.old ≤ 2 ^ 30 + 96 }
     requires ad_bound { length ad.now ≤ 2 ^ 30 }
     ensures { OpensTo (gcm_open key.now bytes.old ad.now) bytes.old bytes.new result }
@@ -197,7 +197,7 @@ fn gcm_opened(key: &Aes, bytes: &mut [u8], ad: &[u8]) -> Option<Range<usize>>
     let (_, tag) = rest.split_last_chunk::<TAG>()?;
     let (iv, tag) = (*iv, *tag);
     let end = bytes.len() - TAG;
-    if gcm_open_in_place(key, &iv, ad, &mut bytes[GCM_IV..end], &tag) {
+    if key.open_in_place(&iv, ad, &mut bytes[GCM_IV..end], &tag) {
         Some(GCM_IV..end)
     } else {
         None

@@ -6,16 +6,17 @@
 ghost use Rattle.std.specs.Prelude.{◌≡◌, ◌≢◌, ◌↔◌, ◌*◌, ◌^◌, ◌≤◌, [], ◌∷◌, ◌++◌, length, IfOk, IsErr, IsTrue};
 ghost use Rattle.std.specs.Bool.{OnFalse, OnTrue};
 ghost use Rattle.std.specs.Int.{w64, to_be_bytes};
-ghost use Rattle.aead_kinds.specs.Gcm.{first_counter, gcm_tag, gcm_text, incremented};
+ghost use Rattle.aead_kinds.specs.Gcm.{first_counter, gcm_tag, gcm_text, hash_subkey, incremented};
 ghost use Rattle.aead_kinds.specs.GcmState.{RunsUnder};
+ghost use Rattle.ghash.specs.GhashState.{IsSubkey};
 
 use aes_core::{Aes, CtrKind, KeySize};
-use ghash::Ghash;
+use ghash::{Ghash, HashKey};
 use mac_prf::blocks::same_bytes;
 use std::marker::Model;
 
-/// AES-GCM under one key, for many messages: it keeps the expanded key, and what GHASH makes of the
-/// hash subkey. Contracts see it as the bytes of the key.
+/// AES-GCM under one key, for the segments of a stream: it keeps the expanded key, and all that GHASH makes
+/// of the hash subkey, as far as it was made. Contracts see it as the bytes of the key.
 ///
 /// It takes about 4 KiB, so lend it rather than move it. A key stays in memory as long as it does.
 #[derive(Drop)]
@@ -44,7 +45,7 @@ impl Gcm {
         ensures key_size { IsErr result ↔ ((length key.now ≢ 16) × (length key.now ≢ 32)) }
     {
         let aes = Aes::new(key)?;
-        let hash = hash_under(&aes);
+        let hash = started(&aes, &subkey_of(&aes));
         Ok(Gcm { aes, hash })
     }
 
@@ -85,43 +86,88 @@ impl Gcm {
     }
 }
 
-/// Encrypts `body` in place and answers the tag (SP 800-38D, 7.1), as `Gcm::seal_in_place` does. For
-/// many messages under one key that takes less time.
-pub fn gcm_seal_in_place(key: &Aes, iv: &[u8; 12], ad: &[u8], body: &mut [u8]) -> [u8; 16]
-    requires ad_bound { length ad.now ≤ 2 ^ 30 }
-    requires body_bound { length body.old ≤ 2 ^ 31 }
-    ensures text { body.new ≡ gcm_text key.now iv.now body.old }
-    ensures tag { result ≡ gcm_tag key.now iv.now ad.now body.new }
-{
-    seal_with(key, &mut hash_under(key), iv, ad, body)
-}
-
-/// Decrypts `body` in place, where the tag is the right one (SP 800-38D, 7.2), as
-/// `Gcm::open_in_place` does.
+/// A key of AES-GCM, with what is made of it once: its expansion, and the hash subkey as a factor of
+/// products. Contracts see it as the bytes of the key.
 ///
-/// The answer is `false` exactly where `tag` isn't that of IV, `ad` and ciphertext; nothing was
-/// decrypted then. No memory is taken.
-pub fn gcm_open_in_place(
-    key: &Aes,
-    iv: &[u8; 12],
-    ad: &[u8],
-    body: &mut [u8],
-    tag: &[u8; 16],
-) -> bool
-    requires ad_bound { length ad.now ≤ 2 ^ 30 }
-    requires body_bound { length body.old ≤ 2 ^ 31 }
-    ensures authentic { IsTrue result ↔ (gcm_tag key.now iv.now ad.now body.old ≡ tag.now) }
-    ensures opened { OnTrue result (body.new ≡ gcm_text key.now iv.now body.old) }
-    ensures kept { OnFalse result (body.new ≡ body.old) }
-{
-    open_with(key, &mut hash_under(key), iv, ad, body, tag)
+/// It takes about 800 bytes, so lend it rather than move it, and may be lent to many at once. Powers of the
+/// hash subkey are made anew for each message that pays for them.
+#[derive(Drop)]
+pub struct GcmKey {
+    aes: Aes,
+    hash: HashKey,
 }
 
-// GHASH of no block under H, the cipher of the block of zeros.
-fn hash_under(aes: &Aes) -> Ghash
+impl Model for GcmKey {
+    ghost use Rattle.std.specs.Prelude.{ℕ, List};
+    ghost use Rattle.aead_kinds.specs.Gcm.{hash_subkey};
+    ghost use Rattle.ghash.specs.GhashState.{IsSubkey};
+
+    ghost Value = { List ℕ };
+
+    ghost view = { λ gcm. gcm.aes };
+
+    ghost invariant = { λ gcm. IsSubkey gcm.hash (hash_subkey gcm.aes) };
+}
+
+impl GcmKey {
+    /// Expands a key of 16 or 32 bytes, and makes its hash subkey.
+    ///
+    /// The answer is `KeySize` exactly where `key` has another length, 24 bytes among them.
+    pub fn new(key: &[u8]) -> Result<GcmKey, KeySize>
+        ensures key { IfOk result (λ gcm. gcm ≡ key.now) }
+        ensures key_size { IsErr result ↔ ((length key.now ≢ 16) × (length key.now ≢ 32)) }
+    {
+        let aes = Aes::new(key)?;
+        let hash = subkey_of(&aes);
+        Ok(GcmKey { aes, hash })
+    }
+
+    /// Encrypts `body` in place and answers the tag (SP 800-38D, 7.1), as `Gcm::seal_in_place` does.
+    pub fn seal_in_place(&self, iv: &[u8; 12], ad: &[u8], body: &mut [u8]) -> [u8; 16]
+        requires ad_bound { length ad.now ≤ 2 ^ 30 }
+        requires body_bound { length body.old ≤ 2 ^ 31 }
+        ensures text { body.new ≡ gcm_text self.now iv.now body.old }
+        ensures tag { result ≡ gcm_tag self.now iv.now ad.now body.new }
+    {
+        seal_with(&self.aes, &mut started(&self.aes, &self.hash), iv, ad, body)
+    }
+
+    /// Decrypts `body` in place, where the tag is the right one (SP 800-38D, 7.2), as
+    /// `Gcm::open_in_place` does.
+    ///
+    /// The answer is `false` exactly where `tag` isn't that of IV, `ad` and ciphertext; nothing was
+    /// decrypted then. No memory is taken.
+    pub fn open_in_place(&self, iv: &[u8; 12], ad: &[u8], body: &mut [u8], tag: &[u8; 16]) -> bool
+        requires ad_bound { length ad.now ≤ 2 ^ 30 }
+        requires body_bound { length body.old ≤ 2 ^ 31 }
+        ensures authentic { IsTrue result ↔ (gcm_tag self.now iv.now ad.now body.old ≡ tag.now) }
+        ensures opened { OnTrue result (body.new ≡ gcm_text self.now iv.now body.old) }
+        ensures kept { OnFalse result (body.new ≡ body.old) }
+    {
+        open_with(
+            &self.aes,
+            &mut started(&self.aes, &self.hash),
+            iv,
+            ad,
+            body,
+            tag,
+        )
+    }
+}
+
+// What GHASH needs of H, the cipher of the block of zeros.
+fn subkey_of(aes: &Aes) -> HashKey
+    ensures { IsSubkey result (hash_subkey aes.now) }
+{
+    HashKey::new(u128::from_be_bytes(aes.encrypt_block(&[0; 16])))
+}
+
+// GHASH of no block under H.
+fn started(aes: &Aes, key: &HashKey) -> Ghash
+    requires { IsSubkey key.now (hash_subkey aes.now) }
     ensures { RunsUnder result aes.now }
 {
-    Ghash::new(u128::from_be_bytes(aes.encrypt_block(&[0; 16])))
+    Ghash::under(key)
 }
 
 fn seal_with(aes: &Aes, hash: &mut Ghash, iv: &[u8; 12], ad: &[u8], body: &mut [u8]) -> [u8; 16]

@@ -11,5 +11,5 @@ mod scheme;
 mod segment;
 
 pub use aead::{AeadKey, open, seal};
-pub use gcm::{Gcm, gcm_open_in_place, gcm_seal_in_place};
+pub use gcm::{Gcm, GcmKey};
 pub use segment::{ctr_hmac_open_in_place, ctr_hmac_seal_in_place};

@@ -19,6 +19,26 @@ const PAYS_FOR_FOUR: usize = 320;
 // With so many H^5 to H^8 are, which takes a little longer and spares a sixth of the time.
 const PAYS_FOR_EIGHT: usize = 4096;
 
+/// What is made of a hash subkey once, for GHASHes of many short messages: the subkey as a factor. It takes
+/// 512 bytes.
+#[derive(Drop)]
+pub struct HashKey {
+    factor: Factor,
+}
+
+impl HashKey {
+    ghost use Rattle.ghash.specs.GhashState.{IsSubkey};
+
+    /// Makes the factor of the hash subkey `h`.
+    pub fn new(h: u128) -> HashKey
+        ensures { IsSubkey result h }
+    {
+        HashKey {
+            factor: factor_of(h),
+        }
+    }
+}
+
 /// A running GHASH under one hash subkey: its powers H^8 to H as factors, and GHASH of the blocks so
 /// far. It takes 4 KiB, so lend it rather than move it.
 ///
@@ -36,11 +56,18 @@ pub struct Ghash {
 }
 
 impl Ghash {
-    ghost use Rattle.ghash.specs.GhashState.{Holds};
+    ghost use Rattle.ghash.specs.GhashState.{Holds, IsSubkey};
 
     /// A GHASH of no block, under the hash subkey `h`.
     pub fn new(h: u128) -> Ghash
         ensures { Holds result h [] }
+    {
+        Ghash::under(&HashKey::new(h))
+    }
+
+    /// A GHASH of no block, under a hash subkey of which the factor is made.
+    pub fn under(key: &HashKey) -> Ghash
+        ensures { (h : ℕ) → IsSubkey key.now h → Holds result h [] }
     {
         let mut hash = Ghash {
             factors: [no_factor(); 8],
@@ -48,7 +75,7 @@ impl Ghash {
             taken: 0,
             y: 0,
         };
-        hash.factors[7] = factor_of(h);
+        hash.factors[7] = key.factor;
         hash
     }
 

@@ -3,7 +3,7 @@
 use crate::rows::bytes_in;
 use crate::schemes::{GCM_CAVS, GCM_PUBLISHED, TINK};
 use crate::sealing::MOST;
-use aead_kinds::{AeadKey, Gcm, gcm_open_in_place, gcm_seal_in_place};
+use aead_kinds::{AeadKey, Gcm, GcmKey};
 use aes_core::Aes;
 use std::alloc::Global;
 use std::test::Fail;
@@ -67,12 +67,12 @@ fn seals_a_long_text_in_place(rt: HostRuntime) -> Result<(), Fail> {
         25, 26, 27, 28, 29, 30, 31,
     ];
     let iv = [0, 1, 2, 3, 4, 5, 6, 7, 8, 9, 10, 11];
-    let aes = Aes::new(&counting)?;
+    let key = GcmKey::new(&counting)?;
     let mut body = [0; 5000];
-    let tag = gcm_seal_in_place(&aes, &iv, &[7; 300], &mut body);
+    let tag = key.seal_in_place(&iv, &[7; 300], &mut body);
     assert!(rt; tag == 0x025461640CBFBF5130EC3B25E97695F0_u128.to_be_bytes());
-    assert!(rt; !gcm_open_in_place(&aes, &iv, &[7; 299], &mut body, &tag));
-    assert!(rt; gcm_open_in_place(&aes, &iv, &[7; 300], &mut body, &tag));
+    assert!(rt; !key.open_in_place(&iv, &[7; 299], &mut body, &tag));
+    assert!(rt; key.open_in_place(&iv, &[7; 300], &mut body, &tag));
     assert!(rt; body == [0; 5000]);
     Ok(())
 }
@@ -84,10 +84,14 @@ fn takes_keys_of_two_sizes(rt: HostRuntime) -> Result<(), Fail> {
         let key = &[0; 33][..size];
         assert!(rt; Aes::new(key).is_err(), "{size} bytes");
         assert!(rt; Gcm::new(key).is_err(), "{size} bytes");
+        assert!(rt; GcmKey::new(key).is_err(), "{size} bytes");
     }
     for size in [16, 32] {
-        let key = &Aes::new(&[0; 32][..size])?;
-        assert!(rt; key.key_size() == size, "{size} bytes");
+        assert!(rt;
+            Aes::new(&[0; 32][..size])?.key_size() == size,
+            "{size} bytes"
+        );
+        let key = &GcmKey::new(&[0; 32][..size])?;
         assert!(rt; AeadKey::Gcm { key }.fits(), "{size} bytes");
         assert!(rt; AeadKey::Gcm { key }.iv_size() == 12, "{size} bytes");
     }

@@ -5,7 +5,7 @@ use crate::rows::{bytes_in, title};
 use crate::sealing::{
     Alterations, SealingKey, assert_accepted, assert_altered_refused, assert_refused,
 };
-use aead_kinds::AeadKey;
+use aead_kinds::{AeadKey, GcmKey};
 use aes_core::Aes;
 use mac_prf::Hmac;
 use std::alloc::Global;
@@ -98,12 +98,17 @@ fn hmac_of(alloc: Global, row: &str) -> Result<Hmac, Fail> {
 }
 
 // The key of a row, over what is made of those of its two cells.
-fn key_of<'a>(row: &str, aes: &'a Aes, mac: &'a Hmac) -> Result<AeadKey<'a>, Fail> {
+fn key_of<'a>(
+    row: &str,
+    gcm: &'a GcmKey,
+    aes: &'a Aes,
+    mac: &'a Hmac,
+) -> Result<AeadKey<'a>, Fail> {
     let kind = cell(row, 1)?;
     let iv_size = number_in(row, 4)?;
     let tag_size = number_in(row, 5)?;
     if kind == "GCM" {
-        return Ok(AeadKey::Gcm { key: aes });
+        return Ok(AeadKey::Gcm { key: gcm });
     }
     if kind == "EAX" {
         return Ok(AeadKey::Eax { key: aes, iv_size });
@@ -155,9 +160,11 @@ fn assert_sealing(
 
 fn assert_row(alloc: Global, row: &str) -> Result<(), Fail> {
     let shows = &title(alloc, row)?;
-    let aes = Aes::new(&bytes_in(alloc, row, 2)?)?;
+    let own = bytes_in(alloc, row, 2)?;
+    let gcm = GcmKey::new(&own)?;
+    let aes = Aes::new(&own)?;
     let mac = hmac_of(alloc, row)?;
-    let key = key_of(row, &aes, &mac)?;
+    let key = key_of(row, &gcm, &aes, &mac)?;
     let bytes = bytes_in(alloc, row, 7)?;
     if cell(row, 8)? != "refused" {
         return assert_sealing(alloc, row, shows, &key, &bytes);

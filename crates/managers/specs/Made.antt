@@ -1,10 +1,13 @@
 -- What is made of a key once, and kept beside it.
 --
+--   IsKeyed            an HMAC is under a key, before any message
+--   IsHmac, IsCtrHmac  what was made is such an HMAC, alone or beside an expansion
 --   IsMadeOf           it is what is made of a key of each kind
---   UsesAes, aes_in    a kind whose AES key is expanded, and the bytes of that key
+--   UsesGcm, gcm_in    the kind that has a hash subkey, and the bytes of its key
+--   UsesAes, aes_in    another kind whose AES key is expanded, and the bytes of that key
 --   UsesSiv, siv_in    the same of AES-SIV
 --   UsesHmac           a kind whose work HMAC does
---   IsUnder            that HMAC is under the key of its kind
+--   IsHmacOf           that HMAC is under the key of its kind
 use Rattle.std.specs.Prelude.{◌≡◌, ℕ, List, []}
 use Rattle.key_msgs.specs.declared.key.KeyKind.{KeyKind}
 use Rattle.key_msgs.specs.declared.key.KeyKind.TheVariants as kinds
@@ -29,10 +32,10 @@ abbrev pub IsCtrHmac : List ℕ → Hash → List ℕ → Made → Type 0
 IsCtrHmac aes hash mac (made.CtrHmac expanded state) = (expanded ≡ aes) × IsKeyed state hash mac
 IsCtrHmac aes hash mac _ = ⊥
 
--- The expansion of the AES key, or of both halves of an AES-SIV key; HMAC under the key, under the key
+-- The expansion of the AES key, for AES-GCM with the hash subkey, or of both halves of an AES-SIV key; HMAC under the key, under the key
 -- of HMAC beside the expansion, or under HKDF's pseudorandom key (RFC 5869, 2.2); of other keys nothing.
 abbrev pub IsMadeOf : KeyKind → Made → Type 0
-IsMadeOf (kinds.AesGcm key) m = m ≡ made.Aes key
+IsMadeOf (kinds.AesGcm key) m = m ≡ made.Gcm key
 IsMadeOf (kinds.AesEax key size) m = m ≡ made.Aes key
 IsMadeOf (kinds.AesCtrHmac aes size hash mac tag_size) m = IsCtrHmac aes hash mac m
 IsMadeOf (kinds.AesGcmSiv key) m = m ≡ made.Aes key
@@ -44,9 +47,18 @@ IsMadeOf (kinds.HmacPrf key hash) m = IsHmac hash key m
 IsMadeOf (kinds.HkdfPrf key hash salt) m = IsHmac hash (extract hash salt key) m
 IsMadeOf _ m = m ≡ made.Nothing
 
--- an AES key of the kind is expanded
+-- the kind is AES-GCM, whose hash subkey is made
+abbrev pub UsesGcm : KeyKind → Type 0
+UsesGcm (kinds.AesGcm key) = Unit {0}
+UsesGcm _ = ⊥
+
+-- the bytes of that key
+abbrev pub gcm_in : KeyKind → List ℕ
+gcm_in (kinds.AesGcm key) = key
+gcm_in _ = []
+
+-- an AES key of the kind is expanded, and has no hash subkey
 abbrev pub UsesAes : KeyKind → Type 0
-UsesAes (kinds.AesGcm key) = Unit {0}
 UsesAes (kinds.AesEax key size) = Unit {0}
 UsesAes (kinds.AesCtrHmac aes size hash mac tag_size) = Unit {0}
 UsesAes (kinds.AesGcmSiv key) = Unit {0}
@@ -56,7 +68,6 @@ UsesAes _ = ⊥
 
 -- the bytes of that key
 abbrev pub aes_in : KeyKind → List ℕ
-aes_in (kinds.AesGcm key) = key
 aes_in (kinds.AesEax key size) = key
 aes_in (kinds.AesCtrHmac aes size hash mac tag_size) = aes
 aes_in (kinds.AesGcmSiv key) = key
@@ -83,9 +94,9 @@ UsesHmac (kinds.HkdfPrf key hash salt) = Unit {0}
 UsesHmac _ = ⊥
 
 -- the HMAC is under the key of HMAC, or the pseudorandom key of HKDF, and has no message yet
-abbrev pub IsUnder : KeyKind → Hmac → Type 0
-IsUnder (kinds.AesCtrHmac aes size hash mac tag_size) state = IsKeyed state hash mac
-IsUnder (kinds.Hmac key hash tag_size) state = IsKeyed state hash key
-IsUnder (kinds.HmacPrf key hash) state = IsKeyed state hash key
-IsUnder (kinds.HkdfPrf key hash salt) state = IsKeyed state hash (extract hash salt key)
-IsUnder _ state = ⊥
+abbrev pub IsHmacOf : KeyKind → Hmac → Type 0
+IsHmacOf (kinds.AesCtrHmac aes size hash mac tag_size) state = IsKeyed state hash mac
+IsHmacOf (kinds.Hmac key hash tag_size) state = IsKeyed state hash key
+IsHmacOf (kinds.HmacPrf key hash) state = IsKeyed state hash key
+IsHmacOf (kinds.HkdfPrf key hash salt) state = IsKeyed state hash (extract hash salt key)
+IsHmacOf _ state = ⊥

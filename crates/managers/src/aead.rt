@@ -49,7 +49,7 @@ fn seal_under(
         ++ seal_of key.now iv.now (drop (at + iv_size key.now) bytes.items) ad.now) }
 {
     match key.kind() {
-        KeyKind::AesGcm { .. } => seal(&AeadKey::Gcm { key: key.aes() }, at, bytes, iv, ad),
+        KeyKind::AesGcm { .. } => seal(&AeadKey::Gcm { key: key.gcm() }, at, bytes, iv, ad),
         KeyKind::AesEax { iv_size, .. } => {
             let under = AeadKey::Eax {
                 key: key.aes(),
@@ -107,7 +107,7 @@ fn open_under(key: &Prepared, bytes: &mut [u8], ad: &[u8]) -> Option<Range<usize
     ensures { OpensTo (open_key key.now bytes.old ad.now) bytes.old bytes.new result }
 {
     match key.kind() {
-        KeyKind::AesGcm { .. } => open(&AeadKey::Gcm { key: key.aes() }, bytes, ad),
+        KeyKind::AesGcm { .. } => open(&AeadKey::Gcm { key: key.gcm() }, bytes, ad),
         KeyKind::AesEax { iv_size, .. } => {
             let under = AeadKey::Eax {
                 key: key.aes(),

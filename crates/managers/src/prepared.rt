@@ -2,8 +2,9 @@
 
 ghost use Rattle.std.specs.Prelude.{◌≡◌, ◌⊎◌, length};
 ghost use Rattle.key_msgs.specs.Keys.{IsValid};
-ghost use Rattle.managers.specs.Made.{IsMadeOf, IsUnder, UsesAes, UsesHmac, UsesSiv, aes_in, siv_in};
+ghost use Rattle.managers.specs.Made.{IsHmacOf, IsMadeOf, UsesAes, UsesGcm, UsesHmac, UsesSiv, aes_in, gcm_in, siv_in};
 
+use aead_kinds::GcmKey;
 use aes_core::Aes;
 use key_msgs::KeyKind;
 use mac_prf::{Hmac, hkdf_extract};
@@ -12,7 +13,8 @@ use std::marker::Model;
 
 /// A valid key, with what is made of it once for all of its work. Contracts see it as the key.
 ///
-/// An AES key is expanded (FIPS 197, 5.2), and of AES-SIV both halves are. Of a key of HMAC both pads
+/// An AES key is expanded (FIPS 197, 5.2), of AES-SIV both halves are, and of AES-GCM the hash subkey is made
+/// too (SP 800-38D, 7.1). Of a key of HMAC both pads
 /// are hashed (RFC 2104, 2), that of AES-CTR-HMAC among them. Of a key of HKDF the pseudorandom key is
 /// extracted (RFC 5869, 2.2), and its pads are hashed. Of keys for streams nothing is made.
 ///
@@ -27,6 +29,8 @@ pub struct Prepared {
 /// What is made of a key.
 #[derive(Drop)]
 enum Made {
+    /// The expansion of an AES-GCM key, and its hash subkey.
+    Gcm(GcmKey),
     /// The expansion of its AES key.
     Aes(Aes),
     /// Those of both halves of an AES-SIV key.
@@ -69,6 +73,17 @@ impl Prepared {
         &self.kind
     }
 
+    /// What is made of its AES-GCM key.
+    pub(crate) fn gcm(&self) -> &GcmKey
+        requires { UsesGcm self.now }
+        ensures { result.now ≡ gcm_in self.now }
+    {
+        match &self.made {
+            Made::Gcm(gcm) => gcm,
+            _ => unreachable!(),
+        }
+    }
+
     /// The expansion of its AES key.
     pub(crate) fn aes(&self) -> &Aes
         requires { UsesAes self.now }
@@ -95,7 +110,7 @@ impl Prepared {
     /// each.
     pub(crate) fn hmac(&self) -> &Hmac
         requires { UsesHmac self.now }
-        ensures { IsUnder self.now result.now }
+        ensures { IsHmacOf self.now result.now }
     {
         match &self.made {
             Made::Hmac(hmac) | Made::CtrHmac(_, hmac) => hmac,
@@ -110,8 +125,8 @@ fn made_of(kind: &KeyKind) -> Made
     ensures { IsMadeOf kind.now result }
 {
     match kind {
-        KeyKind::AesGcm { key }
-        | KeyKind::AesEax { key, .. }
+        KeyKind::AesGcm { key } => Made::Gcm(GcmKey::new(key.as_slice()).unwrap()),
+        KeyKind::AesEax { key, .. }
         | KeyKind::AesGcmSiv { key }
         | KeyKind::AesCmac { key, .. }
         | KeyKind::CmacPrf { key } => Made::Aes(expanded(key.as_slice())),

@@ -1,7 +1,7 @@
 //! The random bytes of a device, which is opened at the first fill and kept. Small draws are served from
 //! bytes that were drawn ahead (`ahead`).
 //!
-//! The entropy tells no bytes of its own and isn't steady; the clauses of what fills a slice speak of the
+//! The entropy tells no bytes of its own and isn't steady; the clauses of `fill` and `skip` speak of the
 //! bytes of the device, where it knows them.
 
 ghost use Rattle.std.specs.Prelude.{◌≡◌, ◌≤◌, ℕ, List, [], Option, None, length, take, IfOk, IfSome, IsOk, OnOk, OnErr};

@@ -51,7 +51,7 @@ pub fn data_key<'m>(
     }
 }
 
-/// A data key: its message, and the key that its manager reads in it, expanded once.
+/// A data key: its message, and the key that its manager reads in it, prepared once.
 #[derive(Drop)]
 pub(crate) struct DataKey {
     pub(crate) value: Vec<u8>,

@@ -8,7 +8,7 @@ use Rattle.tink_spec.proofs.Moves.{drew_more, drew_nothing, took_more, took_noth
 use Rattle.tink_spec.specs.Outside.{SinkState, EntropyState, Drew, Rose, Stood, Took, TookPrefix}
 use Rattle.tinkey_session.proofs.TalkLemmas.{byte_by, over-append, over-more, over-stopped, with_more}
 use Rattle.tinkey_session.specs.Answered.{DrewSome, Gives, IsUnanswered}
-use Rattle.tinkey_session.specs.Feeding.{Ended, Fed, Finished, InLine, InPiece, IsReplied, Outside, Start, Stopped, Told, all_told, cut_off, dry, full, outside, Point, from, past, torn}
+use Rattle.tinkey_session.specs.Feeding.{Ended, Fed, Finished, InLine, InPiece, IsReplied, Outside, Start, Stopped, HoldsBack, all_told, cut_off, dry, full, outside, Point, from, past, torn}
 use Rattle.tinkey_session.specs.Lines.{line_of}
 use Rattle.tinkey_session.specs.Serving.{Served, serve}
 use Rattle.tinkey_session.specs.Talking.{Limit, long_line, many_lines, Stop, goes, wants, passes, Talk, replied, line_ended, byte_taken, count_limit, line_limit, on_go, over, last_line, finish, going}
@@ -34,10 +34,10 @@ rose_later a b c le (inr last) = inr last
 
 -- ---- replies that are held back
 
-pub told_nothing : (s : SinkState) (held : List ℕ) → Told s s held held []
+pub told_nothing : (s : SinkState) (held : List ℕ) → HoldsBack s s held held []
 told_nothing s held = record { piece = []; took = took_nothing s; whole = sym (append-nil held) }
 
-pub told_more : (a b c : SinkState) (h i j p q : List ℕ) → Told a b h i p → Told b c i j q → Told a c h j (p ++ q)
+pub told_more : (a b c : SinkState) (h i j p q : List ℕ) → HoldsBack a b h i p → HoldsBack b c i j q → HoldsBack a c h j (p ++ q)
 told_more a b c h i j p q first second = record {
   piece = first.piece ++ second.piece;
   took = took_more _ _ _ _ _ first.took second.took;
@@ -45,7 +45,7 @@ told_more a b c h i j p q first second = record {
 }
 
 -- with more replies behind, which are held back
-pub told_with : (a b : SinkState) (h i p q : List ℕ) → Told a b h i p → Told a b h (i ++ q) (p ++ q)
+pub told_with : (a b : SinkState) (h i p q : List ℕ) → HoldsBack a b h i p → HoldsBack a b h (i ++ q) (p ++ q)
 told_with a b h i p q told = record {
   piece = told.piece;
   took = told.took;
@@ -53,14 +53,14 @@ told_with a b h i p q told = record {
 }
 
 -- what was held back is written
-pub told_written : (a b c : SinkState) (h i p : List ℕ) → Told a b h i p → Took b c i → Took a c (h ++ p)
+pub told_written : (a b c : SinkState) (h i p : List ℕ) → HoldsBack a b h i p → Took b c i → Took a c (h ++ p)
 told_written a b c h i p told took = subst (Took a c) told.whole (took_more _ _ _ _ _ told.took took)
 
-pub told_all : (a b c : SinkState) (h i p : List ℕ) → Told a b h i p → Took b c i → Told a c h [] p
+pub told_all : (a b c : SinkState) (h i p : List ℕ) → HoldsBack a b h i p → Took b c i → HoldsBack a c h [] p
 told_all a b c h i p told took = record { piece = h ++ p; took = told_written a b c h i p told took; whole = append-nil (h ++ p) }
 
 -- what was held back is written in part
-pub told_cut : (a b c : SinkState) (h i p : List ℕ) → Told a b h i p → TookPrefix b c i → TookPrefix a c (h ++ p)
+pub told_cut : (a b c : SinkState) (h i p : List ℕ) → HoldsBack a b h i p → TookPrefix b c i → TookPrefix a c (h ++ p)
 told_cut a b c h i p told front = record {
   front = told.piece ++ front.front;
   rest = front.rest;
@@ -70,7 +70,7 @@ told_cut a b c h i p told front = record {
 }
 
 -- nothing is held back
-pub told_took : (a b : SinkState) (h p : List ℕ) → Told a b h [] p → Took a b (h ++ p)
+pub told_took : (a b : SinkState) (h p : List ℕ) → HoldsBack a b h [] p → Took a b (h ++ p)
 told_took a b h p told = subst (Took a b) (sym (append-nil told.piece) ∙ told.whole) told.took
 
 pub prefix_more : (a b : SinkState) (bytes more : List ℕ) → TookPrefix a b bytes → TookPrefix a b (bytes ++ more)
@@ -133,7 +133,7 @@ given gives text keys old new r = ap gives (sym (append-nil r.answered.drawn)) �
 
 -- the line was answered, and its reply written or held back
 pub fed_line : (table : Table) (old last : Point) (line text written output : List ℕ) (a b : Outside) → line ≡ old.line → written ≡ text → last.line ≡ [] → last.count ≡ old.count + 1
-    → IsReplied (serve table old.keys (line_of line)) text last.keys a.entropy b.entropy → Told a.sink b.sink a.held b.held written → Stood a.sink.faults b.sink.faults
+    → IsReplied (serve table old.keys (line_of line)) text last.keys a.entropy b.entropy → HoldsBack a.sink b.sink a.held b.held written → Stood a.sink.faults b.sink.faults
     → Fed (from old) last (line_ended table) output a b
 fed_line table old last line text written output a b is whole cleared counted so told stood =
     let r : IsReplied (serve table old.keys (line_of old.line)) text last.keys a.entropy b.entropy = subst (λ l. IsReplied (serve table old.keys (line_of l)) text last.keys a.entropy b.entropy) is so in
@@ -326,7 +326,7 @@ stopped_at table start mid p q r piece output drawn written more is whole e stil
     ∙ over-stopped table (over table (from mid written more) q) r still
 
 -- what was told, and the front of what comes behind it
-pub front_behind : (a b c : SinkState) (h i written bytes more : List ℕ) → Told a b h i written → TookPrefix b c (i ++ bytes) → TookPrefix a c (h ++ (written ++ (bytes ++ more)))
+pub front_behind : (a b c : SinkState) (h i written bytes more : List ℕ) → HoldsBack a b h i written → TookPrefix b c (i ++ bytes) → TookPrefix a c (h ++ (written ++ (bytes ++ more)))
 front_behind a b c h i written bytes more told front =
     subst (TookPrefix a c) (append_assoc h (written ++ bytes) more ∙ ap (λ l. h ++ l) (append_assoc written bytes more))
     (prefix_more a c (h ++ (written ++ bytes)) more (told_cut a b c h (i ++ bytes) (written ++ bytes) (told_with a b h i written bytes told) front))
@@ -344,7 +344,7 @@ fed_written start last takes output s t u h i j d e none fed took stood = record
   drawn = fed.drawn;
   written = fed.written;
   drew = fed.drew;
-  told = subst (λ l. Told s u h l fed.written) (sym none) (told_all _ _ _ _ _ _ fed.told took);
+  told = subst (λ l. HoldsBack s u h l fed.written) (sym none) (told_all _ _ _ _ _ _ fed.told took);
   no_draw_fault = fed.no_draw_fault;
   no_write_fault = stood ∙ fed.no_write_fault;
   is = fed.is;
@@ -402,7 +402,7 @@ finished_line table old last output a b some none fed =
       drawn = fed.drawn;
       written = fed.written;
       drew = fed.drew;
-      took = told_took _ _ _ _ (subst (λ l. Told a.sink b.sink a.held l fed.written) none fed.told);
+      took = told_took _ _ _ _ (subst (λ l. HoldsBack a.sink b.sink a.held l fed.written) none fed.told);
       no_draw_fault = fed.no_draw_fault;
       no_write_fault = fed.no_write_fault;
       goes' = ap (λ x. x.stop) e;

@@ -1,7 +1,7 @@
 -- What becomes of a piece of a session's input, over the objects that answering lines moves. Replies may
 -- be held back for a while, before they are written.
 --
---   Told          replies came in, and some of them are held back
+--   HoldsBack     replies came in, and some of them are held back
 --   Ended         those that were held back are written where a session ends
 --   Point         how far the code has come
 --   Fed, Stopped  the piece was taken, and the lines that end in it answered; or something of it
@@ -32,7 +32,7 @@ outside sink held entropy = record { sink = sink; held = held; entropy = entropy
 
 -- Of the replies that were held back, and these that came in behind them, the sink took the first, and the
 -- others are held back.
-pub record Told (old new : SinkState) (before after replies : List ℕ) : Type 0 where
+pub record HoldsBack (old new : SinkState) (before after replies : List ℕ) : Type 0 where
   pub piece : List ℕ
   pub took : Took old new piece
   pub whole : piece ++ after ≡ before ++ replies
@@ -89,7 +89,7 @@ pub record Fed (start : Start) (last : Point) (takes : Talk → Talk) (output : 
   pub drawn : List ℕ
   pub written : List ℕ
   pub drew : Drew old.entropy new.entropy drawn
-  pub told : Told old.sink new.sink old.held new.held written
+  pub told : HoldsBack old.sink new.sink old.held new.held written
   pub no_draw_fault : Stood old.entropy.faults new.entropy.faults
   pub no_write_fault : Stood old.sink.faults new.sink.faults
   pub is : takes (start output drawn) ≡ from last (output ++ written) []

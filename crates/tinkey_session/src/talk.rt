@@ -4,7 +4,7 @@ ghost use Rattle.std.specs.Prelude.{◌≡◌, ◌≤◌, ◌+◌, ℕ, List, []
 ghost use Rattle.std.specs.List.{AllByRecursion};
 ghost use Rattle.tink_spec.specs.Outside.{Rose, Stood, StopsAtEnd, Took, TookPrefix};
 ghost use Rattle.keyset_model.specs.Keyset.{IsShort};
-ghost use Rattle.tinkey_session.specs.Feeding.{Ended, Fed, Finished, InLine, InPiece, IsReplied, IsUnreplied, Stopped, Told, outside, point, progress};
+ghost use Rattle.tinkey_session.specs.Feeding.{Ended, Fed, Finished, HoldsBack, InLine, InPiece, IsReplied, IsUnreplied, Stopped, outside, point, progress};
 ghost use Rattle.tinkey_session.specs.Keeping.{IsKept};
 ghost use Rattle.tinkey_session.specs.Lines.{line_of};
 ghost use Rattle.tinkey_session.specs.Serving.{serve};
@@ -69,11 +69,12 @@ struct TalkState<'m> {
 /// then. Every other fault comes only where the object failed in this call. After any fault the
 /// keyset is gone, with what lines changed of it. Nothing is read after the end was answered.
 ///
-/// Replies may be held back until then, and are written together. Random bytes that the entropy doesn't
-/// hold are drawn only where no reply is held back.
+/// Replies may be held back until the next read or the session's end, and are written together. Random bytes
+/// that the entropy doesn't hold are drawn only where no reply is held back.
 ///
-/// Memory is taken for one line, one reply, up to 32,768 bytes of replies before it, the keyset, and the
-/// keys that lines need of it.
+/// Memory is taken for one line, one reply, up to 32,768 bytes of replies before it and once more the bytes
+/// of that reply behind them, the keyset, and the keys that lines need of it. Where memory for the replies
+/// that are held back is wanting, they are written at once.
 pub fn talk<S: Source, K: Sink, E: Lookahead>(
     alloc: Global,
     keyset: Keyset,
@@ -257,7 +258,9 @@ fn take_line<K: Sink, E: Lookahead>(
 }
 
 /// The text of the reply to a line. Where the random bytes that are held suffice, they are used, and no
-/// object is called. Else the replies that are held back are written, and the line is answered anew.
+/// object is called. Else the replies that are held back are written, and the line is answered anew. Where
+/// memory is refused, they are written too, and the answer is `NoMemory`, or `WriteFault` where a write
+/// fails.
 fn reply_to<K: Sink, E: Lookahead>(
     alloc: Global,
     session: &mut Session<'_>,
@@ -280,7 +283,7 @@ fn reply_to<K: Sink, E: Lookahead>(
         (line_of line.now)) text.items session.new.keyset
         (E.state entropy.old) (E.state entropy.new)) }
     ensures told { OnOk result
-        (Told (K.state sink.old) (K.state sink.new) replies.old.items replies.new.items []) }
+        (HoldsBack (K.state sink.old) (K.state sink.new) replies.old.items replies.new.items []) }
     ensures no_fault { OnOk result (Stood (K.state sink.old).faults (K.state sink.new).faults) }
     ensures stopped { IfErr result (λ fault. (count : ℕ) (output : List ℕ) → Stopped
         (going session.old.keyset line.now count)
@@ -386,7 +389,7 @@ fn answer_line<E: Entropy>(
 /// memory is refused.
 fn tell<K: Sink>(replies: &mut Vec<u8>, sink: &mut K, reply: &[u8]) -> Result<(), Failed>
     ensures told { OnOk result
-        (Told (K.state sink.old) (K.state sink.new) replies.old.items replies.new.items reply.now) }
+        (HoldsBack (K.state sink.old) (K.state sink.new) replies.old.items replies.new.items reply.now) }
     ensures no_fault { OnOk result (Stood (K.state sink.old).faults (K.state sink.new).faults) }
     ensures failed { OnErr result (Rose (K.state sink.old).faults (K.state sink.new).faults) }
     ensures prefix { OnErr result (TookPrefix (K.state sink.old) (K.state sink.new)

@@ -45,7 +45,7 @@ impl From<NoMemory> for HandleFault {
     }
 }
 
-/// The keys of a keyset, each of which its manager has checked and expanded once, for one primitive.
+/// The keys of a keyset, each of which its manager has checked and prepared once, for one primitive.
 #[derive(Drop)]
 pub struct Handle<'m> {
     pub(crate) managers: &'m Managers,

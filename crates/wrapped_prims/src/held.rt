@@ -16,7 +16,7 @@ use managers::Prepared;
 use std::alloc::Global;
 use tink_base::{NoMemory, RAW, TINK};
 
-/// The key of an ENABLED record, expanded once, with the place of its manager.
+/// The key of an ENABLED record, with what is made of it once, and the place of its manager.
 #[derive(Drop)]
 pub(crate) struct Kept {
     pub(crate) place: usize,

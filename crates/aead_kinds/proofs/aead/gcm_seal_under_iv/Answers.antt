@@ -10,11 +10,11 @@ returns c =
     let iv = c.args.iv.now in
     let ad = c.args.ad.now in
     let plain : List ℕ = drop 12 c.args.sealed.now in
-    let text : List ℕ = c.gcm_seal_in_place.new.body in
-    let tag : List ℕ = c.gcm_seal_in_place.result in
+    let text : List ℕ = c.seal_in_place.new.body in
+    let tag : List ℕ = c.seal_in_place.result in
     let body : c.split_at_mut-room.result.1.now ≡ plain = c.split_at_mut-room.ensures.back in
     let crypted : text ≡ gcm_text key iv plain
-    = c.gcm_seal_in_place.ensures.text ∙ ap (λ (l : List ℕ). gcm_text key iv l) body in
+    = c.seal_in_place.ensures.text ∙ ap (λ (l : List ℕ). gcm_text key iv l) body in
     ap (λ (l : List ℕ). (l ++ text) ++ tag) c.copy_from_slice.ensures.after
-    ∙ ap (λ (t : List ℕ). (iv ++ text) ++ t) c.gcm_seal_in_place.ensures.tag
+    ∙ ap (λ (t : List ℕ). (iv ++ text) ++ t) c.seal_in_place.ensures.tag
     ∙ ap (λ (t : List ℕ). (iv ++ t) ++ gcm_tag key iv ad t) crypted

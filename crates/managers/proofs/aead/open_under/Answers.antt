@@ -2,20 +2,20 @@
 use Rattle.std.proofs.Common.{◌≡◌, ◌∙◌, [], ap, sym}
 use Rattle.key_msgs.specs.declared.key.KeyKind.TheVariants as kinds
 use Rattle.tink_base.specs.declared.hash.Hash.TheVariants.{Sha256}
-use Rattle.managers.specs.Made.{aes_in}
+use Rattle.managers.specs.Made.{aes_in, gcm_in}
 use Rattle.managers.proofs.aead.open_under.Goals as goal
 
 pub returns-in-AesGcm : goal.returns-in-AesGcm
 returns-in-AesGcm c =
     let is : c.args.key.now ≡ kinds.AesGcm c.in-AesGcm.key
     = sym c.kind.ensures.key ∙ c.in-AesGcm.is in
-    let same : c.aes.result.now ≡ c.in-AesGcm.key = c.aes.ensures ∙ ap aes_in is in
+    let same : c.gcm.result.now ≡ c.in-AesGcm.key = c.gcm.ensures ∙ ap gcm_in is in
     rw is (rw same at (c.open.ensures Sha256 [] tt))
 
 pub returns-in-AesEax : goal.returns-in-AesEax
 returns-in-AesEax c =
     let is : c.args.key.now ≡ kinds.AesEax c.in-AesEax.key c.in-AesEax.iv_size
     = sym c.kind.ensures.key ∙ c.in-AesEax.is in
-    let same : c.aes-in-AesEax.result.now ≡ c.in-AesEax.key
-    = c.aes-in-AesEax.ensures ∙ ap aes_in is in
+    let same : c.aes.result.now ≡ c.in-AesEax.key
+    = c.aes.ensures ∙ ap aes_in is in
     rw is (rw same at (c.open-in-AesEax.ensures Sha256 [] tt))
