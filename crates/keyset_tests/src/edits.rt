@@ -86,6 +86,11 @@ fn joined(alloc: Global, parts: &[&[u8]]) -> Result<Vec<u8>, Fail> {
     Ok(bytes)
 }
 
+/// These random bytes. A caller sees none of them, so that none stands in what is proved of it.
+fn entropy_of(alloc: Global, random: &[u8]) -> Result<MemEntropy, Fail> {
+    Ok(MemEntropy::new(random.to_vec(alloc)?, Vec::new(alloc)))
+}
+
 /// The keyset of this name, or none where no keyset has it.
 fn keyset_named(alloc: Global, name: &str) -> Result<Option<Keyset>, Fail> {
     for (known, parts) in &KEYSETS {
@@ -155,7 +160,7 @@ fn holds_edit(alloc: Global, row: &str, given: &str, left: usize) -> Result<(), 
 /// Holds the edit of a row over these random bytes to the keyset that it gives, or to the refusal. The
 /// keyset that stands then is given.
 fn edited(alloc: Global, keyset: Keyset, random: &[u8], row: &str) -> Result<Keyset, Fail> {
-    let mut entropy = MemEntropy::new(random.to_vec(alloc)?, Vec::new(alloc));
+    let mut entropy = entropy_of(alloc, random)?;
     match apply(alloc, &keyset, &edit_in(row)?, &mut entropy) {
         Ok(edited) => {
             let text = shown(alloc, &edited)?;
@@ -219,7 +224,7 @@ fn assert_made(alloc: Global, keyset: &Keyset) -> Result<(), Fail> {
 
 #[test]
 fn creates_a_keyset_of_one_key(rt: HostRuntime) -> Result<(), Fail> {
-    let mut entropy = MemEntropy::new(RANDOM.to_vec(rt.alloc())?, Vec::new(rt.alloc()));
+    let mut entropy = entropy_of(rt.alloc(), RANDOM)?;
     let keyset = create(rt.alloc(), &template_named("AES128_GCM")?, &mut entropy)?;
     assert_eq!(rt; entropy.left(), 4);
     assert_made(rt.alloc(), &keyset)?;
@@ -373,7 +378,7 @@ then|rotate|AES128_GCM|Refused(TooManyKeys), 20 left";
 
 #[test]
 fn holds_a_thousand_keys(rt: HostRuntime) -> Result<(), Fail> {
-    let mut entropy = MemEntropy::new(NEW_KEY.to_vec(rt.alloc())?, Vec::new(rt.alloc()));
+    let mut entropy = entropy_of(rt.alloc(), NEW_KEY)?;
     let full = full(rt.alloc(), &mut entropy)?;
     assert_eq!(rt; full.len(), 1000);
     assert_eq!(rt; full.record_at(999).id, 0x01000000);

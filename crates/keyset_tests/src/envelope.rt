@@ -1,16 +1,19 @@
 //! Plaintexts sealed in envelopes and opened again: answers of Google's Tink, envelopes altered, and each
 //! draw that fails.
 
-ghost use Rattle.std.specs.Prelude.{◌≡◌, ◌+◌, ◌≤◌, length, IfOk};
+ghost use Rattle.std.specs.Prelude.{◌≤◌, length};
 
-use crate::boxes::aead_under;
+use crate::boxes::managers_of;
 use crate::keysets::keyset_of;
-use crate::rows::{bytes_named, count, digits_named, few};
+use crate::rows::{
+    bytes_named, count, counted, digits_named, fault_text, few, plain_text, with_room,
+};
 use key_msgs::{Primitive, Template, template_at, template_named};
 use keyset_model::Keyset;
-use managers::{AeadManager, AeadScheme, Managers};
+use managers::{AeadScheme, Managers};
 use seal_wrap::{ENVELOPE_ROOM, data_key, envelope_open, envelope_seal};
 use std::alloc::Global;
+use std::fmt::Debug;
 use std::test::Fail;
 use test_words::{bytes_of, cell, counting, digits_of, same_text, turned};
 use tink_base::MemEntropy;
@@ -69,6 +72,11 @@ const NAMED: [(&str, &str); 12] = [
     ),
     ("ZERO", "00000000000000000000000000000000"),
 ];
+
+/// The names. A caller sees no cell of theirs, so that none stands in what is proved of it.
+fn named() -> &'static [(&'static str, &'static str)] {
+    &NAMED
+}
 
 const URLS: [(&str, AeadScheme); 4] = [
     (
@@ -211,14 +219,9 @@ const DRAWS: [(&str, &str, usize, u64, &str); 12] = [
     ("another primitive", "AES256_SIV", 200, 0, "NotAead 200"),
 ];
 
-// A plaintext behind the room of an envelope.
-fn in_room(alloc: Global, plain: &[u8]) -> Result<Vec<u8>, Fail>
-    requires few { length plain.now ≤ 1000 }
-    ensures { IfOk result (λ bytes. length bytes.items ≡ ENVELOPE_ROOM + length plain.now) }
-{
-    let mut bytes = vec![in alloc; 7; ENVELOPE_ROOM]?;
-    bytes.extend_from_slice(plain)?;
-    Ok(bytes)
+// A fault, and how many random bytes are left.
+fn refused<F: Debug + Drop>(alloc: Global, fault: F, left: usize) -> Result<String, Fail> {
+    counted(alloc, fault_text(alloc, fault)?.as_str(), left as u64)
 }
 
 // What is sealed, or the fault, and how many random bytes are left.
@@ -228,21 +231,24 @@ fn seal_text(
     keyset: &Keyset,
     template: &Template,
     plain: &[u8],
-    mut entropy: MemEntropy,
+    entropy: &mut MemEntropy,
 ) -> Result<String, Fail>
     requires few { length plain.now ≤ 1000 }
 {
+    let bytes = with_room(alloc, b"", ENVELOPE_ROOM, plain)?;
     let handle = Handle::new(alloc, keyset, all, Primitive::Aead)?;
     let manager = match data_key(all, template) {
         Ok(manager) => manager,
-        Err(fault) => return Ok(format!(in alloc; "{fault:?} {}", entropy.left())?),
+        Err(fault) => return refused(alloc, fault, entropy.left()),
     };
-    let bytes = in_room(alloc, plain)?;
-    let text = match envelope_seal(alloc, &handle, manager, template, bytes, b"", &mut entropy) {
-        Ok(bytes) => digits_of(alloc, &bytes)?,
-        Err(fault) => format!(in alloc; "{fault:?}")?,
-    };
-    Ok(format!(in alloc; "{text} {}", entropy.left())?)
+    match envelope_seal(alloc, &handle, manager, template, bytes, b"", entropy) {
+        Ok(bytes) => counted(
+            alloc,
+            digits_of(alloc, &bytes)?.as_str(),
+            entropy.left() as u64,
+        ),
+        Err(fault) => refused(alloc, fault, entropy.left()),
+    }
 }
 
 // What opens, `none`, or the fault.
@@ -257,24 +263,21 @@ fn open_text(
     requires few_bytes { length bytes.now ≤ 1000 }
     requires few_ad { length ad.now ≤ 1000 }
 {
+    let bytes = Vec::from_slice(alloc, bytes)?;
     let handle = Handle::new(alloc, keyset, all, Primitive::Aead)?;
-    let manager = match data_key(all, template) {
-        Ok(manager) => manager,
-        Err(fault) => return Ok(format!(in alloc; "{fault:?}")?),
-    };
-    match envelope_open(alloc, &handle, manager, bytes.to_vec(alloc)?, ad)? {
-        Some(plain) => digits_of(alloc, &plain),
-        None => Ok(String::from_str(alloc, "none")?),
+    match data_key(all, template) {
+        Ok(manager) => plain_text(alloc, envelope_open(alloc, &handle, manager, bytes, ad)?),
+        Err(fault) => fault_text(alloc, fault),
     }
 }
 
 fn assert_opened(alloc: Global, all: &Managers, row: &str) -> Result<(), Fail> {
     let template = template_named(cell(row, 1)?)?;
-    let keyset = keyset_of(alloc, &bytes_named(alloc, &NAMED, cell(row, 2)?)?)?;
-    let ad = bytes_named(alloc, &NAMED, cell(row, 3)?)?;
-    let bytes = bytes_named(alloc, &NAMED, cell(row, 4)?)?;
+    let keyset = keyset_of(alloc, &bytes_named(alloc, named(), cell(row, 2)?)?)?;
+    let ad = bytes_named(alloc, named(), cell(row, 3)?)?;
+    let bytes = bytes_named(alloc, named(), cell(row, 4)?)?;
     let found = open_text(alloc, all, &keyset, &template, &bytes, &ad)?;
-    let expected = digits_named(&NAMED, cell(row, 5)?);
+    let expected = digits_named(named(), cell(row, 5)?);
     same_text(cell(row, 0)?, "what opens", expected, found.as_str())
 }
 
@@ -289,7 +292,7 @@ fn assert_rows(alloc: Global, all: &Managers, table: &str, rows: usize) -> Resul
 // Each byte of an envelope counts.
 fn assert_each_turned(alloc: Global, all: &Managers, keyset: &Keyset) -> Result<(), Fail> {
     let template = template_named("AES128_GCM_RAW")?;
-    let bytes = bytes_named(alloc, &NAMED, "00000033 KEY TEXT")?;
+    let bytes = bytes_named(alloc, named(), "00000033 KEY TEXT")?;
     for at in 0..99 {
         let other = few(turned(alloc, &bytes, at)?)?;
         let found = open_text(alloc, all, keyset, &template, &other, b"")?;
@@ -312,8 +315,8 @@ fn assert_draws(
 {
     for (shows, name, random, fails, expected) in draws {
         let template = template_named(name)?;
-        let entropy = MemEntropy::new(vec![in alloc; 0; *random]?, vec![in alloc; *fails; 1]?);
-        let found = seal_text(alloc, all, keyset, &template, plain, entropy)?;
+        let mut entropy = MemEntropy::new(vec![in alloc; 0; *random]?, vec![in alloc; *fails; 1]?);
+        let found = seal_text(alloc, all, keyset, &template, plain, &mut entropy)?;
         same_text(shows, "the answer", expected, found.as_str())?;
     }
     Ok(())
@@ -322,8 +325,8 @@ fn assert_draws(
 // Seals under the keyset with a data key of this template, and opens what was sealed.
 fn assert_back(alloc: Global, all: &Managers, keyset: &Keyset, place: usize) -> Result<(), Fail> {
     let template = template_at(place).ok_or("a row of the table")?;
-    let entropy = MemEntropy::new(counting(alloc, 200)?, Vec::new(alloc));
-    let sealed = seal_text(alloc, all, keyset, &template, b"plaintext", entropy)?;
+    let mut entropy = MemEntropy::new(counting(alloc, 200)?, Vec::new(alloc));
+    let sealed = seal_text(alloc, all, keyset, &template, b"plaintext", &mut entropy)?;
     let (envelope, _) = sealed.as_str().split_once(' ').ok_or("what is left")?;
     let envelope = if envelope == "NotAead" { "" } else { envelope };
     let bytes = few(bytes_of(alloc, envelope)?)?;
@@ -336,7 +339,7 @@ fn assert_back(alloc: Global, all: &Managers, keyset: &Keyset, place: usize) -> 
 }
 
 fn assert_all_back(alloc: Global, all: &Managers, keyset: &str) -> Result<(), Fail> {
-    let keyset = keyset_of(alloc, &bytes_named(alloc, &NAMED, keyset)?)?;
+    let keyset = keyset_of(alloc, &bytes_named(alloc, named(), keyset)?)?;
     for place in 0..36 {
         assert_back(alloc, all, &keyset, place)?;
     }
@@ -346,17 +349,13 @@ fn assert_all_back(alloc: Global, all: &Managers, keyset: &str) -> Result<(), Fa
 #[test]
 fn envelopes_open_and_each_byte_of_them_counts(rt: HostRuntime) -> Result<(), Fail> {
     let alloc = rt.alloc();
-    let mut aead: Vec<Box<dyn AeadManager>> = Vec::new(alloc);
-    for (url, scheme) in URLS {
-        aead.push(aead_under(alloc, url, scheme)?)?;
-    }
-    let all = Managers::new(aead, Vec::new(alloc), Vec::new(alloc), Vec::new(alloc))?;
-    let keyset = keyset_of(alloc, &bytes_named(alloc, &NAMED, "K1")?)?;
+    let all = managers_of(alloc, &URLS, &[], &[], &[])?;
+    let keyset = keyset_of(alloc, &bytes_named(alloc, named(), "K1")?)?;
     assert_rows(alloc, &all, OF_TINK_GO, 11)?;
     assert_rows(alloc, &all, ENVELOPES, 26)?;
     assert_each_turned(alloc, &all, &keyset)?;
     assert_draws(alloc, &all, &keyset, &[0; 16], &DRAWS)?;
-    for (keyset, _) in NAMED.iter().take(4) {
+    for (keyset, _) in named().iter().take(4) {
         assert_all_back(alloc, &all, keyset)?;
     }
     Ok(())
@@ -381,10 +380,11 @@ const REFUSED: [(&str, &str, usize, u64, &str); 5] = [
 #[test]
 fn refuses_a_data_key_before_it_is_sealed(rt: HostRuntime) -> Result<(), Fail> {
     let alloc = rt.alloc();
-    let mut aead: Vec<Box<dyn AeadManager>> = Vec::new(alloc);
-    aead.push(aead_under(alloc, URLS[0].0, AeadScheme::Eax)?)?;
-    aead.push(aead_under(alloc, URLS[3].0, AeadScheme::GcmSiv)?)?;
-    let all = Managers::new(aead, Vec::new(alloc), Vec::new(alloc), Vec::new(alloc))?;
-    let keyset = keyset_of(alloc, &bytes_named(alloc, &NAMED, "GCM_SIV")?)?;
+    let urls = [
+        (URLS[0].0, AeadScheme::Eax),
+        (URLS[3].0, AeadScheme::GcmSiv),
+    ];
+    let all = managers_of(alloc, &urls, &[], &[], &[])?;
+    let keyset = keyset_of(alloc, &bytes_named(alloc, named(), "GCM_SIV")?)?;
     assert_draws(alloc, &all, &keyset, b"", &REFUSED)
 }

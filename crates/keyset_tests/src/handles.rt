@@ -1,20 +1,20 @@
 //! Keysets under managers that the test makes, against published and independent answers.
 
 ghost use Rattle.std.specs.Prelude.{◌≤◌, length};
+ghost use Rattle.key_msgs.specs.declared.primitive.Primitive.TheVariants.{Aead, Daead, Mac, Prf};
+ghost use Rattle.keyset_model.specs.Keyset.{Keys};
+ghost use Rattle.wrapped_prims.specs.Making.{IsOver};
 
-use crate::boxes::{aead_under, daead_under, mac_under, prf_under};
+use crate::boxes::managers_of;
 use crate::keysets::keyset_of;
-use crate::manager_answers::opened_text;
-use crate::rows::{bytes_in, count, digits_named, holds};
+use crate::rows::{bytes_in, count, counted, digits_named, fault_text, holds, opened_text, zeros};
 use key_msgs::Primitive;
 use keyset_model::Keyset;
-use managers::{
-    AeadManager, AeadScheme, DaeadManager, MacManager, MacScheme, Managers, PrfManager, PrfScheme,
-};
+use managers::{AeadScheme, KeyTable, MacScheme, Managers, PrfScheme};
 use std::alloc::Global;
 use std::test::Fail;
 use test_words::{bytes_of, cell, digits_of};
-use tink_base::{MemEntropy, Trials};
+use tink_base::Trials;
 use wrapped_prims::Handle;
 
 // A row has what it shows, a keyset, the work, the two lists of bytes that are given, and what is
@@ -103,8 +103,9 @@ CRUNCHY and LEGACY of one id|08;01 04 07 g ZERO;01 02 07 g ZERO;01 01 07 g ZERO;
 a RAW key of the same id|08;01 03 07 g ZERO;01 01 07 g ZERO;01 03 08 g ZERO|prefixes|||0100000007 [1]";
 
 // The tables of each primitive, with the numbers of their rows.
-const TABLES: [(&str, usize, Primitive); 4] = [
+const TABLES: [(&str, usize, Primitive); 5] = [
     (AEAD, 26, Primitive::Aead),
+    (PREFIXES, 10, Primitive::Aead),
     (MAC, 15, Primitive::Mac),
     (DAEAD, 6, Primitive::Daead),
     (PRF, 4, Primitive::Prf),
@@ -136,6 +137,11 @@ const NAMED: [(&str, &str); 7] = [
     ),
 ];
 
+/// The names. A caller sees no cell of theirs, so that none stands in what is proved of it.
+fn named() -> &'static [(&'static str, &'static str)] {
+    &NAMED
+}
+
 // A word of a record.
 fn word(record: &str, place: usize) -> Result<&str, Fail> {
     Ok(record.split(' ').nth(place).ok_or("a word of a record")?)
@@ -150,7 +156,7 @@ fn field(alloc: Global, tag: &str, digits: &str) -> Result<String, Fail> {
 fn key_data(alloc: Global, record: &str) -> Result<String, Fail> {
     let url = digits_of(alloc, word(record, 3)?.as_bytes())?;
     let url = field(alloc, "0a", url.as_str())?;
-    let value = field(alloc, "12", digits_named(&NAMED, word(record, 4)?))?;
+    let value = field(alloc, "12", digits_named(named(), word(record, 4)?))?;
     Ok(format!(in alloc; "{url}{value}1801")?)
 }
 
@@ -172,103 +178,133 @@ fn keyset_in(alloc: Global, row: &str) -> Result<Keyset, Fail> {
     keyset_of(alloc, &bytes_of(alloc, digits.as_str())?)
 }
 
-// What a row's first bytes are sealed as with an IV of zero bytes, or what they open to; and why not.
+// What a row's first bytes are sealed as with an IV of zero bytes, or what they open to and how many keys
+// were tried; or each prefix in digits, with its places.
 fn aead_text(
     alloc: Global,
-    all: &Managers,
-    row: &str,
-    keyset: &Keyset,
+    handle: &Handle<'_>,
+    work: &str,
     given: &[u8],
     ad: &[u8],
 ) -> Result<String, Fail>
+    requires over { (keys : Keys) × IsOver (⟦<Managers as KeyTable>⟧.table
+        handle.now.managers.now) Aead keys handle.now.held }
     requires few_given { length given.now ≤ 1000 }
     requires few_ad { length ad.now ≤ 1000 }
 {
-    let handle = match Handle::new(alloc, keyset, all, Primitive::Aead) {
-        Ok(handle) => handle,
-        Err(fault) => return Ok(format!(in alloc; "{fault:?}")?),
-    };
-    if cell(row, 2)? == "seal" {
-        let mut entropy = MemEntropy::new(vec![in alloc; 0; 12]?, Vec::new(alloc));
+    if work == "prefixes" {
+        return prefixes_text(alloc, handle);
+    }
+    if work == "seal" {
+        let mut entropy = zeros(alloc, 12)?;
         return digits_of(alloc, &handle.seal(alloc, given, ad, &mut entropy)?);
     }
     let mut trials = Trials::new();
     let plain = handle.open(alloc, given, ad, &mut trials)?;
-    opened_text(alloc, plain, &trials)
+    opened_text(alloc, plain, trials.spent())
+}
+
+// Each prefix in digits, with its places.
+fn prefixes_text(alloc: Global, handle: &Handle<'_>) -> Result<String, Fail> {
+    let mut text = String::new(alloc);
+    for (prefix, places) in handle.prefixes() {
+        let before = if text.is_empty() { "" } else { ", " };
+        let digits = digits_of(alloc, prefix)?;
+        text = format!(in alloc; "{text}{before}{digits} {:?}", places.as_slice())?;
+    }
+    Ok(text)
 }
 
 // The same without an IV.
 fn daead_text(
     alloc: Global,
-    all: &Managers,
-    row: &str,
-    keyset: &Keyset,
+    handle: &Handle<'_>,
+    work: &str,
     given: &[u8],
     ad: &[u8],
 ) -> Result<String, Fail>
+    requires over { (keys : Keys) × IsOver (⟦<Managers as KeyTable>⟧.table
+        handle.now.managers.now) Daead keys handle.now.held }
     requires few_given { length given.now ≤ 1000 }
     requires few_ad { length ad.now ≤ 1000 }
 {
-    let handle = Handle::new(alloc, keyset, all, Primitive::Daead)?;
-    if cell(row, 2)? == "dseal" {
+    if work == "dseal" {
         return digits_of(alloc, &handle.dseal(alloc, given, ad)?);
     }
     let mut trials = Trials::new();
     let plain = handle.dopen(alloc, given, ad, &mut trials)?;
-    opened_text(alloc, plain, &trials)
+    opened_text(alloc, plain, trials.spent())
 }
 
 // The tag of a row's body, or whether this tag verifies and how many keys were tried.
 fn mac_text(
     alloc: Global,
-    all: &Managers,
-    row: &str,
-    keyset: &Keyset,
+    handle: &Handle<'_>,
+    work: &str,
     body: &[u8],
     tag: &[u8],
 ) -> Result<String, Fail>
+    requires over { (keys : Keys) × IsOver (⟦<Managers as KeyTable>⟧.table
+        handle.now.managers.now) Mac keys handle.now.held }
     requires few { length body.now ≤ 1000 }
 {
-    let handle = Handle::new(alloc, keyset, all, Primitive::Mac)?;
-    if cell(row, 2)? == "tag" {
+    if work == "tag" {
         return digits_of(alloc, &handle.tag(alloc, body)?);
     }
     let mut trials = Trials::new();
     let holds = handle.verify(tag, body, &mut trials);
-    Ok(format!(in alloc; "{holds} {}", trials.spent())?)
+    counted(alloc, if holds { "true" } else { "false" }, trials.spent())
 }
 
 // What is derived of an input, or why not.
-fn prf_text(
-    alloc: Global,
-    all: &Managers,
-    keyset: &Keyset,
-    input: &[u8],
-    size: &[u8],
-) -> Result<String, Fail>
+fn prf_text(alloc: Global, handle: &Handle<'_>, input: &[u8], size: &[u8]) -> Result<String, Fail>
+    requires over { (keys : Keys) × IsOver (⟦<Managers as KeyTable>⟧.table
+        handle.now.managers.now) Prf keys handle.now.held }
     requires few { length input.now ≤ 1000 }
 {
-    let handle = match Handle::new(alloc, keyset, all, Primitive::Prf) {
-        Ok(handle) => handle,
-        Err(fault) => return Ok(format!(in alloc; "{fault:?}")?),
-    };
-    match handle.derive(alloc, input, usize::from(*size.first().ok_or("a size")?)) {
+    let size = size.first().ok_or("a size")?;
+    match handle.derive(alloc, input, usize::from(*size)) {
         Ok(bytes) => digits_of(alloc, &bytes),
-        Err(fault) => Ok(format!(in alloc; "{fault:?}")?),
+        Err(fault) => fault_text(alloc, fault),
     }
 }
 
-// What a row's keyset answers for a primitive.
+// What a handle for a primitive answers to a work, with a row's two lists of bytes.
+fn answered(
+    alloc: Global,
+    handle: &Handle<'_>,
+    primitive: Primitive,
+    work: &str,
+    first: &[u8],
+    second: &[u8],
+) -> Result<String, Fail>
+    requires over { (keys : Keys) × IsOver (⟦<Managers as KeyTable>⟧.table
+        handle.now.managers.now) primitive keys handle.now.held }
+    requires few_first { length first.now ≤ 1000 }
+    requires few_second { length second.now ≤ 1000 }
+{
+    match primitive {
+        Primitive::Aead => aead_text(alloc, handle, work, first, second),
+        Primitive::Daead => daead_text(alloc, handle, work, first, second),
+        Primitive::Mac => mac_text(alloc, handle, work, first, second),
+        Primitive::Prf => prf_text(alloc, handle, first, second),
+        Primitive::Stream => Err("a primitive that handles have".into()),
+    }
+}
+
+// What a row's keyset answers for a primitive, or why it can't. This function alone owns a handle, since
+// what is proved of a handle's end is dear.
 fn answer(alloc: Global, all: &Managers, primitive: Primitive, row: &str) -> Result<String, Fail> {
+    if let Primitive::Stream = primitive {
+        return Err("a primitive that handles have".into());
+    }
     let keyset = keyset_in(alloc, row)?;
+    let work = cell(row, 2)?;
     let first = bytes_in(alloc, row, 3)?;
     let second = bytes_in(alloc, row, 4)?;
-    match primitive {
-        Primitive::Aead => aead_text(alloc, all, row, &keyset, &first, &second),
-        Primitive::Daead => daead_text(alloc, all, row, &keyset, &first, &second),
-        Primitive::Mac => mac_text(alloc, all, row, &keyset, &first, &second),
-        Primitive::Prf => prf_text(alloc, all, &keyset, &first, &second),
-        Primitive::Stream => Err("a primitive that handles have".into()),
+    match Handle::new(alloc, &keyset, all, primitive) {
+        Ok(handle) => answered(alloc, &handle, primitive, work, &first, &second),
+        Err(fault) => fault_text(alloc, fault),
     }
 }
 
@@ -287,41 +323,18 @@ fn assert_table(
     Ok(())
 }
 
-// Each prefix of a row's keyset in digits, with its places.
-fn prefixes_text(alloc: Global, all: &Managers, row: &str) -> Result<String, Fail> {
-    let handle = Handle::new(alloc, &keyset_in(alloc, row)?, all, Primitive::Aead)?;
-    let mut text = String::new(alloc);
-    for (prefix, places) in handle.prefixes() {
-        let before = if text.is_empty() { "" } else { ", " };
-        let digits = digits_of(alloc, prefix)?;
-        text = format!(in alloc; "{text}{before}{digits} {:?}", places.as_slice())?;
-    }
-    Ok(text)
-}
-
-fn assert_prefixes(alloc: Global, all: &Managers) -> Result<(), Fail> {
-    count(PREFIXES, 10)?;
-    for row in PREFIXES.lines() {
-        let found = prefixes_text(alloc, all, row)?;
-        holds(row, 5, cell(row, 2)?, found.as_str())?;
-    }
-    Ok(())
-}
-
 #[test]
 fn a_keyset_answers_by_its_candidates(rt: HostRuntime) -> Result<(), Fail> {
     let alloc = rt.alloc();
-    let mut aead: Vec<Box<dyn AeadManager>> = Vec::new(alloc);
-    aead.push(aead_under(alloc, "g", AeadScheme::Gcm)?)?;
-    let mut daead: Vec<Box<dyn DaeadManager>> = Vec::new(alloc);
-    daead.push(daead_under(alloc, "s")?)?;
-    let mut mac: Vec<Box<dyn MacManager>> = Vec::new(alloc);
-    mac.push(mac_under(alloc, "h", MacScheme::Hmac)?)?;
-    let mut prf: Vec<Box<dyn PrfManager>> = Vec::new(alloc);
-    prf.push(prf_under(alloc, "p", PrfScheme::Hmac)?)?;
-    let all = Managers::new(aead, daead, mac, prf)?;
+    let all = managers_of(
+        alloc,
+        &[("g", AeadScheme::Gcm)],
+        &["s"],
+        &[("h", MacScheme::Hmac)],
+        &[("p", PrfScheme::Hmac)],
+    )?;
     for (table, rows, primitive) in TABLES {
         assert_table(alloc, &all, primitive, table, rows)?;
     }
-    assert_prefixes(alloc, &all)
+    Ok(())
 }

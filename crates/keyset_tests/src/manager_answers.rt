@@ -1,13 +1,15 @@
 //! Each manager in its box, found by its URL, against published and independent answers; and which
 //! tables are refused.
 
-ghost use Rattle.std.specs.Prelude.{◌≡◌, ◌+◌, ◌≤◌, length, IfOk};
+ghost use Rattle.std.specs.Prelude.{◌≤◌, length};
+ghost use Rattle.managers.specs.Schemes.{IsAdmitted};
 
-use crate::boxes::{aead_under, daead_under, mac_under, prf_under};
-use crate::rows::{bytes_in, few, holds_bytes};
+use crate::boxes::{aeads, macs, managers_of};
+use crate::rows::{bytes_in, counted, fault_text, few, holds, opened_text, with_room};
 use key_msgs::Primitive;
 use managers::{
-    AeadManager, AeadScheme, DaeadManager, MacManager, MacScheme, Managers, PrfManager, PrfScheme,
+    AeadManager, AeadScheme, DaeadManager, KeyManager, MacManager, MacScheme, Managers, Prepared,
+    PrfManager, PrfScheme,
 };
 use std::alloc::Global;
 use std::test::Fail;
@@ -73,242 +75,280 @@ fn altered(alloc: Global, bytes: &[u8]) -> Result<Vec<u8>, Fail> {
     )
 }
 
-/// The digits of what was opened, or `none`, and the trials spent.
-pub(crate) fn opened_text(
-    alloc: Global,
-    plain: Option<Vec<u8>>,
-    trials: &Trials,
-) -> Result<String, Fail> {
-    let text = match plain {
-        Some(plain) => digits_of(alloc, &plain)?,
-        None => String::from_str(alloc, "none")?,
-    };
-    Ok(format!(in alloc; "{text} {}", trials.spent())?)
-}
-
-// A plaintext behind a front and room of so many bytes, in which others stand.
-fn with_room(alloc: Global, front: &[u8], room: usize, plain: &[u8]) -> Result<Vec<u8>, Fail>
-    requires few_front { length front.now ≤ 1000 }
-    requires few_room { room ≤ 1000 }
-    ensures { IfOk result (λ bytes.
-        length bytes.items ≡ length front.now + room + length plain.now) }
-{
-    let mut bytes = Vec::from_slice(alloc, front)?;
-    bytes.resize(front.len() + room, 0xa5)?;
-    bytes.extend_from_slice(plain)?;
-    Ok(bytes)
-}
+// What follows lends a key that its manager has read, which one function for each interface owns: what is
+// proved of a key's end is dear.
 
 fn aead_seals(
     alloc: Global,
     manager: &dyn AeadManager,
+    key: &Prepared,
     cells: &Cells,
     front: &[u8],
 ) -> Result<Vec<u8>, Fail>
+    requires admitted { IsAdmitted
+        ((⟦<dyn AeadManager as KeyManager>⟧ manager.now.0).scheme manager.now.1) key.now }
     requires few { length front.now ≤ 1000 }
 {
-    let Ok(key) = manager.check(alloc, &cells.value) else {
-        return Err("no key".into());
-    };
-    let iv = cells.made.get(..manager.iv_size(&key)).ok_or("an IV")?;
+    let iv = cells.made.get(..manager.iv_size(key)).ok_or("an IV")?;
     let bytes = with_room(alloc, front, iv.len(), &cells.last)?;
-    Ok(manager.seal(&key, front.len(), bytes, iv, &cells.given)?)
+    Ok(manager.seal(key, front.len(), bytes, iv, &cells.given)?)
 }
 
 fn aead_opens(
     alloc: Global,
     manager: &dyn AeadManager,
+    key: &Prepared,
     cells: &Cells,
     sealed: &[u8],
 ) -> Result<String, Fail>
+    requires admitted { IsAdmitted
+        ((⟦<dyn AeadManager as KeyManager>⟧ manager.now.0).scheme manager.now.1) key.now }
     requires few { length sealed.now ≤ 1000 }
 {
-    let Ok(key) = manager.check(alloc, &cells.value) else {
-        return Err("no key".into());
-    };
     let (mut bytes, mut trials) = (sealed.to_vec(alloc)?, Trials::new());
-    let range = manager.open(&key, &mut bytes, &cells.given, &mut trials);
-    opened_text(alloc, opened_in(alloc, &bytes, range, sealed)?, &trials)
+    let range = manager.open(key, &mut bytes, &cells.given, &mut trials);
+    opened_text(
+        alloc,
+        opened_in(alloc, &bytes, range, sealed)?,
+        trials.spent(),
+    )
 }
 
 fn daead_seals(
     alloc: Global,
     manager: &dyn DaeadManager,
+    key: &Prepared,
     cells: &Cells,
     front: &[u8],
 ) -> Result<Vec<u8>, Fail>
+    requires admitted { IsAdmitted
+        ((⟦<dyn DaeadManager as KeyManager>⟧ manager.now.0).scheme manager.now.1) key.now }
     requires few { length front.now ≤ 1000 }
 {
-    let Ok(key) = manager.check(alloc, &cells.value) else {
-        return Err("no key".into());
-    };
     let bytes = with_room(alloc, front, 16, &cells.last)?;
-    Ok(manager.seal(&key, front.len(), bytes, &cells.given)?)
+    Ok(manager.seal(key, front.len(), bytes, &cells.given)?)
 }
 
 fn daead_opens(
     alloc: Global,
     manager: &dyn DaeadManager,
+    key: &Prepared,
     cells: &Cells,
     sealed: &[u8],
 ) -> Result<String, Fail>
+    requires admitted { IsAdmitted
+        ((⟦<dyn DaeadManager as KeyManager>⟧ manager.now.0).scheme manager.now.1) key.now }
     requires few { length sealed.now ≤ 1000 }
 {
-    let Ok(key) = manager.check(alloc, &cells.value) else {
-        return Err("no key".into());
-    };
     let (mut bytes, mut trials) = (sealed.to_vec(alloc)?, Trials::new());
-    let range = manager.open(&key, &mut bytes, &cells.given, &mut trials);
-    opened_text(alloc, opened_in(alloc, &bytes, range, sealed)?, &trials)
+    let range = manager.open(key, &mut bytes, &cells.given, &mut trials);
+    opened_text(
+        alloc,
+        opened_in(alloc, &bytes, range, sealed)?,
+        trials.spent(),
+    )
 }
 
-// What the manager that a row's URL names seals of its plaintext, behind these bytes.
-fn sealed(
+// What a manager seals behind these bytes, and what it opens of these.
+fn aead_texts(
+    alloc: Global,
+    manager: &dyn AeadManager,
+    cells: &Cells,
+    front: &[u8],
+    sealed: &[u8],
+) -> Result<(String, String), Fail>
+    requires few_front { length front.now ≤ 1000 }
+    requires few_sealed { length sealed.now ≤ 1000 }
+{
+    match manager.check(alloc, &cells.value) {
+        Ok(key) => {
+            let made = aead_seals(alloc, manager, &key, cells, front)?;
+            let opened = aead_opens(alloc, manager, &key, cells, sealed)?;
+            Ok((digits_of(alloc, &made)?, opened))
+        }
+        Err(_) => Err("no key".into()),
+    }
+}
+
+fn daead_texts(
+    alloc: Global,
+    manager: &dyn DaeadManager,
+    cells: &Cells,
+    front: &[u8],
+    sealed: &[u8],
+) -> Result<(String, String), Fail>
+    requires few_front { length front.now ≤ 1000 }
+    requires few_sealed { length sealed.now ≤ 1000 }
+{
+    match manager.check(alloc, &cells.value) {
+        Ok(key) => {
+            let made = daead_seals(alloc, manager, &key, cells, front)?;
+            let opened = daead_opens(alloc, manager, &key, cells, sealed)?;
+            Ok((digits_of(alloc, &made)?, opened))
+        }
+        Err(_) => Err("no key".into()),
+    }
+}
+
+// The same of the manager that a row's URL names.
+fn texts(
     alloc: Global,
     all: &Managers,
     row: &str,
     cells: &Cells,
     front: &[u8],
-) -> Result<Vec<u8>, Fail>
-    requires few { length front.now ≤ 1000 }
-{
-    let url = cell(row, 1)?;
-    if let Some(place) = all.find(Primitive::Aead, url) {
-        return aead_seals(alloc, all.aead_at(place), cells, front);
-    }
-    let place = all.find(Primitive::Daead, url).ok_or("a manager")?;
-    daead_seals(alloc, all.daead_at(place), cells, front)
-}
-
-// What it opens of these bytes.
-fn opened(
-    alloc: Global,
-    all: &Managers,
-    row: &str,
-    cells: &Cells,
     sealed: &[u8],
-) -> Result<String, Fail>
-    requires few { length sealed.now ≤ 1000 }
+) -> Result<(String, String), Fail>
+    requires few_front { length front.now ≤ 1000 }
+    requires few_sealed { length sealed.now ≤ 1000 }
 {
     let url = cell(row, 1)?;
     if let Some(place) = all.find(Primitive::Aead, url) {
-        return aead_opens(alloc, all.aead_at(place), cells, sealed);
+        return aead_texts(alloc, all.aead_at(place), cells, front, sealed);
     }
     let place = all.find(Primitive::Daead, url).ok_or("a manager")?;
-    daead_opens(alloc, all.daead_at(place), cells, sealed)
+    daead_texts(alloc, all.daead_at(place), cells, front, sealed)
 }
 
 // What stands before a sealing.
 const FRONTS: [&str; 2] = ["", "0102030405"];
 
-fn assert_sealed(alloc: Global, all: &Managers, row: &str, cells: &Cells) -> Result<(), Fail> {
-    for front in FRONTS {
-        let found = sealed(alloc, all, row, cells, &few(bytes_of(alloc, front)?)?)?;
-        let expected = format!(in alloc; "{front}{}", cell(row, 4)?)?;
-        let found = digits_of(alloc, &found)?;
-        same_text(
-            cell(row, 0)?,
-            "the sealing",
-            expected.as_str(),
-            found.as_str(),
-        )?;
-    }
-    Ok(())
+// Behind a front: what is sealed is the row's, and these bytes open so.
+fn assert_texts(
+    alloc: Global,
+    all: &Managers,
+    row: &str,
+    cells: &Cells,
+    front: &str,
+    sealed: &[u8],
+    opens: &str,
+) -> Result<(), Fail>
+    requires few { length sealed.now ≤ 1000 }
+{
+    let shows = cell(row, 0)?;
+    let before = few(bytes_of(alloc, front)?)?;
+    let (made, opened) = texts(alloc, all, row, cells, &before, sealed)?;
+    let expected = format!(in alloc; "{front}{}", cell(row, 4)?)?;
+    same_text(shows, "the sealing", expected.as_str(), made.as_str())?;
+    same_text(shows, "what opens", opens, opened.as_str())
 }
 
 // Each sealing opens in one trial, and with its last bit turned it doesn't.
 fn assert_sealing(alloc: Global, all: &Managers, row: &str) -> Result<(), Fail> {
     let cells = cells_of(alloc, row)?;
-    assert_sealed(alloc, all, row, &cells)?;
-    let expected = format!(in alloc; "{} 1", cell(row, 5)?)?;
-    let found = opened(alloc, all, row, &cells, &cells.made)?;
-    same_text(
-        cell(row, 0)?,
-        "what opens",
-        expected.as_str(),
-        found.as_str(),
-    )?;
     let other = few(altered(alloc, &cells.made)?)?;
-    let found = opened(alloc, all, row, &cells, &other)?;
-    same_text(
-        cell(row, 0)?,
-        "the last bit turned",
-        "none 1",
-        found.as_str(),
-    )
+    let opens = format!(in alloc; "{} 1", cell(row, 5)?)?;
+    assert_texts(
+        alloc,
+        all,
+        row,
+        &cells,
+        FRONTS[0],
+        &cells.made,
+        opens.as_str(),
+    )?;
+    assert_texts(alloc, all, row, &cells, FRONTS[1], &other, "none 1")
 }
 
-fn mac_tags(
-    alloc: Global,
-    manager: &dyn MacManager,
-    cells: &Cells,
-    zero: bool,
-) -> Result<Vec<u8>, Fail> {
-    let Ok(key) = manager.check(alloc, &cells.value) else {
-        return Err("no key".into());
-    };
-    Ok(manager.tag(alloc, &key, &cells.given, zero)?)
-}
-
-// Whether a tag verifies, and the trials spent.
 fn mac_verifies(
     alloc: Global,
     manager: &dyn MacManager,
-    cells: &Cells,
+    key: &Prepared,
     tag: &[u8],
+    body: &[u8],
     zero: bool,
-) -> Result<String, Fail> {
-    let Ok(key) = manager.check(alloc, &cells.value) else {
-        return Err("no key".into());
-    };
+) -> Result<String, Fail>
+    requires admitted { IsAdmitted
+        ((⟦<dyn MacManager as KeyManager>⟧ manager.now.0).scheme manager.now.1) key.now }
+    requires few { length body.now ≤ 1000 }
+{
     let mut trials = Trials::new();
-    let verified = manager.verify(&key, tag, &cells.given, zero, &mut trials);
-    Ok(format!(in alloc; "{verified} {}", trials.spent())?)
+    let verified = manager.verify(key, tag, body, zero, &mut trials);
+    counted(
+        alloc,
+        if verified { "true" } else { "false" },
+        trials.spent(),
+    )
+}
+
+// The tag of a row's body, and whether another tag verifies, with the trials spent.
+fn mac_texts(
+    alloc: Global,
+    manager: &dyn MacManager,
+    cells: &Cells,
+    zero: bool,
+    tag: &[u8],
+    with_zero: bool,
+) -> Result<(String, String), Fail> {
+    match manager.check(alloc, &cells.value) {
+        Ok(key) => {
+            let made = manager.tag(alloc, &key, &cells.given, zero)?;
+            let verified = mac_verifies(alloc, manager, &key, tag, &cells.given, with_zero)?;
+            Ok((digits_of(alloc, &made)?, verified))
+        }
+        Err(_) => Err("no key".into()),
+    }
 }
 
 // The tag is made and verifies, and it doesn't for the other body, nor where it is altered.
-fn assert_mac(alloc: Global, all: &Managers, row: &str) -> Result<(), Fail> {
-    let place = all.find(Primitive::Mac, cell(row, 1)?).ok_or("a manager")?;
-    let manager = all.mac_at(place);
+fn assert_mac(alloc: Global, manager: &dyn MacManager, row: &str) -> Result<(), Fail> {
     let cells = cells_of(alloc, row)?;
     let zero = !cells.last.is_empty();
-    let made = mac_tags(alloc, manager, &cells, zero)?;
-    holds_bytes(alloc, row, 4, "the tag", &made)?;
-    let other = altered(alloc, &made)?;
-    let shorter = made.get(1..).ok_or("a byte")?;
+    let tag = cells.made.as_slice();
+    let other = altered(alloc, tag)?;
+    let shorter = tag.get(1..).ok_or("a byte")?;
     let none: &[u8] = &[];
-    for (part, tag, zero, expected) in [
-        ("the tag verified", made.as_slice(), zero, "true 1"),
-        ("under the other body", made.as_slice(), !zero, "false 1"),
+    for (part, tag, with_zero, expected) in [
+        ("the tag verified", tag, zero, "true 1"),
+        ("under the other body", tag, !zero, "false 1"),
         ("the last bit turned", other.as_slice(), zero, "false 1"),
         ("the first byte gone", shorter, zero, "false 1"),
         ("no tag", none, zero, "false 1"),
     ] {
-        let found = mac_verifies(alloc, manager, &cells, tag, zero)?;
+        let (made, found) = mac_texts(alloc, manager, &cells, zero, tag, with_zero)?;
+        holds(row, 4, "the tag", made.as_str())?;
         same_text(cell(row, 0)?, part, expected, found.as_str())?;
     }
     Ok(())
 }
 
-// The bytes that are derived, and how many can be, as the cell has them.
-fn prf_derives(alloc: Global, manager: &dyn PrfManager, cells: &Cells) -> Result<String, Fail> {
-    let Ok(key) = manager.check(alloc, &cells.value) else {
-        return Err("no key".into());
-    };
-    let greatest = manager.greatest(&key);
+fn derived_text(alloc: Global, derived: &[u8], greatest: usize) -> Result<String, Fail> {
+    let digits = digits_of(alloc, derived)?;
+    Ok(format!(in alloc; "{digits} of {greatest:04x}")?)
+}
+
+fn prf_text(
+    alloc: Global,
+    manager: &dyn PrfManager,
+    key: &Prepared,
+    cells: &Cells,
+) -> Result<String, Fail>
+    requires admitted { IsAdmitted
+        ((⟦<dyn PrfManager as KeyManager>⟧ manager.now.0).scheme manager.now.1) key.now }
+{
+    let greatest = manager.greatest(key);
     let size = cells.made.len();
     if size > greatest {
         return Err("a size that can be derived".into());
     }
-    let derived = manager.derive(alloc, &key, &cells.given, size)?;
-    let digits = digits_of(alloc, &derived)?;
-    Ok(format!(in alloc; "{digits} of {greatest:04x}")?)
+    derived_text(
+        alloc,
+        &manager.derive(alloc, key, &cells.given, size)?,
+        greatest,
+    )
 }
 
-fn assert_prf(alloc: Global, all: &Managers, row: &str) -> Result<(), Fail> {
-    let place = all.find(Primitive::Prf, cell(row, 1)?).ok_or("a manager")?;
+// The bytes that are derived, and how many can be, as the cell has them.
+fn prf_derives(alloc: Global, manager: &dyn PrfManager, cells: &Cells) -> Result<String, Fail> {
+    match manager.check(alloc, &cells.value) {
+        Ok(key) => prf_text(alloc, manager, &key, cells),
+        Err(_) => Err("no key".into()),
+    }
+}
+
+fn assert_prf(alloc: Global, manager: &dyn PrfManager, row: &str) -> Result<(), Fail> {
     let cells = cells_of(alloc, row)?;
-    let found = prf_derives(alloc, all.prf_at(place), &cells)?;
+    let found = prf_derives(alloc, manager, &cells)?;
     let expected = format!(in alloc; "{} of {}", cell(row, 4)?, cell(row, 5)?)?;
     same_text(
         cell(row, 0)?,
@@ -339,44 +379,29 @@ const PRFS: [(&str, PrfScheme); 3] = [
 
 #[test]
 fn managers_of_aeads_answer_their_standards(rt: HostRuntime) -> Result<(), Fail> {
-    let alloc = rt.alloc();
-    let mut aead: Vec<Box<dyn AeadManager>> = Vec::new(alloc);
-    for (url, scheme) in AEADS {
-        aead.push(aead_under(alloc, url, scheme)?)?;
-    }
-    let mut daead: Vec<Box<dyn DaeadManager>> = Vec::new(alloc);
-    daead.push(daead_under(alloc, "AesSivKey")?)?;
-    let all = Managers::new(aead, daead, Vec::new(alloc), Vec::new(alloc))?;
+    let all = managers_of(rt.alloc(), &AEADS, &["AesSivKey"], &[], &[])?;
     for row in SEALINGS.lines() {
-        assert_sealing(alloc, &all, row)?;
+        assert_sealing(rt.alloc(), &all, row)?;
     }
     Ok(())
 }
 
 #[test]
 fn managers_of_macs_answer_their_standards(rt: HostRuntime) -> Result<(), Fail> {
-    let alloc = rt.alloc();
-    let mut mac: Vec<Box<dyn MacManager>> = Vec::new(alloc);
-    for (url, scheme) in MACS {
-        mac.push(mac_under(alloc, url, scheme)?)?;
-    }
-    let all = Managers::new(Vec::new(alloc), Vec::new(alloc), mac, Vec::new(alloc))?;
+    let all = managers_of(rt.alloc(), &[], &[], &MACS, &[])?;
     for row in MAC.lines() {
-        assert_mac(alloc, &all, row)?;
+        let place = all.find(Primitive::Mac, cell(row, 1)?).ok_or("a manager")?;
+        assert_mac(rt.alloc(), all.mac_at(place), row)?;
     }
     Ok(())
 }
 
 #[test]
 fn managers_of_prfs_answer_their_standards(rt: HostRuntime) -> Result<(), Fail> {
-    let alloc = rt.alloc();
-    let mut prf: Vec<Box<dyn PrfManager>> = Vec::new(alloc);
-    for (url, scheme) in PRFS {
-        prf.push(prf_under(alloc, url, scheme)?)?;
-    }
-    let all = Managers::new(Vec::new(alloc), Vec::new(alloc), Vec::new(alloc), prf)?;
+    let all = managers_of(rt.alloc(), &[], &[], &[], &PRFS)?;
     for row in PRF.lines() {
-        assert_prf(alloc, &all, row)?;
+        let place = all.find(Primitive::Prf, cell(row, 1)?).ok_or("a manager")?;
+        assert_prf(rt.alloc(), all.prf_at(place), row)?;
     }
     Ok(())
 }
@@ -388,14 +413,14 @@ fn place(
     primitive: Primitive,
     wanted: &str,
 ) -> Result<String, Fail> {
-    let mut aead: Vec<Box<dyn AeadManager>> = Vec::new(alloc);
-    aead.push(aead_under(alloc, urls[0], AeadScheme::Gcm)?)?;
-    aead.push(aead_under(alloc, urls[1], AeadScheme::Eax)?)?;
-    let mut mac: Vec<Box<dyn MacManager>> = Vec::new(alloc);
-    mac.push(mac_under(alloc, urls[2], MacScheme::Hmac)?)?;
+    let aead = aeads(
+        alloc,
+        &[(urls[0], AeadScheme::Gcm), (urls[1], AeadScheme::Eax)],
+    )?;
+    let mac = macs(alloc, &[(urls[2], MacScheme::Hmac)])?;
     match Managers::new(aead, Vec::new(alloc), mac, Vec::new(alloc)) {
-        Ok(all) => Ok(format!(in alloc; "{:?}", all.find(primitive, wanted))?),
-        Err(fault) => Ok(format!(in alloc; "{fault:?}")?),
+        Ok(all) => fault_text(alloc, all.find(primitive, wanted)),
+        Err(fault) => fault_text(alloc, fault),
     }
 }
 

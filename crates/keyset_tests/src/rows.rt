@@ -1,11 +1,13 @@
 //! What a row gives as bytes, and what is held to its cells. A failure names the row by its first
 //! cell, since a failure's text is short.
 
-ghost use Rattle.std.specs.Prelude.{◌≤◌, length, IfOk};
+ghost use Rattle.std.specs.Prelude.{◌≡◌, ◌+◌, ◌≤◌, length, IfOk};
 
 use std::alloc::Global;
+use std::fmt::Debug;
 use std::test::Fail;
-use test_words::{bytes_of, cell, same_bytes, same_text};
+use test_words::{bytes_of, cell, digits_of, same_bytes, same_text};
+use tink_base::MemEntropy;
 
 /// The most bytes that a cell writes.
 const MOST: usize = 1000;
@@ -76,4 +78,54 @@ pub(crate) fn count(table: &str, rows: usize) -> Result<(), Fail> {
         return Err(Fail::new(format_args!("{found} rows, and not {rows}")));
     }
     Ok(())
+}
+
+/// A plaintext behind a front and room of so many bytes, in which others stand.
+pub(crate) fn with_room(
+    alloc: Global,
+    front: &[u8],
+    room: usize,
+    plain: &[u8],
+) -> Result<Vec<u8>, Fail>
+    requires few_front { length front.now ≤ 1000 }
+    requires few_room { room ≤ 5000 }
+    ensures { IfOk result (λ bytes.
+        length bytes.items ≡ length front.now + room + length plain.now) }
+{
+    let mut bytes = Vec::from_slice(alloc, front)?;
+    bytes.resize(front.len() + room, 0xa5)?;
+    bytes.extend_from_slice(plain)?;
+    Ok(bytes)
+}
+
+/// What is written of a fault, or of another answer.
+pub(crate) fn fault_text<F: Debug + Drop>(alloc: Global, fault: F) -> Result<String, Fail> {
+    Ok(format!(in alloc; "{fault:?}")?)
+}
+
+/// A text and a number behind it.
+pub(crate) fn counted(alloc: Global, text: &str, number: u64) -> Result<String, Fail> {
+    Ok(format!(in alloc; "{text} {number}")?)
+}
+
+/// The digits of what was opened, or `none`.
+pub(crate) fn plain_text(alloc: Global, plain: Option<Vec<u8>>) -> Result<String, Fail> {
+    match plain {
+        Some(plain) => digits_of(alloc, &plain),
+        None => Ok(String::from_str(alloc, "none")?),
+    }
+}
+
+/// The digits of what was opened, or `none`, and the trials spent.
+pub(crate) fn opened_text(
+    alloc: Global,
+    plain: Option<Vec<u8>>,
+    trials: u64,
+) -> Result<String, Fail> {
+    counted(alloc, plain_text(alloc, plain)?.as_str(), trials)
+}
+
+/// Random bytes that are zeros, so many. A caller sees nothing of them.
+pub(crate) fn zeros(alloc: Global, count: usize) -> Result<MemEntropy, Fail> {
+    Ok(MemEntropy::new(vec![in alloc; 0; count]?, Vec::new(alloc)))
 }

@@ -4,17 +4,16 @@
 ghost use Rattle.std.specs.Prelude.{◌≤◌, length, IfOk};
 ghost use Rattle.keyset_model.specs.Writing.{binary_of};
 
-use crate::boxes::aead_under;
+use crate::boxes::managers_of;
 use crate::keysets::keyset_of;
-use crate::rows::{bytes_named, count, digits_named, few};
+use crate::rows::{bytes_named, count, digits_named, fault_text, few, zeros};
 use key_msgs::Primitive;
 use keyset_model::{Keyset, write_binary};
-use managers::{AeadManager, AeadScheme, Managers};
+use managers::{AeadScheme, Managers};
 use seal_wrap::{unwrap_keyset, wrap};
 use std::alloc::Global;
 use std::test::Fail;
 use test_words::{cell, digits_of, same_text, turned};
-use tink_base::MemEntropy;
 use wrapped_prims::Handle;
 
 // Masters and keysets by hand from Tink's definitions. K1 has an AES-GCM key of 16 zero bytes, TINK, and
@@ -79,6 +78,11 @@ const NAMED: [(&str, &str); 13] = [
         "088486880812390a2e747970652e676f6f676c65617069732e636f6d2f676f6f676c652e63727970746f2e74696e6b2e486d61634b6579100118848688082003",
     ),
 ];
+
+/// The names. A caller sees no cell of theirs, so that none stands in what is proved of it.
+fn named() -> &'static [(&'static str, &'static str)] {
+    &NAMED
+}
 
 const BASE64: &str =
     "AQECAwQAAAAAAAAAAAAAAAALDFxGaKT4mKMi7M0IwptWkPrFzCUuOFOejqec++buh09tdk0rXfeoWfnCw/7nwo6iY+p0cO1iGAJsoK7Ny4vimsRpjqPlPmpkei+i3iwJmp6zRhCdzZvnLj3iE3ZqAegiUKdfdHcrwAxw9Znyjf7iIiI=";
@@ -185,7 +189,7 @@ fn json_named(alloc: Global, text: &str) -> Result<Vec<u8>, Fail>
 fn keyset_named(alloc: Global, words: &str) -> Result<Keyset, Fail>
     ensures short { IfOk result (λ keyset. length (binary_of keyset) ≤ 1000) }
 {
-    let keyset = keyset_of(alloc, &bytes_named(alloc, &NAMED, words)?)?;
+    let keyset = keyset_of(alloc, &bytes_named(alloc, named(), words)?)?;
     let bytes = write_binary(alloc, &keyset)?;
     if bytes.len() > 1000 {
         return Err("no more than 1,000 bytes".into());
@@ -206,7 +210,7 @@ fn unwrapped_text(
     let handle = Handle::new(alloc, master, all, Primitive::Aead)?;
     match unwrap_keyset(alloc, &handle, text, json) {
         Ok(keyset) => digits_of(alloc, &write_binary(alloc, &keyset)?),
-        Err(fault) => Ok(format!(in alloc; "{fault:?}")?),
+        Err(fault) => fault_text(alloc, fault),
     }
 }
 
@@ -219,12 +223,12 @@ fn wrapped_text(
     json: bool,
 ) -> Result<String, Fail> {
     let master = keyset_named(alloc, "K1")?;
-    let handle = Handle::new(alloc, &master, all, Primitive::Aead)?;
     let keyset = keyset_named(alloc, keyset)?;
-    let mut entropy = MemEntropy::new(vec![in alloc; 0; random]?, Vec::new(alloc));
+    let mut entropy = zeros(alloc, random)?;
+    let handle = Handle::new(alloc, &master, all, Primitive::Aead)?;
     match wrap(alloc, &handle, &keyset, json, &mut entropy) {
         Ok(text) => digits_of(alloc, &text),
-        Err(fault) => Ok(format!(in alloc; "{fault:?}")?),
+        Err(fault) => fault_text(alloc, fault),
     }
 }
 
@@ -235,16 +239,16 @@ fn text_in(alloc: Global, row: &str, json: bool) -> Result<Vec<u8>, Fail>
     if json {
         json_named(alloc, cell(row, 3)?)
     } else {
-        bytes_named(alloc, &NAMED, cell(row, 3)?)
+        bytes_named(alloc, named(), cell(row, 3)?)
     }
 }
 
 fn assert_unwrapped(alloc: Global, all: &Managers, row: &str) -> Result<(), Fail> {
     let json = cell(row, 2)? == "json";
-    let master = keyset_of(alloc, &bytes_named(alloc, &NAMED, cell(row, 1)?)?)?;
+    let master = keyset_of(alloc, &bytes_named(alloc, named(), cell(row, 1)?)?)?;
     let text = text_in(alloc, row, json)?;
     let found = unwrapped_text(alloc, all, &master, &text, json)?;
-    let expected = digits_named(&NAMED, cell(row, 4)?);
+    let expected = digits_named(named(), cell(row, 4)?);
     same_text(cell(row, 0)?, "what is unwrapped", expected, found.as_str())
 }
 
@@ -265,7 +269,7 @@ fn assert_wrapped(
 
 fn assert_all_wrapped(alloc: Global, all: &Managers) -> Result<(), Fail> {
     for (shows, keyset, binary, json) in &WRAPPED {
-        let binary = bytes_named(alloc, &NAMED, binary)?;
+        let binary = bytes_named(alloc, named(), binary)?;
         assert_wrapped(alloc, all, shows, keyset, false, &binary)?;
         assert_wrapped(alloc, all, shows, keyset, true, json.as_bytes())?;
     }
@@ -301,14 +305,14 @@ fn assert_turned(
     same_text(
         place.as_str(),
         "it",
-        digits_named(&NAMED, expected),
+        digits_named(named(), expected),
         found.as_str(),
     )
 }
 
 fn assert_each_turned(alloc: Global, all: &Managers) -> Result<(), Fail> {
     let master = keyset_named(alloc, "K1")?;
-    let text = bytes_named(alloc, &NAMED, "128301 SEALED 1a40 INFO")?;
+    let text = bytes_named(alloc, named(), "128301 SEALED 1a40 INFO")?;
     for (first, behind, expected) in &TURNED {
         for at in *first..*behind {
             assert_turned(alloc, all, &master, &text, at, expected)?;
@@ -322,9 +326,7 @@ fn assert_each_turned(alloc: Global, all: &Managers) -> Result<(), Fail> {
 #[test]
 fn keysets_are_wrapped_and_unwrapped(rt: HostRuntime) -> Result<(), Fail> {
     let alloc = rt.alloc();
-    let mut aead: Vec<Box<dyn AeadManager>> = Vec::new(alloc);
-    aead.push(aead_under(alloc, AES_GCM, AeadScheme::Gcm)?)?;
-    let all = Managers::new(aead, Vec::new(alloc), Vec::new(alloc), Vec::new(alloc))?;
+    let all = managers_of(alloc, &[(AES_GCM, AeadScheme::Gcm)], &[], &[], &[])?;
     assert_all_wrapped(alloc, &all)?;
     assert_rows(alloc, &all, TEXTS, 37)?;
     assert_rows(alloc, &all, OF_TINK_GO, 7)?;
