@@ -119,7 +119,7 @@ fn enciphers_the_blocks_of_fips_197(rt: HostRuntime) -> Result<(), Fail> {
 // Lengths on both sides of the two that are taken, and that of AES-192.
 #[test]
 fn refuses_keys_of_other_sizes(rt: HostRuntime) {
-    for size in [0, 15, 17, 24, 31, 33] {
+    for &size in &[0, 15, 17, 24, 31, 33] {
         assert!(rt; Aes::new(&[0; 33][..size]).is_err(), "{size} bytes");
     }
 }
@@ -161,7 +161,7 @@ fn counts_as_plainly_from_each_start(rt: &impl Abort, size: usize)
     requires { size ≤ 4200 }
 {
     let key = &COUNTING_KEY;
-    for start in [
+    for &start in &[
         u128::MAX - 5,
         0x000102030405060708090A0BFFFFFFFC,
         0xFBFFFFFF_0405060708090A0B0C0D0E0F,
@@ -177,7 +177,7 @@ fn counts_as_plainly_at_every_length(rt: HostRuntime) {
     for size in 0..301 {
         counts_as_plainly_from_each_start(&rt, size);
     }
-    for size in [4079, 4080, 4095, 4096, 4097, 4112, 4159, 4160, 4161] {
+    for &size in &[4079, 4080, 4095, 4096, 4097, 4112, 4159, 4160, 4161] {
         counts_as_plainly_from_each_start(&rt, size);
     }
 }
@@ -237,7 +237,7 @@ fn chains_as_plainly(rt: HostRuntime) -> Result<(), Fail> {
 fn expands_keys_as_plainly(rt: HostRuntime) -> Result<(), Fail> {
     let block = [0; 16];
     for byte in 0..=255_u8 {
-        for size in [16, 32] {
+        for &size in &[16, 32] {
             let mut key = [0; 32];
             key[size - 4..size].copy_from_slice(&[byte, !byte, byte ^ 0x0F, byte ^ 0xF0]);
             let key = &key[..size];

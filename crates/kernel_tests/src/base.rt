@@ -40,7 +40,7 @@ fn reads_the_numbers_of_hash_types(rt: HostRuntime) -> Result<(), Fail> {
             "the number in {row}"
         );
     }
-    for number in [0, 6, u32::MAX] {
+    for &number in &[0, 6, u32::MAX] {
         assert!(rt; size_of_number(number) == 0, "number {number}");
     }
     Ok(())
@@ -84,7 +84,7 @@ fn written(alloc: Global, all: &[u8]) -> Result<&'static str, Fail> {
 
 #[test]
 fn reads_and_writes_in_pieces_up_to_a_limit(rt: HostRuntime) -> Result<(), Fail> {
-    for (limit, want) in [(6, "bytes"), (5, "bytes"), (4, "too long")] {
+    for &(limit, want) in &[(6, "bytes"), (5, "bytes"), (4, "too long")] {
         let found = read_and_written(rt.alloc(), limit)?;
         assert!(rt; found == want, "{found} up to {limit}");
     }
@@ -100,7 +100,7 @@ fn keeps_files_that_stand(rt: HostRuntime) -> Result<(), Fail> {
     let mut store = MemStore::new(rt.alloc(), fails);
     store.put("a", b"first")?;
     store.put("a", b"second")?;
-    for (name, bytes, want) in [
+    for &(name, bytes, want) in &[
         ("a", "third", "exists"),
         ("b", "new", "made"),
         ("c", "lost", "failed"),
@@ -108,7 +108,7 @@ fn keeps_files_that_stand(rt: HostRuntime) -> Result<(), Fail> {
         let found = create_word(&store.create(rt.alloc(), name, bytes.as_bytes()));
         assert!(rt; found == want, "{found} at {name}");
     }
-    for (name, limit, want) in [
+    for &(name, limit, want) in &[
         ("a", 6, "bytes"),
         ("a", 6, "failed"),
         ("a", 5, "too long"),

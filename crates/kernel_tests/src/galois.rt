@@ -79,7 +79,7 @@ fn assert_hashed(alloc: Global, row: &str) -> Result<(), Fail> {
     let lengths = ((ad.len() as u128 * 8) << 64 | text.len() as u128 * 8).to_be_bytes();
     let h = number_of_block(row, 1)?;
     let want = bytes_in(alloc, row, 4)?;
-    for (size, part) in CUTS {
+    for &(size, part) in &CUTS {
         let found = ghash_in_pieces(h, &[&ad, &text, &lengths], size).to_be_bytes();
         same_bytes(alloc, cell(row, 0)?, part, &want, &found)?;
     }
@@ -91,7 +91,7 @@ fn assert_long_hashed(alloc: Global, row: &str) -> Result<(), Fail> {
     let lengths = ((data.len() as u128 * 8) << 64).to_be_bytes();
     let h = number_of_block(row, 2)?;
     let want = bytes_in(alloc, row, 3)?;
-    for (size, part) in LONG_CUTS {
+    for &(size, part) in &LONG_CUTS {
         let found = ghash_in_pieces(h, &[&data, &lengths], size).to_be_bytes();
         same_bytes(alloc, cell(row, 0)?, part, &want, &found)?;
     }

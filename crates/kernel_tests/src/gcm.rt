@@ -50,7 +50,7 @@ fn assert_row(alloc: Global, row: &str) -> Result<(), Fail> {
 
 #[test]
 fn seals_and_opens_each_accepted_case_in_place(rt: HostRuntime) -> Result<(), Fail> {
-    for rows in [GCM_PUBLISHED, GCM_CAVS, TINK] {
+    for &rows in &[GCM_PUBLISHED, GCM_CAVS, TINK] {
         for row in rows.lines() {
             assert_row(rt.alloc(), row)?;
         }
@@ -80,13 +80,13 @@ fn seals_a_long_text_in_place(rt: HostRuntime) -> Result<(), Fail> {
 // Lengths on both sides of the two that are taken, and that of AES-192.
 #[test]
 fn takes_keys_of_two_sizes(rt: HostRuntime) -> Result<(), Fail> {
-    for size in [0, 15, 17, 24, 31, 33] {
+    for &size in &[0, 15, 17, 24, 31, 33] {
         let key = &[0; 33][..size];
         assert!(rt; Aes::new(key).is_err(), "{size} bytes");
         assert!(rt; Gcm::new(key).is_err(), "{size} bytes");
         assert!(rt; GcmKey::new(key).is_err(), "{size} bytes");
     }
-    for size in [16, 32] {
+    for &size in &[16, 32] {
         assert!(rt;
             Aes::new(&[0; 32][..size])?.key_size() == size,
             "{size} bytes"

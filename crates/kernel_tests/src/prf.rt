@@ -104,7 +104,7 @@ fn assert_row(alloc: Global, row: &str) -> Result<(), Fail> {
         return Err("a tag".into());
     }
     let kept = Hmac::new(hash, &key);
-    for (cut, part) in CUTS {
+    for &(cut, part) in &CUTS {
         let mut tag = vec![in alloc; 0_u8; want.len()]?;
         tag_in_pieces(&kept, &message, cut, &mut tag);
         same_bytes(alloc, &shows, part, &want, &tag)?;
@@ -138,7 +138,7 @@ fn hashes_only_a_key_longer_than_a_block(rt: HostRuntime) -> Result<(), Fail> {
 #[test]
 fn writes_no_more_bytes_than_asked_for(rt: HostRuntime) {
     let whole = 0xb0344c61d8db38535ca8afceaf0bf12b_u128.to_be_bytes();
-    for size in [0, 10, 16] {
+    for &size in &[0, 10, 16] {
         let mut hmac = Hmac::new(Hash::Sha256, &[0x0b; 20]);
         hmac.update(b"Hi There");
         let mut tag = [0xee; 17];

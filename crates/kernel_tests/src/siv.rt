@@ -74,10 +74,10 @@ fn seals_and_opens_what_openssl_does(rt: HostRuntime) -> Result<(), Fail> {
 // Lengths on both sides of the two that are taken, and that of two keys of AES-192.
 #[test]
 fn takes_keys_of_two_sizes(rt: HostRuntime) {
-    for size in [0, 16, 31, 33, 48, 63, 65] {
+    for &size in &[0, 16, 31, 33, 48, 63, 65] {
         assert!(rt; SivKey::new(&[0; 65][..size]).is_err(), "{size} bytes");
     }
-    for size in [32, 64] {
+    for &size in &[32, 64] {
         assert!(rt; SivKey::new(&[0; 64][..size]).is_ok(), "{size} bytes");
     }
 }

@@ -25,7 +25,7 @@ fn looks_up_names_and_lengths(rt: HostRuntime) -> Result<(), Fail> {
 fn counts_what_it_gives(rt: HostRuntime) -> Result<(), Fail> {
     let mut store = MemStore::new(rt.alloc(), Vec::new(rt.alloc()));
     store.put("a", b"seven b")?;
-    for (limit, given) in [(6, 0), (7, 7), (9, 14)] {
+    for &(limit, given) in &[(6, 0), (7, 7), (9, 14)] {
         let _ = store.load(rt.alloc(), "a", limit);
         assert!(rt; store.given() == given, "up to {limit}");
     }

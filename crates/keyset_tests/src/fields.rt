@@ -141,7 +141,7 @@ fn assert_table(alloc: Global, table: &str, rows: usize) -> Result<(), Fail> {
 
 #[test]
 fn cuts_a_part_or_names_the_first_field_at_fault(rt: HostRuntime) -> Result<(), Fail> {
-    for (table, rows) in [(GUIDE, 8), (PARTS, 27), (LAST, 1), (LONG, 4)] {
+    for &(table, rows) in &[(GUIDE, 8), (PARTS, 27), (LAST, 1), (LONG, 4)] {
         assert_table(rt.alloc(), table, rows)?;
     }
     Ok(())

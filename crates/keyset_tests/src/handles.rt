@@ -333,7 +333,7 @@ fn a_keyset_answers_by_its_candidates(rt: HostRuntime) -> Result<(), Fail> {
         &[("h", MacScheme::Hmac)],
         &[("p", PrfScheme::Hmac)],
     )?;
-    for (table, rows, primitive) in TABLES {
+    for &(table, rows, primitive) in &TABLES {
         assert_table(alloc, &all, primitive, table, rows)?;
     }
     Ok(())

@@ -127,7 +127,7 @@ AES128_gcm|Err(Unknown)";
 
 #[test]
 fn templates_by_row_and_name(rt: HostRuntime) -> Result<(), Fail> {
-    for (place, name) in PLACES {
+    for &(place, name) in &PLACES {
         let found = template_at(place).map_or("none", |template| template.name());
         assert_eq!(rt; found, name, "row {place}");
     }

@@ -128,11 +128,11 @@ const PREFIXES: [(u32, &str); 4] = [(1, "TINK"), (2, "LEGACY"), (3, "RAW"), (4, 
 
 #[test]
 fn names_numbers_as_tink_proto_does(rt: HostRuntime) {
-    for (number, name) in STATUSES {
+    for &(number, name) in &STATUSES {
         assert!(rt; 1 <= number && number <= 3);
         assert_eq!(rt; status_name(number), name);
     }
-    for (number, name) in PREFIXES {
+    for &(number, name) in &PREFIXES {
         assert!(rt; 1 <= number && number <= 4);
         assert_eq!(rt; prefix_name(number), name);
     }

@@ -1,5 +1,6 @@
-//! Tests of fields, key messages, keysets in both forms, managers, handles and edits, through the
-//! public calls of their crates. There is no code here but tests.
+//! Tests of fields, key messages, keysets in both forms, managers, handles and edits, and of the streams,
+//! sessions and self-tests over them, through the public calls of their crates. There is no code here but
+//! tests.
 #![tactic(auto)]
 
 #[cfg(test)]
@@ -11,6 +12,8 @@ mod envelope;
 #[cfg(test)]
 mod fields;
 #[cfg(test)]
+mod grammar;
+#[cfg(test)]
 mod handles;
 #[cfg(test)]
 mod json;
@@ -19,11 +22,27 @@ mod key_rules;
 #[cfg(test)]
 mod keysets;
 #[cfg(test)]
+mod lines;
+#[cfg(test)]
 mod manager_answers;
 #[cfg(test)]
 mod new_keys;
 #[cfg(test)]
+mod passes;
+#[cfg(test)]
+mod range;
+#[cfg(test)]
 mod rows;
+#[cfg(test)]
+mod segments;
+#[cfg(test)]
+mod selftests;
+#[cfg(test)]
+mod stream_faults;
+#[cfg(test)]
+mod streams;
+#[cfg(test)]
+mod talks;
 #[cfg(test)]
 mod wrapped;
 #[cfg(test)]

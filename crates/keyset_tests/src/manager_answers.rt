@@ -298,7 +298,7 @@ fn assert_mac(alloc: Global, manager: &dyn MacManager, row: &str) -> Result<(), 
     let other = altered(alloc, tag)?;
     let shorter = tag.get(1..).ok_or("a byte")?;
     let none: &[u8] = &[];
-    for (part, tag, with_zero, expected) in [
+    for &(part, tag, with_zero, expected) in &[
         ("the tag verified", tag, zero, "true 1"),
         ("under the other body", tag, !zero, "false 1"),
         ("the last bit turned", other.as_slice(), zero, "false 1"),
@@ -509,7 +509,7 @@ const PLACES: [(&str, [&str; 3], Primitive, &str, &str); 13] = [
 
 #[test]
 fn finds_the_place_in_a_list_and_refuses_one_url_twice(rt: HostRuntime) -> Result<(), Fail> {
-    for (shows, urls, primitive, wanted, expected) in PLACES {
+    for &(shows, urls, primitive, wanted, expected) in &PLACES {
         let found = place(rt.alloc(), urls, primitive, wanted)?;
         same_text(shows, "the place", expected, found.as_str())?;
     }

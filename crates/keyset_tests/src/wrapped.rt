@@ -176,7 +176,7 @@ const TURNED: [(usize, usize, &str); 7] = [
 fn json_named(alloc: Global, text: &str) -> Result<Vec<u8>, Fail>
     ensures few { IfOk result (λ bytes. length bytes.items ≤ 1000) }
 {
-    for (name, encoded) in [("BASE64", BASE64), ("URLS", BASE64_FOR_URLS)] {
+    for &(name, encoded) in &[("BASE64", BASE64), ("URLS", BASE64_FOR_URLS)] {
         if let Some((before, behind)) = text.split_once(name) {
             let whole = format!(in alloc; "{before}{encoded}{behind}")?;
             return few(whole.as_bytes().to_vec(alloc)?);

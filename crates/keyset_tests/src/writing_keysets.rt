@@ -54,7 +54,7 @@ fn assert_rewritten(alloc: Global, shows: &str, given: &[u8], want: &[u8]) -> Re
 
 #[test]
 fn keysets_are_written_as_protoc_does(rt: HostRuntime) -> Result<(), Fail> {
-    for (shows, bytes, size) in KEYSETS {
+    for &(shows, bytes, size) in &KEYSETS {
         assert_eq!(rt; bytes.len(), size, "{shows}");
         assert_rewritten(rt.alloc(), shows, bytes, bytes)?;
     }

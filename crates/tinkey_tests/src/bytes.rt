@@ -278,12 +278,12 @@ fn push_times(alloc: Global, bytes: &mut Vec<u8>, count: &str, digits: &str) -> 
 
 /// The bytes that have this name.
 fn named(name: &str) -> Option<&'static [u8]> {
-    for (known, text) in TEXTS {
+    for &(known, text) in &TEXTS {
         if known == name {
             return Some(text.as_bytes());
         }
     }
-    for (known, keyset) in KEYSETS {
+    for &(known, keyset) in &KEYSETS {
         if known == name {
             return Some(keyset);
         }

@@ -36,7 +36,7 @@ pub(crate) fn run_each_failing(alloc: Global, row: &Row<'_>) -> Result<(), Fail>
     let whole = outcome_of(alloc, row)?;
     compare(alloc, row, &whole)?;
     let mut counts = String::new(alloc);
-    for end in ENDS {
+    for &end in &ENDS {
         let count = run_until_whole(alloc, row, &whole, end)?;
         counts.push_str(&format!(in alloc; " {count}")?)?;
     }

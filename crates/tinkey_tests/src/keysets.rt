@@ -70,7 +70,7 @@ fn key_cell(alloc: Global, key: &str) -> Result<String, Fail> {
 
 /// The number of a status or of an output prefix type.
 fn number_of(name: &str) -> Result<u8, Fail> {
-    for (known, number) in NUMBERS {
+    for &(known, number) in &NUMBERS {
         if known == name {
             return Ok(number);
         }

@@ -48,10 +48,22 @@ pub(crate) enum Column {
     Calls,
 }
 
-/// The names of the columns, in their order.
-const NAMES: [&str; 14] = [
-    "shows", "words", "file", "input", "random", "piece", "fails", "status", "line", "output",
-    "made", "drawn", "managers", "calls",
+/// The names of the columns.
+const NAMES: [(&str, Column); 14] = [
+    ("shows", Column::Shows),
+    ("words", Column::Words),
+    ("file", Column::File),
+    ("input", Column::Input),
+    ("random", Column::Random),
+    ("piece", Column::Piece),
+    ("fails", Column::Fails),
+    ("status", Column::Status),
+    ("line", Column::Line),
+    ("output", Column::Output),
+    ("made", Column::Made),
+    ("drawn", Column::Drawn),
+    ("managers", Column::Managers),
+    ("calls", Column::Calls),
 ];
 
 /// What a row runs, and how the run has to end: a cell for each column.
@@ -75,18 +87,20 @@ impl<'a> Row<'a> {
 
     /// The row with this cell in the column.
     pub(crate) fn with(mut self, column: Column, cell: &'a str) -> Row<'a> {
-        self.cells[column as usize] = cell;
+        if let Some(place) = self.cells.get_mut(column as usize) {
+            *place = cell;
+        }
         self
     }
 
     /// The row with this cell in the column of this name.
-    fn with_named(mut self, name: &str, cell: &'a str) -> Result<Row<'a>, Fail> {
-        let place = NAMES.iter().position(|known| *known == name);
-        *self
-            .cells
-            .get_mut(place.ok_or("a column")?)
-            .ok_or("a cell")? = cell;
-        Ok(self)
+    fn with_named(self, name: &str, cell: &'a str) -> Result<Row<'a>, Fail> {
+        for &(known, column) in &NAMES {
+            if known == name {
+                return Ok(self.with(column, cell));
+            }
+        }
+        Err("a column".into())
     }
 }
 

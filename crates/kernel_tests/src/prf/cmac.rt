@@ -44,7 +44,7 @@ fn assert_row(alloc: Global, row: &str) -> Result<(), Fail> {
     let key = Aes::new(&bytes_in(alloc, row, 1)?)?;
     let message = bytes_in(alloc, row, 2)?;
     let want = bytes_in(alloc, row, 3)?;
-    for (cut, part) in CUTS {
+    for &(cut, part) in &CUTS {
         same_bytes(
             alloc,
             cell(row, 0)?,

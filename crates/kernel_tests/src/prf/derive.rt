@@ -36,7 +36,7 @@ fn assert_row(alloc: Global, row: &str) -> Result<(), Fail> {
     let info = bytes_in(alloc, row, 4)?;
     let want = bytes_in(alloc, row, 5)?;
     let kept = hkdf_extract(hash, &secret, &salt);
-    for (size, part) in SIZES {
+    for &(size, part) in &SIZES {
         let want = &want[..size.min(want.len())];
         let mut out = vec![in alloc; 0_u8; want.len()]?;
         hkdf(hash, &secret, &salt, &info, &mut out)?;

@@ -77,7 +77,7 @@ const EMPTY: &[u8; 16] = b"\x11\x59\x30\x21\x04\x5b\xd4\x2e\xdf\x7d\x5d\xe0\x5b\
 
 /// The keys of the keyset that has this name.
 pub(crate) fn keys_named(alloc: Global, name: &str) -> Result<StreamKeys, Fail> {
-    for (known, digits) in KEYSETS {
+    for &(known, digits) in &KEYSETS {
         if known == name {
             return keys_of(alloc, digits);
         }

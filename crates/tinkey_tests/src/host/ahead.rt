@@ -2,7 +2,7 @@
 
 ghost use Rattle.std.specs.Prelude.{Some};
 
-use crate::metered::{Metered, WHOLE, are_those_from, counts};
+use crate::host::metered::{Metered, WHOLE, are_those_from, counts};
 use real_objects::{FileEntropy, Opens};
 use std::alloc::Global;
 use std::cell::Cell;
@@ -179,7 +179,7 @@ const DRAWS: [(&str, &[usize], usize, usize); 6] = [
 #[test]
 fn draws_each_byte_once_and_in_order(rt: HostRuntime) -> Result<(), Fail> {
     let bytes = counting(rt.alloc(), 30_000)?;
-    for row in DRAWS {
+    for &row in &DRAWS {
         assert_drawn(rt.alloc(), &bytes, row)?;
     }
     Ok(())
@@ -222,7 +222,7 @@ const FAULTS: [(usize, usize, usize); 5] = [
 #[test]
 fn goes_on_behind_each_read_that_fails(rt: HostRuntime) -> Result<(), Fail> {
     let bytes = counting(rt.alloc(), 30_000)?;
-    for (fault, place, gone) in FAULTS {
+    for &(fault, place, gone) in &FAULTS {
         goes_on_behind(rt.alloc(), &bytes, fault, place, gone)?;
     }
     Ok(())

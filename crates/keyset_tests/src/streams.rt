@@ -60,7 +60,7 @@ fn run_case(alloc: Global, shows: &str, case: &Case, end: &str, calls: Calls) ->
 
 fn run_row(alloc: Global, row: &str) -> Result<(), Fail> {
     let case = case_of(alloc, row)?;
-    for piece in [1, 7, 4097] {
+    for &piece in &[1, 7, 4097] {
         run_case(alloc, cell(row, 0)?, &case, cell(row, 5)?, Calls::of(piece))?;
     }
     Ok(())

@@ -1,34 +1,41 @@
 //! Self-tests over managers of AEADs, and the lines that tell their counts.
 
-use key_msgs::KeyType;
-use managers::{AeadManager, AeadScheme, Managers, StandardAead};
+use crate::boxes::managers_of;
+use managers::AeadScheme;
 use std::alloc::Global;
 use std::str::from_utf8;
 use std::test::Fail;
-use tinkey_selftest::{Counts, SelfTestFault, counts_text, self_test};
+use test_words::same_text;
+use tinkey_selftest::{Counts, counts_text, self_test};
 
-/// The counts of a self-test over the managers of three kinds of AEADs, or over none.
+/// The managers of three kinds of AEADs.
+const THREE: [(&str, AeadScheme); 3] = [
+    (
+        "type.googleapis.com/google.crypto.tink.AesGcmKey",
+        AeadScheme::Gcm,
+    ),
+    (
+        "type.googleapis.com/google.crypto.tink.AesEaxKey",
+        AeadScheme::Eax,
+    ),
+    (
+        "type.googleapis.com/google.crypto.tink.AesCtrHmacAeadKey",
+        AeadScheme::CtrHmac,
+    ),
+];
+
+/// The counts of a self-test over managers of AEADs.
 fn counts_of(
     alloc: Global,
-    has_managers: bool,
+    under: &[(&str, AeadScheme)],
     seed: u32,
     lines: u32,
-) -> Result<Result<Counts, SelfTestFault>, Fail> {
-    let mut aead: Vec<Box<dyn AeadManager>> = Vec::new(alloc);
-    if has_managers {
-        let gcm = String::from_str(alloc, KeyType::AesGcm.url())?;
-        aead.push(Box::new(alloc, StandardAead::new(gcm, AeadScheme::Gcm))?)?;
-        let eax = String::from_str(alloc, KeyType::AesEax.url())?;
-        aead.push(Box::new(alloc, StandardAead::new(eax, AeadScheme::Eax))?)?;
-        let ctr_hmac = String::from_str(alloc, KeyType::AesCtrHmac.url())?;
-        aead.push(Box::new(alloc, StandardAead::new(ctr_hmac, AeadScheme::CtrHmac))?)?;
+) -> Result<Counts, Fail> {
+    let all = managers_of(alloc, under, &[], &[], &[])?;
+    match self_test(alloc, &all, seed, lines) {
+        Ok(counts) => Ok(counts),
+        Err(_) => Err("a self-test".into()),
     }
-    let no_daead = Vec::new(alloc);
-    let no_mac = Vec::new(alloc);
-    let Ok(all) = Managers::new(aead, no_daead, no_mac, Vec::new(alloc)) else {
-        return Err("one URL twice".into());
-    };
-    Ok(self_test(alloc, &all, seed, lines))
 }
 
 // The first word of each of these lines is ade0b876, b819d2bd, 7c5941da and f4b8436a, by ChaCha20's
@@ -36,36 +43,30 @@ fn counts_of(
 // open and seals, and two lines seal.
 #[test]
 fn counts_four_lines(rt: HostRuntime) -> Result<(), Fail> {
-    let rows = [
+    let rows: [(&str, &[(&str, AeadScheme)], &str); 2] = [
         (
             "three managers",
-            true,
+            &THREE,
             "lines 4 seals 3 opened 0 refused 0 edits 1 declined 0 lost 0\n",
         ),
         (
             "no manager",
-            false,
+            &[],
             "lines 4 seals 0 opened 0 refused 0 edits 1 declined 3 lost 0\n",
         ),
     ];
-    for (shows, has_managers, want) in rows {
-        let counts = match counts_of(rt.alloc(), has_managers, 0, 4)? {
-            Ok(counts) => counts,
-            Err(_) => return Err("a self-test".into()),
-        };
+    for &(shows, under, want) in &rows {
+        let counts = counts_of(rt.alloc(), under, 0, 4)?;
         let text = counts_text(rt.alloc(), 4, counts)?;
-        assert_eq!(rt; from_utf8(&text)?, want, "{shows}");
+        same_text(shows, "the line", want, from_utf8(&text)?)?;
     }
     Ok(())
 }
 
 #[test]
 fn loses_nothing_in_many_lines(rt: HostRuntime) -> Result<(), Fail> {
-    for seed in [1, 2, 4_294_967_295] {
-        let counts = match counts_of(rt.alloc(), true, seed, 600)? {
-            Ok(counts) => counts,
-            Err(_) => return Err("a self-test".into()),
-        };
+    for &seed in &[1, 2, 4_294_967_295] {
+        let counts = counts_of(rt.alloc(), &THREE, seed, 600)?;
         let answered = counts.sealed.wrapping_add(counts.opened);
         let all = answered
             .wrapping_add(counts.refused)

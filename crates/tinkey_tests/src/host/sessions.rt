@@ -1,9 +1,9 @@
 //! Sessions over random bytes that are drawn ahead, over a device in memory: each line has the bytes behind
 //! those of the line before it, and replies are written together.
 
-use crate::ahead::{Calls, failing};
-use crate::codes::GCM;
-use crate::metered::{WHOLE, counts};
+use crate::host::ahead::{Calls, failing};
+use crate::host::codes::GCM;
+use crate::host::metered::{WHOLE, counts};
 use std::alloc::Global;
 use std::process::ExitCode;
 use std::test::Fail;
@@ -50,7 +50,7 @@ const WRITE_FAULT: End = (5, "tinkey: write fault\n");
 
 fn words_of(alloc: Global) -> Result<Vec<String>, Fail> {
     let mut words = Vec::new(alloc);
-    for word in WORDS {
+    for &word in &WORDS {
         words.push(String::from_str(alloc, word)?)?;
     }
     Ok(words)
@@ -171,7 +171,7 @@ const ROWS: [(&str, usize, usize, usize); 3] = [
 #[test]
 fn writes_replies_before_it_draws_anew(rt: HostRuntime) -> Result<(), Fail> {
     let bytes = counting(rt.alloc(), 4_096)?;
-    for (shows, piece, block, calls) in ROWS {
+    for &(shows, piece, block, calls) in &ROWS {
         let objects = Objects {
             piece,
             read: 0,

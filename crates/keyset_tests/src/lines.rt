@@ -3,15 +3,13 @@
 ghost use Rattle.std.specs.Prelude.{IfSome};
 ghost use Rattle.tinkey_session.specs.Keeping.{IsKept};
 
+use crate::boxes::managers_of;
 use key_msgs::template_named;
-use managers::{
-    AeadManager, AeadScheme, DaeadManager, KeyTable, MacManager, MacScheme, Managers, PrfManager,
-    PrfScheme, StandardAead, StandardDaead, StandardMac, StandardPrf,
-};
+use managers::{AeadScheme, KeyTable, MacScheme, Managers, PrfScheme};
 use std::alloc::Global;
 use std::process::Abort;
 use std::test::Fail;
-use test_words::unlike;
+use test_words::{bytes_of, digits_of, unlike};
 use tink_base::MemEntropy;
 use tinkey_cmds::create;
 use tinkey_session::{LineFault, Reply, Session, read_line};
@@ -24,7 +22,7 @@ fn told(alloc: Global, answer: &Result<Reply, LineFault>) -> Result<String, Fail
     match answer {
         Ok(reply) => match reply {
             Reply::Done => Ok(format!(in alloc; "done")?),
-            Reply::Gives(bytes) => Ok(hex::encode(alloc, bytes.as_slice())?),
+            Reply::Gives(bytes) => digits_of(alloc, bytes.as_slice()),
             Reply::NewId(id) => Ok(format!(in alloc; "{id}")?),
             Reply::Refuses(why) => Ok(format!(in alloc; "{why:?}")?),
         },
@@ -99,7 +97,7 @@ fn story(
     random: &str,
     rows: &[(&str, &str)],
 ) -> Result<(), Fail> {
-    let mut entropy = MemEntropy::new(hex::decode(alloc, random)?, Vec::new(alloc));
+    let mut entropy = MemEntropy::new(bytes_of(alloc, random)?, Vec::new(alloc));
     let keyset = create(alloc, &template_named(template)?, &mut entropy)?;
     let mut session = Session::new(keyset, all);
     expect_all(rt, alloc, &mut session, rows, &mut entropy)
@@ -194,21 +192,22 @@ const PRF: [(&str, &str); 2] = [
 #[test]
 fn answers_lines_over_a_new_keyset(rt: HostRuntime) -> Result<(), Fail> {
     let alloc = rt.alloc();
-    let mut aead: Vec<Box<dyn AeadManager>> = Vec::new(alloc);
-    let gcm = String::from_str(alloc, "type.googleapis.com/google.crypto.tink.AesGcmKey")?;
-    aead.push(Box::new(alloc, StandardAead::new(gcm, AeadScheme::Gcm))?)?;
-    let mut daead: Vec<Box<dyn DaeadManager>> = Vec::new(alloc);
-    let siv = String::from_str(alloc, "type.googleapis.com/google.crypto.tink.AesSivKey")?;
-    daead.push(Box::new(alloc, StandardDaead::new(siv))?)?;
-    let mut mac: Vec<Box<dyn MacManager>> = Vec::new(alloc);
-    let hmac = String::from_str(alloc, "type.googleapis.com/google.crypto.tink.HmacKey")?;
-    mac.push(Box::new(alloc, StandardMac::new(hmac, MacScheme::Hmac))?)?;
-    let mut prf: Vec<Box<dyn PrfManager>> = Vec::new(alloc);
-    let function = String::from_str(alloc, "type.googleapis.com/google.crypto.tink.HmacPrfKey")?;
-    prf.push(Box::new(alloc, StandardPrf::new(function, PrfScheme::Hmac))?)?;
-    let Ok(all) = Managers::new(aead, daead, mac, prf) else {
-        return Err("one URL twice".into());
-    };
+    let all = managers_of(
+        alloc,
+        &[(
+            "type.googleapis.com/google.crypto.tink.AesGcmKey",
+            AeadScheme::Gcm,
+        )],
+        &["type.googleapis.com/google.crypto.tink.AesSivKey"],
+        &[(
+            "type.googleapis.com/google.crypto.tink.HmacKey",
+            MacScheme::Hmac,
+        )],
+        &[(
+            "type.googleapis.com/google.crypto.tink.HmacPrfKey",
+            PrfScheme::Hmac,
+        )],
+    )?;
     story(&rt, alloc, &all, "AES128_GCM", AEAD_RANDOM, &AEAD)?;
     story(&rt, alloc, &all, "AES256_SIV", DAEAD_RANDOM, &DAEAD)?;
     story(&rt, alloc, &all, "HMAC_SHA256_128BITTAG", MAC_RANDOM, &MAC)?;

@@ -1,7 +1,8 @@
 //! Sessions over sources and sinks in memory, which move a few bytes at a time.
 
+use crate::boxes::managers_of;
 use key_msgs::template_named;
-use managers::{AeadManager, AeadScheme, Managers, StandardAead};
+use managers::{AeadScheme, Managers};
 use std::alloc::Global;
 use std::str::from_utf8;
 use std::test::Fail;
@@ -59,13 +60,8 @@ fn told(alloc: Global, all: &Managers, objects: Objects<'_>) -> Result<String, F
 
 // The managers of AES-GCM alone.
 fn gcm_alone(alloc: Global) -> Result<Managers, Fail> {
-    let mut aead: Vec<Box<dyn AeadManager>> = Vec::new(alloc);
-    let gcm = String::from_str(alloc, "type.googleapis.com/google.crypto.tink.AesGcmKey")?;
-    aead.push(Box::new(alloc, StandardAead::new(gcm, AeadScheme::Gcm))?)?;
-    match Managers::new(aead, Vec::new(alloc), Vec::new(alloc), Vec::new(alloc)) {
-        Ok(all) => Ok(all),
-        Err(_) => Err("one URL twice".into()),
-    }
+    let url = "type.googleapis.com/google.crypto.tink.AesGcmKey";
+    managers_of(alloc, &[(url, AeadScheme::Gcm)], &[], &[], &[])
 }
 
 // A row: what it shows, the input, the random bytes, and what is told. The sealed bytes are case 2 of
@@ -136,8 +132,8 @@ fn whole<'a>(input: &'a str, random: &'a str, piece: usize) -> Objects<'a> {
 #[test]
 fn answers_each_line_whatever_the_pieces(rt: HostRuntime) -> Result<(), Fail> {
     let all = gcm_alone(rt.alloc())?;
-    for (shows, input, random, want) in CASES {
-        for piece in [1, 7, 5000] {
+    for &(shows, input, random, want) in &CASES {
+        for &piece in &[1, 7, 5000] {
             run_case(rt.alloc(), &all, shows, whole(input, random, piece), want)?;
         }
     }
@@ -177,7 +173,7 @@ const FAULTS: [(&str, usize, u64, usize, &str); 7] = [
 #[test]
 fn leaves_the_replies_before_a_fault(rt: HostRuntime) -> Result<(), Fail> {
     let all = gcm_alone(rt.alloc())?;
-    for (shows, piece, fails, room, want) in FAULTS {
+    for &(shows, piece, fails, room, want) in &FAULTS {
         let objects = Objects {
             input: b"open - -\nenable 16909060\n",
             random: "",
@@ -236,7 +232,7 @@ fn run_limit(
 #[test]
 fn holds_lines_to_their_limits(rt: HostRuntime) -> Result<(), Fail> {
     let all = gcm_alone(rt.alloc())?;
-    for (shows, byte, count, want) in LIMITS {
+    for &(shows, byte, count, want) in &LIMITS {
         let input = vec![in rt.alloc(); byte; count]?;
         run_limit(rt.alloc(), &all, shows, &input, want)?;
     }

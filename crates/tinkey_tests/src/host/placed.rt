@@ -145,7 +145,7 @@ const INTERRUPTS: [(u32, usize, Option<usize>); 4] = [
 
 #[test]
 fn reads_again_behind_a_signal() -> Result<(), Fail> {
-    for (interrupts, gives, want) in INTERRUPTS {
+    for &(interrupts, gives, want) in &INTERRUPTS {
         let file = Zeros {
             interrupts: Cell::new(interrupts),
             gives,

@@ -96,7 +96,7 @@ fn fails_at_each_write_in_turn(rt: HostRuntime) -> Result<(), Fail> {
 #[test]
 fn writes_each_segment_at_once(rt: HostRuntime) -> Result<(), Fail> {
     let case = first_case(rt.alloc())?;
-    for (number, size, end) in [
+    for &(number, size, end) in &[
         (1, 0, "WriteFault"),
         (2, 24, "WriteFault"),
         (3, 42, "WriteFault"),
@@ -107,7 +107,7 @@ fn writes_each_segment_at_once(rt: HostRuntime) -> Result<(), Fail> {
     ] {
         run_sealing(rt.alloc(), &case, Calls::whole_up_to(number), size, end)?;
     }
-    for (number, size, end) in [
+    for &(number, size, end) in &[
         (1, 0, "WriteFault"),
         (2, 2, "WriteFault"),
         (3, 28, "WriteFault"),
@@ -135,7 +135,7 @@ fn run_draws(alloc: Global, size: usize, left: usize, suffices: bool) -> Result<
 // A header of AES-128 draws 23 bytes, in one fill.
 #[test]
 fn draws_salt_and_nonce_prefix_at_once(rt: HostRuntime) -> Result<(), Fail> {
-    for (size, left, suffices) in [(22, 22, false), (23, 0, true), (30, 7, true)] {
+    for &(size, left, suffices) in &[(22, 22, false), (23, 0, true), (30, 7, true)] {
         run_draws(rt.alloc(), size, left, suffices)?;
     }
     Ok(())

@@ -261,7 +261,7 @@ fn run_failing(alloc: Global, case: &Case, call: u64) -> Result<String, Fail> {
 #[test]
 fn answers_each_read_that_fails(rt: HostRuntime) -> Result<(), Fail> {
     let case = made(rt.alloc(), "GCM", 8137)?;
-    for (call, end) in FAILING {
+    for &(call, end) in &FAILING {
         let found = run_failing(rt.alloc(), &case, call)?;
         assert_eq!(rt; found.as_str(), end, "the call {call} fails");
     }
@@ -280,7 +280,7 @@ fn run_failing_store(alloc: Global, case: &Case, row: &str, call: u64) -> Result
 fn answers_a_store_that_fails(rt: HostRuntime) -> Result<(), Fail> {
     let case = made(rt.alloc(), "GCM", 8137)?;
     let row = "GCM|8137|GCM|-|-|0|1";
-    for (call, end) in [
+    for &(call, end) in &[
         (1, "ReadFault"),
         (2, "ReadFault"),
         (4, "ReadFault"),

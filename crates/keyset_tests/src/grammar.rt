@@ -168,7 +168,7 @@ const BYTES: [(&[u8], &str); 10] = [
 
 #[test]
 fn reads_only_text(rt: HostRuntime) -> Result<(), Fail> {
-    for (line, want) in BYTES {
+    for &(line, want) in &BYTES {
         read(rt.alloc(), want, line, want)?;
     }
     Ok(())

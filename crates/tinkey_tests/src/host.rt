@@ -1,6 +1,5 @@
-//! Tests of the real objects and of what `main` does with them: files, random bytes, words, streams,
-//! and exit codes. There is no code here but tests, and a type of one.
-#![tactic(auto)]
+//! The real objects, over real files and over devices that tell their bytes, and what `main` does with
+//! them: files, random bytes, words, streams, sessions over such a device, and exit codes.
 
 #[cfg(test)]
 mod ahead;
