@@ -1,10 +1,10 @@
-//! Tests of the kernels and the schemes: outside values, and the fast bodies beside plain ones.
+//! Tests of the kernels and the schemes: outside values, and the fast bodies beside plain ones; and of the
+//! real store, over real files. There is no code here but tests, and a type of one.
 #![tactic(auto)]
 
 #[cfg(test)]
 mod aes;
-#[cfg(test)]
-mod base;
+pub mod folder;
 #[cfg(test)]
 mod galois;
 #[cfg(test)]
@@ -23,5 +23,3 @@ mod schemes;
 mod sealing;
 #[cfg(test)]
 mod siv;
-#[cfg(test)]
-mod stores;

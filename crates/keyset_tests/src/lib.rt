@@ -1,8 +1,10 @@
-//! Tests of fields, key messages, keysets in both forms, managers, handles and edits, and of the streams,
-//! sessions and self-tests over them, through the public calls of their crates. There is no code here but
-//! tests.
+//! Tests of objects in memory, fields, key messages, keysets in both forms, managers, handles and edits, and
+//! of the streams, sessions and self-tests over them, through the public calls of their crates. There is no
+//! code here but tests.
 #![tactic(auto)]
 
+#[cfg(test)]
+mod base;
 #[cfg(test)]
 mod boxes;
 #[cfg(test)]
@@ -37,6 +39,8 @@ mod rows;
 mod segments;
 #[cfg(test)]
 mod selftests;
+#[cfg(test)]
+mod stores;
 #[cfg(test)]
 mod stream_faults;
 #[cfg(test)]

@@ -1183,4 +1183,4 @@ help_text (topics.Command command) = command_text command
 unfoldable pub version_text : List ℕ
 version_text =
     codes "tinkey 0.9.0\n"
-    ++ codes "proved with rattle-kit-13f logic dac8208d650f15bf\n"
+    ++ codes "proved with rattle-kit-13b logic dac8208d650f15bf\n"

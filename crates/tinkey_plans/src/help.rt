@@ -22,7 +22,7 @@ pub fn version_text() -> &'static str
 {
     "\
 tinkey 0.9.0
-proved with rattle-kit-13f logic dac8208d650f15bf
+proved with rattle-kit-13b logic dac8208d650f15bf
 "
 }
 

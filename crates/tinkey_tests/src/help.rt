@@ -20,8 +20,8 @@ the same behind its word | tag --help | 0 Done | | `tinkey^tag:^tags^standard^in
 by the short flag | tag -h | 0 Done | | `tinkey^tag:^tags^standard^input^under^the^primary^key` ~1235 `tinkey^tag^--keyset^mac.json^--hex^<^letter.txt^>^letter.tag` 0a
 a command without options | help list-key-templates | 0 Done | | `tinkey^list-key-templates:^lists^the^names^of^the^templates^of^new^keys` ~425 `tinkey^list-key-templates` 0a
 the same behind its word | list-key-templates -h | 0 Done | | `tinkey^list-key-templates:^lists^the^names^of^the^templates^of^new^keys` ~425 `tinkey^list-key-templates` 0a
-the version | version | 0 Done | | `tinkey^0.9.0` 0a `proved^with^rattle-kit-13f^logic^dac8208d650f15bf` 0a
-by a flag | --version | 0 Done | | `tinkey^0.9.0` 0a `proved^with^rattle-kit-13f^logic^dac8208d650f15bf` 0a
+the version | version | 0 Done | | `tinkey^0.9.0` 0a `proved^with^rattle-kit-13b^logic^dac8208d650f15bf` 0a
+by a flag | --version | 0 Done | | `tinkey^0.9.0` 0a `proved^with^rattle-kit-13b^logic^dac8208d650f15bf` 0a
 ";
 
 #[test]
@@ -71,8 +71,8 @@ const FAULTS: &str = "managers: none
 shows | words | piece | fails | status | line | output
 the first write | help | 64 | write 1 | 5 WriteFault | tinkey: write fault |
 the second one | --version | 16 | write 2 | 5 WriteFault | tinkey: write fault | `tinkey^0.9.0` 0a `pro`
-the last one | version | 16 | write 4 | 5 WriteFault | tinkey: write fault | `tinkey^0.9.0` 0a `proved^with^rattle-kit-13f^logic^da`
-none behind it | version | 16 | write 5 | 0 Done | | `tinkey^0.9.0` 0a `proved^with^rattle-kit-13f^logic^dac8208d650f15bf` 0a
+the last one | version | 16 | write 4 | 5 WriteFault | tinkey: write fault | `tinkey^0.9.0` 0a `proved^with^rattle-kit-13b^logic^da`
+none behind it | version | 16 | write 5 | 0 Done | | `tinkey^0.9.0` 0a `proved^with^rattle-kit-13b^logic^dac8208d650f15bf` 0a
 a command's, in one write | tag --help | 4096 | write 1 | 5 WriteFault | tinkey: write fault |
 nothing is read | help tag | 4096 | read 1 | 0 Done | | `tinkey^tag:^tags^standard^input^under^the^primary^key` ~1235 `tinkey^tag^--keyset^mac.json^--hex^<^letter.txt^>^letter.tag` 0a
 no file is looked up | tag -h | 4096 | store 1 | 0 Done | | `tinkey^tag:^tags^standard^input^under^the^primary^key` ~1235 `tinkey^tag^--keyset^mac.json^--hex^<^letter.txt^>^letter.tag` 0a

@@ -2,10 +2,10 @@
 
 ghost use Rattle.std.specs.Prelude.{◌≡◌, ◌≢◌, Some, None, false};
 ghost use Rattle.real_objects.specs.Naming.{HasNoLinks, kept_as};
-ghost use Rattle.tinkey_tests.specs.Names.{stage_of};
+ghost use Rattle.kernel_tests.specs.Names.{stage_of};
 
-use crate::host::came::Came;
-use crate::host::opened::Page;
+use crate::folder::came::Came;
+use crate::folder::opened::Page;
 use real_objects::{NewName, make_file};
 use std::alloc::Global;
 use std::io::{self, ErrorKind};

@@ -1,0 +1,11 @@
+//! The real store, over real files and over files and names that fail.
+
+pub mod came;
+#[cfg(test)]
+mod files;
+#[cfg(test)]
+mod naming;
+#[cfg(test)]
+mod opened;
+#[cfg(test)]
+mod placed;
