@@ -1,4 +1,4 @@
-# The commands of this repository. The first run of each proves every crate below it.
+# The commands of this repository. `make run` keeps what it proves, and `make test` proves all anew.
 .PHONY: run test wrong try bench install
 
 # Where `make install` puts things.
