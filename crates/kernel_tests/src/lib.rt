@@ -1,10 +1,9 @@
-//! Tests of the kernels and the schemes: outside values, and the fast bodies beside plain ones; and of the
-//! real store, over real files. There is no code here but tests, and a type of one.
+//! Tests of the kernels and the schemes: outside values, and the fast bodies beside plain ones. There is no
+//! code here but tests.
 #![tactic(auto)]
 
 #[cfg(test)]
 mod aes;
-pub mod folder;
 #[cfg(test)]
 mod galois;
 #[cfg(test)]

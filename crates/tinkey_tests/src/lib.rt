@@ -1,7 +1,6 @@
 //! Tests of the program. The top call runs over objects in memory: what a user gets, what hostile bytes
 //! get, and what failing objects get. Such a test is a table of text with a row for each case, and one
-//! reader reads them all (`rows.rt`). In `host` are those of the real objects. There is no code here but
-//! tests.
+//! reader reads them all (`rows.rt`). There is no code here but tests.
 #![tactic(auto)]
 
 #[cfg(test)]
@@ -26,8 +25,6 @@ mod faults;
 mod handed;
 #[cfg(test)]
 mod help;
-#[cfg(test)]
-mod host;
 #[cfg(test)]
 mod json;
 #[cfg(test)]

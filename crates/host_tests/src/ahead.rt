@@ -2,7 +2,7 @@
 
 ghost use Rattle.std.specs.Prelude.{Some};
 
-use crate::host::metered::{Metered, WHOLE, are_those_from, counts};
+use crate::metered::{Metered, WHOLE, are_those_from, counts};
 use real_objects::{FileEntropy, Opens};
 use std::alloc::Global;
 use std::cell::Cell;

@@ -1,9 +1,9 @@
 //! Sessions over random bytes that are drawn ahead, over a device in memory: each line has the bytes behind
 //! those of the line before it, and replies are written together.
 
-use crate::host::ahead::{Calls, failing};
-use crate::host::codes::GCM;
-use crate::host::metered::{WHOLE, counts};
+use crate::ahead::{Calls, failing};
+use crate::codes::GCM;
+use crate::metered::{WHOLE, counts};
 use std::alloc::Global;
 use std::process::ExitCode;
 use std::test::Fail;

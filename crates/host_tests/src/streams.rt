@@ -1,6 +1,6 @@
 //! Streams that are read ahead, that fail, and that a signal interrupts.
 
-use crate::host::metered::{Metered, WHOLE, are_first, are_those_from, counts};
+use crate::metered::{Metered, WHOLE, are_first, are_those_from, counts};
 use real_objects::{StdSink, StdSource};
 use std::alloc::Global;
 use std::cell::Cell;

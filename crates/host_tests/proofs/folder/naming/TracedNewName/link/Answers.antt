@@ -2,8 +2,8 @@ use Rattle.std.proofs.Common.{◌≡◌, sym, subst, ap, ◌∙◌, Some}
 use Rattle.std.specs.declared.io.ErrorKind.{ErrorKind}
 use Rattle.std.specs.declared.io.ErrorKind.TheVariants as kind
 use Rattle.real_objects.specs.Naming.{HasNoLinks}
-use Rattle.kernel_tests.specs.Names.{stage_of}
-use Rattle.kernel_tests.proofs.folder.naming.TracedNewName.link.Goals as goal
+use Rattle.host_tests.specs.Names.{stage_of}
+use Rattle.host_tests.proofs.folder.naming.TracedNewName.link.Goals as goal
 
 pub returns-in-Err-clause-unlinked : goal.returns-in-Err-clause-unlinked
 returns-in-Err-clause-unlinked c = λ other links.

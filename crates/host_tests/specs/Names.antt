@@ -2,8 +2,8 @@
 use Rattle.std.specs.Prelude.{None}
 use Rattle.real_objects.specs.Naming.{Stage}
 use Rattle.real_objects.specs.Naming as stage
-use Rattle.kernel_tests.specs.declared.folder.came.Came.{Came}
-use Rattle.kernel_tests.specs.declared.folder.came.Came.TheVariants as came
+use Rattle.host_tests.specs.declared.folder.came.Came.{Came}
+use Rattle.host_tests.specs.declared.folder.came.Came.TheVariants as came
 
 -- the stage that a test's mark stands for
 abbrev pub stage_of : Came → Stage

@@ -2,7 +2,7 @@
 
 ghost use Rattle.std.specs.Prelude.{◌≡◌, ◌≢◌, Some, None, false};
 ghost use Rattle.real_objects.specs.Naming.{HasNoLinks, kept_as};
-ghost use Rattle.kernel_tests.specs.Names.{stage_of};
+ghost use Rattle.host_tests.specs.Names.{stage_of};
 
 use crate::folder::came::Came;
 use crate::folder::opened::Page;

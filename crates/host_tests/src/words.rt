@@ -1,7 +1,7 @@
 //! Words of command lines, in memory and of the process.
 
-use crate::host::listed::in_digits;
-use crate::host::metered::counts;
+use crate::listed::in_digits;
+use crate::metered::counts;
 use real_objects::{NoWords, words};
 use std::alloc::Global;
 use std::env;

@@ -1,7 +1,7 @@
 //! Random bytes of the system's device, and of devices in memory that tell their bytes.
 
-use crate::host::ahead::{Calls, drawn, fails, refusing};
-use crate::host::metered::counts;
+use crate::ahead::{Calls, drawn, fails, refusing};
+use crate::metered::counts;
 use real_objects::{FileEntropy, Opens, RandomDevice};
 use std::alloc::Global;
 use std::fs;

@@ -2,7 +2,7 @@
 
 ghost use Rattle.std.specs.Prelude.{◌-◌, ◌^◌, None};
 
-use crate::host::listed::{Listed, in_digits, in_text};
+use crate::listed::{Listed, in_digits, in_text};
 use real_objects::{DirStore, FileEntropy, RandomDevice};
 use std::alloc::Global;
 use std::process::ExitCode;
