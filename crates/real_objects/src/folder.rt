@@ -15,7 +15,7 @@ use std::alloc::Global;
 use std::fs::{self, File, OpenFile, OpenOptions};
 use std::io::{self, ErrorKind, Read, Write};
 use std::os::unix::fs::OpenOptionsExt;
-use tink_base::{Bytes, Created, Failed, Loaded, Store, StoreError};
+use tink_base::{ASIDE, Bytes, Created, Failed, Loaded, Store, StoreError};
 
 /// How many bytes a load reads at the most; files of more count as too long under any limit.
 const MOST: usize = 1 << 30;
@@ -110,9 +110,6 @@ impl Store for DirStore<'_> {
         }
     }
 }
-
-/// What a name aside begins with, before its number. It doesn't depend on the name that is asked for.
-const ASIDE: &str = ".tinkey-new-";
 
 /// The path of a new file. The names aside are those of its folder.
 #[derive(Drop)]

@@ -1,4 +1,4 @@
-//! Numbers of Tink's keyset format (tink.proto).
+//! Numbers of Tink's keyset format (tink.proto), and what names of ours begin with.
 
 /// The status of a key that may be used (KeyStatusType).
 pub const ENABLED: u32 = 1;
@@ -15,3 +15,6 @@ pub const LEGACY: u32 = 2;
 pub const RAW: u32 = 3;
 /// The output prefix type of five bytes that start with 0x00.
 pub const CRUNCHY: u32 = 4;
+
+/// What a temporary name beside a new file begins with. It doesn't depend on the name that the file gets.
+pub const ASIDE: &str = ".tinkey-new-";

@@ -25,7 +25,7 @@ mod trials;
 
 pub use all::{ReadAllFault, read_all, read_behind, write_all};
 pub use bytes::Bytes;
-pub use constants::{CRUNCHY, DESTROYED, DISABLED, ENABLED, LEGACY, RAW, TINK};
+pub use constants::{ASIDE, CRUNCHY, DESTROYED, DISABLED, ENABLED, LEGACY, RAW, TINK};
 pub use decimal::number_in;
 pub use entropy::Entropy;
 pub use faults::{Failed, NoMemory};
