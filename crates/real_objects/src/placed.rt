@@ -1,6 +1,6 @@
 //! The length of a file, and what is read of it at a place.
 
-ghost use Rattle.std.specs.Prelude.{◌≡◌, ◌≢◌, ◌<◌, ◌≤◌, ◌^◌, ℕ, List, Option, None, length, take, drop, IfOk, IfErr, IfSome, IsErr};
+ghost use Rattle.std.specs.Prelude.{◌≡◌, ◌≢◌, ◌<◌, ◌≤◌, ◌^◌, ℕ, List, Option, None, length, take, drop, IfOk, IfErr, IfSome, IsErr, OnErr};
 ghost use Rattle.std.specs.IoError.{error_kind};
 ghost use Rattle.real_objects.specs.Folder.{IsMissing, IsPieceAt, IsSize};
 
@@ -8,6 +8,10 @@ use std::fs::{File, Metadata};
 use std::io::{self, ErrorKind};
 use std::os::unix::fs::FileExt;
 use tink_base::Failed;
+
+/// How many bytes one read takes at the most. They are read here and copied, since the system may have
+/// written behind what it says that it read.
+const PIECE: usize = 8192;
 
 /// The greatest length of a file, in bytes: offsets have 63 bits.
 const GREATEST: u64 = (1 << 63) - 1;
@@ -17,18 +21,25 @@ pub trait PlacedFile {
     /// Its bytes, where it tells them.
     ghost bytes: { Self → Option (List ℕ) };
 
-    /// Reads some bytes from the byte at `at` on, counted from 0, at most as many as `out` has.
+    /// Reads some bytes from the byte at `at` on, counted from 0, at most as many as `out` has. What of
+    /// `out` wasn't read stays as it was.
     fn read_placed(&self, at: u64, out: &mut [u8]) -> io::Result<usize>
         ensures bound { IfOk result (λ n. n ≤ length out.new) }
         ensures reads { IfOk result (λ n. IfSome (bytes self.now) (λ all.
-            take n out.new ≡ take n (drop at all))) };
+            take n out.new ≡ take n (drop at all))) }
+        ensures rest { IfOk result (λ n. drop n out.new ≡ drop n out.old) }
+        ensures kept { OnErr result (out.new ≡ out.old) };
 }
 
 impl PlacedFile for File {
     ghost bytes = { λ _. None };
 
     fn read_placed(&self, at: u64, out: &mut [u8]) -> io::Result<usize> {
-        self.read_at(out, at)
+        let mut piece = [0; PIECE];
+        let most = out.len().min(PIECE);
+        let n = self.read_at(&mut piece[..most], at)?;
+        out[..n].copy_from_slice(&piece[..n]);
+        Ok(n)
     }
 }
 
@@ -52,8 +63,8 @@ pub fn size_of(found: io::Result<Metadata>) -> Result<Option<u64>, Failed>
 }
 
 /// Reads some bytes of a file that was to be opened, from the byte at `at` on, counted from 0: at least
-/// one. A read that a signal interrupted is tried again. A file that has no byte there any more counts as
-/// failed.
+/// one. What of `out` wasn't read stays as it was. A read that a signal interrupted is tried again. A file
+/// that has no byte there any more counts as failed.
 pub fn read_opened<F: PlacedFile + Drop>(
     opened: io::Result<F>,
     at: u64,
@@ -61,6 +72,7 @@ pub fn read_opened<F: PlacedFile + Drop>(
 ) -> Result<usize, Failed>
     ensures read { IfOk opened (λ file. IfOk result (IsPieceAt (F.bytes file) at out.new)) }
     ensures bound { IfOk result (λ n. (1 ≤ n) × (n ≤ length out.new)) }
+    ensures rest { IfOk result (λ n. drop n out.new ≡ drop n out.old) }
     ensures unopened { IsErr opened → IsErr result }
 {
     match opened {
@@ -77,6 +89,7 @@ fn placed_through_signals<F: PlacedFile>(file: &F, at: u64, out: &mut [u8]) -> i
     ensures bound { IfOk result (λ n. n ≤ length out.new) }
     ensures reads { IfOk result (λ n. IfSome (F.bytes file.now) (λ all.
         take n out.new ≡ take n (drop at all))) }
+    ensures rest { IfOk result (λ n. drop n out.new ≡ drop n out.old) }
     ensures uninterrupted { IfErr result (λ error. error_kind error ≢ ErrorKind.Interrupted) }
 {
     for _ in 0..u64::MAX {

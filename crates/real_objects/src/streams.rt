@@ -59,6 +59,8 @@ impl<R: Read> Source for StdSource<R> {
             (told_source self.new).ended ≡ true) }
         ensures goes_on { IfOk result (λ n. 0 < n →
             (told_source self.new).ended ≡ (told_source self.old).ended) }
+        ensures nothing_asked { length out.old ≡ 0 →
+            (told_source self.new).ended ≡ (told_source self.old).ended }
         ensures failed_goes_on { OnErr result
             ((told_source self.new).ended ≡ (told_source self.old).ended) }
         ensures late { (told_source self.new).late ≡ late_after (told_source self.old) }

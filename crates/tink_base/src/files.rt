@@ -1,6 +1,6 @@
 //! A store in memory, which fails exactly at the calls that it is told.
 
-ghost use Rattle.std.specs.Prelude.{◌≡◌, ◌↔◌, ◌<◌, ◌^◌, length, IfOk, IfSome, OnOk, OnErr, IsErr, IsErrOf, IsTrue, true, false, Contains, option_map};
+ghost use Rattle.std.specs.Prelude.{◌≡◌, ◌↔◌, ◌<◌, ◌^◌, length, drop, IfOk, IfSome, OnOk, OnErr, IsErr, IsErrOf, IsTrue, true, false, Contains, option_map};
 ghost use Rattle.std.specs.FinMap as map;
 ghost use Rattle.tink_spec.specs.Outside.{Rose, RoseOnce, Stood, next};
 ghost use Rattle.tink_spec.specs.Files.{HoldsLonger, KeptFiles, MayAdd};
@@ -203,6 +203,7 @@ impl Store for MemStore {
         requires some { 0 < length out.old }
         requires within { HoldsLonger (told_store self.old) name.now at }
         ensures reads { IfOk result (λ n. ReadsAt (told_store self.old) name.now at out.new n) }
+        ensures rest { IfOk result (λ n. drop n out.new ≡ drop n out.old) }
         ensures kept { KeptFiles (told_store self.old) (told_store self.new) }
         ensures no_fault { OnOk result (Stood self.old.faults self.new.faults) }
         ensures failed { OnErr result (Rose self.old.faults self.new.faults) }

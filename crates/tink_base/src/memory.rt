@@ -79,6 +79,7 @@ impl Source for MemSource {
             IsAtEnd (told_source self.new)) }
         ensures ended { IfOk result (λ n. n ≡ 0 → 0 < length out.old → self.new.ended ≡ true) }
         ensures goes_on { IfOk result (λ n. 0 < n → self.new.ended ≡ self.old.ended) }
+        ensures nothing_asked { length out.old ≡ 0 → self.new.ended ≡ self.old.ended }
         ensures failed_goes_on { OnErr result (self.new.ended ≡ self.old.ended) }
         ensures late { self.new.late ≡ late_after (told_source self.old) }
         ensures no_fault { OnOk result (Stood self.old.faults self.new.faults) }
@@ -122,6 +123,7 @@ fn counted_late(ended: bool, late: u64) -> u64
 fn is_ended(ended: bool, asked: usize, given: usize) -> bool
     ensures goes_on { 0 < given → result ≡ ended }
     ensures end { given ≡ 0 → 0 < asked → result ≡ true }
+    ensures nothing_asked { asked ≡ 0 → result ≡ ended }
 {
     ended || given == 0 && asked > 0
 }

@@ -12,8 +12,9 @@ pub trait Source {
     ghost state: { Self → SourceState };
 
     /// Moves the next bytes into the front of `out`, and answers how many. The rest of `out` stays
-    /// as it was. 0 bytes into an `out` that isn't empty are the end of the input. After `Failed`
-    /// no byte is gone, and the count of faults has risen; with any other answer it is as it was.
+    /// as it was. 0 bytes into an `out` that isn't empty are the end of the input; an empty `out` ends
+    /// nothing. After `Failed` no byte is gone, and the count of faults has risen; with any other answer
+    /// it is as it was.
     fn read(&mut self, out: &mut [u8]) -> Result<usize, Failed>
         ensures bound { IfOk result (λ n. n ≤ length out.old) }
         ensures gives { IfOk result (λ n. Gave (state self.old) (state self.new) (take n out.new)) }
@@ -23,6 +24,8 @@ pub trait Source {
             (state self.new).ended ≡ true) }
         ensures goes_on { IfOk result (λ n. 0 < n →
             (state self.new).ended ≡ (state self.old).ended) }
+        ensures nothing_asked { length out.old ≡ 0 →
+            (state self.new).ended ≡ (state self.old).ended }
         ensures failed_goes_on { OnErr result
             ((state self.new).ended ≡ (state self.old).ended) }
         ensures late { (state self.new).late ≡ late_after (state self.old) }

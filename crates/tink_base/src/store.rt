@@ -1,6 +1,6 @@
 //! Named files.
 
-ghost use Rattle.std.specs.Prelude.{◌≡◌, ◌<◌, ◌^◌, length, IfOk, IfSome, OnOk, OnErr, IsErrOf};
+ghost use Rattle.std.specs.Prelude.{◌≡◌, ◌<◌, ◌^◌, length, drop, IfOk, IfSome, OnOk, OnErr, IsErrOf};
 ghost use Rattle.tink_spec.specs.Outside.{Rose, RoseOnce, Stood};
 ghost use Rattle.tink_spec.specs.Files.{StoreState, HoldsLonger, KeptFiles, MayAdd};
 ghost use Rattle.tink_base.specs.Store.{Loads, Creates, HasSize, IsTaken, ReadsAt, given_by_load, given_by_read};
@@ -80,13 +80,14 @@ pub trait Store {
         ensures given { (state self.new).given ≡ (state self.old).given };
 
     /// Reads some bytes of the file of this name, from the byte at `at` on, counted from 0: at least one,
-    /// and at most as many as `out` has. `Failed` comes also where there is no byte at that place any
-    /// more. No file changes. The count of faults has risen after `Failed`, and is as it was with any
-    /// other answer. The count of bytes given rises by those that were read.
+    /// and at most as many as `out` has. The rest of `out` stays as it was. `Failed` comes also where there
+    /// is no byte at that place any more. No file changes. The count of faults has risen after `Failed`,
+    /// and is as it was with any other answer. The count of bytes given rises by those that were read.
     fn read_at(&mut self, name: &str, at: u64, out: &mut [u8]) -> Result<usize, Failed>
         requires some { 0 < length out.old }
         requires within { HoldsLonger (state self.old) name.now at }
         ensures reads { IfOk result (λ n. ReadsAt (state self.old) name.now at out.new n) }
+        ensures rest { IfOk result (λ n. drop n out.new ≡ drop n out.old) }
         ensures kept { KeptFiles (state self.old) (state self.new) }
         ensures no_fault { OnOk result (Stood (state self.old).faults (state self.new).faults) }
         ensures failed { OnErr result (Rose (state self.old).faults (state self.new).faults) }

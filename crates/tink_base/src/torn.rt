@@ -1,6 +1,6 @@
 //! A store in memory that breaks off whatever it writes, as a disk does that is full.
 
-ghost use Rattle.std.specs.Prelude.{◌≡◌, ◌<◌, ◌^◌, length, IfOk, IfSome, OnOk, OnErr, IsErr, IsErrOf, Some, None, option_map, take};
+ghost use Rattle.std.specs.Prelude.{◌≡◌, ◌<◌, ◌^◌, length, drop, IfOk, IfSome, OnOk, OnErr, IsErr, IsErrOf, Some, None, option_map, take};
 ghost use Rattle.std.specs.FinMap as map;
 ghost use Rattle.tink_spec.specs.Outside.{Rose, RoseOnce, Stood, next};
 ghost use Rattle.tink_spec.specs.Files.{HoldsLonger, KeptFiles, MayAdd};
@@ -127,6 +127,7 @@ impl Store for TornStore {
         requires some { 0 < length out.old }
         requires within { HoldsLonger (told_torn self.old) name.now at }
         ensures reads { IfOk result (λ n. ReadsAt (told_torn self.old) name.now at out.new n) }
+        ensures rest { IfOk result (λ n. drop n out.new ≡ drop n out.old) }
         ensures kept { KeptFiles (told_torn self.old) (told_torn self.new) }
         ensures no_fault { OnOk result (Stood self.old.faults self.new.faults) }
         ensures failed { OnErr result (Rose self.old.faults self.new.faults) }
