@@ -1,6 +1,6 @@
 //! A device in memory, which fails exactly at the calls that it is told.
 
-ghost use Rattle.std.specs.Prelude.{◌≡◌, ◌↔◌, ℕ, ◌+◌, ◌<◌, ◌≤◌, ◌^◌, min, length, IfOk, OnOk, OnErr, IsErr, Contains};
+ghost use Rattle.std.specs.Prelude.{◌≡◌, ◌↔◌, ℕ, ◌+◌, ◌<◌, ◌≤◌, ◌^◌, min, length, drop, IfOk, OnOk, OnErr, IsErr, Contains};
 ghost use Rattle.tink_base.specs.Store.{given_by_read};
 ghost use Rattle.tink_spec.specs.Outside.{Rose, RoseOnce, Stood, next};
 ghost use Rattle.stream_range.specs.Device.{KeptDevice, ReadsSome, TellsSize};
@@ -88,6 +88,7 @@ impl Device for MemDevice {
         requires some { 0 < length out.old }
         requires within { at + length out.old ≤ length self.old.bytes }
         ensures reads { IfOk result (λ n. ReadsSome (told_device self.old) at out.new n) }
+        ensures rest { IfOk result (λ n. drop n out.new ≡ drop n out.old) }
         ensures kept { KeptDevice (told_device self.old) (told_device self.new) }
         ensures lent { ◌≡◌ {A = ℕ} 0 0 }
         ensures no_fault { OnOk result (Stood self.old.faults self.new.faults) }
