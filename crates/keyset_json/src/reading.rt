@@ -1,6 +1,7 @@
 //! A keyset in JSON, read.
 
-ghost use Rattle.std.specs.Prelude.{◌≡◌, ◌≤◌, ◌^◌, length, Some, Ok, IfOk, IfErr, IsTrue};
+ghost use Rattle.std.specs.Prelude.{◌≡◌, ◌<◌, ◌≤◌, ◌^◌, length, Some, Ok, IfOk, IfErr, IsErrOf, IsTrue};
+ghost use Rattle.std.specs.Str.{IsUtf8};
 ghost use Rattle.std.specs.List.{AllByRecursion};
 ghost use Rattle.keyset_model.specs.Keyset.{IsWithin, IsShort};
 ghost use Rattle.serde_json.specs.View.{view, items_view};
@@ -104,12 +105,16 @@ fn ends_in_newline(bytes: &[u8]) -> bool
 }
 
 /// The JSON value of a text. `NotJson` comes exactly where `serde_json` reads none from it, and no other
-/// error but `NoMemory` comes.
+/// error but `NoMemory` comes, which comes only of bytes that are UTF-8, at least one.
 pub fn read_value(alloc: Global, text: &[u8]) -> Result<Value, JsonError>
     ensures value { IfOk result (λ value. json_value text.now ≡ Some (view value)) }
     ensures none { IfErr result (λ error. IsNoValue error (json_value text.now)) }
+    ensures no_memory { IsErrOf result JsonError.NoMemory → IsUtf8 text.now × (0 < length text.now) }
 {
-    match Value::from_slice(alloc, text) {
+    let Ok(text) = str::from_utf8(text) else {
+        return Err(JsonError::NotJson);
+    };
+    match Value::from_str(alloc, text) {
         Ok(value) => Ok(value),
         Err(error) => match error.classify() {
             Category::Memory => Err(JsonError::NoMemory),
