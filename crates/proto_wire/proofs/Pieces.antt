@@ -1,6 +1,6 @@
 -- The loop over the fields of a part: those that were read, before those that the rest is cut into.
-use Rattle.std.proofs.Common.{◌≡◌, ◌∙◌, ap, sym, refl, subst, ℕ, ◌+◌, ◌-◌, ◌<◌, ◌≤◌, List, [], ◌∷◌, ◌++◌, length, arith, Some, None, Result, Ok, Err}
-use Rattle.std.specs.Prelude.{slice_range, IfOk, IsErrOf}
+use Rattle.std.proofs.Common.{◌≡◌, ◌∙◌, ap, sym, refl, subst, ℕ, ◌+◌, ◌-◌, ◌<◌, ◌≤◌, ◌⊎◌, inl, inr, List, [], ◌∷◌, ◌++◌, length, arith, Some, None, Result, Ok, Err}
+use Rattle.std.specs.Prelude.{slice_range, IfOk, IsErrOf, IsSome}
 use Rattle.std.specs.List.{AllByRecursion}
 use Rattle.std.proofs.lemmas.List.{append_assoc, append-nil, map-append}
 use Rattle.tink_spec.specs.Wire.{WireField, IsCutInto, FailsAt, field_front, with_field, cut_within, cut}
@@ -19,6 +19,8 @@ pub record IsRead (source : List ℕ) (start at end : ℕ) (items : List Field) 
   pub within : at ≤ end
   pub rest : cut start (slice_range source start end) ≡ joined (Ok (seen_all source items)) (cut at (slice_range source at end))
   pub of_source : AllByRecursion (IsOf source) items
+  -- a field stands at the front, once one was read
+  pub front : (start ≡ at) ⊎ IsSome (field_front start (slice_range source start end))
 
 joined-with_field : (fields : List WireField) (field : WireField) (rest : Result (List WireField) ℕ) → joined (Ok fields) (with_field field rest) ≡ joined (Ok (fields ++ field ∷ [])) rest
 joined-with_field fields field (Ok more) = ap (λ (all : List WireField). Ok all) (sym (append_assoc fields (field ∷ []) more))
@@ -34,7 +36,16 @@ read-init source start end ordered = record {
   within = ordered;
   rest = sym (joined-nothing (cut start (slice_range source start end)));
   of_source = tt;
+  front = inl refl;
 }
+
+-- with the field that is read at the place, one stands at the front
+pub front-read : (source : List ℕ) (start at end : ℕ) (items : List Field) (read : WireField × List ℕ) → IsRead source start at end items → field_front at (slice_range source at end) ≡ Some read → IsSome (field_front start (slice_range source start end))
+front-read source start at end items read state is = by state.front
+  where
+    by : (start ≡ at) ⊎ IsSome (field_front start (slice_range source start end)) → IsSome (field_front start (slice_range source start end))
+    by (inl same) = subst (λ (n : ℕ). IsSome (field_front n (slice_range source n end))) (sym same) (rw is refl)
+    by (inr there) = there
 
 pub read-more : (source : List ℕ) (start at end next : ℕ) (items : List Field) (field : Field) → end ≤ length source → IsRead source start at end items → at < next → next ≤ end → field_front at (slice_range source at end) ≡ Some (seen source field, slice_range source next end) → IsOf source field → IsRead source start next end (items ++ field ∷ [])
 read-more source start at end next items field within state later ordered is one =
@@ -49,6 +60,7 @@ read-more source start at end next items field within state later ordered is one
           ∙ joined-with_field (seen_all source items) (seen source field) (cut next (slice_range source next end))
           ∙ ap (λ (all : List WireField). joined (Ok all) (cut next (slice_range source next end))) (sym (map-append (seen source) items (field ∷ [])));
       of_source = of_source-push source items field state.of_source one;
+      front = inr (front-read source start at end items (seen source field, slice_range source next end) state is);
     }
 
 -- where no field is at the place, it is the place at fault

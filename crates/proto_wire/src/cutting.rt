@@ -1,8 +1,8 @@
 //! A part of a message, cut into its fields.
 
-ghost use Rattle.std.specs.Prelude.{◌≡◌, ◌≤◌, List, ℕ, length, Ok, Err, IfOk, IsErrOf, slice_range};
+ghost use Rattle.std.specs.Prelude.{◌≡◌, ◌≤◌, List, ℕ, length, Ok, Err, IfOk, IsErrOf, IsSome, slice_range};
 ghost use Rattle.std.specs.List.{AllByRecursion};
-ghost use Rattle.tink_spec.specs.Wire.{WireField, IsCutInto, FailsAt, cut};
+ghost use Rattle.tink_spec.specs.Wire.{WireField, IsCutInto, FailsAt, cut, field_front};
 ghost use Rattle.tink_spec.specs.Messages.{at_place, embedded};
 ghost use Rattle.proto_wire.specs.Fields.{payload_of, seen_all, error_at, IsOf, GivesFields};
 
@@ -12,7 +12,8 @@ use std::alloc::Global;
 
 /// Cuts the part of `source` from `start` to `end`, places in bytes, into its fields.
 ///
-/// `Wire` comes exactly where the part can't be cut, with the place of the first field at fault.
+/// `Wire` comes exactly where the part can't be cut, with the place of the first field at fault. `NoMemory`
+/// comes only where a field stands at the front of the part, so never of an empty one.
 pub fn fields(alloc: Global, source: &[u8], start: usize, end: usize) -> Result<Fields, FieldsError>
     requires ordered { start ≤ end }
     requires within { end ≤ length source.now }
@@ -27,6 +28,8 @@ pub fn fields(alloc: Global, source: &[u8], start: usize, end: usize) -> Result<
     ensures fails_only { (place : ℕ) → FailsAt start (slice_range source.now start end) place →
         GivesFields source.now result (Err place) }
     ensures of_source { IfOk result (λ fields. AllByRecursion (IsOf source.now) fields) }
+    ensures no_memory { IsErrOf result FieldsError.NoMemory →
+        IsSome (field_front start (slice_range source.now start end)) }
 {
     let mut items = Vec::new(alloc);
     let mut at = start;

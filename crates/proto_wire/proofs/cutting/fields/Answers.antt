@@ -5,7 +5,7 @@ use Rattle.proto_wire.specs.Fields.{seen_all}
 use Rattle.proto_wire.specs.declared.field.Field.{Field}
 use Rattle.proto_wire.specs.declared.field.FieldsError.{FieldsError}
 use Rattle.proto_wire.specs.declared.field.FieldsError.TheVariants as errors
-use Rattle.proto_wire.proofs.Pieces.{read-more, read-stop, read-end, gives-spelled, gives-only, gives-fails, gives-fails_only}
+use Rattle.proto_wire.proofs.Pieces.{front-read, read-more, read-stop, read-end, gives-spelled, gives-only, gives-fails, gives-fails_only}
 use Rattle.proto_wire.proofs.cutting.fields.Goals as goal
 use Rattle.proto_wire.proofs.cutting.fields.Goals.{After-drop-items, After-own}
 
@@ -26,6 +26,9 @@ returns-in_default-clause-fails c = gives-fails c.args.source.now c.args.start _
 
 pub returns-in_default-clause-fails_only : goal.returns-in_default-clause-fails_only
 returns-in_default-clause-fails_only c = gives-fails_only c.args.source.now c.args.start _ (failed c) (stopped c)
+
+pub returns-in-Err-clause-no_memory : goal.returns-in-Err-clause-no_memory
+returns-in-Err-clause-no_memory c = λ none. front-read _ _ _ _ _ _ c.loop-at.invariant c.in-Some.ensures.read
 
 pub loop-at-preserved : goal.loop-at-preserved
 loop-at-preserved c =
