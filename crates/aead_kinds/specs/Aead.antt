@@ -4,6 +4,7 @@
 --   IsFit         the key's sizes are those of its kind
 --   IsUnder       its HMAC is under this hash function and key, before any message
 --   iv_size_of    the bytes of an IV
+--   tag_size_of   the bytes of a tag
 --   seal_of       IV, ciphertext and tag, joined, of IV, plaintext and associated data
 --   open_key      the plaintext of those bytes, or none where they aren't authentic
 use Rattle.std.specs.Prelude.{⊤, ◌≡◌, ◌⊎◌, ◌≤◌, ℕ, Option, List, []}
@@ -36,6 +37,12 @@ abbrev pub iv_size_of : AeadKey → ℕ
 iv_size_of (Gcm key) = 12
 iv_size_of (Eax key iv_size) = iv_size
 iv_size_of (CtrHmac aes iv_size keyed tag_size) = iv_size
+
+-- bytes of a tag: 16, but for AES-CTR-HMAC, as the key says
+abbrev pub tag_size_of : AeadKey → ℕ
+tag_size_of (Gcm key) = 16
+tag_size_of (Eax key iv_size) = 16
+tag_size_of (CtrHmac aes iv_size keyed tag_size) = tag_size
 
 -- IV, ciphertext and tag of a plaintext and associated data, by the kind of the key; that of
 -- AES-CTR-HMAC is under this hash function and key of HMAC

@@ -1,9 +1,9 @@
 //! Sealing and opening under a key of any kind.
 
-ghost use Rattle.std.specs.Prelude.{◌≡◌, ◌↔◌, ◌+◌, ◌^◌, ◌≤◌, ◌++◌, ℕ, List, drop, length, take, IfOk, IsTrue};
+ghost use Rattle.std.specs.Prelude.{◌≡◌, ◌↔◌, ◌+◌, ◌^◌, ◌<◌, ◌≤◌, ◌++◌, ℕ, List, drop, length, take, vec_capacity, IfOk, OnErr, IsTrue};
 ghost use Rattle.tink_base.specs.declared.hash.Hash.{Hash};
 ghost use Rattle.tink_spec.specs.InPlace.{OpensTo};
-ghost use Rattle.aead_kinds.specs.Aead.{IsFit, IsUnder, iv_size_of, open_key, seal_of};
+ghost use Rattle.aead_kinds.specs.Aead.{IsFit, IsUnder, iv_size_of, open_key, seal_of, tag_size_of};
 ghost use Rattle.aead_kinds.specs.Gcm.{gcm_open, gcm_seal};
 
 use crate::gcm::GcmKey;
@@ -80,7 +80,7 @@ impl AeadKey<'_> {
 /// The plaintext stands behind `at` and room for the IV, whatever stands in that. It has at most 2^30
 /// bytes, as many as its ciphertext, and so has `ad`. No IV may serve twice under one key: this is for
 /// the caller to see to. `NoMemory` comes only where the list has no place for the tag, which has at
-/// most 64 bytes, and memory for more is wanting.
+/// most 64 bytes, and memory for more is wanting: the list's capacity is below its length and the tag's.
 #[tactic(auto, unfolding(crate::specs::Eax::eax_seal, crate::specs::CtrHmac::ctr_hmac_seal))]
 pub fn seal(
     key: &AeadKey<'_>,
@@ -94,9 +94,11 @@ pub fn seal(
     requires room { at + length iv.now ≤ length bytes.items }
     requires plain_bound { length bytes.items ≤ at + length iv.now + 2 ^ 30 }
     requires ad_bound { length ad.now ≤ 2 ^ 30 }
-    ensures { (hash : Hash) (mac : List ℕ) → IsUnder key.now hash mac
+    ensures sealed { (hash : Hash) (mac : List ℕ) → IsUnder key.now hash mac
         → IfOk result (λ v. v.items ≡ take at bytes.items
         ++ seal_of key.now hash mac iv.now (drop (at + length iv.now) bytes.items) ad.now) }
+    ensures no_memory { OnErr result
+        (vec_capacity bytes < length bytes.items + tag_size_of key.now) }
 {
     match key {
         AeadKey::Gcm { key } => gcm_sealed(key, at, bytes, iv, ad),
@@ -153,8 +155,9 @@ fn gcm_sealed(
     requires room { at + length iv.now ≤ length bytes.items }
     requires plain_bound { length bytes.items ≤ at + length iv.now + 2 ^ 30 }
     requires ad_bound { length ad.now ≤ 2 ^ 30 }
-    ensures { IfOk result (λ v. v.items ≡ take at bytes.items
+    ensures sealed { IfOk result (λ v. v.items ≡ take at bytes.items
         ++ gcm_seal key.now iv.now (drop (at + length iv.now) bytes.items) ad.now) }
+    ensures no_memory { OnErr result (vec_capacity bytes < length bytes.items + 16) }
 {
     let tag = match iv.first_chunk::<GCM_IV>() {
         Some(iv) => gcm_seal_behind(key, at, &mut bytes, iv, ad),

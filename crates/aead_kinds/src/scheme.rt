@@ -1,6 +1,6 @@
 //! Sealing by encryption and a tag over what was encrypted, which EAX and AES-CTR-HMAC have in common.
 
-ghost use Rattle.std.specs.Prelude.{◌≡◌, ◌↔◌, ◌+◌, ◌^◌, ◌≤◌, ℕ, List, ◌++◌, drop, length, take, IfOk, IsTrue};
+ghost use Rattle.std.specs.Prelude.{◌≡◌, ◌↔◌, ◌+◌, ◌^◌, ◌<◌, ◌≤◌, ℕ, List, ◌++◌, drop, length, take, vec_capacity, IfOk, OnErr, IsTrue};
 ghost use Rattle.tink_spec.specs.InPlace.{OpensTo};
 ghost use Rattle.aead_kinds.specs.EncryptThenTag.{opened_by, sealed_by};
 ghost use Rattle.aead_kinds.specs.SchemeState.{crypt_under, IsSound, IsUnder, start_under, tag_size_of, tag_under};
@@ -46,10 +46,12 @@ impl Scheme<'_> {
         requires room { at + length iv.now ≤ length bytes.items }
         requires plain_bound { length bytes.items ≤ at + length iv.now + 2 ^ 30 }
         requires ad_bound { length ad.now ≤ 2 ^ 30 }
-        ensures { (hash : Hash) (mac : List ℕ) → IsUnder self.now hash mac
+        ensures sealed { (hash : Hash) (mac : List ℕ) → IsUnder self.now hash mac
             → IfOk result (λ v. v.items ≡ take at bytes.items
             ++ sealed_by (crypt_under self.now) (tag_under self.now hash mac) iv.now
             (drop (at + length iv.now) bytes.items) ad.now) }
+        ensures no_memory { OnErr result
+            (vec_capacity bytes < length bytes.items + tag_size_of self.now) }
     {
         let mut longest = [0; LONGEST_TAG];
         let tag = &mut longest[..self.tag_size()];

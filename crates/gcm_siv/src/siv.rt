@@ -3,7 +3,7 @@
 //! No branch and no place in memory depends on the key or on a byte of text, associated data or tag,
 //! but for the answer whether the tag is the right one: so it is written, and no clause says it.
 
-ghost use Rattle.std.specs.Prelude.{◌≡◌, ◌⊎◌, ◌↔◌, ◌+◌, ◌^◌, ◌≤◌, ◌<◌, ◌*◌, ◌++◌, drop, length, take, IfOk, IsTrue};
+ghost use Rattle.std.specs.Prelude.{◌≡◌, ◌⊎◌, ◌↔◌, ◌+◌, ◌^◌, ◌≤◌, ◌<◌, ◌*◌, ◌++◌, drop, length, take, vec_capacity, IfOk, OnErr, IsTrue};
 ghost use Rattle.std.specs.Bool.{OnFalse, OnTrue};
 ghost use Rattle.std.specs.Int.{w64, to_le_bytes};
 ghost use Rattle.tink_spec.specs.InPlace.{OpensTo};
@@ -29,8 +29,8 @@ const TAG: usize = 16;
 /// The plaintext stands behind `at` and room for the IV, whatever stands in that. It has at most 2^30
 /// bytes, as many as its ciphertext, and so has `ad`. An IV that serves twice under one key tells
 /// whether plaintext and associated data were the same, and nothing else; still, each message should
-/// have its own. `NoMemory` comes only where the list has no place for the tag of 16 bytes, and memory for
-/// more is wanting.
+/// have its own. `NoMemory` comes only where the list has no place for the tag of 16 bytes, by its
+/// capacity, and memory for more is wanting.
 pub fn gcm_siv_seal(
     key: &Aes,
     at: usize,
@@ -41,8 +41,9 @@ pub fn gcm_siv_seal(
     requires room { at + 12 ≤ length bytes.items }
     requires plain_bound { length bytes.items ≤ at + 12 + 2 ^ 30 }
     requires ad_bound { length ad.now ≤ 2 ^ 30 }
-    ensures { IfOk result (λ v. v.items
+    ensures sealed { IfOk result (λ v. v.items
         ≡ take at bytes.items ++ gcm_siv_seal key.now iv.now (drop (at + 12) bytes.items) ad.now) }
+    ensures no_memory { OnErr result (vec_capacity bytes < length bytes.items + 16) }
 {
     let tag = seal_behind(key, at, &mut bytes, iv, ad);
     bytes.extend_from_slice(&tag)?;

@@ -4,8 +4,8 @@ use Rattle.std.proofs.lemmas.List.{drop-drop, take_all, take_at}
 use Rattle.aead_kinds.specs.Gcm.{gcm_seal}
 use Rattle.aead_kinds.proofs.aead.gcm_sealed.Goals as goal
 
-pub returns : goal.returns
-returns c =
+pub returns-clause-sealed : goal.returns-clause-sealed
+returns-clause-sealed c =
     let key = c.args.key.now in
     let at = c.args.at in
     let items = c.args.bytes.items in

@@ -4,8 +4,8 @@ use Rattle.std.proofs.lemmas.List.{drop-drop, take_at}
 use Rattle.gcm_siv.specs.GcmSiv.{gcm_siv_seal}
 use Rattle.gcm_siv.proofs.siv.gcm_siv_seal.Goals as goal
 
-pub returns : goal.returns
-returns c =
+pub returns-clause-sealed : goal.returns-clause-sealed
+returns-clause-sealed c =
     let key = c.args.key.now in
     let at = c.args.at in
     let items = c.args.bytes.items in

@@ -12,7 +12,7 @@ returns-in-AesGcm c =
     = sym c.kind.ensures.key ∙ c.in-AesGcm.is in
     let same : c.gcm.result.now ≡ c.in-AesGcm.key = c.gcm.ensures ∙ ap gcm_in is in
     let size : length c.args.iv.now ≡ 12 = c.requires.whole_iv ∙ ap iv_size is in
-    rw is (rw (same, size) at (c.seal.ensures Sha256 [] tt))
+    rw is (rw (same, size) at (c.seal.ensures.sealed Sha256 [] tt))
 
 pub returns-in-AesEax : goal.returns-in-AesEax
 returns-in-AesEax c =
@@ -21,4 +21,4 @@ returns-in-AesEax c =
     let same : c.aes.result.now ≡ c.in-AesEax.key
     = c.aes.ensures ∙ ap aes_in is in
     let size : length c.args.iv.now ≡ c.in-AesEax.iv_size = c.requires.whole_iv ∙ ap iv_size is in
-    rw is (rw (same, size) at (c.seal-in-AesEax.ensures Sha256 [] tt))
+    rw is (rw (same, size) at (c.seal-in-AesEax.ensures.sealed Sha256 [] tt))

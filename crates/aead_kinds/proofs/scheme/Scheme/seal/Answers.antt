@@ -5,8 +5,8 @@ use Rattle.aead_kinds.specs.EncryptThenTag.{sealed_by}
 use Rattle.aead_kinds.specs.SchemeState.{crypt_under, tag_under}
 use Rattle.aead_kinds.proofs.scheme.Scheme.seal.Goals as goal
 
-pub returns : goal.returns
-returns c = λ hash mac under.
+pub returns-clause-sealed : goal.returns-clause-sealed
+returns-clause-sealed c = λ hash mac under.
     let scheme = c.args.self.now in
     let at = c.args.at in
     let items = c.args.bytes.items in
