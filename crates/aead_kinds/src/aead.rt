@@ -116,7 +116,7 @@ pub fn seal(
 }
 
 /// Opens IV, ciphertext and tag, joined, in place, and answers where the plaintext stands in `bytes`
-/// then.
+/// then; what stands round it is as before.
 ///
 /// `bytes` have at most 2^30 + 96, and `ad` at most 2^30. The answer is `None` exactly where `bytes`
 /// are shorter than IV and tag, or the tag isn't the one computed anew; nothing was decrypted then. No

@@ -51,7 +51,7 @@ pub fn gcm_siv_seal(
 }
 
 /// Opens IV, ciphertext and tag, joined, in place (RFC 8452, 5), and answers where the plaintext stands
-/// in `bytes` then.
+/// in `bytes` then; what stands round it is as before.
 ///
 /// `bytes` have at most 2^30 + 96, and `ad` at most 2^30. The answer is `None` exactly where `bytes`
 /// are shorter than IV and tag, or the tag isn't the one that the plaintext has. All bytes of the two

@@ -76,7 +76,7 @@ pub trait AeadManager: KeyManager {
             ++ seal_of key.now iv.now (drop (at + iv_size key.now) bytes.items) ad.now) };
 
     /// Opens IV, ciphertext and tag, joined, in place, and counts one trial. The answer is where the
-    /// plaintext stands in `bytes` then.
+    /// plaintext stands in `bytes` then; what stands round it is as before.
     ///
     /// `None` comes exactly where `bytes` are shorter than IV and tag, or the tag isn't the one
     /// computed anew; they are as before then. No memory is taken.
@@ -116,7 +116,7 @@ pub trait DaeadManager: KeyManager {
             ++ dseal_of key.now (drop (at + 16) bytes.items) ad.now) };
 
     /// Opens sealed bytes in place, and counts one trial. The answer is where the plaintext stands in
-    /// `bytes` then.
+    /// `bytes` then; what stands round it is as before.
     ///
     /// `None` comes exactly where `bytes` are shorter than a tag, or the tag isn't the one computed
     /// anew; they are as before then. No memory is taken.

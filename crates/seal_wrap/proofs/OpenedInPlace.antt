@@ -5,7 +5,7 @@ use Rattle.std.specs.Prelude.{if◌then◌else◌, nat_lt, ◌==◌, ◌||◌, s
 use Rattle.std.specs.Option.{option_and_then}
 use Rattle.std.proofs.lemmas.Bool.Decides.{nat_tests}
 use Rattle.std.proofs.lemmas.List.{append-nil, drop_all, length-append, length-drop, length-take-le, take-append-drop, take_all}
-use Rattle.tink_spec.proofs.InPlaceLemmas.{range_behind}
+use Rattle.tink_spec.proofs.InPlaceLemmas.{after_behind, before_behind, range_behind}
 
 -- what is written over a rest to its end
 written_rest : (n : ℕ) (old rest : List ℕ) → put_mid n (length old - n) old rest ≡ take n old ++ rest
@@ -18,14 +18,16 @@ written_rest n old rest =
 pub rest_whole : (n : ℕ) (old : List ℕ) → take (length old - n) (drop n old) ≡ drop n old
 rest_whole n old = take_all (length old - n) (drop n old) (omega (arith, length-drop n old))
 
--- a plaintext that stands in a range of the bytes
-abbrev pub StandsIn : Option (List ℕ) → (new : List ℕ) → (from to : ℕ) → Type 0
-StandsIn plain new from to = (from ≤ to) × (to ≤ length new) × (plain ≡ Some (slice_range new from to))
+-- a plaintext that stands in a range of the bytes, round which they are as before
+abbrev pub StandsIn : Option (List ℕ) → (old new : List ℕ) → (from to : ℕ) → Type 0
+StandsIn plain old new from to =
+    (from ≤ to) × (to ≤ length new) × (plain ≡ Some (slice_range new from to))
+    × (take from new ≡ take from old) × (drop to new ≡ drop to old)
 
 -- where it stands in a range of a rest, it stands behind the front in the range that is moved by so much
 pub stands_behind : (plain opened : Option (List ℕ)) (n : ℕ) (old rest : List ℕ) (from to : ℕ)
-    → n ≤ length old → plain ≡ opened → StandsIn opened rest from to
-    → StandsIn plain (put_mid n (length old - n) old rest) (n + from) (n + to)
+    → n ≤ length old → plain ≡ opened → StandsIn opened (drop n old) rest from to
+    → StandsIn plain old (put_mid n (length old - n) old rest) (n + from) (n + to)
 stands_behind plain opened n old rest from to le same stands =
     let front : length (take n old) ≡ n = length-take-le n old le in
     let is : put_mid n (length old - n) old rest ≡ take n old ++ rest = written_rest n old rest in
@@ -39,6 +41,8 @@ stands_behind plain opened n old rest from to le same stands =
       omega (arith, size, stands.1),
       same ∙ stands.2 ∙ ap (λ (l : List ℕ). Some l)
           (sym behind ∙ ap (λ (l : List ℕ). slice_range l (n + from) (n + to)) (sym is)),
+      ap (take (n + from)) is ∙ before_behind n from old rest le stands.3,
+      ap (drop (n + to)) is ∙ after_behind n to old rest le stands.4,
     )
 
 -- a rest that stayed leaves the bytes as they were

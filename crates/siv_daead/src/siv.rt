@@ -69,7 +69,7 @@ pub fn siv_seal(key: &SivKey, at: usize, mut bytes: Vec<u8>, ad: &[u8]) -> Vec<u
 }
 
 /// Opens in place what `siv_seal` made under the same key and associated datum (RFC 5297, 2.7), and
-/// answers where the plaintext stands in `bytes` then.
+/// answers where the plaintext stands in `bytes` then; what stands round it is as before.
 ///
 /// `bytes` have at most 2^30 + 96, and `ad` at most 2^30. The answer is `None` exactly where there are
 /// fewer than 16 bytes, or where the SIV that the plaintext has isn't the one in front. All bytes of

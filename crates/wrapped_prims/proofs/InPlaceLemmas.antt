@@ -5,7 +5,7 @@ use Rattle.std.specs.Prelude.{slice_range}
 use Rattle.std.specs.declared.ops.Range.{Range}
 use borrow.Rule.Slice.PartMut.{mid_of, put_mid}
 use Rattle.key_msgs.specs.declared.primitive.Primitive.{Primitive}
-use Rattle.tink_spec.proofs.InPlaceLemmas.{range_behind}
+use Rattle.tink_spec.proofs.InPlaceLemmas.{after_behind, before_behind, range_behind}
 use Rattle.tink_spec.specs.InPlace.{OpensTo}
 use Rattle.wrapped_prims.specs.Held.{kept_at, kept_under, open_with, places_at}
 use Rattle.wrapped_prims.specs.declared.held.Held.{Held}
@@ -26,6 +26,8 @@ opened_behind p kept all bytes part ad size range same is opens =
     let five = length-take 5 bytes in
     let left : length (drop size bytes) ≤ rest = omega (arith, length-drop size bytes) in
     let behind : mid_of size rest bytes ≡ drop 5 bytes = take_all rest (drop size bytes) left ∙ ap (λ n. drop n bytes) (is ∙ five) ∙ drop_min 5 bytes in
+    let lent : mid_of size rest bytes ≡ drop size bytes = take_all rest (drop size bytes) left in
+    let fits : size ≤ length bytes = omega (arith, is, five) in
     let new : put_mid size rest bytes part ≡ take size bytes ++ part =
     ap (λ l. take size bytes ++ (part ++ l)) (drop_all rest (drop size bytes) left) ∙ ap (λ l. take size bytes ++ l) (append-nil part) in
     let front : length (take size bytes) ≡ size = length-take-le size bytes (omega (arith, is, five)) in
@@ -34,5 +36,10 @@ opened_behind p kept all bytes part ad size range same is opens =
     subst (λ (n : ℕ). slice_range (take size bytes ++ part) (n + range.start) (n + range.end) ≡ slice_range part range.start range.end) front
     (range_behind (take size bytes) part range.start range.end) in
     let plain : open_with p (mid_of size rest bytes) ad kept ≡ open_with p (drop 5 bytes) ad all = (λ j. open_with p (behind j) ad (same j)) in
-    subst (λ (l : List ℕ). OpensTo (open_with p (drop 5 bytes) ad all) bytes l (Some (record { start = size + range.start; end = size + range.end }))) (sym new)
-    (omega (arith, opens.0), omega (arith, opens.1, front, whole), sym plain ∙ opens.2 ∙ ap Some (sym moved))
+    subst (λ (l : List ℕ). OpensTo (open_with p (drop 5 bytes) ad all) bytes l (Some (record { start = size + range.start; end = size + range.end }))) (sym new) (
+      omega (arith, opens.0),
+      omega (arith, opens.1, front, whole),
+      sym plain ∙ opens.2 ∙ ap Some (sym moved),
+      before_behind size range.start bytes part fits (opens.3 ∙ ap (take range.start) lent),
+      after_behind size range.end bytes part fits (opens.4 ∙ ap (drop range.end) lent),
+    )

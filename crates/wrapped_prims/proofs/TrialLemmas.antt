@@ -24,7 +24,7 @@ use Rattle.wrapped_prims.proofs.OpenLemmas.{HaveKept, all_kept, any_opens, have-
 -- what the keys of the prefix open is the answer
 pub opened_first : (p : Primitive) (held : Held) (bytes new ad : List ℕ) (range : Range ℕ) → OpensTo (open_with p (drop 5 bytes) ad (kept_under (take 5 bytes) held)) bytes new (Some range)
     → OpensTo (open_kept p held bytes ad) bytes new (Some range)
-opened_first p held bytes new ad range opens = (opens.0, opens.1, ap (λ o. option_or o (open_with p bytes ad (kept_raw held))) opens.2)
+opened_first p held bytes new ad range opens = (opens.0, opens.1, ap (λ o. option_or o (open_with p bytes ad (kept_raw held))) opens.2, opens.3, opens.4)
 
 -- and where they open nothing, what those of none open
 pub opened_later : (p : Primitive) (held : Held) (slots : List (Option Kept)) (raw bytes mid new ad : List ℕ) (found : Option (Range ℕ)) → slots ≡ held.slots.items → raw ≡ held.raw.items

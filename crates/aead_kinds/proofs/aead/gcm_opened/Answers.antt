@@ -2,7 +2,7 @@
 use Rattle.std.proofs.Common.{◌≡◌, ◌-◌, ℕ, List, Some, length, take, drop, refl, sym, ap, ◌∙◌, arith, subst}
 use Rattle.std.proofs.lemmas.Bool.{false≢true}
 use Rattle.std.proofs.lemmas.List.{length-drop, length-take-le}
-use Rattle.std.proofs.lemmas.Slice.{between-put_mid}
+use Rattle.std.proofs.lemmas.Slice.{between-put_mid, drop-put_mid, take-put_mid_below}
 use borrow.Rule.Slice.PartMut.{put_mid, put_same, same_len_mid}
 use Rattle.tink_spec.specs.InPlace.{OpensTo}
 use Rattle.aead_kinds.specs.Gcm.{gcm_open}
@@ -65,6 +65,8 @@ returns-then-open_in_place c =
       omega (arith, same_len_mid 12 (end - 12) bytes new same_size),
       parts-open key bytes ad iv rest text tag parts (c.if-open_in_place.ensures.authentic.0 refl)
           ∙ ap (λ p. Some p) (sym (there ∙ opened)),
+      take-put_mid_below 12 (end - 12) bytes new 12 (omega arith) (omega arith),
+      drop-put_mid 12 (end - 12) bytes new end (omega arith) (omega arith) size,
     )
 
 pub returns-else-open_in_place : goal.returns-else-open_in_place

@@ -1,7 +1,7 @@
 -- The ciphertext between IV and tag is decrypted where it stands, if the tag is that of the plaintext.
 use Rattle.std.proofs.Common.{◌≡◌, ◌-◌, ◌≤◌, ◌∙◌, None, Some, List, Option, ℕ, ap, arith, length, refl, slice_range, sym, true≢false}
 use Rattle.std.proofs.lemmas.Bool.{OnFalse_at, OnTrue_at}
-use Rattle.std.proofs.lemmas.Slice.{between-put_mid}
+use Rattle.std.proofs.lemmas.Slice.{between-put_mid, drop-put_mid, take-put_mid_below}
 use Rattle.std.specs.declared.ops.Range.{Range}
 use borrow.Rule.Slice.PartMut.{mid_len, mid_of, put_mid, put_same, same_len_mid}
 use Rattle.tink_spec.specs.InPlace.{OpensTo}
@@ -65,6 +65,8 @@ returns-then-open_in_place c =
       parts-open key bytes ad iv text tag cut
           (c.open_in_place.ensures.authentic.0 c.if-open_in_place.true)
           ∙ ap (λ (l : List ℕ). Some l) (sym (part ∙ plain)),
+      take-put_mid_below 12 (end - 12) bytes body 12 (omega arith) (omega arith),
+      drop-put_mid 12 (end - 12) bytes body end (omega arith) (omega arith) size,
     )
 
 pub returns-else-open_in_place : goal.returns-else-open_in_place

@@ -1,7 +1,7 @@
 -- The ciphertext behind the SIV is decrypted where it stands, if the SIV is that of the plaintext.
 use Rattle.std.proofs.Common.{◌≡◌, ◌∙◌, ◌++◌, List, Some, ℕ, ap, arith, length, length-append, refl, slice_range, sym, true≢false}
 use Rattle.std.proofs.lemmas.Bool.{OnFalse_at, OnTrue_at}
-use Rattle.std.proofs.lemmas.List.{drop_at}
+use Rattle.std.proofs.lemmas.List.{drop_all, drop_at, take_at}
 use Rattle.std.proofs.lemmas.Slice.{between_to_end}
 use Rattle.siv_daead.specs.Siv.{mac_key, plain_of, s2v, siv_of, siv_text}
 use Rattle.siv_daead.proofs.SivLemmas.{open-other, open-short, opens}
@@ -42,6 +42,10 @@ returns-then-open_in_place c =
       omega (arith, length-append front body, kept, cut.front_len, cut.back_len),
       opens key bytes ad (omega arith) same
           ∙ ap (λ (l : List ℕ). Some l) (sym (part ∙ plain)),
+      take_at front body 16 cut.front_len ∙ cut.front,
+      drop_all (length bytes) (front ++ body)
+          (omega (arith, length-append front body, kept, cut.front_len, cut.back_len))
+          ∙ sym (drop_all (length bytes) bytes (omega arith)),
     )
 
 pub returns-else-open_in_place : goal.returns-else-open_in_place

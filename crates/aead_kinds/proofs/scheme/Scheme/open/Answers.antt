@@ -1,7 +1,7 @@
 -- The text between IV and tag is decrypted where it stands.
-use Rattle.std.proofs.Common.{◌≡◌, ◌-◌, ◌++◌, ℕ, List, Some, length, take, refl, sym, ap, ◌∙◌, arith}
+use Rattle.std.proofs.Common.{◌≡◌, ◌+◌, ◌-◌, ◌++◌, ℕ, List, Some, length, take, drop, refl, sym, ap, ◌∙◌, arith}
 use Rattle.std.proofs.lemmas.Bool.{false≢true}
-use Rattle.std.proofs.lemmas.List.{drop_at, length-append, take_at}
+use Rattle.std.proofs.lemmas.List.{drop_at, drop-drop, length-append, take_at}
 use Rattle.std.specs.Prelude.{slice_range}
 use Rattle.aead_kinds.specs.EncryptThenTag.{opened_by}
 use Rattle.aead_kinds.specs.SchemeState.{crypt_under, tag_size_of, tag_under}
@@ -21,6 +21,19 @@ cut_is c = record {
   back = c.split_at_mut-body.ensures.back;
   whole = omega (arith, c.if-len-iv_size.false);
 }
+
+-- the tag stands where it stood
+kept_behind : (v n end : ℕ) (bytes iv rest new made : List ℕ) → end ≡ v + n → length iv ≡ v → rest ≡ drop v bytes
+    → length new ≡ n → made ≡ drop n rest → drop end (iv ++ (new ++ made)) ≡ drop end bytes
+kept_behind v n end bytes iv rest new made is front behind size back =
+    ap (λ (k : ℕ). drop k (iv ++ (new ++ made))) is
+    ∙ sym (drop-drop n v (iv ++ (new ++ made)))
+    ∙ ap (λ (l : List ℕ). drop n l) (drop_at iv (new ++ made) v front)
+    ∙ drop_at new made n size
+    ∙ back
+    ∙ ap (λ (l : List ℕ). drop n l) behind
+    ∙ drop-drop n v bytes
+    ∙ ap (λ (k : ℕ). drop k bytes) (sym is)
 
 pub returns-then-len-iv_size : goal.returns-then-len-iv_size
 returns-then-len-iv_size c = λ hash mac under.
@@ -85,4 +98,7 @@ returns c = λ hash mac under.
           ∙ cut-opens (crypt_under scheme) (tag_under scheme hash mac) v n t bytes ad iv rest text made cut
           ((c.if-not-is_tag.ensures hash mac under).0 refl)
           ∙ ap (λ p. Some p) (sym (there ∙ plain)),
+      take_at iv (new ++ made) v c.split_at_mut-iv.ensures.front_len ∙ c.split_at_mut-iv.ensures.front,
+      kept_behind v n (length bytes - t) bytes iv rest new made (omega (arith, whole)) c.split_at_mut-iv.ensures.front_len
+          c.split_at_mut-iv.ensures.back size c.split_at_mut-body.ensures.back,
     )
