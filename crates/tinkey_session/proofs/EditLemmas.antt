@@ -9,13 +9,13 @@ use Rattle.keyset_model.specs.Keyset.{Keys}
 use Rattle.keyset_model.specs.declared.record.Record.{Record}
 use Rattle.tink_spec.specs.Outside.{EntropyState}
 use Rattle.tinkey_cmds.specs.Applying.{Applied}
-use Rattle.tinkey_cmds.specs.Edits.{Edit, step}
+use Rattle.tinkey_cmds.specs.Edits.{Edit, Add, Rotate, Promote, Enable, Disable, Destroy, Delete, step}
 use Rattle.tinkey_cmds.specs.declared.command.Command.{Command}
 use Rattle.tinkey_cmds.specs.declared.command.CmdError.{CmdError}
 use Rattle.tinkey_cmds.specs.declared.command.CmdError.TheVariants as errors
 use Rattle.tinkey_session.proofs.Options.{clash}
 use Rattle.tinkey_session.specs.Answered.{Serves}
-use Rattle.tinkey_session.specs.Keeping.{Asks, needs, unedited}
+use Rattle.tinkey_session.specs.Keeping.{Asks, IsUnedited, needs, unedited}
 use Rattle.tinkey_session.specs.Lines.{Line}
 use Rattle.tinkey_session.specs.Reading.{seen_line}
 use Rattle.tinkey_session.specs.Serving.{answered, edit_line, edited_reply, last_id, serve, stepped}
@@ -27,6 +27,24 @@ use Rattle.tinkey_session.specs.declared.reply.Refusal.TheVariants as refusals
 use Rattle.tinkey_session.specs.declared.reply.Reply.{Reply}
 
 -- ---- accepted and refused edits
+
+last_accepted : (records : List Record) → IsUnedited (Ok (last_id records)) → ⊥
+last_accepted [] none = none
+last_accepted (r ∷ []) none = none
+last_accepted (r ∷ s ∷ later) none = last_accepted (s ∷ later) none
+
+-- the reply to an accepted edit is no refusal
+pub accepted : (reply : Reply) (edit : Edit) (keys : Keys) → reply ≡ edited_reply edit keys → IsUnedited (Ok reply) → ⊥
+accepted reply edit keys is none = by edit (subst (λ (r : Reply). IsUnedited (Ok r)) is none)
+  where
+    by : (e : Edit) → IsUnedited (Ok (edited_reply e keys)) → ⊥
+    by (Add row) none = last_accepted keys.records none
+    by (Rotate row) none = last_accepted keys.records none
+    by (Promote id) none = none
+    by (Enable id) none = none
+    by (Disable id) none = none
+    by (Destroy id) none = none
+    by (Delete id) none = none
 
 pub applied_serves : (keys edited : Keys) (edit : Edit) (reply : Reply) (old new : EntropyState) → Applied (Ok edited) (step keys edit) old new → reply ≡ edited_reply edit edited → Serves (λ random. edit_line keys random edit) (Ok reply) edited old new
 applied_serves keys edited edit reply old new (stood, (drawn, drew, is)) same = record {

@@ -74,6 +74,14 @@ Asks line (Ok command) = (table : Table) (keys : Keys) (random : List ℕ)
 Asks line (Err why) = (table : Table) (keys : Keys) (random : List ℕ)
     → serve table keys line random ≡ Some (answered keys random (Refuses why))
 
+-- no edit was accepted: the reply is a refusal, or there is none
+abbrev pub IsUnedited : Result Reply LineFault → Type 0
+IsUnedited (Ok replies.Done) = ⊥
+IsUnedited (Ok (replies.Gives bytes)) = ⊥
+IsUnedited (Ok (replies.NewId id)) = ⊥
+IsUnedited (Ok (replies.Refuses why)) = Unit {0}
+IsUnedited (Err fault) = Unit {0}
+
 -- what comes of an edit that gives no keyset
 abbrev pub unedited : CmdError → Result Reply LineFault
 unedited (errors.Refused fault) = Ok (replies.Refuses (refusals.EditRefused fault))

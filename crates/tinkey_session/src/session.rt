@@ -8,7 +8,7 @@ ghost use Rattle.key_msgs.specs.declared.primitive.Primitive.TheVariants.{Stream
 ghost use Rattle.keyset_model.specs.Keyset.{IsShort};
 ghost use Rattle.tinkey_cmds.specs.Edits.{seen_edit};
 ghost use Rattle.tinkey_session.specs.Answered.{Serves};
-ghost use Rattle.tinkey_session.specs.Keeping.{Asks, IsKept, needs, short-prop, unedited, unserved};
+ghost use Rattle.tinkey_session.specs.Keeping.{Asks, IsKept, IsUnedited, needs, short-prop, unedited, unserved};
 ghost use Rattle.tinkey_session.specs.Reading.{IsWithin, seen_line};
 ghost use Rattle.tinkey_session.specs.Serving.{edit_line, edited_reply, serve as served, template_of};
 ghost use Rattle.tinkey_session.specs.declared.line.Line.TheVariants as lines;
@@ -68,7 +68,8 @@ impl<'m> Session<'m> {
     ///
     /// A line that needs keys makes a handle of them where none for its primitive is kept; while the
     /// keyset stays, each later line of that primitive uses it. An accepted edit puts the new keyset
-    /// in place, and lets the handle go; any other line leaves the keyset, a refused one too.
+    /// in place, and lets the handle go; any other line leaves the keyset, a refused one too. An edit
+    /// that isn't accepted, as one whose draw failed, leaves the handle too.
     /// `EntropyFault` comes only where the entropy failed, and the line asks for more than was drawn.
     pub fn serve<E: Entropy>(
         &mut self,
@@ -95,6 +96,8 @@ impl<'m> Session<'m> {
             (⟦<Managers as KeyTable>⟧.table self.new.managers.now)
             (⟦<Managers as KeyTable>⟧.table h.managers.now) h.primitive self.new.keyset h.held) }
         ensures unchanged { OnErr result (self.new.keyset ≡ self.old.keyset) }
+        ensures unedited { needs (seen_line line.now) ≡ None → IsUnedited result
+            → self.new.kept ≡ self.old.kept }
         ensures table { ⟦<Managers as KeyTable>⟧.table self.new.managers.now
             ≡ ⟦<Managers as KeyTable>⟧.table self.old.managers.now }
     {
@@ -182,7 +185,7 @@ impl<'m> Session<'m> {
         }
     }
 
-    /// The keyset after an edit, with no handle kept; or why the edit is refused.
+    /// The keyset after an edit, with no handle kept; or why the edit is refused, with the handle as it was.
     fn edit<E: Entropy>(
         &mut self,
         alloc: Global,
@@ -199,6 +202,7 @@ impl<'m> Session<'m> {
             (⟦<Managers as KeyTable>⟧.table self.new.managers.now)
             (⟦<Managers as KeyTable>⟧.table h.managers.now) h.primitive self.new.keyset h.held) }
         ensures unchanged { OnErr result (self.new.keyset ≡ self.old.keyset) }
+        ensures unedited { IsUnedited result → self.new.kept ≡ self.old.kept }
         ensures table { ⟦<Managers as KeyTable>⟧.table self.new.managers.now
             ≡ ⟦<Managers as KeyTable>⟧.table self.old.managers.now }
     {
