@@ -65,6 +65,7 @@ pub form_short : (form : Form) → length (form_text form) ≤ 38
 unfolding form_text
 form_short forms.Text = omega arith
 form_short forms.FileName = omega arith
+form_short forms.NewFile = omega arith
 form_short forms.Number = omega arith
 form_short forms.LineCount = omega arith
 form_short forms.RangeLength = omega arith

@@ -5,12 +5,13 @@ use Rattle.tinkey_words.specs.declared.words.misuse.Misfit.TheVariants as misfit
 use Rattle.tinkey_words.specs.declared.words.rows.CommandName.{CommandName}
 use Rattle.tinkey_words.specs.declared.words.rows.Form.{Form}
 use Rattle.tinkey_words.specs.declared.words.rows.Form.TheVariants as forms
-use Rattle.tinkey_words.specs.Rows.{form_for, option_row, row_of}
+use Rattle.tinkey_words.specs.Rows.{aside, form_for, option_row, row_of}
 
 -- what a value of this form is
 unfoldable pub form_text : Form → List ℕ
 form_text forms.Text = codes "a name"
 form_text forms.FileName = codes "the name of a file"
+form_text forms.NewFile = codes "the name of a file"
 form_text forms.Number = codes "a number from 0 to 4294967295"
 form_text forms.LineCount = codes "a number from 1 to 100000"
 form_text forms.RangeLength = codes "a number from 0 to 16777216"
@@ -37,6 +38,8 @@ misfit_text (misfits.Beside command name other) =
     told_of (option_row name).word (codes " stands beside ") (option_row other).word command
 misfit_text (misfits.BadValue command name) =
     told_of (option_row name).word (codes " takes ") (form_text (form_for name command)) command
+misfit_text (misfits.Aside command name) =
+    told_of (option_row name).word (codes " takes no name that begins as tinkey's own do, ") aside command
 misfit_text (misfits.NoValue command name) =
     told_of (option_row name).word (codes " lacks its value, ") (form_text (form_for name command)) command
 misfit_text (misfits.Lacks command name) =

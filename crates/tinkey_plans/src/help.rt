@@ -22,7 +22,7 @@ pub fn version_text() -> &'static str
 {
     "\
 tinkey 0.9.0
-proved with rattle-kit-13b logic dac8208d650f15bf
+proved with logic dac8208d650f15bf
 "
 }
 
@@ -282,6 +282,10 @@ line is \"tinkey: \" and one of these; the code stands in front.
      stands.
 
 8  a word of the command isn't text, and no line
+
+127  the processor lacks what the program was built for, as x86-64-v3: make run
+     CPU=x86-64-v2 makes one for nearly every processor. The line is the toolchain's; the
+     build for plain x86-64 that it may advise is refused here.
 "
 }
 
@@ -300,7 +304,8 @@ Required:
                             as the name of a template
 
 Optional:
-  --out FILE                the file that is made: a file's name, of one byte or more
+  --out FILE                the file that is made: a file's name, of one byte or more, whose
+                            last part doesn't begin with .tinkey-new-
   --out-format json|binary  the form of the keyset that is written: json or binary, in ASCII
                             letters of either case; where it isn't named, json
 
@@ -334,7 +339,8 @@ Optional:
                             or more
   --in-format json|binary   the form of that keyset: json or binary, in ASCII letters of
                             either case; where it isn't named, json
-  --out FILE                the file that is made: a file's name, of one byte or more
+  --out FILE                the file that is made: a file's name, of one byte or more, whose
+                            last part doesn't begin with .tinkey-new-
   --out-format json|binary  the form of the keyset that is written: json or binary, in ASCII
                             letters of either case; where it isn't named, json
 
@@ -370,7 +376,8 @@ Optional:
                             or more
   --in-format json|binary   the form of that keyset: json or binary, in ASCII letters of
                             either case; where it isn't named, json
-  --out FILE                the file that is made: a file's name, of one byte or more
+  --out FILE                the file that is made: a file's name, of one byte or more, whose
+                            last part doesn't begin with .tinkey-new-
   --out-format json|binary  the form of the keyset that is written: json or binary, in ASCII
                             letters of either case; where it isn't named, json
 
@@ -406,7 +413,8 @@ Optional:
                             or more
   --in-format json|binary   the form of that keyset: json or binary, in ASCII letters of
                             either case; where it isn't named, json
-  --out FILE                the file that is made: a file's name, of one byte or more
+  --out FILE                the file that is made: a file's name, of one byte or more, whose
+                            last part doesn't begin with .tinkey-new-
   --out-format json|binary  the form of the keyset that is written: json or binary, in ASCII
                             letters of either case; where it isn't named, json
 
@@ -442,7 +450,8 @@ Optional:
                             or more
   --in-format json|binary   the form of that keyset: json or binary, in ASCII letters of
                             either case; where it isn't named, json
-  --out FILE                the file that is made: a file's name, of one byte or more
+  --out FILE                the file that is made: a file's name, of one byte or more, whose
+                            last part doesn't begin with .tinkey-new-
   --out-format json|binary  the form of the keyset that is written: json or binary, in ASCII
                             letters of either case; where it isn't named, json
 
@@ -478,7 +487,8 @@ Optional:
                             or more
   --in-format json|binary   the form of that keyset: json or binary, in ASCII letters of
                             either case; where it isn't named, json
-  --out FILE                the file that is made: a file's name, of one byte or more
+  --out FILE                the file that is made: a file's name, of one byte or more, whose
+                            last part doesn't begin with .tinkey-new-
   --out-format json|binary  the form of the keyset that is written: json or binary, in ASCII
                             letters of either case; where it isn't named, json
 
@@ -514,7 +524,8 @@ Optional:
                             or more
   --in-format json|binary   the form of that keyset: json or binary, in ASCII letters of
                             either case; where it isn't named, json
-  --out FILE                the file that is made: a file's name, of one byte or more
+  --out FILE                the file that is made: a file's name, of one byte or more, whose
+                            last part doesn't begin with .tinkey-new-
   --out-format json|binary  the form of the keyset that is written: json or binary, in ASCII
                             letters of either case; where it isn't named, json
 
@@ -550,7 +561,8 @@ Optional:
                             or more
   --in-format json|binary   the form of that keyset: json or binary, in ASCII letters of
                             either case; where it isn't named, json
-  --out FILE                the file that is made: a file's name, of one byte or more
+  --out FILE                the file that is made: a file's name, of one byte or more, whose
+                            last part doesn't begin with .tinkey-new-
   --out-format json|binary  the form of the keyset that is written: json or binary, in ASCII
                             letters of either case; where it isn't named, json
 
@@ -609,7 +621,8 @@ Optional:
                             or more
   --in-format json|binary   the form of that keyset: json or binary, in ASCII letters of
                             either case; where it isn't named, json
-  --out FILE                the file that is made: a file's name, of one byte or more
+  --out FILE                the file that is made: a file's name, of one byte or more, whose
+                            last part doesn't begin with .tinkey-new-
   --out-format json|binary  the form of the keyset that is written: json or binary, in ASCII
                             letters of either case; where it isn't named, json
 
@@ -665,7 +678,8 @@ Optional:
   --ad-hex HEX                 the associated data in hexadecimal: an even number of
                                hexadecimal digits of either case, at most 2,097,152, or
                                none; not beside --ad
-  --out FILE                   the file that is made: a file's name, of one byte or more
+  --out FILE                   the file that is made: a file's name, of one byte or more,
+                               whose last part doesn't begin with .tinkey-new-
 
 Reads  the keyset in the file of --keyset, and all of standard input
 Gives  the input sealed under the primary key, as a new file of --out, or where none is
@@ -702,7 +716,8 @@ Optional:
   --ad-hex HEX                 the associated data in hexadecimal: an even number of
                                hexadecimal digits of either case, at most 2,097,152, or
                                none; not beside --ad
-  --out FILE                   the file that is made: a file's name, of one byte or more
+  --out FILE                   the file that is made: a file's name, of one byte or more,
+                               whose last part doesn't begin with .tinkey-new-
 
 Reads  the keyset in the file of --keyset, and all of standard input
 Gives  what the input opens to, as a new file of --out, or where none is named, on standard
@@ -740,7 +755,8 @@ Optional:
   --ad-hex HEX                 the associated data in hexadecimal: an even number of
                                hexadecimal digits of either case, at most 2,097,152, or
                                none; not beside --ad
-  --out FILE                   the file that is made: a file's name, of one byte or more
+  --out FILE                   the file that is made: a file's name, of one byte or more,
+                               whose last part doesn't begin with .tinkey-new-
 
 Reads  the keyset in the file of --keyset, and all of standard input
 Gives  as seal and open, without an IV, as a new file of --out, or where none is named, on
@@ -777,7 +793,8 @@ Optional:
   --ad-hex HEX                 the associated data in hexadecimal: an even number of
                                hexadecimal digits of either case, at most 2,097,152, or
                                none; not beside --ad
-  --out FILE                   the file that is made: a file's name, of one byte or more
+  --out FILE                   the file that is made: a file's name, of one byte or more,
+                               whose last part doesn't begin with .tinkey-new-
 
 Reads  the keyset in the file of --keyset, and all of standard input
 Gives  as seal and open, without an IV, as a new file of --out, or where none is named, on
@@ -878,7 +895,8 @@ Required:
 Optional:
   --keyset-format json|binary  the form of that keyset: json or binary, in ASCII letters of
                                either case; where it isn't named, json
-  --out FILE                   the file that is made: a file's name, of one byte or more
+  --out FILE                   the file that is made: a file's name, of one byte or more,
+                               whose last part doesn't begin with .tinkey-new-
   --hex                        whether what is put out is in hexadecimal
 
 Reads  the keyset in the file of --keyset, and all of standard input
@@ -945,7 +963,8 @@ Required:
 Optional:
   --keyset-format json|binary  the form of that keyset: json or binary, in ASCII letters of
                                either case; where it isn't named, json
-  --out FILE                   the file that is made: a file's name, of one byte or more
+  --out FILE                   the file that is made: a file's name, of one byte or more,
+                               whose last part doesn't begin with .tinkey-new-
   --hex                        whether what is put out is in hexadecimal
 
 Reads  the keyset in the file of --keyset, and all of standard input
@@ -978,7 +997,8 @@ Required:
 Optional:
   --keyset-format json|binary  the form of that keyset: json or binary, in ASCII letters of
                                either case; where it isn't named, json
-  --out FILE                   the file that is made: a file's name, of one byte or more
+  --out FILE                   the file that is made: a file's name, of one byte or more,
+                               whose last part doesn't begin with .tinkey-new-
   --out-format json|binary     the form of the keyset that is written: json or binary, in
                                ASCII letters of either case; where it isn't named, json
 
@@ -1046,7 +1066,8 @@ Optional:
                                byte or more
   --in-format json|binary      the form of that keyset: json or binary, in ASCII letters of
                                either case; where it isn't named, json
-  --out FILE                   the file that is made: a file's name, of one byte or more
+  --out FILE                   the file that is made: a file's name, of one byte or more,
+                               whose last part doesn't begin with .tinkey-new-
   --out-format json|binary     the form of the keyset that is written: json or binary, in
                                ASCII letters of either case; where it isn't named, json
 
@@ -1085,7 +1106,8 @@ Optional:
                                byte or more
   --in-format json|binary      the form of that keyset: json or binary, in ASCII letters of
                                either case; where it isn't named, json
-  --out FILE                   the file that is made: a file's name, of one byte or more
+  --out FILE                   the file that is made: a file's name, of one byte or more,
+                               whose last part doesn't begin with .tinkey-new-
   --out-format json|binary     the form of the keyset that is written: json or binary, in
                                ASCII letters of either case; where it isn't named, json
 
@@ -1127,7 +1149,8 @@ Optional:
   --ad-hex HEX                 the associated data in hexadecimal: an even number of
                                hexadecimal digits of either case, at most 2,097,152, or
                                none; not beside --ad
-  --out FILE                   the file that is made: a file's name, of one byte or more
+  --out FILE                   the file that is made: a file's name, of one byte or more,
+                               whose last part doesn't begin with .tinkey-new-
 
 Reads  the keyset in the file of --keyset, and all of standard input
 Gives  an envelope of the input, under a fresh data key of the template of --dek-template,
@@ -1166,7 +1189,8 @@ Optional:
   --ad-hex HEX                 the associated data in hexadecimal: an even number of
                                hexadecimal digits of either case, at most 2,097,152, or
                                none; not beside --ad
-  --out FILE                   the file that is made: a file's name, of one byte or more
+  --out FILE                   the file that is made: a file's name, of one byte or more,
+                               whose last part doesn't begin with .tinkey-new-
 
 Reads  the keyset in the file of --keyset, and all of standard input
 Gives  what the envelope opens to, as a new file of --out, or where none is named, on
@@ -1211,7 +1235,8 @@ Optional:
   --ad-hex HEX                 the associated data in hexadecimal: an even number of
                                hexadecimal digits of either case, at most 2,097,152, or
                                none; not beside --ad
-  --out FILE                   the file that is made: a file's name, of one byte or more
+  --out FILE                   the file that is made: a file's name, of one byte or more,
+                               whose last part doesn't begin with .tinkey-new-
 
 Reads  the keyset, and the stream in the file of --file
 Gives  so many bytes of the stream's plaintext, as --length says, from the offset of --from

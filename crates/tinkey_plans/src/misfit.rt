@@ -4,6 +4,7 @@ ghost use Rattle.std.specs.Prelude.{◌≡◌, ◌+◌, ◌≤◌, ◌++◌, len
 ghost use Rattle.tinkey_words.specs.Rows.{form_for, option_row, row_of};
 ghost use Rattle.tinkey_plans.specs.Misfits.{form_text, misfit_line, misfit_text, told_of};
 
+use tink_base::ASIDE;
 use tinkey_session::ShortText;
 use tinkey_words::{CommandName, Form, Misfit, OptionName};
 
@@ -46,6 +47,15 @@ fn push_misfit(line: &mut ShortText, why: Misfit)
             );
         }
         Misfit::BadValue(command, name) => push_form(line, name, " takes ", command),
+        Misfit::Aside(command, name) => {
+            push_told(
+                line,
+                option_word(name),
+                " takes no name that begins as tinkey's own do, ",
+                ASIDE,
+                command,
+            );
+        }
         Misfit::NoValue(command, name) => push_form(line, name, " lacks its value, ", command),
         Misfit::Lacks(command, name) => {
             push_told(
@@ -110,6 +120,7 @@ fn form_text(form: Form) -> &'static str
     match form {
         Form::Text => "a name",
         Form::FileName => "the name of a file",
+        Form::NewFile => "the name of a file",
         Form::Number => "a number from 0 to 4294967295",
         Form::LineCount => "a number from 1 to 100000",
         Form::RangeLength => "a number from 0 to 16777216",

@@ -14,14 +14,14 @@ shows | words | status | line | output
 the list of the commands | help | 0 Done | | `tinkey^makes^and^changes^keysets^of^Google^Tink,^and^uses^their^symmetric^keys.` ~2299 `tinkey^version^^^^^^^^the^version` 0a
 by a flag | --help | 0 Done | | `tinkey^makes^and^changes^keysets^of^Google^Tink,^and^uses^their^symmetric^keys.` ~2299 `tinkey^version^^^^^^^^the^version` 0a
 by the short one | -h | 0 Done | | `tinkey^makes^and^changes^keysets^of^Google^Tink,^and^uses^their^symmetric^keys.` ~2299 `tinkey^version^^^^^^^^the^version` 0a
-the lines of refusals | help exit | 0 Done | | `A^command^that^can` ~8068 `t^text,^and^no^line` 0a
-a command | help tag | 0 Done | | `tinkey^tag:^tags^standard^input^under^the^primary^key` ~1235 `tinkey^tag^--keyset^mac.json^--hex^<^letter.txt^>^letter.tag` 0a
-the same behind its word | tag --help | 0 Done | | `tinkey^tag:^tags^standard^input^under^the^primary^key` ~1235 `tinkey^tag^--keyset^mac.json^--hex^<^letter.txt^>^letter.tag` 0a
-by the short flag | tag -h | 0 Done | | `tinkey^tag:^tags^standard^input^under^the^primary^key` ~1235 `tinkey^tag^--keyset^mac.json^--hex^<^letter.txt^>^letter.tag` 0a
+the lines of refusals | help exit | 0 Done | | `A^command^that^can` ~8303 `is^refused^here.` 0a
+a command | help tag | 0 Done | | `tinkey^tag:^tags^standard^input^under^the^primary^key` ~1315 `tinkey^tag^--keyset^mac.json^--hex^<^letter.txt^>^letter.tag` 0a
+the same behind its word | tag --help | 0 Done | | `tinkey^tag:^tags^standard^input^under^the^primary^key` ~1315 `tinkey^tag^--keyset^mac.json^--hex^<^letter.txt^>^letter.tag` 0a
+by the short flag | tag -h | 0 Done | | `tinkey^tag:^tags^standard^input^under^the^primary^key` ~1315 `tinkey^tag^--keyset^mac.json^--hex^<^letter.txt^>^letter.tag` 0a
 a command without options | help list-key-templates | 0 Done | | `tinkey^list-key-templates:^lists^the^names^of^the^templates^of^new^keys` ~425 `tinkey^list-key-templates` 0a
 the same behind its word | list-key-templates -h | 0 Done | | `tinkey^list-key-templates:^lists^the^names^of^the^templates^of^new^keys` ~425 `tinkey^list-key-templates` 0a
-the version | version | 0 Done | | `tinkey^0.9.0` 0a `proved^with^rattle-kit-13b^logic^dac8208d650f15bf` 0a
-by a flag | --version | 0 Done | | `tinkey^0.9.0` 0a `proved^with^rattle-kit-13b^logic^dac8208d650f15bf` 0a
+the version | version | 0 Done | | `tinkey^0.9.0` 0a `proved^with^logic^dac8208d650f15bf` 0a
+by a flag | --version | 0 Done | | `tinkey^0.9.0` 0a `proved^with^logic^dac8208d650f15bf` 0a
 ";
 
 #[test]
@@ -71,13 +71,13 @@ const FAULTS: &str = "managers: none
 shows | words | piece | fails | status | line | output
 the first write | help | 64 | write 1 | 5 WriteFault | tinkey: write fault |
 the second one | --version | 16 | write 2 | 5 WriteFault | tinkey: write fault | `tinkey^0.9.0` 0a `pro`
-the last one | version | 16 | write 4 | 5 WriteFault | tinkey: write fault | `tinkey^0.9.0` 0a `proved^with^rattle-kit-13b^logic^da`
-none behind it | version | 16 | write 5 | 0 Done | | `tinkey^0.9.0` 0a `proved^with^rattle-kit-13b^logic^dac8208d650f15bf` 0a
+the last one | version | 16 | write 3 | 5 WriteFault | tinkey: write fault | `tinkey^0.9.0` 0a `proved^with^logic^d`
+none behind it | version | 16 | write 4 | 0 Done | | `tinkey^0.9.0` 0a `proved^with^logic^dac8208d650f15bf` 0a
 a command's, in one write | tag --help | 4096 | write 1 | 5 WriteFault | tinkey: write fault |
-nothing is read | help tag | 4096 | read 1 | 0 Done | | `tinkey^tag:^tags^standard^input^under^the^primary^key` ~1235 `tinkey^tag^--keyset^mac.json^--hex^<^letter.txt^>^letter.tag` 0a
-no file is looked up | tag -h | 4096 | store 1 | 0 Done | | `tinkey^tag:^tags^standard^input^under^the^primary^key` ~1235 `tinkey^tag^--keyset^mac.json^--hex^<^letter.txt^>^letter.tag` 0a
+nothing is read | help tag | 4096 | read 1 | 0 Done | | `tinkey^tag:^tags^standard^input^under^the^primary^key` ~1315 `tinkey^tag^--keyset^mac.json^--hex^<^letter.txt^>^letter.tag` 0a
+no file is looked up | tag -h | 4096 | store 1 | 0 Done | | `tinkey^tag:^tags^standard^input^under^the^primary^key` ~1315 `tinkey^tag^--keyset^mac.json^--hex^<^letter.txt^>^letter.tag` 0a
 no word, and the line fails | | 4096 | line 1 | 2 NoWords | .. |
-nothing is drawn | help exit | 4096 | fill 1 | 0 Done | | `A^command^that^can` ~8068 `t^text,^and^no^line` 0a
+nothing is drawn | help exit | 4096 | fill 1 | 0 Done | | `A^command^that^can` ~8303 `is^refused^here.` 0a
 ";
 
 #[test]

@@ -136,6 +136,53 @@ fn tells_the_first_fault(rt: HostRuntime) -> Result<(), Fail> {
     run_table(rt.alloc(), ORDER, 8)
 }
 
+// New files of the names that the program keeps for itself. The first call of the store or of the input would
+// fail: none is made.
+const ASIDE: &str = "managers: none
+
+shows | words | fails | status | line
+create-keyset makes no such file | create-keyset --key-template AES128_GCM --out .tinkey-new-0 | read 1 | 2 Usage(4) | tinkey: usage: word 4 / tinkey: --out takes no name that begins as tinkey's own do, .tinkey-new-: see tinkey help create-keyset
+add-key makes no such file | add-key --key-template AES128_GCM --out .tinkey-new-0 | store 1 | 2 Usage(4) | tinkey: usage: word 4 / tinkey: --out takes no name that begins as tinkey's own do, .tinkey-new-: see tinkey help add-key
+rotate-keyset makes no such file | rotate-keyset --key-template AES128_GCM --out .tinkey-new-0 | read 1 | 2 Usage(4) | tinkey: usage: word 4 / tinkey: --out takes no name that begins as tinkey's own do, .tinkey-new-: see tinkey help rotate-keyset
+promote-key makes no such file | promote-key --key-id 7 --out .tinkey-new-0 | store 1 | 2 Usage(4) | tinkey: usage: word 4 / tinkey: --out takes no name that begins as tinkey's own do, .tinkey-new-: see tinkey help promote-key
+enable-key makes no such file | enable-key --key-id 7 --out .tinkey-new-0 | read 1 | 2 Usage(4) | tinkey: usage: word 4 / tinkey: --out takes no name that begins as tinkey's own do, .tinkey-new-: see tinkey help enable-key
+disable-key makes no such file | disable-key --key-id 7 --out .tinkey-new-0 | store 1 | 2 Usage(4) | tinkey: usage: word 4 / tinkey: --out takes no name that begins as tinkey's own do, .tinkey-new-: see tinkey help disable-key
+destroy-key makes no such file | destroy-key --key-id 7 --out .tinkey-new-0 | read 1 | 2 Usage(4) | tinkey: usage: word 4 / tinkey: --out takes no name that begins as tinkey's own do, .tinkey-new-: see tinkey help destroy-key
+delete-key makes no such file | delete-key --key-id 7 --out .tinkey-new-0 | store 1 | 2 Usage(4) | tinkey: usage: word 4 / tinkey: --out takes no name that begins as tinkey's own do, .tinkey-new-: see tinkey help delete-key
+convert-keyset makes no such file | convert-keyset --out .tinkey-new-0 | read 1 | 2 Usage(2) | tinkey: usage: word 2 / tinkey: --out takes no name that begins as tinkey's own do, .tinkey-new-: see tinkey help convert-keyset
+seal makes no such file | seal --keyset k --out .tinkey-new-0 | store 1 | 2 Usage(4) | tinkey: usage: word 4 / tinkey: --out takes no name that begins as tinkey's own do, .tinkey-new-: see tinkey help seal
+open makes no such file | open --keyset k --out .tinkey-new-0 | read 1 | 2 Usage(4) | tinkey: usage: word 4 / tinkey: --out takes no name that begins as tinkey's own do, .tinkey-new-: see tinkey help open
+eseal makes no such file | eseal --keyset k --dek-template AES128_GCM --out .tinkey-new-0 | store 1 | 2 Usage(6) | tinkey: usage: word 6 / tinkey: --out takes no name that begins as tinkey's own do, .tinkey-new-: see tinkey help eseal
+eopen makes no such file | eopen --keyset k --dek-template AES128_GCM --out .tinkey-new-0 | read 1 | 2 Usage(6) | tinkey: usage: word 6 / tinkey: --out takes no name that begins as tinkey's own do, .tinkey-new-: see tinkey help eopen
+dseal makes no such file | dseal --keyset k --out .tinkey-new-0 | store 1 | 2 Usage(4) | tinkey: usage: word 4 / tinkey: --out takes no name that begins as tinkey's own do, .tinkey-new-: see tinkey help dseal
+dopen makes no such file | dopen --keyset k --out .tinkey-new-0 | read 1 | 2 Usage(4) | tinkey: usage: word 4 / tinkey: --out takes no name that begins as tinkey's own do, .tinkey-new-: see tinkey help dopen
+srange makes no such file | srange --keyset k --file s --from 0 --length 1 --out .tinkey-new-0 | store 1 | 2 Usage(10) | tinkey: usage: word 10 / tinkey: --out takes no name that begins as tinkey's own do, .tinkey-new-: see tinkey help srange
+tag makes no such file | tag --keyset k --out .tinkey-new-0 | read 1 | 2 Usage(4) | tinkey: usage: word 4 / tinkey: --out takes no name that begins as tinkey's own do, .tinkey-new-: see tinkey help tag
+derive makes no such file | derive --keyset k --length 1 --out .tinkey-new-0 | store 1 | 2 Usage(6) | tinkey: usage: word 6 / tinkey: --out takes no name that begins as tinkey's own do, .tinkey-new-: see tinkey help derive
+session makes no such file | session --keyset k --out .tinkey-new-0 | read 1 | 2 Usage(4) | tinkey: usage: word 4 / tinkey: --out takes no name that begins as tinkey's own do, .tinkey-new-: see tinkey help session
+wrap-keyset makes no such file | wrap-keyset --master k --out .tinkey-new-0 | store 1 | 2 Usage(4) | tinkey: usage: word 4 / tinkey: --out takes no name that begins as tinkey's own do, .tinkey-new-: see tinkey help wrap-keyset
+unwrap-keyset makes no such file | unwrap-keyset --master k --out .tinkey-new-0 | read 1 | 2 Usage(4) | tinkey: usage: word 4 / tinkey: --out takes no name that begins as tinkey's own do, .tinkey-new-: see tinkey help unwrap-keyset
+a session looks at no file before | session --keyset k --out .tinkey-new-0 | store 1 | 2 Usage(4) | tinkey: usage: word 4 / tinkey: --out takes no name that begins as tinkey's own do, .tinkey-new-: see tinkey help session
+in the option's own word | seal --keyset k --out=.tinkey-new-0 | store 1 | 2 Usage(3) | tinkey: usage: word 3 / tinkey: --out takes no name that begins as tinkey's own do, .tinkey-new-: see tinkey help seal
+in another folder | seal --keyset k --out folder/.tinkey-new-0 | store 1 | 2 Usage(4) | tinkey: usage: word 4 / tinkey: --out takes no name that begins as tinkey's own do, .tinkey-new-: see tinkey help seal
+from the root on | seal --keyset k --out /folder/.tinkey-new-0 | store 1 | 2 Usage(4) | tinkey: usage: word 4 / tinkey: --out takes no name that begins as tinkey's own do, .tinkey-new-: see tinkey help seal
+with a number of more digits | seal --keyset k --out .tinkey-new-1000 | store 1 | 2 Usage(4) | tinkey: usage: word 4 / tinkey: --out takes no name that begins as tinkey's own do, .tinkey-new-: see tinkey help seal
+with no number | seal --keyset k --out .tinkey-new- | store 1 | 2 Usage(4) | tinkey: usage: word 4 / tinkey: --out takes no name that begins as tinkey's own do, .tinkey-new-: see tinkey help seal
+with what is no number | seal --keyset k --out .tinkey-new-keys.json | store 1 | 2 Usage(4) | tinkey: usage: word 4 / tinkey: --out takes no name that begins as tinkey's own do, .tinkey-new-: see tinkey help seal
+with a slash at its end | seal --keyset k --out .tinkey-new-0/ | store 1 | 2 Usage(4) | tinkey: usage: word 4 / tinkey: --out takes no name that begins as tinkey's own do, .tinkey-new-: see tinkey help seal
+a folder of such a name | seal --keyset k --out .tinkey-new-0/n --none | store 1 | 2 Usage(5) | tinkey: usage: word 5 / tinkey: no option of seal: see tinkey help seal
+the front of one | seal --keyset k --out .tinkey-new --none | store 1 | 2 Usage(5) | tinkey: usage: word 5 / tinkey: no option of seal: see tinkey help seal
+a letter before it | seal --keyset k --out n.tinkey-new-0 --none | store 1 | 2 Usage(5) | tinkey: usage: word 5 / tinkey: no option of seal: see tinkey help seal
+capitals | seal --keyset k --out .TINKEY-NEW-0 --none | store 1 | 2 Usage(5) | tinkey: usage: word 5 / tinkey: no option of seal: see tinkey help seal
+a file of that name that is read | seal --keyset .tinkey-new-0 --none | store 1 | 2 Usage(3) | tinkey: usage: word 3 / tinkey: no option of seal: see tinkey help seal
+the empty name | seal --keyset k --out= | store 1 | 2 Usage(3) | tinkey: usage: word 3 / tinkey: --out takes the name of a file: see tinkey help seal
+";
+
+#[test]
+fn refuses_names_aside(rt: HostRuntime) -> Result<(), Fail> {
+    run_table(rt.alloc(), ASIDE, 35)
+}
+
 // Only a write of the lines fails, and the front of them is there.
 const FAULTS: &str = "managers: none
 

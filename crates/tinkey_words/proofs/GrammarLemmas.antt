@@ -10,7 +10,7 @@ use Rattle.tinkey_words.specs.declared.words.misuse.Misuse.{Misuse}
 use Rattle.tinkey_words.specs.declared.words.rows.CommandName.{CommandName}
 use Rattle.tinkey_words.specs.declared.words.rows.OptionName.{OptionName}
 use Rattle.tinkey_words.specs.Rows.{row_of, option_of, form_for, rival, takes, is_value}
-use Rattle.tinkey_words.specs.Words.{◌>>=◌, Asked, Options, misuse_at, is_barred, bar, unbarred, new_option, put, with_value, own_value, option_word, word_after, next_word, ended, options_of, no_options, given_in, lacking, lacking_none, asked_with, complete, with_options, is_help_flag, help, version, topic_of, first_of, by_itself, topic_words, help_words, command_words, asked_of, words_of}
+use Rattle.tinkey_words.specs.Words.{◌>>=◌, Asked, Options, misuse_at, is_barred, bar, unbarred, new_option, put, misvalued, with_value, own_value, option_word, word_after, next_word, ended, options_of, no_options, given_in, lacking, lacking_none, asked_with, complete, with_options, is_help_flag, help, version, topic_of, first_of, by_itself, topic_words, help_words, command_words, asked_of, words_of}
 use Rattle.tinkey_words.specs.Grammar.{PlacesAreDecided}
 
 -- what is at fault is at fault at this place
@@ -41,7 +41,7 @@ form_faults true misuse given = tt
 form_faults false misuse given = refl
 
 value_faults : (command : CommandName) (name : OptionName) (value : List ℕ) (place : ℕ) (given : Options) → FaultsAt (with_value command name value place given) place
-value_faults command name value place given = form_faults (is_value (form_for name command) value) (misuse_at place (misfits.BadValue command name)) (put name value given)
+value_faults command name value place given = form_faults (is_value (form_for name command) value) (misuse_at place (misvalued (form_for name command) command name value)) (put name value given)
 
 word_faults : (command : CommandName) (own : Option (List ℕ × List ℕ)) (word : List ℕ) (place : ℕ) (given : Options) → FaultsAt (option_word command own word place given) place
 word_faults command None word place given = next_faults (new_option command (option_of word) place given) _ place (option_faults command (option_of word) place given) (λ name. tt)

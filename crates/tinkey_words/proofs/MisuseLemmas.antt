@@ -1,6 +1,6 @@
 -- What is told of words that are refused is so.
 use Rattle.std.proofs.Common.{◌≡◌, ◌⊎◌, ◌∙◌, sym, refl, ap, subst, inl, inr, ℕ, ◌+◌, Bool, true, false, List, [], ◌∷◌, ◌++◌, length, arith, append_assoc, append-nil, length-append, Option, Some, None, Ok, Err, Result}
-use Rattle.std.specs.Prelude.{◌||◌, not, if◌then◌else◌, codes}
+use Rattle.std.specs.Prelude.{◌&&◌, ◌||◌, not, if◌then◌else◌, codes}
 use Rattle.std.specs.List.{AllByRecursion, flat_map}
 use Rattle.tinkey_words.specs.declared.words.help.First.{First}
 use Rattle.tinkey_words.specs.declared.words.help.First.TheVariants as firsts
@@ -10,13 +10,13 @@ use Rattle.tinkey_words.specs.declared.words.misuse.Misfit.TheVariants as misfit
 use Rattle.tinkey_words.specs.declared.words.misuse.Misuse.{Misuse}
 use Rattle.tinkey_words.specs.declared.words.rows.CommandName.{CommandName}
 use Rattle.tinkey_words.specs.declared.words.rows.OptionName.{OptionName}
-use Rattle.tinkey_words.specs.Rows.{row_of, option_row, option_of, form_for, rival, takes, is_value, is_flag}
-use Rattle.tinkey_words.specs.Words.{◌>>=◌, Asked, Options, misuse_at, own_value, is_given, is_excluded, is_barred, bar, new_option, put, with_value, alone, option_word, word_after, next_word, ended, options_of, no_options, given_in, lacking, lacking_none, complete, with_options, is_help_flag, help, version, topic_of, first_of, by_itself, topic_words, help_words, command_words, asked_of, words_of}
-use Rattle.tinkey_words.specs.Grammar.{IsValue, Spelling, spelled_as, spelled, IsGiven, IsHelpWord, IsVersionWord, IsNameOf, IsOptionOf, Helps, the_list, a_topic, its_help, the_version, IsWordOf, IsFault, no_option, twice, beside, own_value_bad, next_value_bad, value_missing, lacks, IsMisused, no_word, no_command, no_topic, too_many, behind_options, MisusesAreTrue}
+use Rattle.tinkey_words.specs.Rows.{row_of, option_row, option_of, form_for, rival, takes, is_aside, is_new_file, is_value, is_flag}
+use Rattle.tinkey_words.specs.Words.{◌>>=◌, Asked, Options, misuse_at, own_value, misvalued, is_given, is_excluded, is_barred, bar, new_option, put, with_value, alone, option_word, word_after, next_word, ended, options_of, no_options, given_in, lacking, lacking_none, complete, with_options, is_help_flag, help, version, topic_of, first_of, by_itself, topic_words, help_words, command_words, asked_of, words_of}
+use Rattle.tinkey_words.specs.Grammar.{IsValue, Spelling, spelled_as, spelled, IsGiven, IsHelpWord, IsVersionWord, IsNameOf, IsOptionOf, Helps, the_list, a_topic, its_help, the_version, IsWordOf, IsTold, aside_told, bad_told, IsFault, no_option, twice, beside, own_value_bad, next_value_bad, value_missing, lacks, IsMisused, no_word, no_command, no_topic, too_many, behind_options, MisusesAreTrue}
 use Rattle.tinkey_words.proofs.FitLemmas.{is_one, one_is, given_there, once_of, apart_of, taken_of, formed_of, there_of}
 use Rattle.tinkey_words.proofs.FlagLemmas.{flag_form}
 use Rattle.tinkey_words.proofs.HelpLemmas.{first_found, first_is, flag_is, topic_found, topic_is}
-use Rattle.tinkey_words.proofs.RowLemmas.{option_found, option_named, own_plain, own_joined, value_taken, flag_formed}
+use Rattle.tinkey_words.proofs.RowLemmas.{option_found, option_named, own_plain, own_joined, value_taken, aside_is, is_aside', flag_formed}
 use Rattle.tinkey_words.proofs.SpellingLemmas.{Runs, all_put, run_read, own_cut, with_formed, Taken, option_is}
 
 -- Where the options stop.
@@ -26,8 +26,8 @@ data Halt (command : CommandName) (given : Options) (place : ℕ) (rest : List (
   halt_foreign : (word : List ℕ) (more : List (List ℕ)) → rest ≡ word ∷ more → ((name : OptionName) → takes command name ≡ true → IsWordOf name word → ⊥) → misuse ≡ misuse_at place (misfits.NoOption command) → Halt command given place rest misuse
   halt_twice : (name : OptionName) (word : List ℕ) (more : List (List ℕ)) → rest ≡ word ∷ more → takes command name ≡ true → IsWordOf name word → is_given name given ≡ true → misuse ≡ misuse_at place (misfits.Twice command name) → Halt command given place rest misuse
   halt_beside : (name other : OptionName) (word : List ℕ) (more : List (List ℕ)) → rest ≡ word ∷ more → takes command name ≡ true → IsWordOf name word → rival name ≡ Some other → is_given other given ≡ true → misuse ≡ misuse_at place (misfits.Beside command name other) → Halt command given place rest misuse
-  halt_own : (name : OptionName) (value : List ℕ) (more : List (List ℕ)) → rest ≡ ((option_row name).word ++ (61 ∷ value)) ∷ more → is_value (form_for name command) value ≡ false → misuse ≡ misuse_at place (misfits.BadValue command name) → Halt command given place rest misuse
-  halt_next : (name : OptionName) (value : List ℕ) (more : List (List ℕ)) → rest ≡ (option_row name).word ∷ value ∷ more → is_flag (option_row name).form ≡ false → is_value (form_for name command) value ≡ false → misuse ≡ misuse_at (place + 1) (misfits.BadValue command name) → Halt command given place rest misuse
+  halt_own : (name : OptionName) (value : List ℕ) (more : List (List ℕ)) → rest ≡ ((option_row name).word ++ (61 ∷ value)) ∷ more → is_value (form_for name command) value ≡ false → misuse ≡ misuse_at place (misvalued (form_for name command) command name value) → Halt command given place rest misuse
+  halt_next : (name : OptionName) (value : List ℕ) (more : List (List ℕ)) → rest ≡ (option_row name).word ∷ value ∷ more → is_flag (option_row name).form ≡ false → is_value (form_for name command) value ≡ false → misuse ≡ misuse_at (place + 1) (misvalued (form_for name command) command name value) → Halt command given place rest misuse
   halt_end : (name : OptionName) → rest ≡ (option_row name).word ∷ [] → misuse ≡ misuse_at (place + 1) (misfits.NoValue command name) → Halt command given place rest misuse
 
 -- options that are read, and what is at fault behind them
@@ -62,7 +62,7 @@ stop_behind command given s first size words all misuse whole long taken new for
 -- the same where an option waits for its value
 data Waits (name : OptionName) (command : CommandName) (given : Options) (first : ℕ) (words : List (List ℕ)) (misuse : Misuse) : Type 0 where
   waits_end : words ≡ [] → misuse ≡ misuse_at first (misfits.NoValue command name) → Waits name command given first words misuse
-  waits_bad : (value : List ℕ) (more : List (List ℕ)) → words ≡ value ∷ more → is_value (form_for name command) value ≡ false → misuse ≡ misuse_at first (misfits.BadValue command name) → Waits name command given first words misuse
+  waits_bad : (value : List ℕ) (more : List (List ℕ)) → words ≡ value ∷ more → is_value (form_for name command) value ≡ false → misuse ≡ misuse_at first (misvalued (form_for name command) command name value) → Waits name command given first words misuse
   waits_more : (value : List ℕ) (more : List (List ℕ)) → words ≡ value ∷ more → IsValue (form_for name command) value → Stop command (put name value given) (first + 1) more misuse → Waits name command given first words misuse
 
 abbrev Stops : Option OptionName → CommandName → Options → ℕ → List (List ℕ) → Misuse → Type 0
@@ -130,11 +130,11 @@ after_taken None command word first given more words misuse is later = word_take
 
 -- A word that is at fault.
 
-value_test : (command : CommandName) (name : OptionName) (value : List ℕ) (b : Bool) (place : ℕ) (given : Options) (misuse : Misuse) → is_value (form_for name command) value ≡ b → (if b then Ok (put name value given) else Err (misuse_at place (misfits.BadValue command name))) ≡ Err misuse → (is_value (form_for name command) value ≡ false) × (misuse ≡ misuse_at place (misfits.BadValue command name))
+value_test : (command : CommandName) (name : OptionName) (value : List ℕ) (b : Bool) (place : ℕ) (given : Options) (misuse : Misuse) → is_value (form_for name command) value ≡ b → (if b then Ok (put name value given) else Err (misuse_at place (misvalued (form_for name command) command name value))) ≡ Err misuse → (is_value (form_for name command) value ≡ false) × (misuse ≡ misuse_at place (misvalued (form_for name command) command name value))
 value_test command name value true place given misuse formed is = let clash : Ok (put name value given) ≡ Err misuse = is in absurd (cc)
-value_test command name value false place given misuse formed is = (formed, let same : Err (misuse_at place (misfits.BadValue command name)) ≡ Err misuse = is in cc)
+value_test command name value false place given misuse formed is = (formed, let same : Err (misuse_at place (misvalued (form_for name command) command name value)) ≡ Err misuse = is in cc)
 
-value_bad : (command : CommandName) (name : OptionName) (value : List ℕ) (place : ℕ) (given : Options) (misuse : Misuse) → with_value command name value place given ≡ Err misuse → (is_value (form_for name command) value ≡ false) × (misuse ≡ misuse_at place (misfits.BadValue command name))
+value_bad : (command : CommandName) (name : OptionName) (value : List ℕ) (place : ℕ) (given : Options) (misuse : Misuse) → with_value command name value place given ≡ Err misuse → (is_value (form_for name command) value ≡ false) × (misuse ≡ misuse_at place (misvalued (form_for name command) command name value))
 value_bad command name value place given misuse is = value_test command name value _ place given misuse refl is
 
 -- an option that is barred
@@ -242,12 +242,21 @@ one_of command name taken = is_one name ((row_of command).required ++ (row_of co
 all_given : (name : OptionName) (run : List Spelling) → is_given name (all_put no_options run) ≡ true → IsGiven name run
 all_given name run is = there_of name no_options run refl is
 
+-- why a value is told
+told_by : (command : CommandName) (name : OptionName) (value : List ℕ) (new there : Bool) → is_new_file (form_for name command) ≡ new → is_aside value ≡ there → IsTold command name value (if new && there then misfits.Aside command name else misfits.BadValue command name)
+told_by command name value true true new there = aside_told new (aside_is value there) refl
+told_by command name value true false new other = bad_told (λ is named. let clash : true ≡ false = sym (is_aside' value named) ∙ other in cc) refl
+told_by command name value false there old is = bad_told (λ new named. let clash : true ≡ false = sym new ∙ old in cc) refl
+
+told : (command : CommandName) (name : OptionName) (value : List ℕ) → IsTold command name value (misvalued (form_for name command) command name value)
+told command name value = told_by command name value _ _ refl refl
+
 fault_of : (command : CommandName) (run : List Spelling) (place : ℕ) (rest : List (List ℕ)) (misuse : Misuse) → Halt command (all_put no_options run) place rest misuse → IsFault command run place rest misuse
 fault_of command run place rest misuse (halt_foreign word more are foreign is) = no_option word more are (λ name option named. foreign name (one_is name ((row_of command).required ++ (row_of command).optional) option) named) is
 fault_of command run place rest misuse (halt_twice name word more are taken named there is) = twice name word more are (one_of command name taken) named (all_given name run there) is
 fault_of command run place rest misuse (halt_beside name other word more are taken named excludes there is) = beside name other word more are (one_of command name taken) named excludes (all_given other run there) is
-fault_of command run place rest misuse (halt_own name value more are bad is) = own_value_bad name value more are (flag_or_bad command name value _ refl bad) is
-fault_of command run place rest misuse (halt_next name value more are flag bad is) = next_value_bad name value more are (no_value command name value (flag_form name command ∙ flag) bad) is
+fault_of command run place rest misuse (halt_own name value more are bad is) = own_value_bad name value more _ are (flag_or_bad command name value _ refl bad) (told command name value) is
+fault_of command run place rest misuse (halt_next name value more are flag bad is) = next_value_bad name value more _ are (no_value command name value (flag_form name command ∙ flag) bad) (told command name value) is
 fault_of command run place rest misuse (halt_end name are is) = value_missing name are is
 
 -- the first of these options that isn't given

@@ -1,8 +1,9 @@
 -- The tables of the words: an entry is found by its word and by its place, and a value is of its form.
 -- A further command or option is a line of `command_found` or of `is_found`.
-use Rattle.std.proofs.Common.{◌≡◌, ◌≢◌, ◌⊎◌, inl, inr, ◌∙◌, sym, refl, ap, subst, ℕ, ◌+◌, ◌*◌, ◌^◌, ◌%◌, ◌≤◌, Bool, true, false, List, [], ◌∷◌, ◌++◌, length, get_or, cond, arith, length-append, Option, Some, None}
-use Rattle.std.specs.Prelude.{◌==◌, ◌&&◌, nat_lt, nat_le, is_some, option_map, if◌then◌else◌, codes}
+use Rattle.std.proofs.Common.{◌≡◌, ◌≢◌, ◌⊎◌, inl, inr, ◌∙◌, sym, refl, ap, subst, ℕ, ◌+◌, ◌*◌, ◌^◌, ◌%◌, ◌≤◌, Bool, true, false, List, [], ◌∷◌, ◌++◌, length, drop, get_or, cond, arith, length-append, Option, Some, None}
+use Rattle.std.specs.Prelude.{◌==◌, ◌&&◌, nat_lt, nat_le, is_some, not, option_map, if◌then◌else◌, codes}
 use Rattle.std.specs.List.{find, list_all, position_or_len, before_first, after_first}
+use Rattle.std.specs.Path.{path_file_name}
 use Rattle.std.specs.Str.{bytes_eq, str_eq_ignore_ascii_case, str_to_ascii_lowercase}
 use Rattle.std.specs.Str.Parse.{digits_value}
 use Rattle.tink_base.specs.Decimal.{number_in}
@@ -11,7 +12,8 @@ use Rattle.std.proofs.Math.Seq.{get_or-append_seam, take-append_seam, drop-appen
 use Rattle.std.proofs.lemmas.Bool.Decides.{nat_tests}
 use Rattle.std.proofs.lemmas.List.{get_or_append_left}
 use Rattle.std.proofs.lemmas.List.Sums.{position_or_len_is, fails_before_first}
-use Rattle.std.proofs.lemmas.Slice.Eq.{bytes_eq-Decides}
+use Rattle.std.proofs.lemmas.Slice.Eq.{bytes_eq-Decides, starts_is}
+use Rattle.std.proofs.lemmas.Bool.Decides.{Decides-eqb}
 use Rattle.tinkey_words.specs.declared.words.rows.CommandName.{CommandName}
 use Rattle.tinkey_words.specs.declared.words.rows.CommandName.TheVariants as commands
 use Rattle.tinkey_words.specs.declared.words.rows.Format.TheVariants as formats
@@ -20,9 +22,9 @@ use Rattle.tinkey_words.specs.declared.words.rows.Form.TheVariants as forms
 use Rattle.tinkey_words.specs.declared.words.rows.OptionName.{OptionName}
 use Rattle.tinkey_words.specs.declared.words.rows.OptionName.TheVariants as options
 use Rattle.hex.specs.Hex.{is_hex_digit}
-use Rattle.tinkey_words.specs.Rows.{row_of, all_commands, command_of, option_row, all_options, option_of, rival, same, datum_limit, is_line_count, most_lines, is_range_length, most_range, offset_in, format_of, is_hex, is_value, is_flag}
+use Rattle.tinkey_words.specs.Rows.{row_of, all_commands, command_of, option_row, all_options, option_of, rival, same, datum_limit, is_line_count, most_lines, is_range_length, most_range, offset_in, format_of, is_hex, is_value, is_flag, aside, begins_aside, is_aside}
 use Rattle.tinkey_words.specs.Words.{is_equals, own_value}
-use Rattle.tinkey_words.specs.Grammar.{IsHex, IsLineCount, IsNumber, IsOffset, IsRangeLength, IsValue}
+use Rattle.tinkey_words.specs.Grammar.{IsAside, IsHex, IsLineCount, IsNumber, IsOffset, IsRangeLength, IsValue}
 
 pub same_option : {A : Type 0} (o : Option A) → option_map (λ x. x) o ≡ o
 same_option None = refl
@@ -249,6 +251,31 @@ not_empty (b ∷ bs) some = grind (arith, nat_tests)
 some_byte : (value : List ℕ) → nat_lt 0 (length value) ≡ true → value ≢ []
 some_byte value is none = let zero : nat_lt 0 (length value) ≡ false = rw none refl in let clash : true ≡ false = sym is ∙ zero in absurd (cc)
 
+-- a name aside, and another one
+pub aside_is : (path : List ℕ) → is_aside path ≡ true → IsAside path
+unfolding is_aside
+aside_is path is = by (path_file_name path) refl is
+  where
+    by : (last : Option (List ℕ)) → path_file_name path ≡ last → begins_aside last ≡ true → IsAside path
+    by None named is = absurd (cc)
+    by (Some last) named is = (drop (length aside) last, named ∙ ap (λ (text : List ℕ). Some text) ((starts_is Decides-eqb last aside _ refl).0 is))
+
+pub is_aside' : (path : List ℕ) → IsAside path → is_aside path ≡ true
+unfolding is_aside
+is_aside' path (rest, are) = ap begins_aside are ∙ (starts_is Decides-eqb (aside ++ rest) aside _ refl).1 rest refl
+
+new_file_taken : (value : List ℕ) → (value ≢ []) × (IsAside value → ⊥) → (nat_lt 0 (length value) && not (is_aside value)) ≡ true
+new_file_taken value formed = by (is_aside value) refl
+  where
+    by : (b : Bool) → is_aside value ≡ b → (nat_lt 0 (length value) && not b) ≡ true
+    by true is = absurd (formed.1 (aside_is value is))
+    by false other = rw (not_empty value formed.0) refl
+
+new_file_formed : (value : List ℕ) → (nat_lt 0 (length value) && not (is_aside value)) ≡ true → (value ≢ []) × (IsAside value → ⊥)
+new_file_formed value is =
+    let tests = two_pass (nat_lt 0 (length value)) (not (is_aside value)) is in
+    (some_byte value tests.0, λ named. let clash : false ≡ true = ap not (sym (is_aside' value named)) ∙ tests.1 in cc)
+
 -- one of two names
 one_of_both : (a b : Bool) → (a ≡ true) ⊎ (b ≡ true) → is_some (if a then Some formats.Json else (if b then Some formats.Binary else None)) ≡ true
 one_of_both true b one = refl
@@ -311,6 +338,7 @@ pub value_taken : (form : Form) (value : List ℕ) → is_flag form ≡ false �
 unfolding is_value
 value_taken forms.Text value other formed = refl
 value_taken forms.FileName value other formed = not_empty value formed
+value_taken forms.NewFile value other formed = new_file_taken value formed
 value_taken forms.Number value other formed = rw (number_is value formed) refl
 value_taken forms.LineCount value other formed = count_taken value formed
 value_taken forms.RangeLength value other formed = range_taken value formed
@@ -324,6 +352,7 @@ pub value_formed : (form : Form) (value : List ℕ) → is_value form value ≡ 
 unfolding is_value
 value_formed forms.Text value is = tt
 value_formed forms.FileName value is = some_byte value is
+value_formed forms.NewFile value is = new_file_formed value is
 value_formed forms.Number value is = number_formed value is
 value_formed forms.LineCount value is = count_formed value is
 value_formed forms.RangeLength value is = range_formed value is
@@ -337,6 +366,7 @@ pub value_other : (form : Form) (value : List ℕ) → is_value form value ≡ t
 unfolding is_value
 value_other forms.Text value is = refl
 value_other forms.FileName value is = refl
+value_other forms.NewFile value is = refl
 value_other forms.Number value is = refl
 value_other forms.LineCount value is = refl
 value_other forms.RangeLength value is = refl
@@ -350,6 +380,7 @@ value_other forms.Flag value is = absurd (cc)
 pub flag_is : (form : Form) → is_flag form ≡ true → form ≡ forms.Flag
 flag_is forms.Text is = absurd (cc)
 flag_is forms.FileName is = absurd (cc)
+flag_is forms.NewFile is = absurd (cc)
 flag_is forms.Number is = absurd (cc)
 flag_is forms.LineCount is = absurd (cc)
 flag_is forms.RangeLength is = absurd (cc)

@@ -10,7 +10,7 @@ use Rattle.tinkey_words.specs.declared.words.misuse.Misuse.{Misuse}
 use Rattle.tinkey_words.specs.declared.words.rows.CommandName.{CommandName}
 use Rattle.tinkey_words.specs.declared.words.rows.OptionName.{OptionName}
 use Rattle.tinkey_words.specs.Rows.{option_row, option_of, form_for, rival, takes, is_value, is_flag}
-use Rattle.tinkey_words.specs.Words.{◌>>=◌, Options, is_equals, own_value, misuse_at, is_barred, bar, new_option, put, with_value, option_word, word_after, next_word, ended, options_of, alone}
+use Rattle.tinkey_words.specs.Words.{◌>>=◌, Options, is_equals, own_value, misvalued, misuse_at, is_barred, bar, new_option, put, with_value, option_word, word_after, next_word, ended, options_of, alone}
 use Rattle.tinkey_words.specs.Grammar.{IsValue, Spelling, spelled_as, spelled}
 use Rattle.tinkey_words.proofs.FlagLemmas.{flag_form}
 use Rattle.tinkey_words.proofs.RowLemmas.{flag_empty, flag_formed, option_found, option_named, own_plain, own_joined, value_taken, value_formed, value_other}
@@ -47,7 +47,7 @@ form_test command name value true misuse given more formed is = (value_formed (f
 form_test command name value false misuse given more formed is = let clash : Err misuse ≡ Ok more = is in absurd (cc)
 
 pub with_formed : (command : CommandName) (name : OptionName) (value : List ℕ) (place : ℕ) (given more : Options) → with_value command name value place given ≡ Ok more → IsValue (form_for name command) value × (more ≡ put name value given) × (is_flag (option_row name).form ≡ false)
-with_formed command name value place given more is = form_test command name value _ (misuse_at place (misfits.BadValue command name)) given more refl is
+with_formed command name value place given more is = form_test command name value _ (misuse_at place (misvalued (form_for name command) command name value)) given more refl is
 
 -- an option that is new and the command's is taken, and no other
 option_taken : (command : CommandName) (name : OptionName) (place : ℕ) (given : Options) → takes command name ≡ true → is_barred name given ≡ false → new_option command (Some name) place given ≡ Ok name

@@ -8,10 +8,12 @@
 -- The commands and options are those of the tables of Rows.
 use Rattle.std.specs.Prelude.{◌≡◌, ◌≢◌, ◌⊎◌, ◌↔◌, ℕ, ◌+◌, ◌*◌, ◌%◌, ◌^◌, ◌<◌, ◌≤◌, List, [], ◌∷◌, ◌++◌, length, Bool, true, None, Some, if◌then◌else◌, Ok, Err, codes, false}
 use Rattle.std.specs.List.{AllByRecursion, flat_map, list_all}
+use Rattle.std.specs.Path.{path_file_name}
 use Rattle.std.specs.Str.{all_ascii_digits, str_to_ascii_lowercase}
 use Rattle.std.specs.Str.Parse.{digits_value}
 use Rattle.tinkey_words.specs.declared.words.help.Topic.{Topic}
 use Rattle.tinkey_words.specs.declared.words.help.Topic.TheVariants as topics
+use Rattle.tinkey_words.specs.declared.words.misuse.Misfit.{Misfit}
 use Rattle.tinkey_words.specs.declared.words.misuse.Misfit.TheVariants as misfits
 use Rattle.tinkey_words.specs.declared.words.misuse.Misuse.{Misuse}
 use Rattle.tinkey_words.specs.declared.words.rows.CommandName.{CommandName}
@@ -19,7 +21,7 @@ use Rattle.tinkey_words.specs.declared.words.rows.Form.{Form}
 use Rattle.tinkey_words.specs.declared.words.rows.Form.TheVariants as forms
 use Rattle.tinkey_words.specs.declared.words.rows.OptionName.{OptionName}
 use Rattle.hex.specs.Hex.{is_hex_digit}
-use Rattle.tinkey_words.specs.Rows.{row_of, option_row, form_for, rival, same, datum_limit, most_lines, most_range, is_flag}
+use Rattle.tinkey_words.specs.Rows.{row_of, option_row, form_for, rival, same, aside, datum_limit, most_lines, most_range, is_flag, is_new_file}
 use Rattle.tinkey_words.specs.Words.{Asked, Values, asked_with, help, version, misuse_at, words_of}
 
 -- where the word of a place is at fault, it is so, and for the same reason, whatever words stand behind it
@@ -59,10 +61,15 @@ pub record IsHex (text : List ℕ) : Type 0 where
   pub even : length text % 2 ≡ 0
   pub short : length text ≤ 2 * datum_limit
 
+-- the path is a name aside: its last part begins as those do
+abbrev pub IsAside : List ℕ → Type 0
+IsAside path = (rest : List ℕ) × (path_file_name path ≡ Some (aside ++ rest))
+
 -- the value is of the form; that of a flag, which no word holds, is empty
 abbrev pub IsValue : Form → List ℕ → Type 0
 IsValue forms.Text value = Unit {0}
 IsValue forms.FileName value = value ≢ []
+IsValue forms.NewFile value = (value ≢ []) × (IsAside value → ⊥)
 IsValue forms.Number value = IsNumber value
 IsValue forms.LineCount value = IsLineCount value
 IsValue forms.RangeLength value = IsRangeLength value
@@ -186,6 +193,13 @@ IsWordOf name word =
 abbrev pub IsOptionOf : CommandName → OptionName → Type 0
 IsOptionOf command name = IsOneOf name ((row_of command).required ++ (row_of command).optional)
 
+-- why a value that isn't of the form is told: it is a name aside for a new file, or it isn't such a one
+pub data IsTold (command : CommandName) (name : OptionName) (value : List ℕ) (why : Misfit) : Type 0 where
+  aside_told : is_new_file (form_for name command) ≡ true → IsAside value →
+      why ≡ misfits.Aside command name → IsTold command name value why
+  bad_told : (is_new_file (form_for name command) ≡ true → IsAside value → ⊥) →
+      why ≡ misfits.BadValue command name → IsTold command name value why
+
 -- behind a command and these options, what is at fault with the rest, whose first word has this place
 pub data IsFault (command : CommandName) (given : List Spelling) (place : ℕ) (rest : List (List ℕ))
     (misuse : Misuse) : Type 0 where
@@ -202,14 +216,14 @@ pub data IsFault (command : CommandName) (given : List Spelling) (place : ℕ) (
       IsOptionOf command name → IsWordOf name word → rival name ≡ Some other → IsGiven other given →
       misuse ≡ misuse_at place (misfits.Beside command name other) → IsFault command given place rest misuse
   -- its own value isn't of its form, or it is a flag
-  own_value_bad : (name : OptionName) (value : List ℕ) (more : List (List ℕ)) →
+  own_value_bad : (name : OptionName) (value : List ℕ) (more : List (List ℕ)) (why : Misfit) →
       rest ≡ ((option_row name).word ++ (61 ∷ value)) ∷ more →
       (is_flag (form_for name command) ≡ true) ⊎ (IsValue (form_for name command) value → ⊥) →
-      misuse ≡ misuse_at place (misfits.BadValue command name) → IsFault command given place rest misuse
+      IsTold command name value why → misuse ≡ misuse_at place why → IsFault command given place rest misuse
   -- the value behind it isn't of its form
-  next_value_bad : (name : OptionName) (value : List ℕ) (more : List (List ℕ)) →
+  next_value_bad : (name : OptionName) (value : List ℕ) (more : List (List ℕ)) (why : Misfit) →
       rest ≡ (option_row name).word ∷ value ∷ more → (IsValue (form_for name command) value → ⊥) →
-      misuse ≡ misuse_at (place + 1) (misfits.BadValue command name) → IsFault command given place rest misuse
+      IsTold command name value why → misuse ≡ misuse_at (place + 1) why → IsFault command given place rest misuse
   -- no value is behind it
   value_missing : (name : OptionName) → rest ≡ (option_row name).word ∷ [] →
       misuse ≡ misuse_at (place + 1) (misfits.NoValue command name) → IsFault command given place rest misuse

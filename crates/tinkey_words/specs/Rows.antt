@@ -1,7 +1,8 @@
 -- The tables of the command's words: the commands with the options that each requires and may have,
 -- and the options with the form of the value of each. A further command or option is a row.
-use Rattle.std.specs.Prelude.{ℕ, ◌*◌, ◌%◌, ◌^◌, List, [], ◌∷◌, ◌++◌, length, Bool, true, false, Option, Some, None, is_some, ◌==◌, ◌&&◌, nat_lt, nat_le, if◌then◌else◌, codes}
-use Rattle.std.specs.List.{find, list_any, list_all}
+use Rattle.std.specs.Prelude.{ℕ, ◌*◌, ◌%◌, ◌^◌, List, [], ◌∷◌, ◌++◌, length, Bool, true, false, Option, Some, None, is_some, not, ◌==◌, ◌&&◌, nat_lt, nat_le, if◌then◌else◌, codes}
+use Rattle.std.specs.List.{find, list_any, list_all, starts_with}
+use Rattle.std.specs.Path.{path_file_name}
 use Rattle.std.specs.Str.{all_ascii_digits, bytes_eq, str_eq_ignore_ascii_case}
 use Rattle.std.specs.Str.Parse.{digits_value}
 use Rattle.hex.specs.Hex.{is_hex_digit}
@@ -146,7 +147,7 @@ option_row options.KeyTemplate = option 0 (codes "--key-template") forms.Text
 option_row options.KeyId = option 1 (codes "--key-id") forms.Number
 option_row options.In = option 2 (codes "--in") forms.FileName
 option_row options.InFormat = option 3 (codes "--in-format") forms.Format
-option_row options.Out = option 4 (codes "--out") forms.FileName
+option_row options.Out = option 4 (codes "--out") forms.NewFile
 option_row options.OutFormat = option 5 (codes "--out-format") forms.Format
 option_row options.Keyset = option 6 (codes "--keyset") forms.FileName
 option_row options.KeysetFormat = option 7 (codes "--keyset-format") forms.Format
@@ -210,6 +211,24 @@ abbrev pub is_flag : Form → Bool
 is_flag forms.Flag = true
 is_flag _ = false
 
+-- the value names a file that is made
+abbrev pub is_new_file : Form → Bool
+is_new_file forms.NewFile = true
+is_new_file _ = false
+
+-- what a name aside begins with, under which a new file is filled
+abbrev pub aside : List ℕ
+aside = codes ".tinkey-new-"
+
+-- the last part of a path, where it has one, begins so
+abbrev pub begins_aside : Option (List ℕ) → Bool
+begins_aside None = false
+begins_aside (Some last) = starts_with ◌==◌ last aside
+
+-- the path is a name aside
+unfoldable pub is_aside : List ℕ → Bool
+is_aside path = begins_aside (path_file_name path)
+
 -- a self-test of more lines isn't made
 abbrev pub most_lines : ℕ
 most_lines = 100000
@@ -258,12 +277,14 @@ abbrev pub is_hex : List ℕ → Bool
 is_hex text =
     nat_le (length text) (2 * datum_limit) && (length text % 2 == 0) && list_all is_hex_digit text
 
--- the text is a value of this form: any text, the name of a file, which isn't empty, a number, a count
+-- the text is a value of this form: any text, the name of a file, which isn't empty, that of a new one,
+-- which isn't a name aside either, a number, a count
 -- of lines, the length of a range, an offset in a file, the name of a keyset's form, or a datum as it stands
 -- or in hexadecimal; a flag has none
 unfoldable pub is_value : Form → List ℕ → Bool
 is_value forms.Text text = true
 is_value forms.FileName text = nat_lt 0 (length text)
+is_value forms.NewFile text = nat_lt 0 (length text) && not (is_aside text)
 is_value forms.Number text = is_some (number_in text)
 is_value forms.LineCount text = is_line_count (number_in text)
 is_value forms.RangeLength text = is_range_length (number_in text)

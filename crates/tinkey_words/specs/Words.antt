@@ -4,10 +4,10 @@
 --
 -- The answer is a command, or the first word at fault, by its place and by why it is so: an unknown
 -- command or option, one that the command doesn't have, a repeat, the second of two that exclude each
--- other, or one that holds a value that isn't of its form; of help, a topic that isn't known, or a word
+-- other, or one that holds a value that isn't of its form, as a name aside for a new file; of help, a topic that isn't known, or a word
 -- too many. Where a value or a required option is missing at the end, the place is the number of words.
 -- Places count from 0.
-use Rattle.std.specs.Prelude.{◌≡◌, ℕ, ◌+◌, ◌*◌, List, [], ◌∷◌, length, Bool, false, ◌||◌, Option, Some, None, is_some, option_map, not, Result, Ok, Err, ◌==◌, nat_lt, nat_le, if◌then◌else◌, slice_index_or, codes, true}
+use Rattle.std.specs.Prelude.{◌≡◌, ℕ, ◌+◌, ◌*◌, List, [], ◌∷◌, length, Bool, false, ◌&&◌, ◌||◌, Option, Some, None, is_some, option_map, not, Result, Ok, Err, ◌==◌, nat_lt, nat_le, if◌then◌else◌, slice_index_or, codes, true}
 use Rattle.std.specs.List.{find, position_or_len, before_first, after_first}
 use Rattle.std.specs.Borrow.{Bor}
 use Rattle.std.specs.Str.{bytes_eq}
@@ -37,6 +37,7 @@ use Rattle.tinkey_words.specs.declared.words.help.Topic.TheVariants as topics
 use Rattle.tinkey_words.specs.declared.words.misuse.Misfit.{Misfit}
 use Rattle.tinkey_words.specs.declared.words.misuse.Misfit.TheVariants as misfits
 use Rattle.tinkey_words.specs.declared.words.misuse.Misuse.{Misuse}
+use Rattle.tinkey_words.specs.declared.words.rows.Form.{Form}
 use Rattle.tinkey_words.specs.declared.words.rows.Format.{Format}
 use Rattle.tinkey_words.specs.declared.words.rows.Format.TheVariants as formats
 use Rattle.tinkey_words.specs.declared.words.rows.CommandName.{CommandName}
@@ -44,7 +45,7 @@ use Rattle.tinkey_words.specs.declared.words.rows.CommandName.TheVariants as com
 use Rattle.tinkey_words.specs.declared.words.rows.OptionName.{OptionName}
 use Rattle.tinkey_words.specs.declared.words.rows.OptionName.TheVariants as options
 use Rattle.tink_base.specs.Decimal.{number_in}
-use Rattle.tinkey_words.specs.Rows.{row_of, command_of, option_row, option_of, form_for, rival, same, takes, datum_limit, most_range, format_of, is_value, offset_in, is_flag}
+use Rattle.tinkey_words.specs.Rows.{row_of, command_of, option_row, option_of, form_for, rival, same, takes, datum_limit, most_range, format_of, is_aside, is_new_file, is_value, offset_in, is_flag}
 
 -- What is asked.
 
@@ -350,11 +351,17 @@ put name value given = record {
   waiting = None;
 }
 
+-- why a value that isn't of this form is at fault: it is a name aside for a new file, or any other
+abbrev pub misvalued : Form → CommandName → OptionName → List ℕ → Misfit
+misvalued form command name value =
+    if is_new_file form && is_aside value then misfits.Aside command name
+    else misfits.BadValue command name
+
 -- the option with its value, which stands in the word of this place and is of its form
 abbrev pub with_value : CommandName → OptionName → List ℕ → ℕ → Options → Result Options Misuse
 with_value command name value place given =
     if is_value (form_for name command) value then Ok (put name value given)
-    else Err (misuse_at place (misfits.BadValue command name))
+    else Err (misuse_at place (misvalued (form_for name command) command name value))
 
 -- an option whose word has no value of its own: a flag is given by it, with the empty value, and any
 -- other option waits for its value

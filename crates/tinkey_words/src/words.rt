@@ -3,7 +3,7 @@
 ghost use Rattle.std.specs.Prelude.{◌≡◌, ◌<◌, ◌≤◌, ◌^◌, Some, length, map, option_map, slice_set, string_bytes};
 ghost use Rattle.tinkey_words.specs.Rows.{option_of, is_flag, option_row};
 ghost use Rattle.tinkey_words.specs.declared.words.rows.OptionName.TheVariants.{Lines};
-ghost use Rattle.tinkey_words.specs.Words.{words_of, by_itself, command_words, help_words, topic_words, with_options, topic_of, given_in, lines_in, next_word, option_word, own_value, is_barred, bar, unbarred, new_option, with_value, no_options, lacking, complete, asked_with, text, number, id, template, ad, edited, enveloped, worked, seen_command, seen_datum, seen_edit, seen_envelope, seen_name, seen_options, seen_range, seen_work, offset, range, range_length, Reads, form_in, taken_from, put_to, seen_place, alone, output_in, seen_output};
+ghost use Rattle.tinkey_words.specs.Words.{words_of, by_itself, command_words, help_words, topic_words, with_options, topic_of, given_in, lines_in, next_word, option_word, own_value, misvalued, is_barred, bar, unbarred, new_option, with_value, no_options, lacking, complete, asked_with, text, number, id, template, ad, edited, enveloped, worked, seen_command, seen_datum, seen_edit, seen_envelope, seen_name, seen_options, seen_range, seen_work, offset, range, range_length, Reads, form_in, taken_from, put_to, seen_place, alone, output_in, seen_output};
 
 mod help;
 mod misuse;
@@ -17,7 +17,8 @@ pub use misuse::{Misfit, Misuse};
 pub use range::Range;
 pub use rows::{CommandName, DATUM_LIMIT, Form, Format, OptionName};
 use rows::{
-    MOST_RANGE, OPTION_COUNT, format_named, is_flag, is_value, offset_in, option_named, takes,
+    MOST_RANGE, OPTION_COUNT, format_named, is_aside, is_flag, is_value, offset_in, option_named,
+    takes,
 };
 use tink_base::number_in;
 use tinkey_cmds::Command as Edit;
@@ -735,12 +736,23 @@ fn with_value<'a>(
     ensures { Reads (λ done. seen_options so_far.new) result
         (with_value command name value.now place (seen_options so_far.old)) }
 {
-    if !is_value(name.form_for(command), value) {
-        return Err(misuse_at(place, Misfit::BadValue(command, name)));
+    let form = name.form_for(command);
+    if !is_value(form, value) {
+        return Err(misuse_at(place, misvalued(form, command, name, value)));
     }
     write(&mut so_far.values, name.place(), value);
     so_far.waiting = None;
     Ok(())
+}
+
+/// Why a value that isn't of its option's form is at fault.
+fn misvalued(form: Form, command: CommandName, name: OptionName, value: &str) -> Misfit
+    ensures { result ≡ misvalued form command name value.now }
+{
+    match form {
+        Form::NewFile if is_aside(value) => Misfit::Aside(command, name),
+        _ => Misfit::BadValue(command, name),
+    }
 }
 
 /// Keeps the value at this place.

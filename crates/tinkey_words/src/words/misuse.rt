@@ -31,6 +31,8 @@ pub enum Misfit {
     Beside(CommandName, OptionName, OptionName),
     /// The value isn't of the option's form.
     BadValue(CommandName, OptionName),
+    /// The value is a name aside, and the option's a new file.
+    Aside(CommandName, OptionName),
     /// The words end where the option's value is to stand.
     NoValue(CommandName, OptionName),
     /// The words end without this option, the first one that the command requires and that isn't given.

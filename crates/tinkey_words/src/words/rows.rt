@@ -4,9 +4,10 @@
 ghost use Rattle.std.specs.Prelude.{◌≡◌, ◌<◌};
 ghost use Rattle.std.specs.List.{list_all};
 ghost use Rattle.hex.specs.Hex.{is_hex_digit};
-ghost use Rattle.tinkey_words.specs.Rows.{row, row_of, command_of, option_row, option_of, rival, is_one_of, takes, format_of, is_hex, is_line_count, is_range_length, is_value, form_for, length_form, offset_in, seen_row, is_flag};
+ghost use Rattle.tinkey_words.specs.Rows.{row, row_of, command_of, option_row, option_of, rival, is_one_of, takes, format_of, is_hex, is_line_count, is_range_length, is_aside, is_value, form_for, length_form, offset_in, seen_row, is_flag};
 
-use tink_base::number_in;
+use std::path::Path;
+use tink_base::{ASIDE, number_in};
 
 /// A command by its name.
 #[derive(Clone, Copy, Debug, PartialEq, Eq)]
@@ -146,6 +147,8 @@ pub enum Form {
     Text,
     /// The name of a file, which isn't empty.
     FileName,
+    /// The same, of a new file: it isn't a name aside, under which such a file is filled.
+    NewFile,
     /// 1 to 10 decimal digits, of a number up to 4,294,967,295.
     Number,
     /// The same, of a number from 1 to 100,000.
@@ -326,7 +329,7 @@ impl OptionName {
             OptionName::KeyId => option("--key-id", Form::Number),
             OptionName::In => option("--in", Form::FileName),
             OptionName::InFormat => option("--in-format", Form::Format),
-            OptionName::Out => option("--out", Form::FileName),
+            OptionName::Out => option("--out", Form::NewFile),
             OptionName::OutFormat => option("--out-format", Form::Format),
             OptionName::Keyset => option("--keyset", Form::FileName),
             OptionName::KeysetFormat => option("--keyset-format", Form::Format),
@@ -490,6 +493,7 @@ pub fn is_value(form: Form, text: &str) -> bool
     match form {
         Form::Text => true,
         Form::FileName => !text.is_empty(),
+        Form::NewFile => !text.is_empty() && !is_aside(text),
         Form::Number => number_in(text).is_some(),
         Form::LineCount => is_line_count(number_in(text)),
         Form::RangeLength => is_range_length(number_in(text)),
@@ -506,6 +510,16 @@ pub fn is_flag(form: Form) -> bool
     ensures { result ≡ is_flag form }
 {
     matches!(form, Form::Flag)
+}
+
+/// Whether the path is a name aside, under which a new file is filled: its last part begins as those do.
+pub fn is_aside(path: &str) -> bool
+    ensures { result ≡ is_aside path.now }
+{
+    match Path::new(path).file_name() {
+        Some(last) => last.starts_with(ASIDE),
+        None => false,
+    }
 }
 
 /// Whether a number is there, and may be a count of lines.

@@ -6,5 +6,5 @@ use Rattle.tinkey_words.proofs.words.with_value.Goals as goal
 
 pub returns : goal.returns
 returns c =
-    let formed : is_value (form_for c.args.name c.args.command) c.args.value.now ≡ true = ap (λ (form : Form). is_value form c.args.value.now) (sym c.form_for.ensures) ∙ sym c.is_value.ensures ∙ c.if-not-is_value.false in
+    let formed : is_value (form_for c.args.name c.args.command) c.args.value.now ≡ true = ap (λ (form : Form). is_value form c.args.value.now) (sym c.form_for-form.ensures) ∙ sym c.is_value.ensures ∙ c.if-not-is_value.false in
     rw c.write.ensures.written (value_put c.args.command c.args.name c.args.so_far.now.values c.args.so_far.now.waiting c.args.value c.args.place c.place.result c.place.ensures.place (omega (arith, c.write.ensures.size, c.place.ensures.within)) formed)
