@@ -1,0 +1,138 @@
+//! What differs from a row, in words.
+
+use crate::rows::{Column, Row};
+use crate::runner::Outcome;
+use std::alloc::Global;
+use std::str::from_utf8;
+use std::test::Fail;
+
+/// How many bytes are shown of a list.
+const SHOWN: usize = 24;
+
+/// The differences of a row, a line each, with how the run ended behind those of each run.
+#[derive(Drop)]
+pub(crate) struct Differences {
+    lines: String,
+    count: usize,
+}
+
+impl Differences {
+    /// No difference.
+    pub(crate) fn new(alloc: Global) -> Differences {
+        Differences {
+            lines: String::new(alloc),
+            count: 0,
+        }
+    }
+
+    /// How many there are.
+    pub(crate) fn count(&self) -> usize {
+        self.count
+    }
+
+    /// Their lines.
+    pub(crate) fn lines(&self) -> &str {
+        self.lines.as_str()
+    }
+
+    /// Takes a difference in: of this column, with both sides.
+    pub(crate) fn differs(
+        &mut self,
+        alloc: Global,
+        column: &str,
+        expected: &str,
+        came: &str,
+    ) -> Result<(), Fail> {
+        let line = format!(in alloc; "  {column}: expected {expected}, came {came}\n")?;
+        self.lines.push_str(&line)?;
+        self.count = self.count.saturating_add(1);
+        Ok(())
+    }
+
+    /// Takes a difference in where these texts aren't the same.
+    pub(crate) fn hold_text(
+        &mut self,
+        alloc: Global,
+        column: &str,
+        expected: &str,
+        came: &str,
+    ) -> Result<(), Fail> {
+        if came == expected {
+            return Ok(());
+        }
+        self.differs(alloc, column, expected, came)
+    }
+
+    /// Takes a difference in where this number isn't the one that is told.
+    pub(crate) fn hold_count(
+        &mut self,
+        alloc: Global,
+        column: &str,
+        expected: &str,
+        came: usize,
+    ) -> Result<(), Fail> {
+        self.hold_text(alloc, column, expected, &format!(in alloc; "{came}")?)
+    }
+
+    /// Takes a difference in where these bytes aren't the same: how many there are on both sides, and a few
+    /// from the first on that differs.
+    pub(crate) fn hold_bytes(
+        &mut self,
+        alloc: Global,
+        column: &str,
+        expected: &[u8],
+        came: &[u8],
+    ) -> Result<(), Fail> {
+        if came == expected {
+            return Ok(());
+        }
+        let at = first_unlike(expected, came);
+        let expected = from_there(alloc, expected, at)?;
+        let came = from_there(alloc, came, at)?;
+        self.differs(alloc, column, &expected, &came)
+    }
+
+    /// Takes in which run of a row differed, and how it ended: its status, its line, and the output, of which
+    /// the first bytes.
+    pub(crate) fn tell_run(
+        &mut self,
+        alloc: Global,
+        row: &Row<'_>,
+        came: &Outcome,
+    ) -> Result<(), Fail> {
+        let each = row.cell(Column::Each);
+        let piece = row.cell(Column::Piece);
+        let fails = row.cell(Column::Fails);
+        let status = came.status.as_str();
+        let output = from_there(alloc, &came.output, 0)?;
+        let told = format!(in alloc;
+            "  in the run of pieces of {piece}, failing {fails}, $ being '{each}': {status}, output {output}\n"
+        )?;
+        self.lines.push_str(&told)?;
+        Ok(())
+    }
+}
+
+/// The place of the first byte that differs, or the end of the shorter list.
+fn first_unlike(expected: &[u8], came: &[u8]) -> usize {
+    for (at, (one, other)) in expected.iter().zip(came).enumerate() {
+        if one != other {
+            return at;
+        }
+    }
+    expected.len().min(came.len())
+}
+
+/// How many bytes there are, and a few of them from this place on: as a text where they are one.
+fn from_there(alloc: Global, bytes: &[u8], at: usize) -> Result<String, Fail> {
+    let size = bytes.len();
+    let rest = bytes.get(at..).unwrap_or(b"");
+    let rest = rest.get(..SHOWN).unwrap_or(rest);
+    match from_utf8(rest) {
+        Ok(text) => Ok(format!(in alloc; "{size} bytes, from {at} on {text:?}")?),
+        Err(_) => {
+            let digits = hex::encode(alloc, rest)?;
+            Ok(format!(in alloc; "{size} bytes, from {at} on {digits}")?)
+        }
+    }
+}

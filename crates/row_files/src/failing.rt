@@ -1,0 +1,137 @@
+//! Each call outside fails in turn: rows that run with the first read failing, with the second, and so
+//! on, until a run meets no fault, and then the same with the calls of each other name.
+
+use crate::compare::compare;
+use crate::differences::Differences;
+use crate::names::Names;
+use crate::rows::{Column, Row};
+use crate::runner::{Outcome, Runner};
+use crate::running::outcome_of;
+use std::alloc::Global;
+use std::str::from_utf8;
+use std::test::Fail;
+
+/// The names of the calls that can fail, in the order of the column of counts, each with the status and
+/// the line of a run in which it failed. Where the line itself fails, both stay.
+const ENDS: [(&str, &str, &str); 5] = [
+    ("read", "5 ReadFault", "tinkey: read fault"),
+    ("write", "5 WriteFault", "tinkey: write fault"),
+    ("line", "", ""),
+    ("store", "5 StoreFault", "tinkey: store fault"),
+    ("fill", "5 EntropyFault", "tinkey: entropy fault"),
+];
+
+/// The commands that write before they have their whole output.
+const LASTING: [&str; 4] = ["session", "sseal", "sopen", "list-key-templates"];
+
+/// Runs a row, whose whole run ended so, with each call failing in turn, and counts the calls of each name.
+pub(crate) fn run_each_failing<R: Runner>(
+    alloc: Global,
+    runner: &R,
+    names: &Names,
+    row: &Row<'_>,
+    whole: &Outcome,
+    differences: &mut Differences,
+) -> Result<(), Fail> {
+    let mut counts = String::new(alloc);
+    for &end in &ENDS {
+        let count = run_until_whole(alloc, runner, names, row, whole, end, differences)?;
+        counts.push_str(&format!(in alloc; " {count}")?)?;
+    }
+    differences.hold_text(alloc, "calls", row.cell(Column::Calls), counts.trim())
+}
+
+/// Runs a row with the first call of this name failing, then the second, and so on, until a run meets no
+/// fault, which ends as the row tells. The answer is how many met one.
+fn run_until_whole<R: Runner>(
+    alloc: Global,
+    runner: &R,
+    names: &Names,
+    row: &Row<'_>,
+    whole: &Outcome,
+    end: (&str, &str, &str),
+    differences: &mut Differences,
+) -> Result<usize, Fail> {
+    for before in 0..10000_usize {
+        let fails = format!(in alloc; "{} {}", end.0, before.saturating_add(1))?;
+        let row = row.with(Column::Fails, &fails);
+        let came = outcome_of(alloc, runner, names, &row)?;
+        if came.faults == 0 {
+            compare(alloc, names, &row, &came, differences)?;
+            return Ok(before);
+        }
+        compare_fault(alloc, names, &row, whole, end, before, &came, differences)?;
+    }
+    Err("a run that meets no fault".into())
+}
+
+/// The size of the front of these lines that so many calls write, which move a piece each: no call moves
+/// bytes of two lines.
+fn front_size(lines: &str, piece: usize, calls: usize) -> usize {
+    if piece == 0 {
+        return 0;
+    }
+    let mut size: usize = 0;
+    let mut left = calls;
+    for line in lines.lines() {
+        let length = line.len().saturating_add(1);
+        let taken = left.min(length.div_ceil(piece));
+        size = size.saturating_add(length.min(taken.saturating_mul(piece)));
+        left = left.saturating_sub(taken);
+    }
+    size
+}
+
+/// Compares how a run ended in which one call failed, behind so many of its name, with what may stand
+/// then: the status is that of what failed, there is no new file, and no more was written or drawn than in
+/// the whole run. Where the line failed, its front alone is there.
+fn compare_fault(
+    alloc: Global,
+    names: &Names,
+    row: &Row<'_>,
+    whole: &Outcome,
+    end: (&str, &str, &str),
+    before: usize,
+    came: &Outcome,
+    differences: &mut Differences,
+) -> Result<(), Fail> {
+    let piece = row.cell(Column::Piece).parse::<usize>()?;
+    let moved = before.saturating_mul(piece);
+    differences.hold_count(alloc, "count of faults", "1", came.faults as usize)?;
+    if end.1.is_empty() {
+        let size = front_size(from_utf8(&whole.line)?, piece, before);
+        let front = from_utf8(whole.line.get(..size).ok_or("a line so long")?)?;
+        let line = format!(in alloc; "{front}..")?;
+        return compare(
+            alloc,
+            names,
+            &row.with(Column::Line, &line),
+            came,
+            differences,
+        );
+    }
+    let size = kept_size(row, end.0, moved, came);
+    let front = whole.output.get(..size).unwrap_or(&whole.output);
+    let output = hex::encode(alloc, front)?;
+    let drawn = format!(in alloc; "{}", came.drawn.min(whole.drawn))?;
+    let failed = row
+        .with(Column::Status, end.1)
+        .with(Column::Line, end.2)
+        .with(Column::Output, &output)
+        .with(Column::Made, "none")
+        .with(Column::Drawn, &drawn);
+    compare(alloc, names, &failed, came, differences)
+}
+
+/// How many bytes of the output are kept where a call of this name failed: those of the writes before, or
+/// none. Of a lasting command it is some front.
+fn kept_size(row: &Row<'_>, name: &str, moved: usize, came: &Outcome) -> usize {
+    let word = row.cell(Column::Words).split(' ').next().unwrap_or("");
+    if LASTING.contains(&word) {
+        came.output.len()
+    } else if name == "write" {
+        moved
+    } else {
+        0
+    }
+}
