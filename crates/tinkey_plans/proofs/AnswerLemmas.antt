@@ -18,6 +18,7 @@ use Rattle.wrapped_prims.specs.Fitness.{fault_of_record, key_of_record, unfit_fr
 use Rattle.wrapped_prims.proofs.OpenLemmas.{none_here, kept_as, KeptAs, off, on}
 use Rattle.tinkey_plans.specs.Going.{FitKeysetsSeal}
 use Rattle.tinkey_plans.specs.Laws.{IsFit, FitKeysetsAnswer}
+use Rattle.tinkey_plans.proofs.StreamFitLemmas.{stream_there}
 
 found_fits : (b : Bool) (p : Record → Bool) (table : Table) (primitive : Primitive) (x r : Record) (rs : List Record) → p x ≡ b → fault_of_record table primitive x ≡ None → find p (x ∷ rs) ≡ Some r → (find p rs ≡ Some r → fault_of_record table primitive r ≡ None) → fault_of_record table primitive r ≡ None
 found_fits true p table primitive x r rs test fit found later =
@@ -73,6 +74,7 @@ fit_keysets_answer = record {
   dseal = λ table keys plain ad fit. made_there table _ keys _ (has_key table _ keys fit);
   tag = λ table keys body fit. made_there table _ keys _ (has_key table _ keys fit);
   derive = λ table keys input size fit. let has = has_key table _ keys fit in derived_there (primary_key keys table Prf) has.key input size (key_there table _ keys has);
+  stream = stream_there;
 }
 
 -- ---- sealing

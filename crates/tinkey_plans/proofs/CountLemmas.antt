@@ -1,14 +1,19 @@
 -- What a self-test tells, and its only refusal behind the words.
-use Rattle.std.proofs.Common.{◌≡◌, ◌∙◌, refl, ap, subst, inl, inr, ℕ, zero, suc, true, false, cond, ltb, List, [], length, take, drop, Option, Some, None, Result, Ok, Err}
+use Rattle.std.proofs.Common.{arith, ◌≡◌, ◌∙◌, refl, sym, ap, subst, inl, inr, ℕ, zero, suc, ◌+◌, ◌*◌, ◌<◌, ◌==◌, Bool, true, false, cond, ltb, List, [], length, take, drop, Option, Some, None, Result, Ok, Err}
+use Rattle.std.specs.Prelude.{◌||◌}
+use Rattle.std.proofs.lemmas.Bool.{eqb-true}
+use Rattle.std.proofs.lemmas.List.{drop-drop}
+use Rattle.std.proofs.lemmas.Option.{same_Some}
 use Rattle.managers.specs.Table.{Table}
 use Rattle.key_msgs.specs.Templates.{Row, random_of}
 use Rattle.keyset_model.specs.Keyset.{Keys}
 use Rattle.keyset_model.specs.declared.record.Record.{Record}
 use Rattle.tinkey_cmds.specs.Draws.{Drawn, Draw, answered, fill, unless_err, and_then}
-use Rattle.tinkey_cmds.specs.Edits.{Stepped, first, id_of, is_taken, new_id, with_key}
+use Rattle.tinkey_cmds.specs.Edits.{Stepped, alone, first, id_of, is_taken, new_id, record_of, with_key}
 use Rattle.tinkey_cmds.specs.declared.command.CmdFault.{CmdFault}
 use Rattle.tinkey_cmds.specs.declared.command.CmdFault.TheVariants.{IdsExhausted}
-use Rattle.tinkey_selftest.specs.Laws.{CountsAddUp, NothingIsLost}
+use Rattle.tinkey_session.proofs.Options.{no_truth}
+use Rattle.tinkey_selftest.specs.Laws.{CountsAddUp, EntropySuffices, NothingIsLost}
 use Rattle.tinkey_selftest.specs.Numbers.{random_bytes}
 use Rattle.tinkey_selftest.specs.Telling.{counts_text}
 use Rattle.tinkey_selftest.specs.Trial.{counts_from, counts_over, first_row, random_size}
@@ -17,7 +22,7 @@ use Rattle.tinkey_selftest.specs.declared.counts.Counts.{Counts}
 use Rattle.tinkey_plans.specs.declared.status.Status.TheVariants as status
 use Rattle.tinkey_plans.specs.Commands.{asked_plan}
 use Rattle.tinkey_plans.specs.Ends.{Ends, wrote, write_failed}
-use Rattle.tinkey_plans.specs.Laws.{HasTested, SelfTestRuns, SelfTestsTell, TellsLines, TellsOrRefuses, tested, cut_short, refused, starved}
+use Rattle.tinkey_plans.specs.Laws.{HasNoId, HasTested, SelfTestRuns, SelfTestsTell, TellsLines, TellsOrRefuses, tested, cut_short, refused, starved}
 use Rattle.tinkey_plans.specs.Plan.{answer, writes}
 use Rattle.tinkey_plans.specs.SelfTesting.{tells_counts}
 
@@ -61,6 +66,94 @@ only-first row random =
     (only-then (new_id 64 [] random) (with_key row) (only-new_id 64 [] random) (λ id left. only-then (fill (random_of row) left) _ (only-fill (random_of row) left) (λ key rest. tt)))
     (λ r left. tt)
 
+-- ---- where it comes
+
+-- it is refused where this is so, and only there
+abbrev IsRefusedWhere : {A : Type 0} → Type 0 → Result A CmdFault → Type 0
+IsRefusedWhere Cause (Ok value) = Cause → ⊥
+IsRefusedWhere Cause (Err fault) = Cause
+
+-- each of the first groups of four bytes, so many, is the number 0
+abbrev AreZero : (tries : ℕ) → List ℕ → Type 0
+AreZero tries random = (i : ℕ) → i < tries → id_of (take 4 (drop (4 * i) random)) ≡ 0
+
+zero_taken : (id : ℕ) → is_taken [] id ≡ true → id ≡ 0
+zero_taken id taken = by (id == 0) refl taken
+  where
+    by : (b : Bool) → (id == 0) ≡ b → (b || false) ≡ true → id ≡ 0
+    by true is e = eqb-true id 0 is
+    by false is e = no_truth e
+
+free_some : (id : ℕ) → is_taken [] id ≡ false → id ≡ 0 → ⊥
+free_some id free is = let clash : true ≡ false = subst (λ x. is_taken [] x ≡ false) is free in cc
+
+later_group : (random : List ℕ) (i : ℕ) → id_of (take 4 (drop (4 * suc i) random)) ≡ id_of (take 4 (drop (4 * i) (drop 4 random)))
+later_group random i =
+    let place : 4 * suc i ≡ 4 + 4 * i = omega arith in
+    ap (λ n. id_of (take 4 (drop n random))) place ∙ ap (λ (l : List ℕ). id_of (take 4 l)) (sym (drop-drop (4 * i) 4 random))
+
+-- a group that is 0 is passed
+one_more : {A : Type 0} (tries : ℕ) (random : List ℕ) (r : Result A CmdFault) → id_of (take 4 random) ≡ 0 → IsRefusedWhere (AreZero tries (drop 4 random)) r → IsRefusedWhere (AreZero (suc tries) random) r
+one_more tries random (Ok value) first some = λ all. some (λ i below. sym (later_group random i) ∙ all (suc i) (omega (arith, below)))
+one_more tries random (Err fault) first zeros = each
+  where
+    each : (i : ℕ) → i < suc tries → id_of (take 4 (drop (4 * i) random)) ≡ 0
+    each zero below = first
+    each (suc i) below = later_group random i ∙ zeros i (omega (arith, below))
+
+id_where : (tries : ℕ) (random : List ℕ) (drawn : Drawn ℕ) → new_id tries [] random ≡ Some drawn → IsRefusedWhere (AreZero tries random) drawn.answer
+unfolding new_id
+id_where zero random drawn e = subst (λ (x : Drawn ℕ). IsRefusedWhere (AreZero 0 random) x.answer) (same_Some _ _ e) (λ i below. absurd (omega (arith, below)))
+id_where (suc tries) random drawn e = by_length (ltb (length random) 4) (λ later. id_where tries (drop 4 random) drawn later) e
+  where
+    id : ℕ
+    id = id_of (take 4 random)
+
+    Later : Type 0
+    Later = new_id tries [] (drop 4 random) ≡ Some drawn → IsRefusedWhere (AreZero tries (drop 4 random)) drawn.answer
+
+    by_taken : (b : Bool) → is_taken [] id ≡ b → Later → cond b (new_id tries [] (drop 4 random)) (answered (Ok id) (drop 4 random)) ≡ Some drawn → IsRefusedWhere (AreZero (suc tries) random) drawn.answer
+    by_taken true taken later e = one_more tries random drawn.answer (zero_taken id taken) (later e)
+    by_taken false free later e = subst (λ (x : Drawn ℕ). IsRefusedWhere (AreZero (suc tries) random) x.answer) (same_Some _ _ e) (λ all. free_some id free (all 0 (omega arith)))
+
+    by_length : (b : Bool) → Later → and_then (cond b None (Some (record { answer = Ok (take 4 random); left = drop 4 random }))) (λ group left. cond (is_taken [] (id_of group)) (new_id tries [] left) (answered (Ok (id_of group)) left)) ≡ Some drawn
+        → IsRefusedWhere (AreZero (suc tries) random) drawn.answer
+    by_length true later e = absurd (cc)
+    by_length false later e = by_taken (is_taken [] id) refl later e
+
+-- a step behind it that refuses nothing leaves it so
+then_where : {A B : Type 0} (Cause : Type 0) (o : Option (Drawn A)) (next : A → Draw B) (drawn : Drawn B) → ((x : Drawn A) → o ≡ Some x → IsRefusedWhere Cause x.answer)
+    → ((x : A) (random : List ℕ) (y : Drawn B) → next x random ≡ Some y → (value : B) × (y.answer ≡ Ok value)) → and_then o next ≡ Some drawn → IsRefusedWhere Cause drawn.answer
+then_where Cause None next drawn first goes e = absurd (cc)
+then_where {A} {B} Cause (Some x) next drawn first goes e = by x.answer (first x refl) e
+  where
+    by : (r : Result A CmdFault) → IsRefusedWhere Cause r → unless_err r x.left next ≡ Some drawn → IsRefusedWhere Cause drawn.answer
+    by (Ok value) some e = let y = goes value x.left drawn e in subst (λ (r : Result B CmdFault). IsRefusedWhere Cause r) (sym y.1) some
+    by (Err fault) is e = subst (λ (y : Drawn B). IsRefusedWhere Cause y.answer) (same_Some _ _ e) is
+
+key_goes : (row : Row) (id : ℕ) (random : List ℕ) (drawn : Drawn Record) → with_key row id random ≡ Some drawn → (r : Record) × (drawn.answer ≡ Ok r)
+key_goes row id random drawn e = by (ltb (length random) (random_of row)) e
+  where
+    by : (b : Bool) → and_then (cond b None (Some (record { answer = Ok (take (random_of row) random); left = drop (random_of row) random }))) (λ key left. answered (Ok (record_of row id key)) left) ≡ Some drawn → (r : Record) × (drawn.answer ≡ Ok r)
+    by true e = absurd (cc)
+    by false e = (record_of row id (take (random_of row) random), sym (ap (λ (x : Drawn Record). x.answer) (same_Some _ _ e)))
+
+first_where : (row : Row) (random : List ℕ) (s : Stepped) → first row random ≡ Some s → IsRefusedWhere (AreZero 64 random) s.answer
+first_where row random s e = then_where (AreZero 64 random) (and_then (new_id 64 [] random) (with_key row)) (λ r left. answered (Ok (alone r)) left) s
+    (λ x is. then_where (AreZero 64 random) (new_id 64 [] random) (with_key row) x (id_where 64 random) (key_goes row) is)
+    (λ r left y is. (alone r, sym (ap (λ (x : Stepped). x.answer) (same_Some _ _ is))))
+    e
+
+from_where : (Cause : Type 0) (table : Table) (seed lines : ℕ) (answer : Result Keys CmdFault) (left : List ℕ) → IsRefusedWhere Cause answer → IsRefusedWhere Cause (counts_from table seed lines answer left)
+from_where Cause table seed lines (Ok keys) left some = some
+from_where Cause table seed lines (Err fault) left is = is
+
+refused_where : EntropySuffices → (table : Table) (seed lines : ℕ) → IsRefusedWhere (HasNoId seed lines) (trial.self_test table seed lines)
+refused_where suffices table seed lines =
+    let s = suffices table seed lines in
+    subst (λ (o : Option Stepped). IsRefusedWhere (HasNoId seed lines) (counts_over table seed lines o)) (sym s.1)
+    (from_where (HasNoId seed lines) table seed lines s.0.answer s.0.left (first_where first_row (random_bytes seed (random_size lines)) s.0 s.1))
+
 -- ---- what is counted
 
 only-from : (table : Table) (seed lines : ℕ) (answer : Result Keys CmdFault) (left : List ℕ) → IsExhausted answer → IsExhausted (counts_from table seed lines answer left)
@@ -82,18 +175,18 @@ tells adds lost table seed lines n is = record {
   none_lost = λ standard. lost seed lines n (subst (λ (t : Table). trial.self_test t seed lines ≡ Ok n) standard is);
 }
 
-pub self_tests_tell : CountsAddUp → NothingIsLost → SelfTestsTell
-self_tests_tell adds lost table seed lines told = by (trial.self_test table seed lines) refl (only_exhausted table seed lines)
+pub self_tests_tell : CountsAddUp → NothingIsLost → EntropySuffices → SelfTestsTell
+self_tests_tell adds lost suffices table seed lines told = by (trial.self_test table seed lines) refl (only_exhausted table seed lines) (refused_where suffices table seed lines)
   where
-    by : (r : Result Counts CmdFault) → trial.self_test table seed lines ≡ r → IsExhausted r → TellsOrRefuses table lines (answer (tells_counts lines r writes) told)
-    by (Ok n) is only = inl (refl, tells adds lost table seed lines n is)
-    by (Err fault) is only = inr (ap (λ (f : CmdFault). status.Command f) only, refl)
+    by : (r : Result Counts CmdFault) → trial.self_test table seed lines ≡ r → IsExhausted r → IsRefusedWhere (HasNoId seed lines) r → TellsOrRefuses table seed lines (answer (tells_counts lines r writes) told)
+    by (Ok n) is only some = inl (some, refl, tells adds lost table seed lines n is)
+    by (Err fault) is only none = inr (none, ap (λ (f : CmdFault). status.Command f) only, refl)
 
-pub self_test_runs : CountsAddUp → NothingIsLost → SelfTestRuns
-self_test_runs adds lost table words seed lines old s new is run = by (trial.self_test table seed lines) refl (only_exhausted table seed lines) (subst (λ p. Ends p old s new) (ap (λ r. asked_plan table r words) is) run)
+pub self_test_runs : CountsAddUp → NothingIsLost → EntropySuffices → SelfTestRuns
+self_test_runs adds lost suffices table words seed lines old s new is run = by (trial.self_test table seed lines) refl (only_exhausted table seed lines) (refused_where suffices table seed lines) (subst (λ p. Ends p old s new) (ap (λ r. asked_plan table r words) is) run)
   where
-    by : (r : Result Counts CmdFault) → trial.self_test table seed lines ≡ r → IsExhausted r → Ends (tells_counts lines r writes) old s new → HasTested table lines old s new
-    by r is only (inr (e, same)) = starved e same
-    by (Ok n) is only (inl (wrote e keep stood took)) = tested (counts_text lines n) e (tells adds lost table seed lines n is) took
-    by (Ok n) is only (inl (write_failed e keep rose front)) = cut_short (counts_text lines n) e (tells adds lost table seed lines n is) front
-    by (Err fault) is only (inl (e, same)) = refused (e ∙ ap (λ (f : CmdFault). status.Command f) only) same
+    by : (r : Result Counts CmdFault) → trial.self_test table seed lines ≡ r → IsExhausted r → IsRefusedWhere (HasNoId seed lines) r → Ends (tells_counts lines r writes) old s new → HasTested table seed lines old s new
+    by r is only at (inr (e, same)) = starved e same
+    by (Ok n) is only some (inl (wrote e keep stood took)) = tested (counts_text lines n) e (tells adds lost table seed lines n is) took
+    by (Ok n) is only some (inl (write_failed e keep rose front)) = cut_short (counts_text lines n) e (tells adds lost table seed lines n is) front
+    by (Err fault) is only none (inl (e, same)) = refused none (e ∙ ap (λ (f : CmdFault). status.Command f) only) same

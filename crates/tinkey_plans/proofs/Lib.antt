@@ -7,6 +7,7 @@ pub mod MisfitLemmas
 pub mod PromiseLemmas
 pub mod ReportLemmas
 pub mod StepLemmas
+pub mod StreamFitLemmas
 pub mod WholeLemmas
 pub mod WroteLemmas
 pub mod GoingLemmas

@@ -1,6 +1,6 @@
 -- The laws of what the program answers, over the definitions alone. Grammar of tinkey_words has
 -- those of its words.
-use Rattle.std.specs.Prelude.{◌≡◌, ◌⊎◌, List, [], ℕ, ◌+◌, ◌*◌, ◌≤◌, Option, None, Some, Ok, IsSome}
+use Rattle.std.specs.Prelude.{◌≡◌, ◌⊎◌, List, [], ℕ, ◌+◌, ◌*◌, ◌<◌, ◌≤◌, take, drop, Option, None, Some, Ok, IsSome}
 use Rattle.key_msgs.specs.declared.primitive.Primitive.{Primitive}
 use Rattle.key_msgs.specs.declared.primitive.Primitive.TheVariants.{Daead, Mac, Prf}
 use Rattle.keyset_json.specs.Reading.{reads_json}
@@ -9,11 +9,14 @@ use Rattle.keyset_model.specs.Reading.{reads_binary}
 use Rattle.managers.specs.Standard.{standard_table}
 use Rattle.managers.specs.Table.{Table}
 use Rattle.segment_stream.specs.KeysModel.{KeysForStreams}
-use Rattle.segment_stream.specs.StreamKeys.{largest_of}
+use Rattle.segment_stream.specs.StreamKeys.{largest_of, stream_unfit}
 use Rattle.tink_spec.specs.Files.{Holds, StoreState}
 use Rattle.tink_spec.specs.Outside.{Took, TookPrefix}
+use Rattle.tinkey_cmds.specs.Edits.{id_of}
 use Rattle.tinkey_cmds.specs.declared.command.CmdFault.TheVariants.{IdsExhausted}
+use Rattle.tinkey_selftest.specs.Numbers.{random_bytes}
 use Rattle.tinkey_selftest.specs.Telling.{counts_text}
+use Rattle.tinkey_selftest.specs.Trial.{random_size}
 use Rattle.tinkey_selftest.specs.declared.counts.Counts.{Counts}
 use Rattle.wrapped_prims.specs.Answers.{primary_key, dseal_answer, tag_answer, derive_answer}
 use Rattle.wrapped_prims.specs.Fitness.{unfit}
@@ -46,6 +49,9 @@ pub record FitKeysetsAnswer : Type 0 where
       IsFit table Mac keys → IsSome (tag_answer keys table body)
   pub derive : (table : Table) (keys : Keys) (input : List ℕ) (size : ℕ) →
       IsFit table Prf keys → IsSome (derive_answer keys table input size)
+  -- so are its keys for streams, where each ENABLED record gives one
+  pub stream : (keys : Keys) → fault_of keys ≡ None → stream_unfit keys ≡ None
+      → IsSome (keys_for keys)
 
 -- a stream is asked for
 abbrev pub IsStream : Asked → Type 0
@@ -123,30 +129,36 @@ pub record TellsLines (table : Table) (lines : ℕ) (output : List ℕ) : Type 0
   pub add_up : n.sealed + n.opened + n.refused + n.edited + n.declined ≡ lines
   pub none_lost : table ≡ standard_table → n.lost ≡ 0
 
--- the counts are told, or none of the ids that were drawn was free
-abbrev pub TellsOrRefuses : Table → (lines : ℕ) → Answer → Type 0
-TellsOrRefuses table lines a =
-    ((a.status ≡ status.Done) × TellsLines table lines a.output)
-    ⊎ ((a.status ≡ status.Command IdsExhausted) × (a.output ≡ []))
+-- Among the random bytes of a seed the first 64 groups of four bytes give no id: each is the number 0.
+abbrev pub HasNoId : (seed lines : ℕ) → Type 0
+HasNoId seed lines = (i : ℕ) → i < 64
+    → id_of (take 4 (drop (4 * i) (random_bytes seed (random_size lines)))) ≡ 0
 
--- The stated answer of a self-test is Done and tells its counts, but where no id was free.
+-- the counts are told, or there is no id for the first key
+abbrev pub TellsOrRefuses : Table → (seed lines : ℕ) → Answer → Type 0
+TellsOrRefuses table seed lines a =
+    ((HasNoId seed lines → ⊥) × (a.status ≡ status.Done) × TellsLines table lines a.output)
+    ⊎ (HasNoId seed lines × (a.status ≡ status.Command IdsExhausted) × (a.output ≡ []))
+
+-- The stated answer of a self-test is Done and tells its counts, but exactly where there is no id.
 abbrev pub SelfTestsTell : Type 0
 SelfTestsTell = (table : Table) (seed lines : ℕ) (told : Told)
-    → TellsOrRefuses table lines (answer (command_plan table (self_test seed lines)) told)
+    → TellsOrRefuses table seed lines (answer (command_plan table (self_test seed lines)) told)
 
--- a run of a self-test told its counts, or the first bytes of them where the sink failed; or no id
--- was free, or memory was wanting
-pub data HasTested (table : Table) (lines : ℕ) (old : World) (s : Status) (new : World)
+-- a run of a self-test told its counts, or the first bytes of them where the sink failed; or there is no
+-- id, or memory was wanting
+pub data HasTested (table : Table) (seed lines : ℕ) (old : World) (s : Status) (new : World)
     : Type 0 where
   tested : (output : List ℕ) → s ≡ status.Done → TellsLines table lines output →
-      Took old.sink new.sink output → HasTested table lines old s new
+      Took old.sink new.sink output → HasTested table seed lines old s new
   cut_short : (output : List ℕ) → s ≡ status.WriteFault → TellsLines table lines output →
-      TookPrefix old.sink new.sink output → HasTested table lines old s new
-  refused : s ≡ status.Command IdsExhausted → old ≡ new → HasTested table lines old s new
-  starved : s ≡ status.NoMemory → old ≡ new → HasTested table lines old s new
+      TookPrefix old.sink new.sink output → HasTested table seed lines old s new
+  refused : HasNoId seed lines → s ≡ status.Command IdsExhausted → old ≡ new →
+      HasTested table seed lines old s new
+  starved : s ≡ status.NoMemory → old ≡ new → HasTested table seed lines old s new
 
 -- So it is of each run, whatever fails.
 abbrev pub SelfTestRuns : Type 0
 SelfTestRuns = (table : Table) (words : List (List ℕ)) (seed lines : ℕ) (old : World) (s : Status)
     (new : World) → words_of words ≡ Ok (self_test seed lines) → Ends (plan_of table words) old s new
-    → HasTested table lines old s new
+    → HasTested table seed lines old s new

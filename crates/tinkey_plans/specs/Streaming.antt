@@ -29,7 +29,8 @@ abbrev pub keys_for : Keys → Option KeysForStreams
 keys_for keys =
     option_map (λ primary. record { primary = primary; keys = stream_keys keys }) (primary_key keys)
 
--- They go on. A keyset whose records all give one has a primary one.
+-- They go on. A keyset without a fault whose records all give one has a primary one, so the refusal never
+-- comes (laws::fit_keysets_answer).
 abbrev pub with_keys : Option KeysForStreams → (KeysForStreams → Plan) → Plan
 with_keys None next = ends (status.Keyset faults.NoPrimary) tt
 with_keys (Some keys) next = next keys

@@ -4,10 +4,11 @@ ghost use Rattle.tinkey_plans.specs.Going.{DoneExactly, FitKeysetsSeal};
 ghost use Rattle.tinkey_plans.specs.Laws.{CommandsAreWhole, DataKeysCome, FitKeysetsAnswer, RangesReadLittle, SelfTestRuns, SelfTestsTell};
 
 use seal_wrap::laws::standard_data_keys;
-use tinkey_selftest::laws::{counts_add_up, nothing_is_lost};
+use tinkey_selftest::laws::{counts_add_up, entropy_suffices, nothing_is_lost};
 
 /// A keyset without a fault, each ENABLED record of which can serve, has a primary key under its
-/// table, and what that makes is there for every input.
+/// table, and what that makes is there for every input. Where each gives a key for streams, it has its keys
+/// for streams.
 pub fn fit_keysets_answer()
     ensures { FitKeysetsAnswer }
 {}
@@ -18,14 +19,16 @@ pub fn commands_are_whole()
 {}
 
 /// A self-test is Done and tells the counts of its lines, which add up to their number, with none
-/// lost under the standard table; or it is refused, and then none of 64 ids was free. A run of it may
-/// also be cut short in telling them, or want memory.
+/// lost under the standard table; or it is refused, exactly where the first 64 numbers of 32 bits among the
+/// random bytes of its seed are 0, and so no ids. A run of it may also be cut short in telling them, or want
+/// memory.
 pub fn self_tests_tell()
     ensures stated { SelfTestsTell }
     ensures runs { SelfTestRuns }
 {
     counts_add_up();
     nothing_is_lost();
+    entropy_suffices();
 }
 
 /// The stated answer of a command is Done exactly where none of its steps refuses. Sealing is one of
