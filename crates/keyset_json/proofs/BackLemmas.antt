@@ -18,6 +18,7 @@ use Rattle.serde_json.proofs.Numbers.{number_of-decimal}
 use Rattle.keyset_model.specs.declared.record.Record.{Record}
 use Rattle.keyset_model.specs.Keyset.{Keys, IsKnown, is_bare, unless_fault}
 use Rattle.keyset_model.specs.WellFormed.{HasData}
+use Rattle.keyset_model.proofs.PrimaryLemmas.{primary_same}
 use Rattle.keyset_model.proofs.WellFormedLemmas.{all_known, all_data}
 use Rattle.keyset_json.specs.declared.member.Member.TheVariants as members
 use Rattle.keyset_json.specs.Base64Text.{bytes_of_text}
@@ -205,7 +206,9 @@ unfolding keyset_value member_of name_of field_name_of
 primary_back keys small = ap (or_at (of_keyset members.PrimaryKeyId)) (within keys.primary small)
 
 pub json_back : JsonBack
-json_back keys faultless small bounds =
+json_back keys faultless bounds =
+    let there = primary_same HasJsonBounds keys faultless bounds in
+    let small : keys.primary < 2 ^ 32 = omega (arith, there.1.id, there.2) in
     let v = keyset_value keys in
     let items = items_of (map key_value keys.records) in
     let records = list_of v (array items) items (list_back keys) refl ∙ all_back 0 keys.records bounds (all_known keys faultless) (all_data keys faultless) in

@@ -47,7 +47,8 @@ keyset_value keys = object (
 unfoldable pub json_of : Keys → List ℕ
 json_of keys = compact_text (keyset_value keys) ++ 10 ∷ []
 
--- what the types of a record hold it to; in keys without a fault its other numbers are small
+-- what the types of a record hold it to; in keys without a fault its other numbers are small, and the
+-- primary id is that of a record
 pub record HasJsonBounds (r : Record) : Type 0 where
   pub id : r.id < 2 ^ 32
   pub utf8 : is_utf8 r.url ≡ true
@@ -55,5 +56,5 @@ pub record HasJsonBounds (r : Record) : Type 0 where
 
 -- The JSON form of keys without a fault reads back to them.
 abbrev pub JsonBack : Type 0
-JsonBack = (keys : Keys) → fault_of keys ≡ None → keys.primary < 2 ^ 32
-    → AllByRecursion HasJsonBounds keys.records → reads_json (json_of keys) ≡ Ok keys
+JsonBack = (keys : Keys) → fault_of keys ≡ None → AllByRecursion HasJsonBounds keys.records
+    → reads_json (json_of keys) ≡ Ok keys

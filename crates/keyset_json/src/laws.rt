@@ -3,8 +3,8 @@
 ghost use Rattle.keyset_json.specs.Stored.{JsonIsShort, JsonIsStored};
 ghost use Rattle.keyset_json.specs.Writing.{JsonBack};
 
-/// The JSON form of keys without a fault reads back to them, where ids are below 2^32, URLs are UTF-8
-/// and values are bytes, of any length.
+/// The JSON form of keys without a fault reads back to them, where ids of records are below 2^32, URLs are
+/// UTF-8 and values are bytes, of any length. The primary id is that of a record.
 pub fn json_back()
     ensures { JsonBack }
 {}

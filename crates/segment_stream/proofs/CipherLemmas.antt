@@ -1,5 +1,5 @@
 -- Both of Tink's schemes are ciphers of segments.
-use Rattle.std.proofs.Common.{◌≡◌, ℕ, ◌+◌, ◌-◌, ◌<◌, ◌≤◌, ◌⊎◌, cond, nat_lt, Some, None, List, [], ◌∷◌, ◌++◌, length, refl, sym, ap, ◌∙◌, arith, inl, inr}
+use Rattle.std.proofs.Common.{◌≡◌, ℕ, ◌+◌, ◌-◌, ◌<◌, ◌≤◌, cond, nat_lt, Some, None, List, [], ◌∷◌, ◌++◌, length, refl, sym, ap, ◌∙◌, arith}
 use Rattle.std.specs.Prelude.{All, Bool}
 use Rattle.std.specs.List.{AllByRecursion}
 use Rattle.std.proofs.lemmas.Bool.{cond-false, cond-true, cond_both, le-ltb, lt-ltb, ltb-false}
@@ -164,18 +164,13 @@ scheme-shortens (schemes.CtrHmac hash t) key ad salt prefix number last segment 
     opened_with-length _ _ t segment plain
     (ctr_hmac-is_pair _ hash _ t (start_of prefix number last) h.1)
 
-header-is_byte : (n : ℕ) → (n ≡ 16) ⊎ (n ≡ 32) → n + 8 < 256
-header-is_byte n (inl e) = omega arith
-header-is_byte n (inr e) = omega arith
-
 pub cipher_of-is_cipher : (ad : List ℕ) (key : StreamKey) → IsSound key → IsCipher (cipher_of ad key)
 cipher_of-is_cipher ad key sound = record {
   some = omega arith;
   room = sound.room;
-  byte = header-is_byte key.derived sound.derived;
   lengthens = λ header number last plain.
       scheme-lengthens key.scheme key ad (salt_of key header) (nonce_prefix key header) number last plain sound.tag;
-  opens_back = λ header number last plain a b c d e.
+  opens_back = λ header number last plain a b c.
       scheme-opens key.scheme key ad (salt_of key header) (nonce_prefix key header) number last plain sound.tag;
   shortens = λ header number last bytes plain.
       scheme-shortens key.scheme key ad (salt_of key header) (nonce_prefix key header) number last bytes plain

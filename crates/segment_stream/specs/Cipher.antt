@@ -1,5 +1,5 @@
 -- A cipher of segments: a stream's key with its associated data, whatever the kind of the key.
-use Rattle.std.specs.Prelude.{◌≡◌, ℕ, zero, suc, ◌+◌, ◌^◌, ◌<◌, ◌≤◌, List, length, drop, Bool, Option, Some, All}
+use Rattle.std.specs.Prelude.{◌≡◌, ℕ, zero, suc, ◌+◌, ◌^◌, ◌<◌, ◌≤◌, List, length, drop, Bool, Option, Some}
 
 -- a key of streams, with the associated data, as the laws see it: sizes, and what each segment
 -- seals and opens to
@@ -15,20 +15,14 @@ pub record SegmentCipher : Type 0 where
   -- authenticate there
   pub opens : List ℕ → ℕ → Bool → List ℕ → Option (List ℕ)
 
--- a number of eight bits
-abbrev pub IsByte : ℕ → Type 0
-IsByte b = b < 256
-
 -- what the laws need of a cipher
 pub record IsCipher (key : SegmentCipher) : Type 0 where
   pub some : 0 < key.header
   pub room : key.header + key.tag < key.size
-  pub byte : key.header < 256
   pub lengthens : (header : List ℕ) (number : ℕ) (last : Bool) (plain : List ℕ)
       → length (key.seals header number last plain) ≡ length plain + key.tag
   pub opens_back : (header : List ℕ) (number : ℕ) (last : Bool) (plain : List ℕ)
-      → length header ≡ key.header → number < 2 ^ 32 → All IsByte header → All IsByte plain
-      → length plain + key.tag ≤ key.size
+      → length header ≡ key.header → number < 2 ^ 32 → length plain + key.tag ≤ key.size
       → key.opens header number last (key.seals header number last plain) ≡ Some plain
   pub shortens : (header : List ℕ) (number : ℕ) (last : Bool) (bytes plain : List ℕ)
       → key.opens header number last bytes ≡ Some plain → length bytes ≡ length plain + key.tag

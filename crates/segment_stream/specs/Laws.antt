@@ -1,7 +1,7 @@
 -- The laws of streams, over the definitions alone.
 use Rattle.std.specs.Prelude.{◌≡◌, ℕ, ◌+◌, ◌-◌, ◌*◌, ◌<◌, ◌≤◌, List, [], ◌∷◌, ◌++◌, length, Bool, true, false, Some, None, All}
 use Rattle.segment_stream.specs.Pieces.{piece, followed, leading}
-use Rattle.segment_stream.specs.Cipher.{SegmentCipher, IsCipher, IsByte, most_segments}
+use Rattle.segment_stream.specs.Cipher.{SegmentCipher, IsCipher, most_segments}
 use Rattle.std.specs.Prelude.{take, drop, if◌then◌else◌}
 use Rattle.std.specs.List.{concat}
 use Rattle.segment_stream.specs.Cipher.{behind_header}
@@ -46,8 +46,7 @@ SealedPrefix = (key : SegmentCipher) (random taken more : List ℕ) (ended : Boo
 -- a sealed stream opens under its key
 abbrev pub StreamBack : Type 0
 StreamBack = (key : SegmentCipher) (random plain : List ℕ) → IsCipher key
-    → length random + 1 ≡ key.header
-    → All IsByte random → All IsByte plain → seal_decides key random plain ≡ None
+    → length random + 1 ≡ key.header → seal_decides key random plain ≡ None
     → stream_answer (key ∷ []) (sealed key random plain true) ≡ (plain, None)
 
 -- a sealed stream is as long as its header, its plaintext and a tag for each segment

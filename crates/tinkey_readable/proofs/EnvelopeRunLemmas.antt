@@ -3,7 +3,7 @@ use Rattle.std.proofs.Common.{arith, ◌≡◌, ◌∙◌, sym, refl, ap, subst,
 use Rattle.std.specs.Prelude.{if◌then◌else◌, option_map}
 use Rattle.std.specs.FinMap as map
 use Rattle.std.proofs.lemmas.Option.{same_Some}
-use Rattle.key_msgs.specs.KeyTypes.{primitive_of_type}
+use Rattle.key_msgs.specs.KeyTypes.{primitive_of_type, url_of_type}
 use Rattle.key_msgs.specs.Templates.{Row, is_asymmetric, row_named, type_made}
 use Rattle.key_msgs.specs.declared.primitive.Primitive.{Primitive}
 use Rattle.key_msgs.specs.declared.primitive.Primitive.TheVariants.{Aead, Daead, Mac, Prf, Stream}
@@ -18,6 +18,7 @@ use Rattle.seal_wrap.specs.EnvelopeLaws.{DataKeysAreServed, EnvelopeBack, Envelo
 use Rattle.seal_wrap.specs.Enveloped.{Enveloped, envelope_of, open_envelope_of}
 use Rattle.seal_wrap.specs.Enveloping.{IsAead, url_made}
 use Rattle.tinkey_cmds.specs.Draws.{Drawn}
+use Rattle.tinkey_session.proofs.Options.{map_some}
 use Rattle.tinkey_session.proofs.UsableLemmas.{valid_key}
 use Rattle.tinkey_session.specs.Laws.{EditedIsKeyset, EditedIsSound, SoundIsUsable}
 use Rattle.tinkey_session.specs.SessionLaws.{SessionIsEdits}
@@ -41,18 +42,18 @@ use Rattle.tinkey_readable.proofs.RunLemmas.{lead_ends, opens_so, still_fit}
 -- ---- the template of data keys
 
 -- a template that was found
-record FoundDek (name : List ℕ) (next : Row → Plan) (told : Told) : Type 0 where
-  row : Row
-  is : row_named name ≡ Some row
-  aead : IsAead row
-  goes_on : answer (finds_dek name next) told ≡ answer (next row) told
+pub record FoundDek (name : List ℕ) (next : Row → Plan) (told : Told) : Type 0 where
+  pub row : Row
+  pub is : row_named name ≡ Some row
+  pub aead : IsAead row
+  pub goes_on : answer (finds_dek name next) told ≡ answer (next row) told
 
 dek_reached : (name : List ℕ) (row : Row) (next : Row → Plan) (told : Told) → row_named name ≡ Some row → IsAead row → answer (finds_dek name next) told ≡ answer (next row) told
 dek_reached name row next told is aead =
     ap (λ o. answer (with_row o name (λ r. with_aead (primitive_of_type (type_made r)) (next r))) told) is
     ∙ ap (λ p. answer (with_aead p (next row)) told) aead
 
-dek_done : (name : List ℕ) (next : Row → Plan) (told : Told) → IsDoneAnswer (answer (finds_dek name next) told) → FoundDek name next told
+pub dek_done : (name : List ℕ) (next : Row → Plan) (told : Told) → IsDoneAnswer (answer (finds_dek name next) told) → FoundDek name next told
 dek_done name next told done = by (row_named name) refl done
   where
     by_aead : (row : Row) (p : Primitive) → row_named name ≡ Some row → primitive_of_type (type_made row) ≡ p → IsDoneAnswer (answer (with_aead p (next row)) told) → FoundDek name next told
@@ -86,14 +87,14 @@ aead_scheme served row scheme aead is =
 -- ---- the whole
 
 -- the plan from the template on, and from the keyset on
-abbrev behind_keys : Table → Row → AskedEnvelope → (List ℕ → Plan) → Keys → Plan
+abbrev pub behind_keys : Table → Row → AskedEnvelope → (List ℕ → Plan) → Keys → Plan
 behind_keys table row work next keys =
     handles table Aead keys (λ fit.
     finds_scheme table row (λ scheme.
     reads_input (envelope_limit work) (λ input.
     envelopes table keys scheme row work input next)))
 
-abbrev behind_dek : Table → (name : List ℕ) → Format → AskedEnvelope → (List ℕ → Plan) → Row → Plan
+abbrev pub behind_dek : Table → (name : List ℕ) → Format → AskedEnvelope → (List ℕ → Plan) → Row → Plan
 behind_dek table name form work next row = loads_keyset name form (behind_keys table row work next)
 
 abbrev behind_fit : Table → Row → AskedEnvelope → (List ℕ → Plan) → Keys → Plan
@@ -106,17 +107,17 @@ abbrev behind_scheme : Table → Row → AskedEnvelope → (List ℕ → Plan) �
 behind_scheme table row work next keys scheme =
     reads_input (envelope_limit work) (λ input. envelopes table keys scheme row work input next)
 
-record UsedEnvelope (table : Table) (keys : Keys) (template : List ℕ) (work : AskedEnvelope) (next : List ℕ → Plan) (told : Told) (a : Answer) : Type 0 where
-  row : Row
-  named : row_named template ≡ Some row
-  aead : IsAead row
-  fit : unfit keys Aead table ≡ None
-  scheme : Scheme
-  served : scheme_at table Aead (url_made row) ≡ Some scheme
-  fits : length told.input ≤ envelope_limit work
-  goes_on : a ≡ answer (envelopes table keys scheme row work told.input next) (record told { input = [] })
+pub record UsedEnvelope (table : Table) (keys : Keys) (template : List ℕ) (work : AskedEnvelope) (next : List ℕ → Plan) (told : Told) (a : Answer) : Type 0 where
+  pub row : Row
+  pub named : row_named template ≡ Some row
+  pub aead : IsAead row
+  pub fit : unfit keys Aead table ≡ None
+  pub scheme : Scheme
+  pub served : scheme_at table Aead (url_made row) ≡ Some scheme
+  pub fits : length told.input ≤ envelope_limit work
+  pub goes_on : a ≡ answer (envelopes table keys scheme row work told.input next) (record told { input = [] })
 
-used_done : (table : Table) (name : List ℕ) (form : Format) (template : List ℕ) (work : AskedEnvelope) (next : List ℕ → Plan) (bytes : List ℕ) (keys : Keys) (told : Told) → map.get told.files name ≡ Some bytes → read_in form bytes ≡ Some keys → IsDoneAnswer (answer (envelope_output table name form template work next) told)
+pub used_done : (table : Table) (name : List ℕ) (form : Format) (template : List ℕ) (work : AskedEnvelope) (next : List ℕ → Plan) (bytes : List ℕ) (keys : Keys) (told : Told) → map.get told.files name ≡ Some bytes → read_in form bytes ≡ Some keys → IsDoneAnswer (answer (envelope_output table name form template work next) told)
     → UsedEnvelope table keys template work next told (answer (envelope_output table name form template work next) told)
 used_done table name form template work next bytes keys told there e done =
     let d = dek_done template (behind_dek table name form work next) told done in
@@ -145,7 +146,7 @@ used_within table name form template work next bytes told there done =
     let d = dek_done template (behind_dek table name form work next) told done in
     load_within name form bytes (behind_keys table d.row work next) told there (ap (λ (a : Answer). a.status) (sym d.goes_on) ∙ done)
 
-used_reached : (table : Table) (name : List ℕ) (form : Format) (template : List ℕ) (row : Row) (scheme : Scheme) (work : AskedEnvelope) (next : List ℕ → Plan) (bytes : List ℕ) (keys : Keys) (told : Told) → row_named template ≡ Some row → IsAead row → scheme_at table Aead (url_made row) ≡ Some scheme
+pub used_reached : (table : Table) (name : List ℕ) (form : Format) (template : List ℕ) (row : Row) (scheme : Scheme) (work : AskedEnvelope) (next : List ℕ → Plan) (bytes : List ℕ) (keys : Keys) (told : Told) → row_named template ≡ Some row → IsAead row → scheme_at table Aead (url_made row) ≡ Some scheme
     → map.get told.files name ≡ Some bytes → read_in form bytes ≡ Some keys → length bytes ≤ keyset_limit → unfit keys Aead table ≡ None → length told.input ≤ envelope_limit work
     → answer (envelope_output table name form template work next) told ≡ answer (envelopes table keys scheme row work told.input next) (record told { input = [] })
 used_reached table name form template row scheme work next bytes keys told named aead served there e within fit fits =
@@ -184,7 +185,7 @@ sealed_by old scheme row ad told output done gave = by (envelope_of old standard
     by (Some e) is done gave = by_answer e.answer e.left is done gave
 
 pub runs_open_envelope : EnvelopeBack → EnvelopesFit → DataKeysAreServed → ReadKeysFit → RunStep → WrapStep → SessionIsEdits → SoundIsUsable Aead → EditedIsSound → EditedIsKeyset → RunsOpenEnvelope
-runs_open_envelope back sizes served read_fit law wrap sessions usable sound keyset runs before after r prefix template ad sealed told x same is was =
+runs_open_envelope back sizes served read_fit law wrap sessions usable sound keyset runs before after r prefix template other ad sealed told x same is one_type was =
     let within = used_within standard_table was.name before.form template (to_eseal ad) (puts was.out) before.bytes told was.lies was.done in
     let e = lead_ends read_fit law wrap sessions runs before after r within x in
     let u = used_done standard_table was.name before.form template (to_eseal ad) (puts was.out) before.bytes x.old told was.lies e.read was.done in
@@ -197,9 +198,10 @@ runs_open_envelope back sizes served read_fit law wrap sessions usable sound key
     let row : IsDataKeyRow u.row = record { known = row_known template u.row u.named; aead = u.aead } in
     let opened = back standard_table u.scheme u.row x.old x.new r prefix told.input ad told.random sealed s.0 row (aead_scheme served u.row u.scheme u.aead u.served) e.primary is (gives_key_for x.old r u.fit e.keyset e.primary) same s.1 in
     let short : length sealed ≤ sealed_limit = omega (arith, sizes standard_table u.scheme u.row x.old told.input ad told.random sealed s.0 row s.1, u.fits) in
+    let again = map_some type_made (row_named other) (type_made u.row) (sym one_type ∙ ap (option_map type_made) u.named) in
     λ t name out lies input free.
-    let r' = used_reached standard_table name after.form template u.row u.scheme (to_eopen ad) (puts out) after.bytes x.new t u.named u.aead u.served lies e.read_again e.within (still_fit Aead usable sound keyset x.old x.new e.keyset e.edited u.fit) (subst (λ i. length i ≤ sealed_limit) (sym input) short) in
+    let r' = used_reached standard_table name after.form other again.0 u.scheme (to_eopen ad) (puts out) after.bytes x.new t again.1 (ap primitive_of_type again.2 ∙ u.aead) (ap (λ made. scheme_at standard_table Aead (url_of_type made)) again.2 ∙ u.served) lies e.read_again e.within (still_fit Aead usable sound keyset x.old x.new e.keyset e.edited u.fit) (subst (λ i. length i ≤ sealed_limit) (sym input) short) in
     let g = opens_so (open_envelope_of x.new standard_table u.scheme t.input ad) told.input (record t { input = [] }) (ap (λ i. open_envelope_of x.new standard_table u.scheme i ad) input ∙ opened) in
-    let opening = envelope_worked standard_table x.new u.scheme u.row (to_eopen ad) t.input writes (record t { input = [] }) g.0 in
-    let p = made_put (envelopes standard_table x.new u.scheme u.row (to_eopen ad) t.input) (record t { input = [] }) false out told.input opening g.1 free in
+    let opening = envelope_worked standard_table x.new u.scheme again.0 (to_eopen ad) t.input writes (record t { input = [] }) g.0 in
+    let p = made_put (envelopes standard_table x.new u.scheme again.0 (to_eopen ad) t.input) (record t { input = [] }) false out told.input opening g.1 free in
     (ap (λ (a : Answer). a.status) r' ∙ p.0, ap (λ (a : Answer). bytes_at out a.files a.output) r' ∙ p.1)

@@ -47,12 +47,12 @@ range_past slice keys ad stream plain from size opens behind =
 -- ---- a run of srange
 
 -- bytes are put out where the name of a new file is free
-puts_reached : (file : Option (List ℕ)) (bytes : List ℕ) (told : Told) → IsFree file told.files → IsDoneAnswer (answer (puts file bytes) told)
+pub puts_reached : (file : Option (List ℕ)) (bytes : List ℕ) (told : Told) → IsFree file told.files → IsDoneAnswer (answer (puts file bytes) told)
 puts_reached (Some name) bytes told free = ap (λ (found : Option (List ℕ)). (create_answer found told name bytes (refused told status.OutExists)).status) free
 puts_reached None bytes told free = refl
 
 -- what follows a stretch, by what it is
-stretch_reached : (keys : KeysForStreams) (ad stream : List ℕ) (range : AskedRange) (out : Option (List ℕ)) (told : Told) (opened : Opened) → map.get told.files range.file ≡ Some stream → range_of (ciphers_of ad keys.keys) stream range.from (range.from + range.size) ≡ opened
+pub stretch_reached : (keys : KeysForStreams) (ad stream : List ℕ) (range : AskedRange) (out : Option (List ℕ)) (told : Told) (opened : Opened) → map.get told.files range.file ≡ Some stream → range_of (ciphers_of ad keys.keys) stream range.from (range.from + range.size) ≡ opened
     → answer (opens_stretch keys ad range (puts out)) told ≡ answer (with_stretch opened (puts out)) told
 stretch_reached keys ad stream range out told opened there is =
     ap (λ (found : Option (List ℕ)). range_answer found (stretch_for keys ad range) (refused told status.InMissing) (λ o. answer (with_stretch o (puts out)) told)) there

@@ -44,7 +44,7 @@ pub went_done : (b : Bool) (went long : Answer) → (long.status ≡ status.Done
 went_done true went long other done = refl
 went_done false went long other done = absurd (other done)
 
-went_test : (b : Bool) (went long : Answer) → (long.status ≡ status.Done → ⊥) → (if b then went else long).status ≡ status.Done → b ≡ true
+pub went_test : (b : Bool) (went long : Answer) → (long.status ≡ status.Done → ⊥) → (if b then went else long).status ≡ status.Done → b ≡ true
 went_test true went long other done = refl
 went_test false went long other done = absurd (other done)
 
@@ -71,7 +71,7 @@ loaded_done found bytes limit absent long next is other done =
     let e = ap (λ f. load_answer f limit absent long next) is in
     e ∙ went_done (nat_le (length bytes) limit) (next bytes) long other (ap (λ (a : Answer). a.status) (sym e) ∙ done)
 
-loaded_within : (found : Option (List ℕ)) (bytes : List ℕ) (limit : ℕ) (absent long : Answer) (next : List ℕ → Answer) → found ≡ Some bytes → (long.status ≡ status.Done → ⊥) → (load_answer found limit absent long next).status ≡ status.Done
+pub loaded_within : (found : Option (List ℕ)) (bytes : List ℕ) (limit : ℕ) (absent long : Answer) (next : List ℕ → Answer) → found ≡ Some bytes → (long.status ≡ status.Done → ⊥) → (load_answer found limit absent long next).status ≡ status.Done
     → length bytes ≤ limit
 loaded_within found bytes limit absent long next is other done =
     let e = ap (λ f. load_answer f limit absent long next) is in
@@ -131,7 +131,7 @@ pub record FoundEdit (asked : AskedEdit) (next : Edit → Plan) (told : Told) : 
   pub is : edit_of asked ≡ Some edit
   pub goes_on : answer (finds_edit asked next) told ≡ answer (next edit) told
 
-found_row : (row : Option Row) (name : List ℕ) (next : Row → Plan) (told : Told) → IsDoneAnswer (answer (with_row row name next) told) → (r : Row) × (row ≡ Some r) × (answer (with_row row name next) told ≡ answer (next r) told)
+pub found_row : (row : Option Row) (name : List ℕ) (next : Row → Plan) (told : Told) → IsDoneAnswer (answer (with_row row name next) told) → (r : Row) × (row ≡ Some r) × (answer (with_row row name next) told ≡ answer (next r) told)
 found_row (Some r) name next told done = (r, refl, refl)
 found_row None name next told done = by_test (is_asymmetric name) done
   where

@@ -33,7 +33,7 @@ use Rattle.tinkey_session.specs.HeldLaws.{AreBytes, AreStored, EditsKeepStored, 
 use Rattle.tinkey_session.specs.Laws.{EditedIsKeyset, EditedIsSound, IsEdited, KeptDopen, KeptDopenPresent, KeptOpen, KeptOpenPresent, KeptTag, SoundIsUsable, after}
 use Rattle.tinkey_session.specs.Lines.{line_of}
 use Rattle.tinkey_session.specs.Session.{Remains, asked_in, lines_of, remains}
-use Rattle.tinkey_session.specs.Talking.{Stop, goes, wants, passes, long_line, many_lines, Talk, talk}
+use Rattle.tinkey_session.specs.Talking.{Stop, goes, wants, passes, line_limit, long_line, many_lines, Talk, talk}
 use Rattle.tinkey_session.specs.SessionLaws.{SessionIsEdits}
 use Rattle.tinkey_session.specs.TalkLaws.{TalkIsTurns}
 use Rattle.wrapped_prims.specs.Answers.{Sealed, dopen_answer, dseal_answer, open_answer, seal_answer, tag_answer, verify_answer}
@@ -127,12 +127,12 @@ primary_word law keys faultless stored =
     let r = found_each IsStored (is_primary keys.primary) keys.records there.0 there.1 stored in
     subst (λ n. n < 2 ^ 32) there.2 r.held.id
 
-pub json_back : FaultlessKeysets → JsonBack → (keys : Keys) → fault_of keys ≡ None → AreStored keys → reads_json (json_of keys) ≡ Ok keys
-json_back law json keys faultless stored = json keys faultless (primary_word law keys faultless stored) (each_of keys.records (λ r s. record { id = s.held.id; utf8 = s.held.utf8; bytes = byte_there r.value s.bytes }) stored)
+pub json_back : JsonBack → (keys : Keys) → fault_of keys ≡ None → AreStored keys → reads_json (json_of keys) ≡ Ok keys
+json_back json keys faultless stored = json keys faultless (each_of keys.records (λ r s. record { id = s.held.id; utf8 = s.held.utf8; bytes = byte_there r.value s.bytes }) stored)
 
-pub written_back : FaultlessKeysets → BinaryBack → JsonBack → (form : Format) (keys : Keys) → fault_of keys ≡ None → AreStored keys → read_in form (written_in form keys) ≡ Some keys
-written_back law binary json formats.Json keys faultless stored = ap result_ok (json_back law json keys faultless stored)
-written_back law binary json formats.Binary keys faultless stored = ap result_ok (binary keys faultless (each_of keys.records (λ r s. record { id = s.held.id; utf8 = s.held.utf8; short = s.held.short }) stored))
+pub written_back : BinaryBack → JsonBack → (form : Format) (keys : Keys) → fault_of keys ≡ None → AreStored keys → read_in form (written_in form keys) ≡ Some keys
+written_back binary json formats.Json keys faultless stored = ap result_ok (json_back json keys faultless stored)
+written_back binary json formats.Binary keys faultless stored = ap result_ok (binary keys faultless (each_of keys.records (λ r s. record { id = s.held.id; utf8 = s.held.utf8; short = s.held.short }) stored))
 
 -- ---- one run
 
@@ -153,10 +153,10 @@ edit_template (edits.Delete id) edit e = subst HasTemplate (same_Some _ _ e) tt
 pub kept : FaultlessKeysets → BinaryBack → JsonBack → (new : Keys) (form : Format) (after : Written) (found : Option (List ℕ)) → form ≡ after.form → found ≡ Some after.bytes → found ≡ Some (written_in form new) → length (written_in form new) ≤ keyset_limit → fault_of new ≡ None → AreStored new
     → Keeps new after
 kept law binary json new form after found same put is within faultless stored = record {
-  read = subst (λ f. read_in f after.bytes ≡ Some new) same (ap (read_in form) (same_Some _ _ (sym put ∙ is)) ∙ written_back law binary json form new faultless stored);
+  read = subst (λ f. read_in f after.bytes ≡ Some new) same (ap (read_in form) (same_Some _ _ (sym put ∙ is)) ∙ written_back binary json form new faultless stored);
   stored = stored;
   within = subst (λ bytes. length bytes ≤ keyset_limit) (same_Some _ _ (sym is ∙ put)) within;
-  holds = subst AreBytes (same_Some _ _ (sym is ∙ put)) (written_bytes form new ((law new).0 faultless) (primary_word law new faultless stored) stored (json_back law json new faultless stored));
+  holds = subst AreBytes (same_Some _ _ (sym is ∙ put)) (written_bytes form new ((law new).0 faultless) (primary_word law new faultless stored) stored (json_back json new faultless stored));
 }
 
 -- what a run did, and so what keyset was written
@@ -212,14 +212,15 @@ convert_step law binary json table in' out told before after old done form read 
     (read_faultless before old is) stored refl
 
 -- the answer of a session over its whole input that is Done, and what goes on
-record SessionDone (table : Table) (out : Place) (old : Keys) (told : Told) : Type 0 where
-  last : Remains
-  is : remains table old (asked_in told.input) told.random ≡ Some last
-  left : Told
-  goes_on : (answer (exchanges (talk table old) (saves out)) told).files ≡ (answer (saves out last.keys) left).files
-  done : IsDoneAnswer (answer (saves out last.keys) left)
+pub record SessionDone (table : Table) (out : Place) (old : Keys) (told : Told) : Type 0 where
+  pub last : Remains
+  pub is : remains table old (asked_in told.input) told.random ≡ Some last
+  pub short : AllByRecursion (λ line. length line ≤ line_limit) (lines_of told.input)
+  pub left : Told
+  pub goes_on : (answer (exchanges (talk table old) (saves out)) told).files ≡ (answer (saves out last.keys) left).files
+  pub done : IsDoneAnswer (answer (saves out last.keys) left)
 
-talk_done : TalkIsTurns → (table : Table) (out : Place) (old : Keys) (told : Told) → IsDoneAnswer (answer (exchanges (talk table old) (saves out)) told) → SessionDone table out old told
+pub talk_done : TalkIsTurns → (table : Table) (out : Place) (old : Keys) (told : Told) → IsDoneAnswer (answer (exchanges (talk table old) (saves out)) told) → SessionDone table out old told
 talk_done law table out old told done = by_stop x.stop refl done
   where
     x : Talk
@@ -238,6 +239,7 @@ talk_done law table out old told done = by_stop x.stop refl done
         record {
           last = t.last;
           is = ap (λ l. remains table old (each line_of l) told.random) all ∙ t.remains';
+          short = subst (λ l. AllByRecursion (λ line. length line ≤ line_limit) l) (sym all) t.short;
           left = left;
           goes_on = ap (λ (a : Answer). a.files) (ap (λ s. talk_answer s x told next) is) ∙ ap (λ k. (answer (saves out k) left).files) (sym t.keys');
           done = ap (λ k. (answer (saves out k) left).status) t.keys' ∙ done;
@@ -247,7 +249,7 @@ talk_done law table out old told done = by_stop x.stop refl done
     by_stop (passes many_lines) is done = absurd (cc)
 
 -- where the whole is Done, the name was free
-free_done : (file : Option (List ℕ)) (next : Unit {0} → Plan) (told : Told) → IsDoneAnswer (answer (finds_free file next) told) → answer (finds_free file next) told ≡ answer (next tt) told
+pub free_done : (file : Option (List ℕ)) (next : Unit {0} → Plan) (told : Told) → IsDoneAnswer (answer (finds_free file next) told) → answer (finds_free file next) told ≡ answer (next tt) told
 free_done None next told done = refl
 free_done (Some name) next told done = by (map.get told.files name) done
   where
@@ -511,10 +513,10 @@ pub opens_so : (o : Option (List ℕ)) (plain : List ℕ) (told : Told) → o �
 opens_so o plain told is = rw is (refl, refl)
 
 -- what was sealed is within the limit of what is opened
-sealed_fits : SealingsFit → (old : Keys) (plain ad random : List ℕ) (s : Sealed) (sealed : List ℕ) → seal_answer old standard_table plain ad random ≡ Some s → s.bytes ≡ sealed → length plain ≤ input_limit → length sealed ≤ sealed_limit
+pub sealed_fits : SealingsFit → (old : Keys) (plain ad random : List ℕ) (s : Sealed) (sealed : List ℕ) → seal_answer old standard_table plain ad random ≡ Some s → s.bytes ≡ sealed → length plain ≤ input_limit → length sealed ≤ sealed_limit
 sealed_fits sizes old plain ad random s sealed is same within = subst (λ bytes. length bytes ≤ sealed_limit) same (omega (arith, sizes standard_table old plain ad random s is, within))
 
-dsealed_fits : DsealingsFit → (old : Keys) (plain ad sealed : List ℕ) → dseal_answer old standard_table plain ad ≡ Some sealed → length plain ≤ input_limit → length sealed ≤ sealed_limit
+pub dsealed_fits : DsealingsFit → (old : Keys) (plain ad sealed : List ℕ) → dseal_answer old standard_table plain ad ≡ Some sealed → length plain ≤ input_limit → length sealed ≤ sealed_limit
 dsealed_fits sizes old plain ad sealed is within = omega (arith, sizes standard_table old plain ad sealed is, within)
 
 pub runs_open : SealingsFit → ReadKeysFit → RunStep → WrapStep → SessionIsEdits → SoundIsUsable Aead → EditedIsSound → EditedIsKeyset → KeptOpen → RunsOpen

@@ -1,16 +1,15 @@
 -- Streams that were sealed before runs, and opened after them.
-use Rattle.std.proofs.Common.{arith, ◌≡◌, ◌∙◌, sym, refl, ap, ℕ, zero, suc, ◌+◌, ◌≤◌, Bool, true, false, List, [], ◌∷◌, length, take, drop, Option, Some, None, Ok}
-use Rattle.std.specs.Prelude.{All, nat_lt, option_map, if◌then◌else◌}
+use Rattle.std.proofs.Common.{arith, ◌≡◌, ◌∙◌, sym, refl, ap, ℕ, ◌+◌, ◌≤◌, Bool, true, false, List, [], ◌∷◌, length, take, drop, Option, Some, None, Ok}
+use Rattle.std.specs.Prelude.{nat_lt, option_map, if◌then◌else◌}
 use Rattle.std.specs.FinMap as map
 use Rattle.std.proofs.lemmas.Bool.Decides.{nat_tests}
 use Rattle.std.proofs.lemmas.List.{length-take-le}
-use Rattle.std.proofs.lemmas.List.Elements.{All-cons}
 use Rattle.keyset_model.specs.Keyset.{Keys}
 use Rattle.keyset_model.specs.Writing.{ReadKeysFit}
 use Rattle.keyset_model.specs.declared.record.Record.{Record}
 use Rattle.key_msgs.specs.declared.primitive.Primitive.TheVariants.{Stream}
 use Rattle.segment_stream.proofs.CipherLemmas.{cipher_of-is_cipher}
-use Rattle.segment_stream.specs.Cipher.{IsByte, SegmentCipher}
+use Rattle.segment_stream.specs.Cipher.{SegmentCipher}
 use Rattle.segment_stream.specs.KeysModel.{KeysForStreams}
 use Rattle.segment_stream.specs.Laws.{StreamBack}
 use Rattle.segment_stream.specs.Opening.{Choice, StreamRefusal, choose, chosen, decides, decides_by, failed, released, released_by, stream_answer, too_many}
@@ -21,7 +20,6 @@ use Rattle.segment_stream.specs.StreamKeys.{StreamUnfit, bad_key, not_stream, pr
 use Rattle.segment_stream.specs.declared.key.StreamKey.{StreamKey}
 use Rattle.tinkey_cmds.specs.Draws.{Drawn}
 use Rattle.tinkey_session.proofs.Options.{map_some}
-use Rattle.tinkey_session.specs.HeldLaws.{AreBytes}
 use Rattle.tinkey_session.specs.Laws.{EditedIsKeyset, EditedIsSound}
 use Rattle.tinkey_session.specs.SessionLaws.{SessionIsEdits}
 use Rattle.tinkey_plans.specs.declared.status.Status.TheVariants as status
@@ -85,20 +83,10 @@ keys_loaded name form bytes keys next told there e done =
 
 -- ---- a stream
 
-take_bytes : (n : ℕ) (bytes : List ℕ) → AreBytes bytes → AreBytes (take n bytes)
-take_bytes zero bytes all = tt
-take_bytes (suc n) [] all = tt
-take_bytes (suc n) (b ∷ bytes) all = (all.0, take_bytes n bytes all.1)
-
-each_byte : (bytes : List ℕ) → AreBytes bytes → All IsByte bytes
-each_byte [] all = λ k d lt. absurd (omega arith)
-each_byte (b ∷ bytes) all = All-cons IsByte b bytes all.0 (each_byte bytes all.1)
-
 -- what was sealed, by the answer of the plan behind the keys
 record SealedStream (key : StreamKey) (ad : List ℕ) (told : Told) (stream : List ℕ) : Type 0 where
   random : List ℕ
   whole : length random ≡ key.derived + 7
-  bytes : AreBytes told.random → AreBytes random
   few : seal_decides (cipher_of ad key) random told.input ≡ None
   is : sealed (cipher_of ad key) random told.input true ≡ stream
 
@@ -122,7 +110,7 @@ sealed_by keys ad told stream done gave = by (nat_lt (length told.random) n) ref
         (λ (d : Drawn (List ℕ)). answer (with_made d.answer (λ r. pumps (sealing cipher (header_of cipher r)))) (record told { random = d.left }))
 
     by_pass : (o : Option StreamRefusal) → length random ≡ n → many_plain cipher (header_of cipher random) told.input ≡ o → IsDoneAnswer (pumped o) → (pumped o).output ≡ stream → SealedStream keys.primary ad told stream
-    by_pass None whole few done gave = record { random = random; whole = whole; bytes = take_bytes n told.random; few = few; is = gave }
+    by_pass None whole few done gave = record { random = random; whole = whole; few = few; is = gave }
     by_pass (Some too_many) whole few done gave = absurd (cc)
     by_pass (Some (failed number)) whole few done gave = absurd (cc)
 
@@ -133,10 +121,10 @@ sealed_by keys ad told stream done gave = by (nat_lt (length told.random) n) ref
         by_pass (many_plain cipher (header_of cipher random) told.input) (length-take-le n told.random enough) refl done gave
 
 -- it opens under the key that sealed it
-opens_alone : StreamBack → (key : StreamKey) (ad : List ℕ) (told : Told) (stream : List ℕ) → IsSound key → AreBytes told.input → AreBytes told.random → SealedStream key ad told stream → stream_answer (cipher_of ad key ∷ []) stream ≡ (told.input, None)
-opens_alone back key ad told stream sound plain_bytes random_bytes s =
+opens_alone : StreamBack → (key : StreamKey) (ad : List ℕ) (told : Told) (stream : List ℕ) → IsSound key → SealedStream key ad told stream → stream_answer (cipher_of ad key ∷ []) stream ≡ (told.input, None)
+opens_alone back key ad told stream sound s =
     ap (stream_answer (cipher_of ad key ∷ [])) (sym s.is)
-    ∙ back (cipher_of ad key) s.random told.input (cipher_of-is_cipher ad key sound) (omega (arith, s.whole)) (each_byte s.random (s.bytes random_bytes)) (each_byte told.input plain_bytes) s.few
+    ∙ back (cipher_of ad key) s.random told.input (cipher_of-is_cipher ad key sound) (omega (arith, s.whole)) s.few
 
 -- a pass that opens it is Done, with its plaintext
 opened_so : (keys : KeysForStreams) (ad : List ℕ) (told : Told) (stream plain : List ℕ) → told.input ≡ stream → stream_answer (ciphers_of ad keys.keys) stream ≡ (plain, None) → (IsDoneAnswer (answer (opens_stream keys ad) told)) × ((answer (opens_stream keys ad) told).output ≡ plain)
@@ -195,7 +183,7 @@ sealed_before back read_fit law wrap sessions sound keyset runs before after r a
       there = primary.1;
       key = u.primary;
       gives = gives;
-      alone = opens_alone back u.primary ad told stream (sound_key r u.primary gives) was.plain_bytes was.random_bytes s;
+      alone = opens_alone back u.primary ad told stream (sound_key r u.primary gives) s;
     }
 
 pub runs_open_stream : StreamBack → ReadKeysFit → RunStep → WrapStep → SessionIsEdits → EditedIsSound → EditedIsKeyset → RunsOpenStream

@@ -34,7 +34,7 @@ use Rattle.tinkey_plans.specs.Wrapping.{as_wrapping, is_json, makes_wrapped, tak
 use Rattle.tinkey_words.specs.Words.{Asked, Place, unwrap_keyset, wrap_keyset}
 use Rattle.tinkey_words.specs.declared.words.rows.Format.{Format}
 use Rattle.tinkey_words.specs.declared.words.rows.Format.TheVariants as formats
-use Rattle.tinkey_readable.specs.Runs.{DrawsBytes, HoldsBytes, IsFree, LiesIn, ReadIsStored, Run, RunStep, RunsUnwrap, WrapStep, Wraps, Written, bytes_at, keyset_of, read_in}
+use Rattle.tinkey_readable.specs.Runs.{DrawsBytes, HoldsBytes, IsFree, IsWithinIn, LiesIn, ReadIsStored, Run, RunStep, RunsUnwrap, WrapStep, Wraps, Written, bytes_at, keyset_of, read_in}
 use Rattle.tinkey_readable.proofs.ReachLemmas.{IsDoneAnswer, behind, bytes_put, bytes_reached, load_done, load_reached, load_within, loaded, loaded_done, put_done, taken_done, taken_within, unfit_done, went_done, went_on}
 use Rattle.tinkey_readable.proofs.RunLemmas.{each_of, json_back, kept, lead_ends, primary_word, read_faultless, still_fit}
 use Rattle.tinkey_readable.proofs.WrittenBytesLemmas.{written_bytes}
@@ -42,7 +42,7 @@ use Rattle.tinkey_readable.proofs.WrittenBytesLemmas.{written_bytes}
 -- ---- steps that went on
 
 -- bytes within a limit
-within_done : (limit : ℕ) (next : List ℕ → Plan) (bytes : List ℕ) (told : Told) → IsDoneAnswer (answer (within_limit limit next bytes) told) → (length bytes ≤ limit) × (answer (within_limit limit next bytes) told ≡ answer (next bytes) told)
+pub within_done : (limit : ℕ) (next : List ℕ → Plan) (bytes : List ℕ) (told : Told) → IsDoneAnswer (answer (within_limit limit next bytes) told) → (length bytes ≤ limit) × (answer (within_limit limit next bytes) told ≡ answer (next bytes) told)
 within_done limit next bytes told done = by (nat_le (length bytes) limit) refl done
   where
     goes : Bool → Answer
@@ -53,7 +53,7 @@ within_done limit next bytes told done = by (nat_le (length bytes) limit) refl d
     by false is done = absurd (cc)
 
 -- a wrapped text in a file, or from the input
-text_done : (file : Option (List ℕ)) (bytes : List ℕ) (next : List ℕ → Plan) (told : Told) → bytes_at file told.files told.input ≡ Some bytes → IsDoneAnswer (answer (takes_wrapped file next) told)
+pub text_done : (file : Option (List ℕ)) (bytes : List ℕ) (next : List ℕ → Plan) (told : Told) → bytes_at file told.files told.input ≡ Some bytes → IsDoneAnswer (answer (takes_wrapped file next) told)
     → answer (takes_wrapped file next) told ≡ answer (next bytes) (behind file told)
 text_done (Some name) bytes next told there done =
     loaded_done (map.get told.files name) bytes wrapped_limit (refused told status.InMissing) (refused told status.KeysetTooLong) (λ b. answer (next b) told) there (λ h. absurd (cc)) done
@@ -62,7 +62,7 @@ text_done None bytes next told there done =
     went_done (nat_le (length told.input) wrapped_limit) (answer (next told.input) (record told { input = [] })) (record (refused told status.KeysetTooLong) { input = Some (drop (wrapped_limit + 1) told.input) }) (λ h. absurd (cc)) done
     ∙ ap (λ b. answer (next b) (record told { input = [] })) same
 
-text_reached : (file : Option (List ℕ)) (bytes : List ℕ) (next : List ℕ → Plan) (told : Told) → bytes_at file told.files told.input ≡ Some bytes → length bytes ≤ wrapped_limit
+pub text_reached : (file : Option (List ℕ)) (bytes : List ℕ) (next : List ℕ → Plan) (told : Told) → bytes_at file told.files told.input ≡ Some bytes → length bytes ≤ wrapped_limit
     → answer (takes_wrapped file next) told ≡ answer (next bytes) (behind file told)
 text_reached (Some name) bytes next told there within =
     loaded (map.get told.files name) bytes wrapped_limit (refused told status.InMissing) (refused told status.KeysetTooLong) (λ b. answer (next b) told) there within
@@ -92,11 +92,11 @@ text_made keys master form next told done = by (wrap_of keys master standard_tab
         let f = within_done wrapped_limit next w.text (record told { random = w.left }) done in
         record { wrapped = w; is = is; within = f.0; goes_on = ap a is ∙ f.1 }
 
-behind_random : (file : Option (List ℕ)) (told : Told) → (behind file told).random ≡ told.random
+pub behind_random : (file : Option (List ℕ)) (told : Told) → (behind file told).random ≡ told.random
 behind_random (Some name) told = refl
 behind_random None told = refl
 
-behind_files : (file : Option (List ℕ)) (told : Told) → (behind file told).files ≡ told.files
+pub behind_files : (file : Option (List ℕ)) (told : Told) → (behind file told).files ≡ told.files
 behind_files (Some name) told = refl
 behind_files None told = refl
 
@@ -105,6 +105,7 @@ record WasWrapped (out : Format) (told : Told) (master before text : Written) (o
   master_within : length master.bytes ≤ keyset_limit
   fit : unfit old Aead standard_table ≡ None
   within : length before.bytes ≤ keyset_limit
+  binary_within : length (binary_of keys) ≤ keyset_limit
   wrapped : Wrapped
   is : wrap_of keys old standard_table told.random (is_json text.form) ≡ Some wrapped
   same : wrapped.text ≡ text.bytes
@@ -140,6 +141,7 @@ wrap_done name form in' out told master before text old keys of_master lies is_m
       master_within = load_within name form master.bytes next told lies done;
       fit = fit;
       within = taken_within in' before.bytes rest told read e;
+      binary_within = w.0;
       wrapped = m.wrapped;
       is = ap (λ random. wrap_of keys old standard_table random (is_json text.form)) (sym (behind_random in'.file told)) ∙ ap (λ f. wrap_of keys old standard_table behind'.random (is_json f)) (sym out_form) ∙ m.is;
       same = same;
@@ -179,7 +181,7 @@ unwrapped law binary json stored back run master before text old new keys r pref
     (gives_key old r (binary_of keys) [] run.told.random made.0 primary made.1)
     same faultless (each_of keys.records (λ r s. s.held) keys_stored)
     (each_of old.records (λ r s. s.bytes) master_stored)
-    (written_bytes formats.Binary keys ((law keys).0 faultless) (primary_word law keys faultless keys_stored) keys_stored (json_back law json keys faultless keys_stored))
+    (written_bytes formats.Binary keys ((law keys).0 faultless) (primary_word law keys faultless keys_stored) keys_stored (json_back json keys faultless keys_stored))
     random w.is
 
 -- ---- unwrapping
@@ -221,13 +223,18 @@ wrap_step law binary json stored back wrap unwrap before after keys goes random 
 
 -- ---- what was wrapped can be unwrapped
 
-put_reached : (out : Place) (keys : Keys) (told : Told) → length (written_in out.form keys) ≤ keyset_limit → IsFree out.file told.files → IsDoneAnswer (answer (puts_keyset out keys) told)
+pub put_reached : (out : Place) (keys : Keys) (told : Told) → length (written_in out.form keys) ≤ keyset_limit → IsFree out.file told.files → IsDoneAnswer (answer (puts_keyset out keys) told)
 put_reached out keys told within free =
     ap (λ (b : Bool). (answer (if b then puts out.file bytes else ends status.KeysetTooLong tt) told).status) (let e : nat_le (length bytes) keyset_limit ≡ true = grind (arith, nat_tests, within) in e)
     ∙ bytes_reached out.file bytes told free
   where
     bytes : List ℕ
     bytes = written_in out.form keys
+
+-- a keyset whose binary form is within the limit is so in each form in which it is said to be
+form_within : (form : Format) (keys : Keys) → length (binary_of keys) ≤ keyset_limit → IsWithinIn form keys → length (written_in form keys) ≤ keyset_limit
+form_within formats.Json keys within is = is
+form_within formats.Binary keys within is = within
 
 pub kept_wrapped : FaultlessKeysets → BinaryBack → JsonBack → ReadIsStored → WrapBackBytes → ReadKeysFit → RunStep → WrapStep → SessionIsEdits → SoundIsUsable Aead → EditedIsSound → EditedIsKeyset → RunsUnwrap
 kept_wrapped law binary json stored back fit_read law_run law_wrap sessions usable sound keyset runs master later r prefix lead same prefixed wrap before text keys x random holds is told name in' out lies in_form read free short =
@@ -242,6 +249,6 @@ kept_wrapped law binary json stored back fit_read law_run law_wrap sessions usab
     let behind' = behind in'.file told in
     let g = given_keyset new in'.form text.bytes keys (puts_keyset out) behind' (ap (λ f. unwrap_of new standard_table text.bytes (is_json f)) in_form ∙ gave) in
     let whole = l ∙ f ∙ t ∙ g in
-    let done = put_reached out keys behind' short (subst (IsFree out.file) (sym (behind_files in'.file told)) free) in
+    let done = put_reached out keys behind' (form_within out.form keys w.binary_within short) (subst (IsFree out.file) (sym (behind_files in'.file told)) free) in
     let p = put_done out keys behind' done in
     (ap (λ (a : Answer). a.status) whole ∙ done, ap (λ (a : Answer). bytes_at out.file a.files a.output) whole ∙ p.there)

@@ -1,7 +1,8 @@
 -- Runs of eseal and eopen, with runs between them that hand the keyset on.
 --
 --   RunsOpenEnvelope   what was sealed in an envelope before runs opens after them
-use Rattle.std.specs.Prelude.{◌≡◌, ℕ, List, Option, Some}
+use Rattle.std.specs.Prelude.{◌≡◌, ℕ, List, Option, Some, option_map}
+use Rattle.key_msgs.specs.Templates.{row_named, type_made}
 use Rattle.keyset_model.specs.declared.record.Record.{Record}
 use Rattle.managers.specs.Standard.{standard_table}
 use Rattle.wrapped_prims.specs.Candidates.{prefix_of}
@@ -37,11 +38,16 @@ IsEnveloped work template written input output = (told : Told) (name : List ℕ)
     → let a = envelope_answer work out template written name told in
     (a.status ≡ status.Done) × (bytes_at out a.files a.output ≡ Some output)
 
+-- the templates of these two names make keys of one type
+abbrev pub MakeOneType : (template other : List ℕ) → Type 0
+MakeOneType template other =
+    option_map type_made (row_named template) ≡ option_map type_made (row_named other)
+
 -- What was sealed in an envelope under a key with a prefix opens to its plaintext, with its associated
--- data and the template of its data key, while that key is ENABLED and alone under its prefix.
+-- data and any template of its data key's type, while that key is ENABLED and alone under its prefix.
 abbrev pub RunsOpenEnvelope : Type 0
 RunsOpenEnvelope = (runs : List Passage) (before after : Written) (r : Record)
-    (prefix template ad sealed : List ℕ) (told : Told) (lead : LeadOn runs before after r)
-    → HasSameKey r lead.new → prefix_of r ≡ Some prefix
+    (prefix template other ad sealed : List ℕ) (told : Told) (lead : LeadOn runs before after r)
+    → HasSameKey r lead.new → prefix_of r ≡ Some prefix → MakeOneType template other
     → WasEnveloped (to_eseal ad) template before told sealed
-    → IsEnveloped (to_eopen ad) template after sealed told.input
+    → IsEnveloped (to_eopen ad) other after sealed told.input

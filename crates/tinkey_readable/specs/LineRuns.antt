@@ -4,7 +4,7 @@
 --   asks      the line of a session that asks for work of keys
 --   WasMade   what a run or a line made of an input, and the runs that led on from there
 --   IsRead    what a run or a line reads of that, over the keyset that they led to
-use Rattle.std.specs.Prelude.{◌≡◌, ◌≤◌, ℕ, List, [], ◌∷◌, length, Some, slice_get}
+use Rattle.std.specs.Prelude.{◌≡◌, ℕ, List, [], ◌∷◌, Some, slice_get}
 use Rattle.std.specs.List.{AllByRecursion}
 use Rattle.keyset_model.specs.Keyset.{Keys, primary_of}
 use Rattle.keyset_model.specs.declared.record.Record.{Record}
@@ -17,7 +17,6 @@ use Rattle.wrapped_prims.specs.Candidates.{prefix_of}
 use Rattle.wrapped_prims.specs.Laws.{HasKey, HasSameKey}
 use Rattle.tinkey_plans.specs.Laws.{IsSession}
 use Rattle.tinkey_plans.specs.Plan.{Told}
-use Rattle.tinkey_plans.specs.Using.{limit_for}
 use Rattle.tinkey_readable.specs.Runs.{AreRuns, HoldsBytes, IsDone, Passage, PassesBytes, Run, WasDone, Written, keyset_of}
 use Rattle.tinkey_readable.specs.Runs as passages
 use Rattle.tinkey_words.specs.Words.{AskedWork, to_seal, to_open, to_dseal, to_dopen, to_tag, to_verify, to_derive}
@@ -66,11 +65,11 @@ pub data WasMade (work : AskedWork) (input output : List ℕ) (r : Record) (afte
 
 -- This work on this input is done with this output, while that record's key is in the keyset as it is
 -- said here: by a run of the command over the keyset that lies here, in whichever file, wherever that puts
--- it, where the input is within its limit, and by each line of a session over it.
+-- it, and by each line of a session over it.
 pub record IsRead (While : Record → Keys → Type 0) (work : AskedWork) (input output : List ℕ)
     (r : Record) (written : Written) : Type 0 where
   pub by_run : (new : Keys) → keyset_of written ≡ Some new → While r new
-      → length input ≤ limit_for work → IsDone work written input output
+      → IsDone work written input output
   pub by_line : (told : Told) (t : Turn) → HasTurn told written t → t.line ≡ asks work input
       → While r t.before → t.reply ≡ done_reply work output
 
@@ -78,7 +77,7 @@ pub record IsRead (While : Record → Keys → Type 0) (work : AskedWork) (input
 pub record IsReadSomehow (work : AskedWork) (input : List ℕ) (r : Record) (written : Written)
     : Type 0 where
   pub by_run : (new : Keys) → keyset_of written ≡ Some new → HasKey r new
-      → length input ≤ limit_for work → (other : List ℕ) × IsDone work written input other
+      → (other : List ℕ) × IsDone work written input other
   pub by_line : (told : Told) (t : Turn) → HasTurn told written t → t.line ≡ asks work input
       → HasKey r t.before → (other : List ℕ) × (t.reply ≡ done_reply work other)
 

@@ -15,6 +15,7 @@ use Rattle.std.specs.Option.{option_and_then}
 use Rattle.std.specs.Result.{result_ok}
 use Rattle.key_msgs.specs.Templates.{row_named}
 use Rattle.keyset_json.specs.Reading.{reads_json}
+use Rattle.keyset_json.specs.Writing.{json_of}
 use Rattle.keyset_model.specs.Keyset.{Keys, primary_of}
 use Rattle.keyset_model.specs.Reading.{reads_binary}
 use Rattle.keyset_model.specs.declared.record.Record.{Record}
@@ -250,14 +251,20 @@ abbrev pub IsFree : Option (List ℕ) → Files → Type 0
 IsFree (Some name) files = map.get files name ≡ None
 IsFree None files = Unit {0}
 
+-- A keyset that was wrapped is within the limit of what is read, in this form: in the binary form it is, as
+-- it wouldn't have been wrapped else; JSON may be longer.
+abbrev pub IsWithinIn : Format → Keys → Type 0
+IsWithinIn formats.Json keys = length (json_of keys) ≤ keyset_limit
+IsWithinIn formats.Binary keys = Unit {0}
+
 -- The text is unwrapped under this master to this keyset, in whichever file or input both lie, and put
 -- where it is asked to be, in the form that is asked for: where the name of a new file is free, and the
--- keyset in that form is within the limit of what is read.
+-- keyset, if it is JSON that is asked for, is within the limit of what is read.
 abbrev pub IsUnwrapped : (master text : Written) → Keys → Type 0
 IsUnwrapped master text keys = (told : Told) (name : List ℕ) (in' out : Place)
     → LiesIn master told name → in'.form ≡ text.form
     → bytes_at in'.file told.files told.input ≡ Some text.bytes
-    → IsFree out.file told.files → length (written_in out.form keys) ≤ keyset_limit
+    → IsFree out.file told.files → IsWithinIn out.form keys
     → let a = answer (command_plan standard_table (unwrap_keyset name master.form in' out)) told in
     (a.status ≡ status.Done) × (bytes_at out.file a.files a.output ≡ Some (written_in out.form keys))
 

@@ -13,7 +13,6 @@ use Rattle.segment_stream.specs.Pumping.{opening_under}
 use Rattle.segment_stream.specs.Segments.{cipher_of}
 use Rattle.segment_stream.specs.StreamKeys.{key_in, stream_key_of, stream_keys}
 use Rattle.segment_stream.specs.declared.key.StreamKey.{StreamKey}
-use Rattle.tinkey_session.specs.HeldLaws.{AreBytes}
 use Rattle.wrapped_prims.specs.Laws.{HasKey}
 use Rattle.tinkey_plans.specs.declared.status.Status.TheVariants as status
 use Rattle.tinkey_plans.specs.Commands.{command_plan}
@@ -30,13 +29,10 @@ abbrev pub sopen_answer : (ad : List ℕ) → Written → (name : List ℕ) → 
 sopen_answer ad written name told =
     answer (command_plan standard_table (open_stream name written.form ad)) told
 
--- A run of sseal over a keyset was answered Done, and put out this stream. Its input and its random
--- bytes are bytes, as those of any file or device.
+-- a run of sseal over a keyset was answered Done, and put out this stream
 pub record WasSealed (ad : List ℕ) (written : Written) (told : Told) (stream : List ℕ) : Type 0 where
   pub name : List ℕ
   pub lies : LiesIn written told name
-  pub plain_bytes : AreBytes told.input
-  pub random_bytes : AreBytes told.random
   pub done : (sseal_answer ad written name told).status ≡ status.Done
   pub gave : (sseal_answer ad written name told).output ≡ stream
 

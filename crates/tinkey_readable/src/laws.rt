@@ -73,8 +73,9 @@ pub fn wrap_step()
 
 /// What was wrapped under a key with a prefix is unwrapped after any runs that hand the master on, to the
 /// keyset, while that key is ENABLED in the last master and alone under its prefix: a run that reads the
-/// text there is Done, where the name of its new file is free and the keyset in the form that is asked
-/// for is within the limit.
+/// text there is Done, where the name of its new file is free and, if JSON is asked for, that is within the
+/// limit of a keyset. Of the binary form nothing is asked, since one that is longer isn't wrapped; JSON can't
+/// do without, as of a keyset that was read in binary it may be longer than what is read.
 pub fn kept_wrapped()
     ensures { RunsUnwrap }
 {
@@ -117,8 +118,8 @@ pub fn kept_runs()
     kept_tag();
 }
 
-/// What was sealed in an envelope over a keyset opens after any such runs, with its associated data and the
-/// template of its data key, to its plaintext, while the key that sealed is ENABLED in the last keyset and
+/// What was sealed in an envelope over a keyset opens after any such runs, with its associated data and any
+/// template that makes keys of its data key's type, to its plaintext, while the key that sealed is ENABLED in the last keyset and
 /// alone under its prefix.
 pub fn kept_envelopes()
     ensures { RunsOpenEnvelope }
@@ -139,9 +140,8 @@ pub fn kept_envelopes()
 /// opens the stream's first segment, since `sopen` takes the first one that does. While the key is there,
 /// ENABLED, the first segment opens, under that key or another one.
 ///
-/// Of the run that sealed it is asked that its input and its random bytes are bytes. That the last keyset
-/// gives keys for streams need not be said, as edits of one that does keep it so; nor that the stream has
-/// at most 2^32 segments, as it was sealed.
+/// That the last keyset gives keys for streams need not be said, as edits of one that does keep it so; nor
+/// that the stream has at most 2^32 segments, as it was sealed.
 pub fn kept_streams()
     ensures open { RunsOpenStream }
     ensures open_present { RunsOpenStreamPresent }
@@ -171,7 +171,8 @@ pub fn kept_ranges()
 }
 
 /// The same where what sealed or tagged, or what opens or verifies, may be a run of a command or a
-/// line of a session. A session that sealed hands its keyset on; one that opens may be any.
+/// line of a session. A session that sealed hands its keyset on; one that opens may be any. Of lengths nothing
+/// is asked: a session that is Done had short lines, and what they sealed is short as well.
 pub fn kept_lines()
     ensures open { MadeOpens }
     ensures dopen { MadeDopens }
@@ -181,6 +182,8 @@ pub fn kept_lines()
 {
     run_step();
     wrap_step();
+    sealings_fit();
+    talk_is_turns();
     read_keysets_fit();
     fit_keysets_answer();
     session_is_edits();
