@@ -1,3 +1,9 @@
+pub mod DoneEnvelopeLemmas
+pub mod DoneRangeLemmas
+pub mod DoneSessionLemmas
+pub mod DoneStreamLemmas
+pub mod DoneWhereLemmas
+pub mod DoneWrapLemmas
 pub mod EndedLemmas
 pub mod EnvelopeRunLemmas
 pub mod LineRunLemmas

@@ -1,3 +1,4 @@
+pub mod DoneWhere
 pub mod EnvelopeRuns
 pub mod LineRuns
 pub mod RangeRuns

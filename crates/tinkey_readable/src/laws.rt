@@ -2,6 +2,7 @@
 
 ghost use Rattle.keyset_json.specs.Writing.{JsonBack};
 ghost use Rattle.keyset_model.specs.Writing.{BinaryBack};
+ghost use Rattle.tinkey_readable.specs.DoneWhere.{EditsDone, EnvelopesDone, RangesDone, SessionsDone, StreamsDone, WorksDone, WrapsDone};
 ghost use Rattle.tinkey_readable.specs.EnvelopeRuns.{RunsOpenEnvelope};
 ghost use Rattle.tinkey_readable.specs.LineRuns.{MadeDopens, MadeDopensPresent, MadeOpens, MadeOpensPresent, MadeVerifies};
 ghost use Rattle.tinkey_readable.specs.RangeRuns.{RunsOpenRange};
@@ -16,7 +17,7 @@ use seal_wrap::laws::{
 };
 use segment_stream::laws::{range_is_slice, stream_back};
 use tinkey_cmds::laws::edits_keep_keysets;
-use tinkey_plans::laws::fit_keysets_answer;
+use tinkey_plans::laws::{done_exactly, fit_keysets_answer};
 use tinkey_session::laws::{
     edited_kept, kept_dopen, kept_dopen_present, kept_open, kept_open_present, kept_tag,
     session_dopens, session_dopens_present, session_is_edits, session_opens, session_opens_present,
@@ -210,3 +211,61 @@ pub fn sessions_are_readable()
     talk_is_turns();
     read_keysets_fit();
 }
+
+/// An edit is answered Done exactly where its keyset is there, within its limit and well formed, the edit is
+/// accepted, with a template of the table and random bytes that suffice, and the new keyset is within the
+/// limit and its name free. So are a first keyset, without the old one, another form of a keyset, without the
+/// edit, and a listing where the keyset is there, within its limit and well formed.
+pub fn edits_done()
+    ensures { EditsDone }
+{}
+
+/// Work on a whole input is answered Done exactly where its keyset is there, within its limit, well formed
+/// and fit for the work, the input within its limit, the name of a new file free, and: of sealing, the random
+/// bytes suffice for an IV; of opening and verifying, a candidate opens or has the tag; of deriving, no more
+/// bytes are asked for than there can be.
+pub fn works_done()
+    ensures { WorksDone }
+{
+    fit_keysets_answer();
+    done_exactly();
+}
+
+/// A stream is sealed to its end, and answered Done, exactly where the keyset is there, within its limit, well
+/// formed, and each ENABLED record gives a key for streams, the random bytes suffice for salt and nonce prefix,
+/// and there are at most 2^32 segments; and one is opened so where, of such a keyset, under the first key that
+/// opens the first segment each segment opens in its place, the final one as the last.
+pub fn streams_done()
+    ensures { StreamsDone }
+{}
+
+/// A range of a stream is opened, and answered Done, exactly where such a keyset and the stream are there, the
+/// final segment and those that cover the range open under the first key that opens the first one, the range
+/// ends within the plaintext, and the name of a new file is free.
+pub fn ranges_done()
+    ensures { RangesDone }
+{}
+
+/// A session is answered Done exactly where the keyset is there, within its limit and well formed, the name of
+/// a new file free, the lines and their number within their limits, the random bytes suffice for them, and the
+/// last keyset, if it is to be saved, is within the limit of one.
+pub fn sessions_done()
+    ensures { SessionsDone }
+{}
+
+/// An envelope is sealed or opened, and answered Done, exactly where the template is of the table and makes
+/// keys of AEADs that have a manager, the keyset is there, within its limit, well formed and fit, the input
+/// within its limit, the name of a new file free, and: of sealing, the random bytes suffice and the data key
+/// breaks no rule; of opening, it opens.
+pub fn envelopes_done()
+    ensures { EnvelopesDone }
+{}
+
+/// A keyset is wrapped, and answered Done, exactly where the master is there, within its limit, well formed and
+/// fit, the keyset too is there, within its limit and well formed, its binary form is within the limit of a
+/// keyset, the random bytes suffice for a text of it, the text is within its limit, and the name of a new file
+/// is free. One is unwrapped so where, under such a master, the text is there, within its limit, and opens to a
+/// keyset that is within the limit of one, and the name of a new file is free.
+pub fn wraps_done()
+    ensures { WrapsDone }
+{}

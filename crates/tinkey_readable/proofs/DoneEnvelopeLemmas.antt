@@ -1,0 +1,83 @@
+-- Where an envelope is sealed or opened.
+use Rattle.std.proofs.Common.{◌≡◌, ◌∙◌, sym, refl, ap, subst, ℕ, false, List, [], Option, Some, None, option_map, Result, Ok, Err}
+use Rattle.key_msgs.specs.Templates.{Row}
+use Rattle.key_msgs.specs.declared.rule.Rule.{Rule}
+use Rattle.keyset_model.specs.Keyset.{Keys}
+use Rattle.managers.specs.Schemes.{Scheme}
+use Rattle.managers.specs.Table.{Table}
+use Rattle.seal_wrap.specs.Enveloped.{Enveloped, envelope_of, open_envelope_of}
+use Rattle.tinkey_cmds.specs.Draws.{Drawn}
+use Rattle.tinkey_plans.specs.declared.status.Status.TheVariants as status
+use Rattle.tinkey_plans.specs.Commands.{command_plan}
+use Rattle.tinkey_plans.specs.Envelopes.{as_enveloped, envelopes, with_enveloped}
+use Rattle.tinkey_plans.specs.Plan.{Answer, Plan, Told, answer, draw_answer, refused, writes}
+use Rattle.tinkey_plans.specs.Steps.{puts, with_made}
+use Rattle.tinkey_plans.specs.Using.{with_opened}
+use Rattle.tinkey_words.specs.declared.words.rows.Format.{Format}
+use Rattle.tinkey_words.specs.Words.{AskedEnvelope, to_eopen, to_eseal, use_envelope}
+use Rattle.tinkey_readable.specs.DoneWhere.{EnvelopeGoes, EnvelopeIsDone, EnvelopesDone}
+use Rattle.tinkey_readable.specs.Runs.{IsFree}
+use Rattle.tinkey_readable.proofs.DoneWhereLemmas.{loads_there, name_free, opened_goes}
+use Rattle.tinkey_readable.proofs.EnvelopeRunLemmas.{behind_dek, behind_keys, dek_done, used_done, used_reached}
+use Rattle.tinkey_readable.proofs.PutLemmas.{envelope_worked, made_put}
+use Rattle.tinkey_readable.proofs.ReachLemmas.{IsDoneAnswer}
+
+-- the answer by what the random bytes give
+abbrev sealed_so : (next : List ℕ → Plan) → Told → Option Enveloped → Answer
+sealed_so next told o =
+    draw_answer (option_map as_enveloped o) (refused told status.EntropyFault) (λ (d : Drawn (Result (List ℕ) Rule)). answer (with_made d.answer (λ e. with_enveloped e next)) (record told { random = d.left }))
+
+sealed_goes : (table : Table) (keys : Keys) (scheme : Scheme) (row : Row) (ad input : List ℕ) (next : List ℕ → Plan) (told : Told) → IsDoneAnswer (answer (envelopes table keys scheme row (to_eseal ad) input next) told) → EnvelopeGoes table keys scheme row (to_eseal ad) input told.random
+sealed_goes table keys scheme row ad input next told done = by (envelope_of keys table scheme row input ad told.random) refl done
+  where
+    by_answer : (r : Result (List ℕ) Rule) (left : List ℕ) → envelope_of keys table scheme row input ad told.random ≡ Some (record { answer = r; left = left }) → IsDoneAnswer (sealed_so next told (Some (record { answer = r; left = left }))) → EnvelopeGoes table keys scheme row (to_eseal ad) input told.random
+    by_answer (Ok bytes) left is done = (bytes, left, is)
+    by_answer (Err rule) left is done = absurd (cc)
+
+    by : (o : Option Enveloped) → envelope_of keys table scheme row input ad told.random ≡ o → IsDoneAnswer (sealed_so next told o) → EnvelopeGoes table keys scheme row (to_eseal ad) input told.random
+    by (Some e) is done = by_answer e.answer e.left is done
+    by None is done = absurd (cc)
+
+goes_of : (table : Table) (keys : Keys) (scheme : Scheme) (row : Row) (work : AskedEnvelope) (input : List ℕ) (next : List ℕ → Plan) (told : Told) → IsDoneAnswer (answer (envelopes table keys scheme row work input next) told) → EnvelopeGoes table keys scheme row work input told.random
+goes_of table keys scheme row (to_eseal ad) input next told done = sealed_goes table keys scheme row ad input next told done
+goes_of table keys scheme row (to_eopen ad) input next told done = opened_goes (open_envelope_of keys table scheme input ad) next told done
+
+done_of : (table : Table) (keys : Keys) (scheme : Scheme) (row : Row) (work : AskedEnvelope) (input : List ℕ) (told : Told) → EnvelopeGoes table keys scheme row work input told.random → IsDoneAnswer (answer (envelopes table keys scheme row work input writes) told)
+done_of table keys scheme row (to_eseal ad) input told goes = ap (λ o. (sealed_so writes told o).status) goes.2
+done_of table keys scheme row (to_eopen ad) input told goes = ap (λ o. (answer (with_opened o writes) told).status) goes.1
+
+envelope_is : (table : Table) (name : List ℕ) (form : Format) (template : List ℕ) (work : AskedEnvelope) (out : Option (List ℕ)) (told : Told) → IsDoneAnswer (answer (command_plan table (use_envelope name form template work out)) told) → EnvelopeIsDone table name form template work out told
+envelope_is table name form template work out told is =
+    let d = dek_done template (behind_dek table name form work (puts out)) told is in
+    let k = loads_there name form (behind_keys table d.row work (puts out)) told (ap (λ (a : Answer). a.status) (sym d.goes_on) ∙ is) in
+    let l = k.1 in
+    let u = used_done table name form template work (puts out) l.bytes k.0 told l.there l.read is in
+    let left = record told { input = [] } in
+    let worked : IsDoneAnswer (answer (envelopes table k.0 u.scheme u.row work told.input (puts out)) left) = ap (λ (a : Answer). a.status) (sym u.goes_on) ∙ is in
+    let w = envelope_worked table k.0 u.scheme u.row work told.input (puts out) left worked in
+    record {
+      row = u.row;
+      named = u.named;
+      aead = u.aead;
+      scheme = u.scheme;
+      served = u.served;
+      keys = k.0;
+      lies = l;
+      fit = u.fit;
+      short = u.fits;
+      goes = goes_of table k.0 u.scheme u.row work told.input (puts out) left worked;
+      free = subst (IsFree out) w.files (name_free out w.made w.left (ap (λ (a : Answer). a.status) (sym (w.is (puts out))) ∙ worked));
+    }
+
+envelope_comes : (table : Table) (name : List ℕ) (form : Format) (template : List ℕ) (work : AskedEnvelope) (out : Option (List ℕ)) (told : Told) → EnvelopeIsDone table name form template work out told → IsDoneAnswer (answer (command_plan table (use_envelope name form template work out)) told)
+envelope_comes table name form template work out told x =
+    let l = x.lies in
+    let left = record told { input = [] } in
+    let reached = used_reached table name form template x.row x.scheme work (puts out) l.bytes x.keys told x.named x.aead x.served l.there l.read l.within x.fit x.short in
+    let steps = envelopes table x.keys x.scheme x.row work told.input in
+    let w = envelope_worked table x.keys x.scheme x.row work told.input writes left (done_of table x.keys x.scheme x.row work told.input left x.goes) in
+    let p = made_put steps left false out (answer (steps writes) left).output w refl x.free in
+    ap (λ (a : Answer). a.status) reached ∙ p.0
+
+pub envelopes_done : EnvelopesDone
+envelopes_done table name form template work out told = (envelope_is table name form template work out told, envelope_comes table name form template work out told)

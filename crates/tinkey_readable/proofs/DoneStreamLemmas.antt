@@ -1,0 +1,102 @@
+-- Where a stream is sealed or opened to its end.
+use Rattle.std.proofs.Common.{arith, ◌≡◌, ◌∙◌, sym, refl, ap, ℕ, ◌+◌, ◌≤◌, Bool, true, false, List, length, take, drop, Option, Some, None, Ok}
+use Rattle.std.specs.Prelude.{if◌then◌else◌, nat_lt}
+use Rattle.std.proofs.lemmas.Bool.Decides.{nat_tests}
+use Rattle.managers.specs.Table.{Table}
+use Rattle.segment_stream.specs.KeysModel.{KeysForStreams}
+use Rattle.segment_stream.specs.Opening.{StreamRefusal, decides, failed, too_many}
+use Rattle.segment_stream.specs.Pumping.{opening_any, sealing}
+use Rattle.segment_stream.specs.Sealing.{header_of, seal_decides}
+use Rattle.segment_stream.specs.Segments.{cipher_of, ciphers_of}
+use Rattle.tinkey_cmds.specs.Draws.{Drawn}
+use Rattle.tinkey_plans.specs.declared.status.Status.TheVariants as status
+use Rattle.tinkey_plans.specs.Commands.{command_plan}
+use Rattle.tinkey_plans.specs.Plan.{Answer, Told, answer, draw_answer, pump_answer, pumps, refused}
+use Rattle.tinkey_plans.specs.Steps.{with_made}
+use Rattle.tinkey_plans.specs.Streaming.{opens_stream, seals_stream}
+use Rattle.tinkey_words.specs.declared.words.rows.Format.{Format}
+use Rattle.tinkey_words.specs.Words.{open_stream, seal_stream}
+use Rattle.tinkey_readable.specs.DoneWhere.{StreamOpens, StreamSeals, StreamsDone}
+use Rattle.tinkey_readable.proofs.DoneWhereLemmas.{loads_there}
+use Rattle.tinkey_readable.proofs.ReachLemmas.{IsDoneAnswer}
+use Rattle.tinkey_readable.proofs.StreamRunLemmas.{behind_keyset, keys_loaded, keys_reached, with_primary}
+
+-- ---- sealing
+
+-- the answer by whether the random bytes are too few, and by whether there are too many segments
+abbrev sealed_so : KeysForStreams → (ad : List ℕ) → Told → Bool → Answer
+sealed_so keys ad told b =
+    draw_answer (if b then None else Some (record { answer = Ok (take (keys.primary.derived + 7) told.random); left = drop (keys.primary.derived + 7) told.random })) (refused told status.EntropyFault)
+    (λ (d : Drawn (List ℕ)). answer (with_made d.answer (λ r. pumps (sealing (cipher_of ad keys.primary) (header_of (cipher_of ad keys.primary) r)))) (record told { random = d.left }))
+
+abbrev pumped_so : KeysForStreams → (ad : List ℕ) → Told → Option StreamRefusal → Answer
+pumped_so keys ad told o =
+    pump_answer (sealing (cipher_of ad keys.primary) (header_of (cipher_of ad keys.primary) (take (keys.primary.derived + 7) told.random))) (record told { random = drop (keys.primary.derived + 7) told.random }) o
+
+seals_where : (keys : KeysForStreams) (ad : List ℕ) (told : Told) → IsDoneAnswer (answer (seals_stream keys ad) told)
+    → (keys.primary.derived + 7 ≤ length told.random) × (seal_decides (cipher_of ad keys.primary) (take (keys.primary.derived + 7) told.random) told.input ≡ None)
+seals_where keys ad told done = by (nat_lt (length told.random) (keys.primary.derived + 7)) refl done
+  where
+    by_pass : (o : Option StreamRefusal) → IsDoneAnswer (pumped_so keys ad told o) → o ≡ None
+    by_pass None done = refl
+    by_pass (Some too_many) done = absurd (cc)
+    by_pass (Some (failed number)) done = absurd (cc)
+
+    by : (b : Bool) → nat_lt (length told.random) (keys.primary.derived + 7) ≡ b → IsDoneAnswer (sealed_so keys ad told b)
+        → (keys.primary.derived + 7 ≤ length told.random) × (seal_decides (cipher_of ad keys.primary) (take (keys.primary.derived + 7) told.random) told.input ≡ None)
+    by true short done = absurd (cc)
+    by false long done = (grind (arith, nat_tests, long), by_pass (seal_decides (cipher_of ad keys.primary) (take (keys.primary.derived + 7) told.random) told.input) done)
+
+seals_done : (keys : KeysForStreams) (ad : List ℕ) (told : Told) → keys.primary.derived + 7 ≤ length told.random → seal_decides (cipher_of ad keys.primary) (take (keys.primary.derived + 7) told.random) told.input ≡ None
+    → IsDoneAnswer (answer (seals_stream keys ad) told)
+seals_done keys ad told enough few =
+    let test : nat_lt (length told.random) (keys.primary.derived + 7) ≡ false = grind (arith, nat_tests, enough) in
+    ap (λ b. (sealed_so keys ad told b).status) test ∙ ap (λ o. (pumped_so keys ad told o).status) few
+
+-- ---- opening
+
+opens_where : (keys : KeysForStreams) (ad : List ℕ) (told : Told) → IsDoneAnswer (answer (opens_stream keys ad) told) → decides (ciphers_of ad keys.keys) told.input true ≡ None
+opens_where keys ad told done = by (decides (ciphers_of ad keys.keys) told.input true) done
+  where
+    by : (o : Option StreamRefusal) → IsDoneAnswer (pump_answer (opening_any (ciphers_of ad keys.keys)) told o) → o ≡ None
+    by None done = refl
+    by (Some too_many) done = absurd (cc)
+    by (Some (failed number)) done = absurd (cc)
+
+opens_done : (keys : KeysForStreams) (ad : List ℕ) (told : Told) → decides (ciphers_of ad keys.keys) told.input true ≡ None → IsDoneAnswer (answer (opens_stream keys ad) told)
+opens_done keys ad told none = ap (λ o. (pump_answer (opening_any (ciphers_of ad keys.keys)) told o).status) none
+
+-- ---- the whole
+
+seal_is : (table : Table) (name : List ℕ) (form : Format) (ad : List ℕ) (told : Told) → IsDoneAnswer (answer (command_plan table (seal_stream name form ad)) told) → StreamSeals name form ad told
+seal_is table name form ad told is =
+    let k = loads_there name form (behind_keyset (λ s. seals_stream s ad)) told is in
+    let l = k.1 in
+    let u = keys_loaded name form l.bytes k.0 (λ s. seals_stream s ad) told l.there l.read is in
+    let s = seals_where (with_primary k.0 u.primary) ad told (ap (λ (a : Answer). a.status) (sym u.goes_on) ∙ is) in
+    record { keys = k.0; lies = l; fit = u.fit; primary = u.primary; there = u.there; enough = s.0; few = s.1 }
+
+seal_comes : (table : Table) (name : List ℕ) (form : Format) (ad : List ℕ) (told : Told) → StreamSeals name form ad told → IsDoneAnswer (answer (command_plan table (seal_stream name form ad)) told)
+seal_comes table name form ad told x =
+    let l = x.lies in
+    ap (λ (a : Answer). a.status) (keys_reached name form l.bytes x.keys x.primary (λ s. seals_stream s ad) told l.there l.read l.within x.fit x.there)
+    ∙ seals_done (with_primary x.keys x.primary) ad told x.enough x.few
+
+open_is : (table : Table) (name : List ℕ) (form : Format) (ad : List ℕ) (told : Told) → IsDoneAnswer (answer (command_plan table (open_stream name form ad)) told) → StreamOpens name form ad told
+open_is table name form ad told is =
+    let k = loads_there name form (behind_keyset (λ s. opens_stream s ad)) told is in
+    let l = k.1 in
+    let u = keys_loaded name form l.bytes k.0 (λ s. opens_stream s ad) told l.there l.read is in
+    record { keys = k.0; lies = l; fit = u.fit; primary = u.primary; there = u.there; opens = opens_where (with_primary k.0 u.primary) ad told (ap (λ (a : Answer). a.status) (sym u.goes_on) ∙ is) }
+
+open_comes : (table : Table) (name : List ℕ) (form : Format) (ad : List ℕ) (told : Told) → StreamOpens name form ad told → IsDoneAnswer (answer (command_plan table (open_stream name form ad)) told)
+open_comes table name form ad told x =
+    let l = x.lies in
+    ap (λ (a : Answer). a.status) (keys_reached name form l.bytes x.keys x.primary (λ s. opens_stream s ad) told l.there l.read l.within x.fit x.there)
+    ∙ opens_done (with_primary x.keys x.primary) ad told x.opens
+
+pub streams_done : StreamsDone
+streams_done = record {
+  sealed = λ table name form ad told. (seal_is table name form ad told, seal_comes table name form ad told);
+  opened = λ table name form ad told. (open_is table name form ad told, open_comes table name form ad told);
+}

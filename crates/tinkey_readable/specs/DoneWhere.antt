@@ -1,0 +1,292 @@
+-- Where a command is answered Done, in the words of what it asks.
+--
+--   LiesThere   a keyset lies at a place, within its limit and well formed
+--   EditsDone   where an edit is Done, and where the first, another form or the listing of a keyset is
+--   WorksDone   where work by keys on a whole input is
+--   StreamsDone where a stream is sealed, and where one is opened
+--   RangesDone, SessionsDone, EnvelopesDone, WrapsDone   where those are
+use Rattle.std.specs.Prelude.{◌≡◌, ◌↔◌, ℕ, ◌+◌, ◌≤◌, true, List, length, take, Option, Some, None, Ok}
+use Rattle.std.specs.FinMap as map
+use Rattle.key_msgs.specs.Templates.{Row, row_named}
+use Rattle.key_msgs.specs.declared.key.KeyKind.{KeyKind}
+use Rattle.key_msgs.specs.declared.primitive.Primitive.TheVariants.{Aead}
+use Rattle.keyset_model.specs.Keyset.{Keys}
+use Rattle.keyset_model.specs.Writing.{binary_of}
+use Rattle.managers.specs.Schemes.{Scheme}
+use Rattle.managers.specs.Table.{Table, scheme_at}
+use Rattle.managers.specs.Uses.{iv_size}
+use Rattle.seal_wrap.specs.Enveloped.{envelope_of, open_envelope_of}
+use Rattle.seal_wrap.specs.Enveloping.{IsAead, url_made}
+use Rattle.seal_wrap.specs.Unwrapped.{unwrap_of}
+use Rattle.seal_wrap.specs.Wrapped.{Wrapped, wrap_of}
+use Rattle.segment_stream.specs.Opening.{decides}
+use Rattle.segment_stream.specs.Range.{range_of}
+use Rattle.segment_stream.specs.Sealing.{seal_decides}
+use Rattle.segment_stream.specs.Segments.{cipher_of, ciphers_of}
+use Rattle.segment_stream.specs.StreamKeys.{stream_keys, stream_unfit}
+use Rattle.segment_stream.specs.StreamKeys as streams
+use Rattle.segment_stream.specs.declared.key.StreamKey.{StreamKey}
+use Rattle.tinkey_cmds.specs.Edits.{Stepped, first}
+use Rattle.tinkey_session.specs.Talking.{goes, talk}
+use Rattle.wrapped_prims.specs.Answers.{derive_answer, dopen_answer, open_answer, primary_key, verify_answer}
+use Rattle.wrapped_prims.specs.Fitness.{unfit}
+use Rattle.tinkey_plans.specs.declared.status.Status.TheVariants as status
+use Rattle.tinkey_plans.specs.Commands.{command_plan}
+use Rattle.tinkey_plans.specs.Envelopes.{envelope_limit}
+use Rattle.tinkey_plans.specs.Plan.{Told, answer}
+use Rattle.tinkey_plans.specs.Steps.{keyset_limit, written_in}
+use Rattle.tinkey_plans.specs.Using.{limit_for}
+use Rattle.tinkey_plans.specs.Wrapping.{is_json, wrapped_limit}
+use Rattle.tinkey_words.specs.declared.words.rows.Format.{Format}
+use Rattle.tinkey_words.specs.Words.{AskedEdit, AskedEnvelope, AskedRange, AskedWork, Output, Place, convert_keyset, create_keyset, edit_keyset, list_keyset, open_range, open_stream, seal_stream, session, to_eopen, to_eseal, unwrap_keyset, use_envelope, use_keyset, wrap_keyset, to_seal, to_open, to_dseal, to_dopen, to_tag, to_verify, to_derive, primitive_for}
+use Rattle.tinkey_readable.specs.Runs.{IsEdit, IsFree, bytes_at, read_in}
+
+-- a keyset lies in the file of this place, or where none is named, in the input: it is there, within its
+-- limit, and well formed
+pub record LiesThere (place : Place) (told : Told) (keys : Keys) : Type 0 where
+  pub bytes : List ℕ
+  pub there : bytes_at place.file told.files told.input ≡ Some bytes
+  pub within : length bytes ≤ keyset_limit
+  pub read : read_in place.form bytes ≡ Some keys
+
+-- ---- edits
+
+-- A keyset lies there; the edit that is asked for is accepted, of a template of the table where it has one,
+-- with random bytes that suffice; and the keyset that it makes is within the limit, with a name that is
+-- free.
+pub record EditGoes (asked : AskedEdit) (in' out : Place) (told : Told) : Type 0 where
+  pub old : Keys
+  pub lies : LiesThere in' told old
+  pub new : Keys
+  pub accepted : IsEdit asked told.random old new
+  pub within : length (written_in out.form new) ≤ keyset_limit
+  pub free : IsFree out.file told.files
+
+-- The template is of the table, the random bytes suffice for an id and a key, the keyset is within the
+-- limit, and its name is free.
+pub record CreateGoes (template : List ℕ) (out : Place) (told : Told) : Type 0 where
+  pub row : Row
+  pub named : row_named template ≡ Some row
+  pub stepped : Stepped
+  pub steps : first row told.random ≡ Some stepped
+  pub new : Keys
+  pub accepted : stepped.answer ≡ Ok new
+  pub within : length (written_in out.form new) ≤ keyset_limit
+  pub free : IsFree out.file told.files
+
+-- A keyset lies there, and in the form that is asked for it is within the limit, with a name that is free.
+pub record ConvertGoes (in' out : Place) (told : Told) : Type 0 where
+  pub keys : Keys
+  pub lies : LiesThere in' told keys
+  pub within : length (written_in out.form keys) ≤ keyset_limit
+  pub free : IsFree out.file told.files
+
+-- a keyset is edited, created, converted and listed exactly where that is so
+pub record EditsDone : Type 0 where
+  pub edited : (table : Table) (asked : AskedEdit) (in' out : Place) (told : Told)
+      → ((answer (command_plan table (edit_keyset asked in' out)) told).status ≡ status.Done)
+      ↔ EditGoes asked in' out told
+  pub created : (table : Table) (template : List ℕ) (out : Place) (told : Told)
+      → ((answer (command_plan table (create_keyset template out)) told).status ≡ status.Done)
+      ↔ CreateGoes template out told
+  pub converted : (table : Table) (in' out : Place) (told : Told)
+      → ((answer (command_plan table (convert_keyset in' out)) told).status ≡ status.Done)
+      ↔ ConvertGoes in' out told
+  pub listed : (table : Table) (in' : Place) (told : Told)
+      → ((answer (command_plan table (list_keyset in')) told).status ≡ status.Done)
+      ↔ ((keys : Keys) × LiesThere in' told keys)
+
+-- ---- whole inputs
+
+-- what the work wants of the keys, the input and the random bytes: an IV for the primary key; a candidate
+-- that opens, or whose tag it is; at most as many bytes as can be derived
+abbrev pub WorkGoes : Table → Keys → AskedWork → (input random : List ℕ) → Type 0
+WorkGoes table keys (to_seal ad) input random = (key : KeyKind)
+    × (primary_key keys table Aead ≡ Some key) × (iv_size key ≤ length random)
+WorkGoes table keys (to_open ad) input random =
+    (plain : List ℕ) × (open_answer keys table input ad ≡ Some plain)
+WorkGoes table keys (to_dseal ad) input random = Unit {0}
+WorkGoes table keys (to_dopen ad) input random =
+    (plain : List ℕ) × (dopen_answer keys table input ad ≡ Some plain)
+WorkGoes table keys to_tag input random = Unit {0}
+WorkGoes table keys (to_verify tag) input random = verify_answer keys table tag input ≡ true
+WorkGoes table keys (to_derive size) input random =
+    (bytes : List ℕ) × (derive_answer keys table input size ≡ Some (Ok bytes))
+
+-- A keyset lies in the file of this name, whose ENABLED records can all serve for the work; the input is
+-- within the limit of the work, which goes; and the name of a new file is free.
+pub record WorkIsDone (table : Table) (name : List ℕ) (form : Format) (work : AskedWork)
+    (out : Output) (told : Told) : Type 0 where
+  pub keys : Keys
+  pub lies : LiesThere (record { file = Some name; form = form }) told keys
+  pub fit : unfit keys (primitive_for work) table ≡ None
+  pub short : length told.input ≤ limit_for work
+  pub goes : WorkGoes table keys work told.input told.random
+  pub free : IsFree out.file told.files
+
+-- work on a whole input is answered Done exactly where that is so
+abbrev pub WorksDone : Type 0
+WorksDone = (table : Table) (name : List ℕ) (form : Format) (work : AskedWork) (out : Output)
+    (told : Told)
+    → ((answer (command_plan table (use_keyset name form work out)) told).status ≡ status.Done)
+    ↔ WorkIsDone table name form work out told
+
+-- ---- streams
+
+-- A keyset lies in the file of this name, each ENABLED record of which gives a key for streams; the random
+-- bytes suffice for salt and nonce prefix of the primary one; and the input is no more than 2^32 segments.
+pub record StreamSeals (name : List ℕ) (form : Format) (ad : List ℕ) (told : Told) : Type 0 where
+  pub keys : Keys
+  pub lies : LiesThere (record { file = Some name; form = form }) told keys
+  pub fit : stream_unfit keys ≡ None
+  pub primary : StreamKey
+  pub there : streams.primary_key keys ≡ Some primary
+  pub enough : primary.derived + 7 ≤ length told.random
+  pub few : seal_decides (cipher_of ad primary) (take (primary.derived + 7) told.random) told.input
+      ≡ None
+
+-- The same of the keyset; and under the first of its keys that opens the first segment, each segment opens
+-- in its place, the final one as the last.
+pub record StreamOpens (name : List ℕ) (form : Format) (ad : List ℕ) (told : Told) : Type 0 where
+  pub keys : Keys
+  pub lies : LiesThere (record { file = Some name; form = form }) told keys
+  pub fit : stream_unfit keys ≡ None
+  pub primary : StreamKey
+  pub there : streams.primary_key keys ≡ Some primary
+  pub opens : decides (ciphers_of ad (stream_keys keys)) told.input true ≡ None
+
+-- a stream is sealed, and opened, to its end exactly where that is so
+pub record StreamsDone : Type 0 where
+  pub sealed : (table : Table) (name : List ℕ) (form : Format) (ad : List ℕ) (told : Told)
+      → ((answer (command_plan table (seal_stream name form ad)) told).status ≡ status.Done)
+      ↔ StreamSeals name form ad told
+  pub opened : (table : Table) (name : List ℕ) (form : Format) (ad : List ℕ) (told : Told)
+      → ((answer (command_plan table (open_stream name form ad)) told).status ≡ status.Done)
+      ↔ StreamOpens name form ad told
+
+-- ---- ranges
+
+-- Such a keyset lies in its file, and a stream in its own; of that the first of the keys that opens the first
+-- segment opens the final one and those that cover the range, which ends within the plaintext; and the name
+-- of a new file is free.
+pub record RangeOpens (name : List ℕ) (form : Format) (ad : List ℕ) (range : AskedRange)
+    (out : Option (List ℕ)) (told : Told) : Type 0 where
+  pub keys : Keys
+  pub lies : LiesThere (record { file = Some name; form = form }) told keys
+  pub fit : stream_unfit keys ≡ None
+  pub primary : StreamKey
+  pub there : streams.primary_key keys ≡ Some primary
+  pub stream : List ℕ
+  pub holds : map.get told.files range.file ≡ Some stream
+  pub plain : List ℕ
+  pub opens : range_of (ciphers_of ad (stream_keys keys)) stream range.from (range.from + range.size)
+      ≡ Ok plain
+  pub free : IsFree out told.files
+
+-- a range is opened exactly where that is so
+abbrev pub RangesDone : Type 0
+RangesDone = (table : Table) (name : List ℕ) (form : Format) (ad : List ℕ) (range : AskedRange)
+    (out : Option (List ℕ)) (told : Told)
+    → ((answer (command_plan table (open_range name form ad range out)) told).status ≡ status.Done)
+    ↔ RangeOpens name form ad range out told
+
+-- ---- sessions
+
+-- the last keyset, where it is to be saved, is within the limit of one
+abbrev pub IsSavedWithin : Option (List ℕ) → Format → Keys → Type 0
+IsSavedWithin None form keys = Unit {0}
+IsSavedWithin (Some name) form keys = length (written_in form keys) ≤ keyset_limit
+
+-- A keyset lies in the file of this name; the name of a new file is free; the lines and their number are
+-- within their limits and the random bytes suffice for them, so that the session goes on to the end of its
+-- input; and the last keyset can be saved.
+pub record SessionGoes (table : Table) (name : List ℕ) (form : Format) (out : Place) (told : Told)
+    : Type 0 where
+  pub keys : Keys
+  pub lies : LiesThere (record { file = Some name; form = form }) told keys
+  pub free : IsFree out.file told.files
+  pub goes_on : (talk table keys told.input told.random true).stop ≡ goes
+  pub saved : IsSavedWithin out.file out.form (talk table keys told.input told.random true).keys
+
+-- a session is answered Done exactly where that is so
+abbrev pub SessionsDone : Type 0
+SessionsDone = (table : Table) (name : List ℕ) (form : Format) (out : Place) (told : Told)
+    → ((answer (command_plan table (session name form out)) told).status ≡ status.Done)
+    ↔ SessionGoes table name form out told
+
+-- ---- envelopes
+
+-- what the work wants of the keys, the input and the random bytes: an envelope of them, for which they
+-- suffice and whose data key breaks no rule; or one that opens
+abbrev pub EnvelopeGoes : Table → Keys → Scheme → Row → AskedEnvelope → (input random : List ℕ) → Type 0
+EnvelopeGoes table keys scheme row (to_eseal ad) input random = (bytes left : List ℕ)
+    × (envelope_of keys table scheme row input ad random
+    ≡ Some (record { answer = Ok bytes; left = left }))
+EnvelopeGoes table keys scheme row (to_eopen ad) input random =
+    (plain : List ℕ) × (open_envelope_of keys table scheme input ad ≡ Some plain)
+
+-- The template is of the table and makes keys of AEADs, for which there is a manager; a keyset lies in the
+-- file of this name, whose ENABLED records can all serve as AEADs; the input is within the limit of the work,
+-- which goes; and the name of a new file is free.
+pub record EnvelopeIsDone (table : Table) (name : List ℕ) (form : Format) (template : List ℕ)
+    (work : AskedEnvelope) (out : Option (List ℕ)) (told : Told) : Type 0 where
+  pub row : Row
+  pub named : row_named template ≡ Some row
+  pub aead : IsAead row
+  pub scheme : Scheme
+  pub served : scheme_at table Aead (url_made row) ≡ Some scheme
+  pub keys : Keys
+  pub lies : LiesThere (record { file = Some name; form = form }) told keys
+  pub fit : unfit keys Aead table ≡ None
+  pub short : length told.input ≤ envelope_limit work
+  pub goes : EnvelopeGoes table keys scheme row work told.input told.random
+  pub free : IsFree out told.files
+
+-- an envelope is sealed or opened exactly where that is so
+abbrev pub EnvelopesDone : Type 0
+EnvelopesDone = (table : Table) (name : List ℕ) (form : Format) (template : List ℕ)
+    (work : AskedEnvelope) (out : Option (List ℕ)) (told : Told)
+    → ((answer (command_plan table (use_envelope name form template work out)) told).status
+    ≡ status.Done) ↔ EnvelopeIsDone table name form template work out told
+
+-- ---- encrypted keysets
+
+-- The master lies in the file of this name, and its ENABLED records can all serve as AEADs; a keyset lies
+-- in its own place, whose binary form is within the limit of one; the random bytes suffice for a text of it,
+-- which is within the limit of those; and the name of a new file is free.
+pub record WrapGoes (table : Table) (name : List ℕ) (form : Format) (in' out : Place) (told : Told)
+    : Type 0 where
+  pub old : Keys
+  pub lies : LiesThere (record { file = Some name; form = form }) told old
+  pub fit : unfit old Aead table ≡ None
+  pub keys : Keys
+  pub from : LiesThere in' told keys
+  pub within : length (binary_of keys) ≤ keyset_limit
+  pub wrapped : Wrapped
+  pub made : wrap_of keys old table told.random (is_json out.form) ≡ Some wrapped
+  pub short : length wrapped.text ≤ wrapped_limit
+  pub free : IsFree out.file told.files
+
+-- The same of the master; a text lies there, within its limit, which opens to a keyset; and that is within
+-- the limit of one, with a name that is free.
+pub record UnwrapGoes (table : Table) (name : List ℕ) (form : Format) (in' out : Place) (told : Told)
+    : Type 0 where
+  pub old : Keys
+  pub lies : LiesThere (record { file = Some name; form = form }) told old
+  pub fit : unfit old Aead table ≡ None
+  pub text : List ℕ
+  pub there : bytes_at in'.file told.files told.input ≡ Some text
+  pub short : length text ≤ wrapped_limit
+  pub keys : Keys
+  pub opens : unwrap_of old table text (is_json in'.form) ≡ Ok keys
+  pub within : length (written_in out.form keys) ≤ keyset_limit
+  pub free : IsFree out.file told.files
+
+-- a keyset is wrapped, and unwrapped, exactly where that is so
+pub record WrapsDone : Type 0 where
+  pub wrapped : (table : Table) (name : List ℕ) (form : Format) (in' out : Place) (told : Told)
+      → ((answer (command_plan table (wrap_keyset name form in' out)) told).status ≡ status.Done)
+      ↔ WrapGoes table name form in' out told
+  pub unwrapped : (table : Table) (name : List ℕ) (form : Format) (in' out : Place) (told : Told)
+      → ((answer (command_plan table (unwrap_keyset name form in' out)) told).status ≡ status.Done)
+      ↔ UnwrapGoes table name form in' out told
