@@ -120,6 +120,7 @@ fn fetch<A: Arguments>(
 fn text(alloc: Global, bytes: &[u8]) -> Result<String, NoWords>
     ensures text { IfOk result (λ text. string_bytes text ≡ bytes.now) }
     ensures not_text { IsErrOf result NoWords.NotText → ¬ (IsUtf8 bytes.now) }
+    ensures no_memory { IsErrOf result NoWords.NoMemory → IsUtf8 bytes.now }
 {
     match str::from_utf8(bytes) {
         Ok(text) => match String::from_str(alloc, text) {
