@@ -61,8 +61,12 @@ impl Opens for RandomDevice<'_> {
 
     ghost given = { λ _. None };
 
-    /// Opens the device. A file of another kind or number is refused.
+    /// Opens the device. A file of another kind or number is refused: it is looked at before it is opened, since
+    /// the opening of a pipe would wait for its other end, and once more when it is open.
     fn open(&self) -> io::Result<File> {
+        if !is_random(&fs::metadata(self.rt, self.path)?) {
+            return Err(io::Error::from(ErrorKind::InvalidInput));
+        }
         let device = fs::open(self.rt, self.path)?;
         if is_random(&device.metadata()?) {
             Ok(device)
