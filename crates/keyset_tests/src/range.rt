@@ -6,7 +6,7 @@ use std::alloc::Global;
 use std::test::Fail;
 use stream_range::{Device, MemDevice, RangeFault, StoreDevice, open_range};
 use test_words::{cell, number_in, same_bytes, turned, unlike};
-use tink_base::MemStore;
+use tink_base::{MemStore, Store};
 
 // Ranges of a stream of three segments of 4,096 bytes or 1 MiB, the last one shorter, with the plaintext
 // 0, 1, 2, ..: the keyset that sealed it, the size of the plaintext, the keyset that opens it, the byte
@@ -190,15 +190,18 @@ fn opens_ranges_by_short_reads(rt: HostRuntime) -> Result<(), Fail> {
     Ok(())
 }
 
-// The range of a row over the file of that name in a store.
+// The range of a row over the file of that name in a store, by the calls of `srange`.
 fn range_in(
     alloc: Global,
     row: &str,
     case: &Case,
     store: &mut MemStore,
 ) -> Result<Result<Vec<u8>, RangeFault>, Fail> {
-    match StoreDevice::new(store, "stream") {
-        Ok(Some(mut device)) => range_over(alloc, row, case, &mut device),
+    match store.size("stream") {
+        Ok(Some(size)) => {
+            let mut device = StoreDevice::over(store, "stream", size);
+            range_over(alloc, row, case, &mut device)
+        }
         Ok(None) => Err("a file".into()),
         Err(_failed) => Ok(Err(RangeFault::ReadFault)),
     }
@@ -225,15 +228,6 @@ fn opens_ranges_of_files(rt: HostRuntime) -> Result<(), Fail> {
         run_in_store(rt.alloc(), row)?;
     }
     Ok(())
-}
-
-#[test]
-fn finds_no_device_without_a_file(rt: HostRuntime) -> Result<(), Fail> {
-    let mut store = MemStore::new(rt.alloc(), Vec::new(rt.alloc()));
-    match StoreDevice::new(&mut store, "stream") {
-        Ok(None) => Ok(()),
-        _found => Err("no device".into()),
-    }
 }
 
 // Of the range of all three segments, which is read by five calls: which of them fails, and how the range

@@ -1,11 +1,8 @@
 //! A file of a store as a device.
 
-ghost use Rattle.std.specs.Prelude.{◌≡◌, ℕ, ◌+◌, ◌<◌, ◌≤◌, ◌^◌, length, IfOk, IfSome, IfNone, OnOk, OnErr, MatchOption, None, Some};
-ghost use Rattle.tink_base.specs.Store.{given_by_read};
-ghost use Rattle.tink_spec.specs.Files.{Holds, HoldsSize, KeptFiles};
-ghost use Rattle.tink_spec.specs.Outside.{Rose, RoseOnce, Stood};
-ghost use Rattle.stream_range.specs.Device.{KeptDevice, ReadsSome, TellsSize};
-ghost use Rattle.stream_range.specs.Stored.{size_in, stored_device};
+ghost use Rattle.std.specs.Prelude.{◌≡◌, ◌<◌, ◌^◌, Some};
+ghost use Rattle.tink_spec.specs.Files.{HoldsSize};
+ghost use Rattle.stream_range.specs.Stored.{size_in};
 
 use crate::Device;
 use tink_base::{Failed, Store};
@@ -21,33 +18,6 @@ pub struct StoreDevice<'s, D: Store> {
 }
 
 impl<'s, D: Store> StoreDevice<'s, D> {
-    /// The file of this name, if the store has one. Where `None` comes the store's `size` knows no file of
-    /// the name, and where a device comes it knows one. No byte is read.
-    ///
-    /// `Failed` is for where `size` failed. The borrow ends with the result, so no clause here can say that,
-    /// nor how the store is left without a device; a caller that has to know it asks the store for the
-    /// file's size, and calls `over`.
-    pub fn new(store: &'s mut D, name: &'s str) -> Result<Option<StoreDevice<'s, D>>, Failed>
-        ensures absent { IfOk result (λ found.
-            IfNone found (Holds (D.state store.old) name.now None)) }
-        ensures found { IfOk result (λ found. IfSome found (λ device.
-            (device.name.now ≡ name.now) × HoldsSize (D.state store.old) name.now device.size)) }
-        ensures lends { IfOk result (λ found. IfSome found (λ device.
-            device.store.ghost_name ≡ store.entry.ghost_name)) }
-        ensures kept { IfOk result (λ found. IfSome found (λ device.
-            KeptFiles (D.state store.old) (D.state device.store.now))) }
-        ensures no_fault { IfOk result (λ found. IfSome found (λ device.
-            Stood (D.state store.old).faults (D.state device.store.now).faults)) }
-        ensures given { IfOk result (λ found. IfSome found (λ device.
-            (D.state device.store.now).given ≡ (D.state store.old).given)) }
-    {
-        match store.size(name) {
-            Ok(Some(size)) => Ok(Some(StoreDevice::over(store, name, size))),
-            Ok(None) => Ok(None),
-            Err(_) => Err(Failed),
-        }
-    }
-
     /// The file of this name, which has `size` bytes, as the store's `size` says.
     pub fn over(store: &'s mut D, name: &'s str, size: u64) -> StoreDevice<'s, D>
         requires size_bound { size < 2 ^ 63 }
