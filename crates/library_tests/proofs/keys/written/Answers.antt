@@ -1,6 +1,6 @@
 use Rattle.std.proofs.Common.{◌^◌}
 use Rattle.key_msgs.proofs.Made.{made-within}
-use Rattle.keyset_tests.proofs.new_keys.written.Goals as goal
+use Rattle.library_tests.proofs.keys.written.Goals as goal
 use Rattle.key_msgs.specs.Templates.{seen}
 
 pub write_key-requires : goal.write_key-requires
