@@ -24,6 +24,7 @@ pub(crate) fn compare(
     hold_unlike(alloc, names, row.cell(Column::Unlike), came, differences)?;
     hold_made(alloc, names, row.cell(Column::Made), came, differences)?;
     differences.hold_count(alloc, "drawn", row.cell(Column::Drawn), came.drawn)?;
+    hold_given(alloc, row.cell(Column::Given), came, differences)?;
     if differences.count() == before {
         Ok(())
     } else {
@@ -101,6 +102,24 @@ fn hold_made(
         (Some(_), None) => differences.differs(alloc, "made", "a file", "none"),
         (None, Some(_)) => differences.differs(alloc, "made", "none", "a file"),
     }
+}
+
+/// No more bytes of files were given than the cell tells, where it tells any.
+fn hold_given(
+    alloc: Global,
+    cell: &str,
+    came: &Outcome,
+    differences: &mut Differences,
+) -> Result<(), Fail> {
+    if cell.is_empty() {
+        return Ok(());
+    }
+    let given = came.given.ok_or("files whose bytes are counted")?;
+    if given <= cell.parse::<u64>()? {
+        return Ok(());
+    }
+    let most = format!(in alloc; "at most {cell}")?;
+    differences.differs(alloc, "given", &most, &format!(in alloc; "{given}")?)
 }
 
 /// The bytes of the lines that a cell tells.
