@@ -120,8 +120,8 @@ pub fn kept_runs()
 }
 
 /// What was sealed in an envelope over a keyset opens after any such runs, with its associated data and any
-/// template that makes keys of its data key's type, to its plaintext, while the key that sealed is ENABLED in the last keyset and
-/// alone under its prefix.
+/// template that makes keys of its data key's type, to its plaintext, while the key that sealed is ENABLED in
+/// the last keyset and alone under its prefix.
 pub fn kept_envelopes()
     ensures { RunsOpenEnvelope }
 {

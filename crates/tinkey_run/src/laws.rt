@@ -1,17 +1,114 @@
-//! The laws that the program's promises rest on. Each is the contract of a function that does nothing,
-//! in the crate whose definitions it is of.
+//! The laws that the program's promises rest on, and those of the ciphers and forms below them. Each is
+//! the contract of a function that does nothing, in the crate whose definitions it is of; docs/LAWS.md
+//! has each in a sentence.
 
+pub use aead_kinds::laws::opens_sealings as schemes_open_sealings;
+pub use aes_core::laws::xored_blocks_give_bytes;
+pub use aes_core::laws::xored_blocks_go_on;
+pub use aes_core::laws::xored_blocks_keep_length;
+pub use aes_core::laws::xored_blocks_undo_themselves;
+pub use gcm_siv::laws::gcm_siv_opens_sealings;
+pub use gcm_siv::laws::polyval_is_dot;
+pub use ghash::laws::product_associates;
+pub use ghash::laws::product_commutes;
+pub use ghash::laws::product_distributes;
+pub use ghash::laws::product_has_one;
 pub use key_msgs::laws::key_back;
+pub use key_msgs::laws::made_is_valid;
+pub use keyset_json::laws::json_back;
+pub use keyset_json::laws::json_is_stored;
+pub use keyset_model::laws::binary_back;
+pub use keyset_model::laws::faultless_keysets;
+pub use keyset_model::laws::read_keysets_fit;
+pub use keyset_model::laws::read_within_source;
+pub use mac_prf::laws::cmac_has_a_block;
+pub use mac_prf::laws::hkdf_gives_bytes;
+pub use mac_prf::laws::tags_are_bytes;
+pub use mac_prf::laws::tags_have_their_size;
+pub use managers::laws::dopens_sealings;
 pub use managers::laws::opens_sealings;
-pub use seal_wrap::laws::{sealings_fit, wrap_back_bytes};
-pub use segment_stream::laws::{released_prefix, stream_back};
-pub use tinkey_plans::laws::{
-    commands_are_whole, done_exactly, fit_keysets_answer, self_tests_tell,
-};
-pub use tinkey_readable::laws::{
-    forms_back, kept_lines, kept_runs, kept_wrapped, read_is_stored, run_step,
-    sessions_are_readable, wrap_step,
-};
-pub use tinkey_session::laws::{kept_open, kept_open_present, kept_tag, sound_kept, sound_usable};
-pub use tinkey_words::laws::{places_are_decided, words_are_spelled};
+pub use proto_wire::laws::cutting_is_spelling;
+pub use proto_wire::laws::varints_are_short;
+pub use proto_wire::laws::written_is_cut_back;
+pub use seal_wrap::laws::envelope_back;
+pub use seal_wrap::laws::envelopes_fit;
+pub use seal_wrap::laws::sealings_are_bytes;
+pub use seal_wrap::laws::sealings_fit;
+pub use seal_wrap::laws::standard_data_keys;
+pub use seal_wrap::laws::text_hides_keys;
+pub use seal_wrap::laws::wrap_back;
+pub use seal_wrap::laws::wrap_back_bytes;
+pub use segment_stream::laws::decided_stays;
+pub use segment_stream::laws::keys_are_ciphers;
+pub use segment_stream::laws::pass_answers;
+pub use segment_stream::laws::range_is_slice;
+pub use segment_stream::laws::released_prefix;
+pub use segment_stream::laws::schemes_are_ciphers;
+pub use segment_stream::laws::seal_pass_answers;
+pub use segment_stream::laws::stream_back;
+pub use siv_daead::laws::siv_opens_sealings;
+pub use tinkey_cmds::laws::edits_draw_fronts;
+pub use tinkey_cmds::laws::edits_follow;
+pub use tinkey_cmds::laws::edits_keep_bounds;
+pub use tinkey_cmds::laws::edits_keep_keysets;
+pub use tinkey_cmds::laws::edits_keep_the_primary;
+pub use tinkey_cmds::laws::edits_leave_others;
+pub use tinkey_cmds::laws::refusals_draw_nothing;
+pub use tinkey_plans::laws::commands_are_whole;
+pub use tinkey_plans::laws::data_keys_come;
+pub use tinkey_plans::laws::done_exactly;
+pub use tinkey_plans::laws::fit_keysets_answer;
+pub use tinkey_plans::laws::ranges_read_little;
+pub use tinkey_plans::laws::self_tests_tell;
+pub use tinkey_readable::laws::edits_done;
+pub use tinkey_readable::laws::envelopes_done;
+pub use tinkey_readable::laws::forms_back;
+pub use tinkey_readable::laws::kept_envelopes;
+pub use tinkey_readable::laws::kept_lines;
+pub use tinkey_readable::laws::kept_ranges;
+pub use tinkey_readable::laws::kept_runs;
+pub use tinkey_readable::laws::kept_streams;
+pub use tinkey_readable::laws::kept_wrapped;
+pub use tinkey_readable::laws::ranges_done;
+pub use tinkey_readable::laws::read_is_stored;
+pub use tinkey_readable::laws::run_step;
+pub use tinkey_readable::laws::sessions_are_readable;
+pub use tinkey_readable::laws::sessions_done;
+pub use tinkey_readable::laws::streams_done;
+pub use tinkey_readable::laws::works_done;
+pub use tinkey_readable::laws::wrap_step;
+pub use tinkey_readable::laws::wraps_done;
+pub use tinkey_selftest::laws::counts_add_up;
+pub use tinkey_selftest::laws::entropy_suffices;
+pub use tinkey_selftest::laws::nothing_is_lost;
+pub use tinkey_session::laws::kept_dopen;
+pub use tinkey_session::laws::kept_dopen_present;
+pub use tinkey_session::laws::kept_open;
+pub use tinkey_session::laws::kept_open_present;
+pub use tinkey_session::laws::kept_tag;
+pub use tinkey_session::laws::lines_draw_few;
+pub use tinkey_session::laws::lines_draw_fronts;
+pub use tinkey_session::laws::new_ids_are_told;
+pub use tinkey_session::laws::refusals_leave;
+pub use tinkey_session::laws::session_dopens;
+pub use tinkey_session::laws::session_dopens_present;
+pub use tinkey_session::laws::session_is_edits;
+pub use tinkey_session::laws::session_opens;
+pub use tinkey_session::laws::session_opens_present;
+pub use tinkey_session::laws::session_verifies;
+pub use tinkey_session::laws::sound_kept;
+pub use tinkey_session::laws::sound_usable;
+pub use tinkey_session::laws::stored_kept;
+pub use tinkey_session::laws::talk_is_turns;
+pub use tinkey_session::laws::talks_are_steady;
+pub use tinkey_words::laws::misuses_are_true;
+pub use tinkey_words::laws::places_are_decided;
+pub use tinkey_words::laws::words_are_spelled;
+pub use wrapped_prims::laws::enabled_key_dopens;
+pub use wrapped_prims::laws::enabled_key_opens;
+pub use wrapped_prims::laws::index_finds;
+pub use wrapped_prims::laws::places_give;
+pub use wrapped_prims::laws::same_key_dopens;
+pub use wrapped_prims::laws::same_key_opens;
+pub use wrapped_prims::laws::same_key_verifies;
 pub use wrapped_prims::laws::sole_first;
