@@ -55,7 +55,7 @@ const HMAC: &str =
     "0884868808125b0a500a2e747970652e676f6f676c65617069732e636f6d2f676f6f676c652e63727970746f2e74696e6b2e486d61634b6579121c1204080310101a140b0b0b0b0b0b0b0b0b0b0b0b0b0b0b0b0b0b0b0b1801100118848688082001";
 
 /// The listing of the first keyset, as Tink's tinkey prints it.
-const LISTING: &str = "primary_key_id: 16909060
+pub(crate) const LISTING: &str = "primary_key_id: 16909060
 key_info {
   type_url: \"type.googleapis.com/google.crypto.tink.AesGcmKey\"
   status: ENABLED

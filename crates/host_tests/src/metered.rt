@@ -1,10 +1,12 @@
 //! Devices and streams in memory that tell their bytes and count their reads.
 
 ghost use Rattle.std.specs.Prelude.{Some};
+ghost use Rattle.host_tests.specs.Told.{goes_on};
 
+use real_objects::{ReadStream, WriteStream};
 use std::alloc::Global;
 use std::cell::Cell;
-use std::io::{self, ErrorKind, Read};
+use std::io::{self, ErrorKind, Read, Write};
 use std::test::Fail;
 use test_words::same_bytes;
 
@@ -32,6 +34,89 @@ impl Read for Metered<'_> {
         }
         let room = out.len().min(self.piece.max(1));
         self.left.read(&mut out[..room])
+    }
+}
+
+impl ReadStream for Metered<'_> {
+    ghost untold = { λ s t none. goes_on s.left.now t.left.now none };
+
+    fn is_open(&self) -> bool {
+        true
+    }
+}
+
+/// A stream in memory that may be closed, and that counts how often it is read all the same.
+#[derive(Drop)]
+pub(crate) struct MayBeClosed<'a> {
+    pub(crate) left: &'a [u8],
+    pub(crate) open: bool,
+    pub(crate) reads: &'a Cell<usize>,
+}
+
+impl Read for MayBeClosed<'_> {
+    ghost remaining = { λ s. Some s.left.now };
+
+    fn read(&mut self, out: &mut [u8]) -> io::Result<usize> {
+        self.reads.set(self.reads.get().wrapping_add(1));
+        self.left.read(out)
+    }
+}
+
+impl ReadStream for MayBeClosed<'_> {
+    ghost opened = { λ s. Some s.open };
+
+    ghost untold = { λ s t none. goes_on s.left.now t.left.now none };
+
+    fn is_open(&self) -> bool {
+        self.open
+    }
+}
+
+/// A stream in memory that is written, and may be closed or keep a fault back. It counts its writes, and how
+/// often it is asked for that fault.
+#[derive(Drop)]
+pub(crate) struct Taking<'a> {
+    pub(crate) written: &'a mut Vec<u8>,
+    pub(crate) open: bool,
+    pub(crate) well: bool,
+    pub(crate) writes: &'a Cell<usize>,
+    pub(crate) asked: &'a Cell<usize>,
+}
+
+impl Write for Taking<'_> {
+    ghost contents = { λ s. Some s.written.now.items };
+
+    fn write(&mut self, piece: &[u8]) -> io::Result<usize> {
+        self.writes.set(self.writes.get().wrapping_add(1));
+        match self.written.extend_from_slice(piece) {
+            Ok(()) => Ok(piece.len()),
+            Err(_) => Err(io::Error::from(ErrorKind::OutOfMemory)),
+        }
+    }
+
+    fn flush(&mut self) -> io::Result<()> {
+        Ok(())
+    }
+}
+
+impl WriteStream for Taking<'_> {
+    ghost opened = { λ s. Some s.open };
+
+    ghost settles = { λ s. Some s.well };
+
+    ghost untold = { λ s t none. goes_on s.written.now.items t.written.now.items none };
+
+    fn is_open(&self) -> bool {
+        self.open
+    }
+
+    fn settle(&mut self) -> io::Result<()> {
+        self.asked.set(self.asked.get().wrapping_add(1));
+        if self.well {
+            Ok(())
+        } else {
+            Err(io::Error::from(ErrorKind::QuotaExceeded))
+        }
     }
 }
 

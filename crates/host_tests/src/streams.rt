@@ -1,7 +1,7 @@
 //! Streams that are read ahead, that fail, and that a signal interrupts.
 
 use crate::metered::{Metered, WHOLE, are_first, are_those_from, counts};
-use real_objects::{StdSink, StdSource};
+use real_objects::{ReadStream, StdSink, StdSource, WriteStream};
 use std::alloc::Global;
 use std::cell::Cell;
 use std::io::{self, ErrorKind, Read, Write};
@@ -46,6 +46,26 @@ impl<W: Write> Write for Interrupted<W> {
 
     fn flush(&mut self) -> io::Result<()> {
         self.stream.flush()
+    }
+}
+
+impl<R: Read> ReadStream for Interrupted<R> {
+    ghost untold = { λ s t none. none };
+
+    fn is_open(&self) -> bool {
+        true
+    }
+}
+
+impl<W: Write> WriteStream for Interrupted<W> {
+    ghost untold = { λ s t none. none };
+
+    fn is_open(&self) -> bool {
+        true
+    }
+
+    fn settle(&mut self) -> io::Result<()> {
+        Ok(())
     }
 }
 

@@ -1,17 +1,13 @@
 -- What real streams, files and random bytes tell: how often they have failed, whether a stream has
--- ended, and no bytes.
-use Rattle.std.specs.Prelude.{ℕ, List, Option, None, false}
+-- ended, and the bytes that the stream beneath tells. Files and random bytes tell none.
+use Rattle.std.specs.Prelude.{◌≡◌, ℕ, List, [], Option, None, Bool, true, false}
 use Rattle.std.specs.Io.KnownBytes.{prepend_known}
 use Rattle.tink_spec.specs.Outside.{SourceState, SinkState, EntropyState}
 use Rattle.tink_spec.specs.Files.{StoreState}
 use Rattle.real_objects.specs.declared.streams.StdSource.{StdSource}
 use Rattle.real_objects.specs.declared.streams.StdSink.{StdSink}
 
--- a stream that is read
-abbrev pub told_source : {R : Type 0} → StdSource R → SourceState
-told_source source = record { left = None; faults = source.faults; ended = source.ended; late = source.late }
-
--- the stream beneath it
+-- the stream beneath one that is read
 abbrev pub stream_read : {R : Type 0} → StdSource R → R
 stream_read source = source.input
 
@@ -23,13 +19,34 @@ read_ahead source = source.unread
 abbrev pub source_left : {R : Type 0} → (R → Option (List ℕ)) → StdSource R → Option (List ℕ)
 source_left remaining source = prepend_known (read_ahead source) (remaining (stream_read source))
 
--- a stream that is written
-abbrev pub told_sink : {W : Type 0} → StdSink W → SinkState
-told_sink sink = record { written = None; faults = sink.faults }
+-- a stream that is read
+abbrev pub told_source : {R : Type 0} → (R → Option (List ℕ)) → StdSource R → SourceState
+told_source remaining source = record {
+  left = source_left remaining source;
+  faults = source.faults;
+  ended = source.ended;
+  late = source.late;
+}
 
--- the stream beneath it
+-- it was found closed, before anything was read of it
+abbrev pub IsClosed : {R : Type 0} → StdSource R → Type 0
+IsClosed source = (source.closed ≡ true) × (read_ahead source ≡ [])
+
+-- the stream beneath one that is written
 abbrev pub stream_written : {W : Type 0} → StdSink W → W
 stream_written sink = sink.output
+
+-- a stream that is written
+abbrev pub told_sink : {W : Type 0} → (W → Option (List ℕ)) → StdSink W → SinkState
+told_sink contents sink = record { written = contents (stream_written sink); faults = sink.faults }
+
+-- it was found closed, before anything was written to it
+abbrev pub closed_sink : {W : Type 0} → StdSink W → Bool
+closed_sink sink = sink.closed
+
+-- whether a byte was written to it
+abbrev pub has_written : {W : Type 0} → StdSink W → Bool
+has_written sink = sink.wrote
 
 -- the files, with so many faults and bytes given
 abbrev pub untold_store : (faults given : ℕ) → StoreState

@@ -7,6 +7,7 @@
 
 mod ahead;
 mod args;
+mod beneath;
 mod entropy;
 mod folder;
 mod naming;
@@ -15,6 +16,7 @@ mod streams;
 mod unread;
 
 pub use args::{Arguments, NoWords, words};
+pub use beneath::{ReadStream, StandardOutput, WriteStream};
 pub use entropy::{FileEntropy, Opens, RandomDevice};
 pub use folder::{DirName, DirStore, NewFile, fill_opened, load_opened};
 pub use naming::{NewName, make_file};

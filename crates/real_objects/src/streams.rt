@@ -1,12 +1,13 @@
-//! Real streams, standard ones and files, as sources and sinks. They tell no bytes of their own; their
-//! clauses speak of the bytes of the stream beneath, where it knows them. Each counts its errors.
+//! Real streams, standard ones and files, as sources and sinks. They tell the bytes of the stream beneath, where it
+//! tells them. Each counts its errors, and one that was found closed fails from then on.
 
-ghost use Rattle.std.specs.Prelude.{◌≡◌, ◌≢◌, ◌<◌, ◌≤◌, true, false, None, [], length, take, drop, IsOk, IfOk, IfErr, OnOk, OnErr};
+ghost use Rattle.std.specs.Prelude.{◌≡◌, ◌≢◌, ◌<◌, ◌≤◌, true, false, Some, [], length, take, drop, is_ok, IsOk, IfOk, IsErr, IfErr, IfSome, OnOk, OnErr};
 ghost use Rattle.std.specs.Io.KnownBytes.{Appends, Consumes, Keeps, IsAtEnd as IsNoneLeft};
 ghost use Rattle.std.specs.IoError.{error_kind};
 ghost use Rattle.tink_spec.specs.Outside.{Rose, RoseOnce, Stood, Took, Gave, IsAtEnd, late_after};
-ghost use Rattle.real_objects.specs.Streams.{told_source, told_sink, stream_read, read_ahead, source_left, stream_written};
+ghost use Rattle.real_objects.specs.Streams.{told_source, told_sink, stream_read, read_ahead, source_left, stream_written, IsClosed, closed_sink, has_written};
 
+use crate::beneath::{ReadStream, WriteStream};
 use crate::unread::Unread;
 use std::io::{self, ErrorKind, Read, Write};
 use tink_base::{Failed, Sink, Source};
@@ -25,15 +26,19 @@ pub struct StdSource<R> {
     // whether an end was answered, and how many reads came after that
     ended: bool,
     late: u64,
+    // whether the stream was found closed
+    closed: bool,
 }
 
-impl<R: Read> StdSource<R> {
-    /// A stream before its first read.
+impl<R: ReadStream> StdSource<R> {
+    /// A stream before its first read, which isn't asked whether it is open.
     pub fn new(from: R) -> StdSource<R>
         ensures beneath { stream_read result ≡ from }
         ensures not_ahead { read_ahead result ≡ [] }
-        ensures new { (told_source result).faults ≡ 0 }
-        ensures not_ended { (told_source result).ended ≡ false }
+        ensures open { IsClosed result → ⊥ }
+        ensures left { (told_source R.remaining result).left ≡ R.remaining from }
+        ensures new { (told_source R.remaining result).faults ≡ 0 }
+        ensures not_ended { (told_source R.remaining result).ended ≡ false }
     {
         StdSource {
             input: from,
@@ -41,36 +46,59 @@ impl<R: Read> StdSource<R> {
             faults: 0,
             ended: false,
             late: 0,
+            closed: false,
+        }
+    }
+
+    /// A stream before its first read, which is asked whether it is open. One that is closed stays a fault:
+    /// each read of it fails, and it isn't read, so what is opened in its place later isn't either.
+    pub fn probed(from: R) -> StdSource<R>
+        ensures beneath { stream_read result ≡ from }
+        ensures not_ahead { read_ahead result ≡ [] }
+        ensures open { R.opened from ≡ Some true → IsClosed result → ⊥ }
+        ensures closed { R.opened from ≡ Some false → IsClosed result }
+        ensures left { (told_source R.remaining result).left ≡ R.remaining from }
+        ensures new { (told_source R.remaining result).faults ≡ 0 }
+        ensures not_ended { (told_source R.remaining result).ended ≡ false }
+    {
+        let closed = !from.is_open();
+        StdSource {
+            input: from,
+            unread: Unread::new(),
+            faults: 0,
+            ended: false,
+            late: 0,
+            closed,
         }
     }
 }
 
-impl<R: Read> Source for StdSource<R> {
-    ghost state = { λ s. told_source s };
+impl<R: ReadStream> Source for StdSource<R> {
+    ghost state = { λ s. told_source R.remaining s };
 
     fn read(&mut self, out: &mut [u8]) -> Result<usize, Failed>
         ensures bound { IfOk result (λ n. n ≤ length out.old) }
         ensures gives { IfOk result (λ n.
-            Gave (told_source self.old) (told_source self.new) (take n out.new)) }
+            Gave (told_source R.remaining self.old) (told_source R.remaining self.new) (take n out.new)) }
         ensures rest { IfOk result (λ n. drop n out.new ≡ drop n out.old) }
         ensures end { IfOk result (λ n. n ≡ 0 → 0 < length out.old →
-            IsAtEnd (told_source self.new)) }
+            IsAtEnd (told_source R.remaining self.new)) }
         ensures ended { IfOk result (λ n. n ≡ 0 → 0 < length out.old →
-            (told_source self.new).ended ≡ true) }
+            (told_source R.remaining self.new).ended ≡ true) }
         ensures goes_on { IfOk result (λ n. 0 < n →
-            (told_source self.new).ended ≡ (told_source self.old).ended) }
+            (told_source R.remaining self.new).ended ≡ (told_source R.remaining self.old).ended) }
         ensures nothing_asked { length out.old ≡ 0 →
-            (told_source self.new).ended ≡ (told_source self.old).ended }
+            (told_source R.remaining self.new).ended ≡ (told_source R.remaining self.old).ended }
         ensures failed_goes_on { OnErr result
-            ((told_source self.new).ended ≡ (told_source self.old).ended) }
-        ensures late { (told_source self.new).late ≡ late_after (told_source self.old) }
+            ((told_source R.remaining self.new).ended ≡ (told_source R.remaining self.old).ended) }
+        ensures late { (told_source R.remaining self.new).late ≡ late_after (told_source R.remaining self.old) }
         ensures no_fault { OnOk result
-            (Stood (told_source self.old).faults (told_source self.new).faults) }
+            (Stood (told_source R.remaining self.old).faults (told_source R.remaining self.new).faults) }
         ensures failed { OnErr result
-            (Rose (told_source self.old).faults (told_source self.new).faults) }
+            (Rose (told_source R.remaining self.old).faults (told_source R.remaining self.new).faults) }
         ensures once { OnErr result
-            (RoseOnce (told_source self.old).faults (told_source self.new).faults) }
-        ensures kept { OnErr result (Gave (told_source self.old) (told_source self.new) []) }
+            (RoseOnce (told_source R.remaining self.old).faults (told_source R.remaining self.new).faults) }
+        ensures kept { OnErr result (Gave (told_source R.remaining self.old) (told_source R.remaining self.new) []) }
 
         // What goes out of the bytes that were read ahead, and then of the stream beneath.
         ensures read { IfOk result (λ n.
@@ -81,6 +109,11 @@ impl<R: Read> Source for StdSource<R> {
         ensures unread { OnErr result
             (Keeps (source_left R.remaining self.old) (source_left R.remaining self.new)) }
 
+        // A stream that was found closed fails, is left alone, and stays so.
+        ensures closed { IsClosed self.old → IsErr result }
+        ensures left_alone { IsClosed self.old → stream_read self.new ≡ stream_read self.old }
+        ensures stays_closed { IsClosed self.old → IsClosed self.new }
+
         // What was read ahead is given, and the stream isn't asked before it is used up.
         ensures enough { 0 < length (read_ahead self.old) → IsOk result }
         ensures unasked { 0 < length (read_ahead self.old) →
@@ -89,6 +122,10 @@ impl<R: Read> Source for StdSource<R> {
     {
         if self.ended {
             self.late = self.late.saturating_add(1);
+        }
+        if self.closed && self.unread.is_empty() {
+            self.faults = self.faults.saturating_add(1);
+            return Err(Failed);
         }
         match self.unread.read(&mut self.input, out) {
             Ok(n) => {
@@ -108,36 +145,89 @@ impl<R: Read> Source for StdSource<R> {
 pub struct StdSink<W> {
     output: W,
     faults: u64,
+    // whether the stream was found closed
+    closed: bool,
+    // whether a byte was written
+    wrote: bool,
 }
 
-impl<W: Write> StdSink<W> {
-    /// A stream before its first write.
+impl<W: WriteStream> StdSink<W> {
+    /// A stream before its first write, which isn't asked whether it is open.
     pub fn new(to: W) -> StdSink<W>
         ensures beneath { stream_written result ≡ to }
-        ensures new { (told_sink result).faults ≡ 0 }
+        ensures open { closed_sink result ≡ false }
+        ensures written { (told_sink W.contents result).written ≡ W.contents to }
+        ensures new { (told_sink W.contents result).faults ≡ 0 }
     {
         StdSink {
             output: to,
             faults: 0,
+            closed: false,
+            wrote: false,
+        }
+    }
+
+    /// A stream before its first write, which is asked whether it is open. One that is closed stays a fault:
+    /// each write to it fails, and it isn't written, so what is opened in its place later isn't either.
+    pub fn probed(to: W) -> StdSink<W>
+        ensures beneath { stream_written result ≡ to }
+        ensures open { W.opened to ≡ Some true → closed_sink result ≡ false }
+        ensures closed { W.opened to ≡ Some false → closed_sink result ≡ true }
+        ensures written { (told_sink W.contents result).written ≡ W.contents to }
+        ensures new { (told_sink W.contents result).faults ≡ 0 }
+    {
+        let closed = !to.is_open();
+        StdSink {
+            output: to,
+            faults: 0,
+            closed,
+            wrote: false,
+        }
+    }
+
+    /// Asks the stream, once all was written, for a fault that it kept back when it took the bytes. Where no
+    /// byte was written it isn't asked.
+    pub fn settle(&mut self) -> Result<(), Failed>
+        ensures same { OnOk result
+            (told_sink W.contents self.new ≡ told_sink W.contents self.old) }
+        ensures once { OnErr result
+            (RoseOnce (told_sink W.contents self.old).faults (told_sink W.contents self.new).faults) }
+        ensures kept { OnErr result
+            (Took (told_sink W.contents self.old) (told_sink W.contents self.new) []) }
+        ensures asked { has_written self.old ≡ true →
+            IfSome (W.settles (stream_written self.old)) (λ well. is_ok result ≡ well) }
+        ensures unasked { has_written self.old ≡ false → IsOk result }
+        ensures has_written { has_written self.new ≡ has_written self.old }
+        ensures settles { W.settles (stream_written self.new) ≡ W.settles (stream_written self.old) }
+    {
+        if !self.wrote {
+            return Ok(());
+        }
+        match self.output.settle() {
+            Ok(()) => Ok(()),
+            Err(_) => {
+                self.faults = self.faults.saturating_add(1);
+                Err(Failed)
+            }
         }
     }
 }
 
-impl<W: Write> Sink for StdSink<W> {
-    ghost state = { λ s. told_sink s };
+impl<W: WriteStream> Sink for StdSink<W> {
+    ghost state = { λ s. told_sink W.contents s };
 
     fn write(&mut self, piece: &[u8]) -> Result<usize, Failed>
         ensures bound { IfOk result (λ n. n ≤ length piece.now) }
         ensures some { IfOk result (λ n. 0 < length piece.now → 0 < n) }
         ensures takes { IfOk result (λ n.
-            Took (told_sink self.old) (told_sink self.new) (take n piece.now)) }
+            Took (told_sink W.contents self.old) (told_sink W.contents self.new) (take n piece.now)) }
         ensures no_fault { OnOk result
-            (Stood (told_sink self.old).faults (told_sink self.new).faults) }
+            (Stood (told_sink W.contents self.old).faults (told_sink W.contents self.new).faults) }
         ensures failed { OnErr result
-            (Rose (told_sink self.old).faults (told_sink self.new).faults) }
+            (Rose (told_sink W.contents self.old).faults (told_sink W.contents self.new).faults) }
         ensures once { OnErr result
-            (RoseOnce (told_sink self.old).faults (told_sink self.new).faults) }
-        ensures kept { OnErr result (Took (told_sink self.old) (told_sink self.new) []) }
+            (RoseOnce (told_sink W.contents self.old).faults (told_sink W.contents self.new).faults) }
+        ensures kept { OnErr result (Took (told_sink W.contents self.old) (told_sink W.contents self.new) []) }
 
         // What goes into the stream beneath.
         ensures wrote { IfOk result (λ n.
@@ -145,9 +235,24 @@ impl<W: Write> Sink for StdSink<W> {
             (take n piece.now)) }
         ensures unwritten { OnErr result
             (Keeps (W.contents (stream_written self.old)) (W.contents (stream_written self.new))) }
+        ensures has_written { IfOk result (λ n. 0 < n → has_written self.new ≡ true) }
+
+        // A stream that was found closed fails, is left alone, and stays so.
+        ensures closed { closed_sink self.old ≡ true → IsErr result }
+        ensures left_alone { closed_sink self.old ≡ true →
+            stream_written self.new ≡ stream_written self.old }
+        ensures stays_closed { closed_sink self.new ≡ closed_sink self.old }
     {
+        if self.closed {
+            self.faults = self.faults.saturating_add(1);
+            return Err(Failed);
+        }
         match write_through_signals(&mut self.output, piece) {
-            Ok(n) if n > 0 || piece.is_empty() => Ok(n),
+            Ok(n) if n > 0 => {
+                self.wrote = true;
+                Ok(n)
+            }
+            Ok(n) if piece.is_empty() => Ok(n),
             _ => {
                 self.faults = self.faults.saturating_add(1);
                 Err(Failed)

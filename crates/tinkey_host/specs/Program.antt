@@ -1,15 +1,17 @@
 -- What the program does with its words, its streams and its files.
-use Rattle.std.specs.Prelude.{◌≡◌, ℕ, List, drop, Option, IfSome, Result, Ok, Err}
+use Rattle.std.specs.Prelude.{◌≡◌, ℕ, List, [], ◌++◌, drop, Option, Some, IfSome, Result, Ok, Err}
 use Rattle.managers.specs.Standard.{standard_table}
 use Rattle.real_objects.specs.Words.{HasNotText}
 use Rattle.tink_base.specs.declared.faults.NoMemory.{NoMemory}
-use Rattle.tink_spec.specs.Outside.{SinkState}
+use Rattle.tink_spec.specs.Files.{Files}
+use Rattle.tink_spec.specs.Outside.{SinkState, RoseOnce, Took}
 use Rattle.tinkey_plans.specs.Commands.{plan_of}
-use Rattle.tinkey_plans.specs.Ends.{World}
-use Rattle.tinkey_plans.specs.Plan.{Plan, allocates}
+use Rattle.tinkey_plans.specs.Ends.{World, world}
+use Rattle.tinkey_plans.specs.Plan.{Plan, Answer, allocates}
 use Rattle.tinkey_plans.specs.Promises.{Promised}
 use Rattle.tinkey_plans.specs.Status.{code_of, Reports}
 use Rattle.tinkey_plans.specs.declared.status.Status.{Status}
+use Rattle.tinkey_plans.specs.declared.status.Status.TheVariants as statuses
 
 -- the plan of the words over the table of the program's managers, for which memory may be wanting
 -- before all else
@@ -38,3 +40,18 @@ pub data HasObeyed (told : Option (List (List ℕ))) (old new : World) (before a
   has_run : (words : List (List ℕ)) → IfSome told (λ t. words ≡ drop 1 t) → HasRun words old new before after code → HasObeyed told old new before after code
   not_text : code ≡ 8 → IfSome told HasNotText → old ≡ new → before ≡ after → HasObeyed told old new before after code
   no_memory : code ≡ 7 → old ≡ new → before ≡ after → HasObeyed told old new before after code
+
+-- How a command line was obeyed whose first sink was asked, in the end, for a fault that it kept back: as it was
+-- obeyed; or that ended well, and then the sink told one, which is a write fault, though it took each byte.
+pub data HasEnded (told : Option (List (List ℕ))) (old new : World) (before after : SinkState) (code : ℕ) : Type 0 where
+  as_obeyed : HasObeyed told old new before after code → HasEnded told old new before after code
+  late_fault : (sink between : SinkState) → HasObeyed told old (world new.source sink new.store new.entropy) before between 0 → RoseOnce sink.faults new.sink.faults → Took sink new.sink [] → code ≡ code_of statuses.WriteFault → Reports statuses.WriteFault between after → HasEnded told old new before after code
+
+-- A stated answer in bytes: its status; what it leaves of the input, if it says that; its output behind what was
+-- written before; its files; and the random bytes that it leaves.
+pub record IsAnsweredInBytes (a : Answer) (written : List ℕ) (s : Status) (left after : Option (List ℕ)) (kept : Option Files) (undrawn : Option (List ℕ)) : Type 0 where
+  pub status : s ≡ a.status
+  pub input : IfSome a.input (λ rest. left ≡ Some rest)
+  pub output : after ≡ Some (written ++ a.output)
+  pub files : kept ≡ Some a.files
+  pub random : undrawn ≡ Some a.random

@@ -2,8 +2,10 @@
 //! or over any others.
 #![tactic(auto)]
 
+mod over_streams;
 mod standard;
 mod top;
 
+pub use over_streams::start_over_streams;
 pub use standard::start;
-pub use top::{obey, obey_listed, program};
+pub use top::{obey, obey_listed, obey_to_the_end, program};

@@ -1,18 +1,22 @@
 //! What `main` does.
 
-ghost use Rattle.std.specs.Prelude.{◌≡◌, map, string_bytes};
+ghost use Rattle.std.specs.Prelude.{◌≡◌, true, IfSome, map, string_bytes};
 ghost use Rattle.std.specs.Process.{exit_status};
+ghost use Rattle.real_objects.specs.Streams.{told_sink, stream_written, has_written};
 ghost use Rattle.tinkey_plans.specs.Ends.{world};
-ghost use Rattle.tinkey_host.specs.Program.{HasRun, HasObeyed};
+ghost use Rattle.tinkey_host.specs.Program.{HasRun, HasObeyed, HasEnded};
 
 use crate::standard::start;
 use lookahead::Lookahead;
 use real_objects::{
-    Arguments, DirStore, FileEntropy, NoWords, RandomDevice, StdSink, StdSource, words,
+    Arguments, DirStore, FileEntropy, NoWords, RandomDevice, StandardOutput, StdSink, StdSource,
+    WriteStream, words,
 };
 use std::alloc::Global;
 use std::process::ExitCode;
-use tink_base::{Sink, Source, Store};
+use tink_base::{Failed, Sink, Source, Store};
+use tinkey_plans::report;
+use tinkey_run::Status;
 
 /// The exit code where memory for the words is refused, as where a run's memory is.
 const OUT_OF_MEMORY: u8 = 7;
@@ -22,16 +26,61 @@ const NO_WORDS: u8 = 8;
 
 /// Obeys the words after the program's name, over standard input, output and error, the system's
 /// random bytes and the files.
+///
+/// Before a file is opened each of the three streams is asked whether it is open. Of what the system then
+/// gives and takes no contract can speak: what holds of the answer is what `obey_to_the_end` says of any
+/// words and objects, these among them.
 pub fn program(rt: &HostRuntime) -> ExitCode {
-    obey_listed(
+    let mut source = StdSource::probed(rt.stdin());
+    let mut sink = StdSink::probed(StandardOutput::new(rt));
+    let mut diag = StdSink::probed(rt.stderr());
+    obey_to_the_end(
         rt,
         rt.alloc(),
-        &mut StdSource::new(rt.stdin()),
-        &mut StdSink::new(rt.stdout()),
-        &mut StdSink::new(rt.stderr()),
+        &mut source,
+        &mut sink,
+        &mut diag,
         &mut FileEntropy::new(RandomDevice::new(rt)),
         &mut DirStore::new(rt),
     )
+}
+
+/// Obeys the words of a command line as `obey_listed` does. Where that ended well and bytes were written to
+/// `sink`, it is asked for a fault that it kept back: such a fault is a write fault.
+pub fn obey_to_the_end<A, S, W, G, E, D>(
+    from: &A,
+    alloc: Global,
+    source: &mut S,
+    sink: &mut StdSink<W>,
+    diag: &mut G,
+    entropy: &mut E,
+    store: &mut D,
+) -> ExitCode
+where
+    A: Arguments,
+    S: Source,
+    W: WriteStream,
+    G: Sink,
+    E: Lookahead,
+    D: Store,
+    ensures ended { HasEnded (A.told from.now)
+        (world (S.state source.old) (told_sink W.contents sink.old) (D.state store.old) (E.state entropy.old))
+        (world (S.state source.new) (told_sink W.contents sink.new) (D.state store.new) (E.state entropy.new))
+        (G.state diag.old) (G.state diag.new) (exit_status result) }
+    ensures settled { exit_status result ≡ 0 → has_written sink.new ≡ true →
+        IfSome (W.settles (stream_written sink.new)) (λ well. well ≡ true) }
+{
+    let code = obey_listed(from, alloc, source, sink, diag, entropy, store);
+    if code != ExitCode::SUCCESS {
+        return code;
+    }
+    match sink.settle() {
+        Ok(()) => code,
+        Err(Failed) => {
+            report(diag, Status::WriteFault);
+            ExitCode::from(Status::WriteFault.code())
+        }
+    }
 }
 
 /// Obeys the words of a command line but the first, the program's name, over these objects.
