@@ -1,5 +1,7 @@
--- What is found of a file.
-use Rattle.std.specs.Prelude.{◌≡◌, ◌⊎◌, ◌<◌, ◌≤◌, ℕ, List, length, take, drop, Option, Some, None, IfSome}
+-- What is found of a file, and the folder of a path.
+use Rattle.std.specs.Prelude.{◌≡◌, ◌⊎◌, ◌<◌, ◌≤◌, ℕ, ◌==◌, List, ◌∷◌, ◌++◌, length, take, drop, Option, Some, None, IfSome}
+use Rattle.std.specs.Str.{NoCharPasses}
+use Rattle.std.specs.Path.{slash, root_dir, cur_dir}
 use Rattle.std.specs.Fs.{IsFile, file_type, metadata_len}
 use Rattle.std.specs.declared.fs.attrs.Metadata.{Metadata}
 use Rattle.std.specs.declared.io.ErrorKind.{ErrorKind}
@@ -26,3 +28,15 @@ IsMissing k = (k ≡ kind.NotFound) ⊎ (k ≡ kind.NotADirectory)
 abbrev pub IsPieceAt : Option (List ℕ) → (at : ℕ) → (out : List ℕ) → ℕ → Type 0
 IsPieceAt bytes at out n =
     (1 ≤ n) × (n ≤ length out) × IfSome bytes (λ all. take n out ≡ take n (drop at all))
+
+-- no character of a text is a slash
+abbrev pub HasNoSlash : List ℕ → Type 0
+HasNoSlash text = NoCharPasses (λ c. c == slash) text
+
+-- the folder of a path: the working folder, where the path has no slash; the root, where its last slash is its first
+-- byte; and otherwise what stands before its last slash
+abbrev pub IsFolder : (path folder : List ℕ) → Type 0
+IsFolder path folder =
+    (HasNoSlash path × (folder ≡ cur_dir))
+    ⊎ ((last : List ℕ) × HasNoSlash last × (path ≡ slash ∷ last) × (folder ≡ root_dir))
+    ⊎ ((last : List ℕ) × HasNoSlash last × (path ≡ folder ++ slash ∷ last) × (0 < length folder))

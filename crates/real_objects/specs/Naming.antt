@@ -1,8 +1,8 @@
 -- How a new file gets its name: how far that has come, by what the calls have answered.
 --
---   held, lasted   what a file held when it got the name, where files tell that, and whether it lasted then
+--   held, lasted   what a file held when it got the name, and whether it lasted then, where files tell that
 --   fresh          what a file holds that was just made, where files tell that
-use Rattle.std.specs.Prelude.{◌≡◌, ◌⊎◌, ℕ, List, Bool, IsTrue, Option, IfSome, Result, Ok, Err, IsErr}
+use Rattle.std.specs.Prelude.{◌≡◌, ◌⊎◌, ℕ, List, Bool, IsTrue, Option, IfSome, Result, Ok, Err}
 use Rattle.std.specs.Io.KnownBytes.{Appends}
 use Rattle.std.specs.declared.io.ErrorKind.{ErrorKind}
 use Rattle.std.specs.declared.io.ErrorKind.TheVariants as kind
@@ -13,22 +13,40 @@ use Rattle.tink_base.specs.declared.store.StoreError.TheVariants as error
 
 -- how far a name has come, by what the calls on it have answered
 pub data Stage : Type 0 where
-  -- no file of ours has the name, and no call has said that another one has it
+  -- no file was made, and no call has said that something has the name, or that memory is wanting
   Free : Stage
+  -- a call that was to look or to make a file has said that memory is wanting, and none was made
+  Starved : Stage
+  -- a file of ours stands or stood under a name aside, and none has the name
+  Begun : Stage
   -- a call has said that something has the name
   Taken : Stage
   -- a link was refused, as there are none
   Linkless : Stage
   -- a link gave the name to a file, as it was then
-  Linked : (held : Option (List ℕ)) (lasted : Bool) → Stage
+  Linked : (held : Option (List ℕ)) (lasted : Option Bool) → Stage
   -- a new file was opened under the name itself
   Opened : Stage
-  -- the name lasts: of a file that a link gave it to, as it was then, or of one that was opened under it, as it is
-  Kept : (held : Option (List ℕ)) (lasted : Bool) → Stage
+  -- the name was put away as far as the system lets one ask for it: of a file that a link gave it to, as it was then,
+  -- or of one that was opened under it, as it is
+  Kept : (held : Option (List ℕ)) (lasted : Option Bool) → Stage
+
+-- where a file is that was made under a name aside
+pub data Place : Type 0 where
+  -- nowhere: none was made, or its name aside is gone
+  Gone : Place
+  -- it stands under its name aside
+  There : Place
+  -- its name aside couldn't be removed
+  Left : Place
 
 -- that far, where it is told
 abbrev pub IsAt : Option Stage → Stage → Type 0
 IsAt told stage = IfSome told (λ s. s ≡ stage)
+
+-- what was written lasts, where that is told
+abbrev pub Lasts : Option Bool → Type 0
+Lasts lasted = IfSome lasted (λ it. IsTrue it)
 
 -- an error of this kind says that there are no links: a link isn't permitted in a folder in which a file was just
 -- made, or isn't supported, or a file can have no second name
@@ -36,22 +54,27 @@ abbrev pub HasNoLinks : ErrorKind → Type 0
 HasNoLinks k = (k ≡ kind.PermissionDenied) ⊎ (k ≡ kind.Unsupported) ⊎ (k ≡ kind.TooManyLinks)
 
 -- a file that was made for these bytes has them all, and they last
-abbrev pub IsWhole : Option (List ℕ) → List ℕ → Option (List ℕ) → Bool → Type 0
-IsWhole fresh bytes held lasted = IsTrue lasted × Appends fresh held bytes
+abbrev pub IsWhole : Option (List ℕ) → List ℕ → Option (List ℕ) → Option Bool → Type 0
+IsWhole fresh bytes held lasted = Lasts lasted × Appends fresh held bytes
 
--- where the name comes to last: a file that was linked counts as it was then, and an opened one as it is
-abbrev pub kept_as : Option (List ℕ) → Bool → Stage → Stage
+-- where the name comes to be put away: a file that was linked counts as it was then, and an opened one as it is
+abbrev pub kept_as : Option (List ℕ) → Option Bool → Stage → Stage
 kept_as held lasted (Linked first did) = Kept first did
 kept_as held lasted Free = Kept held lasted
+kept_as held lasted Starved = Kept held lasted
+kept_as held lasted Begun = Kept held lasted
 kept_as held lasted Taken = Kept held lasted
 kept_as held lasted Linkless = Kept held lasted
 kept_as held lasted Opened = Kept held lasted
 kept_as held lasted (Kept first did) = Kept first did
 
 -- what a new file of these bytes is told as, by how far its name came: each name that a link gave, it gave to the
--- whole file; and nobody stops where there are no links
+-- whole file; memory is wanting only where a call said so before a file was made; and nobody stops where there are
+-- no links
 abbrev pub EndsAs : Option (List ℕ) → List ℕ → Result Created StoreError → Stage → Type 0
-EndsAs fresh bytes result Free = IsErr result
+EndsAs fresh bytes result Free = result ≡ Err error.Failed
+EndsAs fresh bytes result Starved = result ≡ Err error.NoMemory
+EndsAs fresh bytes result Begun = result ≡ Err error.Failed
 EndsAs fresh bytes result Taken = result ≡ Ok created.Exists
 EndsAs fresh bytes result Linkless = ⊥
 EndsAs fresh bytes result (Linked held lasted) = IsWhole fresh bytes held lasted × (result ≡ Err error.Failed)

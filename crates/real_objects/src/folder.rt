@@ -2,26 +2,28 @@
 //! and fills one file speak of the bytes of the file, where it knows them. How a new one gets its name is
 //! in `naming`, and what is read of a file at a place in `placed`.
 
-ghost use Rattle.std.specs.Prelude.{◌≡◌, ◌+◌, ◌^◌, ◌<◌, ◌≤◌, ◌⊎◌, ℕ, Bool, IsTrue, true, false, None, [], min, IfOk, IfErr, IsOk, IsOkAnd, IfSome, OnOk};
+ghost use Rattle.std.specs.Prelude.{◌≡◌, ◌≢◌, ◌^◌, ◌≤◌, Bool, Option, true, false, None, [], min, IfOk, IfErr, IsOk, IsErr, IsOkAnd, IsErrOf, IfSome, OnOk};
 ghost use Rattle.std.specs.Io.KnownBytes.{Appends, Keeps};
 ghost use Rattle.std.specs.IoError.{error_kind};
 ghost use Rattle.tink_base.specs.Store.{Loads, given_by_load, given_by_read};
-ghost use Rattle.real_objects.specs.Folder.{IsLoaded};
+ghost use Rattle.real_objects.specs.Folder.{IsLoaded, IsMissing};
+ghost use Rattle.real_objects.specs.Naming.{Lasts};
 ghost use Rattle.real_objects.specs.Streams.{untold_store};
 
-use crate::naming::{NewName, make_file};
+use crate::named::{DirName, free_place};
+use crate::naming::make_file;
 use crate::placed::{read_opened, size_of};
 use std::alloc::Global;
-use std::fs::{self, File, OpenFile, OpenOptions};
+use std::fs::{self, File, OpenFile, Permissions};
 use std::io::{self, ErrorKind, Read, Write};
-use std::os::unix::fs::OpenOptionsExt;
-use tink_base::{ASIDE, Bytes, Created, Failed, Loaded, Store, StoreError};
+use std::os::unix::fs::{MetadataExt, PermissionsExt};
+use tink_base::{Bytes, Created, Failed, Loaded, Store, StoreError};
 
 /// How many bytes a load reads at the most; files of more count as too long under any limit.
 const MOST: usize = 1 << 30;
 
 /// The permissions of a new file: its owner may read and write it, and nobody else.
-const OWNER_ALONE: u32 = 0o600;
+pub(crate) const OWNER_ALONE: u32 = 0o600;
 
 /// The files that the program can reach, by their paths.
 #[derive(Drop)]
@@ -29,6 +31,7 @@ pub struct DirStore<'a> {
     rt: &'a HostRuntime,
     faults: u64,
     given: u64,
+    left: Option<String>,
 }
 
 impl<'a> DirStore<'a> {
@@ -38,6 +41,15 @@ impl<'a> DirStore<'a> {
             rt,
             faults: 0,
             given: 0,
+            left: None,
+        }
+    }
+
+    /// The path of the last file that was made under a name aside which couldn't be removed.
+    pub fn left(&self) -> Option<&str> {
+        match &self.left {
+            Some(path) => Some(path.as_str()),
+            None => None,
         }
     }
 }
@@ -99,7 +111,12 @@ impl Store for DirStore<'_> {
     }
 
     fn create(&mut self, alloc: Global, name: &str, bytes: &[u8]) -> Result<Created, StoreError> {
-        match make_file(&mut DirName::new(alloc, self.rt, name), bytes) {
+        let mut place = DirName::new(alloc, self.rt, name);
+        let made = make_file(&mut place, bytes);
+        if let Some(path) = place.into_left() {
+            self.left = Some(path);
+        }
+        match made {
             Ok(created) => Ok(created),
             Err(error) => {
                 if error == StoreError::Failed {
@@ -111,94 +128,8 @@ impl Store for DirStore<'_> {
     }
 }
 
-/// The path of a new file. The names aside are those of its folder.
-#[derive(Drop)]
-pub struct DirName<'a> {
-    rt: &'a HostRuntime,
-    alloc: Global,
-    name: &'a str,
-    // the folder, once the name was looked up, and the path aside, while a file of ours has it
-    folder: Option<File>,
-    aside: Option<String>,
-}
-
-impl<'a> DirName<'a> {
-    /// The path, before it is looked up. The memory is for the path of a name aside.
-    pub fn new(alloc: Global, rt: &'a HostRuntime, name: &'a str) -> DirName<'a> {
-        DirName {
-            rt,
-            alloc,
-            name,
-            folder: None,
-            aside: None,
-        }
-    }
-}
-
-impl NewName for DirName<'_> {
-    type File = File;
-
-    ghost fresh = { None };
-
-    ghost stage = { λ _. None };
-
-    ghost aside = { λ _. false };
-
-    /// Looks whether anything has the path, a link that leads nowhere too, and opens the folder. A path
-    /// without a last part is refused.
-    fn look_up(&mut self) -> io::Result<()> {
-        self.folder = Some(free_place(self.rt, self.name)?);
-        Ok(())
-    }
-
-    fn open_aside(&mut self, number: u32) -> io::Result<File> {
-        let folder = folder_of(self.name);
-        let aside = format!(in self.alloc; "{folder}/{ASIDE}{number}")?;
-        let file = open_new(self.rt, &aside)?;
-        self.aside = Some(aside);
-        Ok(file)
-    }
-
-    fn link(&mut self, _file: &File) -> io::Result<()> {
-        match &self.aside {
-            Some(aside) => fs::hard_link(self.rt, aside.as_str(), self.name),
-            None => Err(io::Error::from(ErrorKind::NotFound)),
-        }
-    }
-
-    fn clear(&mut self) {
-        if let Some(aside) = self.aside.take() {
-            let _ = fs::remove_file(self.rt, aside.as_str());
-        }
-    }
-
-    fn open(&mut self) -> io::Result<File> {
-        open_new(self.rt, self.name)
-    }
-
-    fn put_away(&mut self, _file: &File) -> io::Result<()> {
-        match &self.folder {
-            Some(folder) => folder.sync_all(),
-            None => Err(io::Error::from(ErrorKind::NotFound)),
-        }
-    }
-}
-
-/// The folder of a path that nothing has, opened. The error is `AlreadyExists` where something has the
-/// path, a link that leads nowhere too. A path without a last part is refused.
-fn free_place(rt: &HostRuntime, name: &str) -> io::Result<File> {
-    if name.is_empty() || name.ends_with('/') {
-        return Err(io::Error::from(ErrorKind::IsADirectory));
-    }
-    match fs::symlink_metadata(rt, name) {
-        Ok(_) => Err(io::Error::from(ErrorKind::AlreadyExists)),
-        Err(error) if error.kind() == ErrorKind::NotFound => fs::open(rt, folder_of(name)),
-        Err(error) => Err(error),
-    }
-}
-
 /// Whether a name is taken whose place was to be found.
-fn taken_of(place: io::Result<File>) -> Result<bool, Failed>
+fn taken_of(place: io::Result<()>) -> Result<bool, Failed>
     ensures free { IfOk result (λ taken. taken ≡ false → IsOk place) }
     ensures taken { IfErr place (λ error. error_kind error ≡ ErrorKind.AlreadyExists →
         result ≡ Ok true) }
@@ -212,22 +143,6 @@ fn taken_of(place: io::Result<File>) -> Result<bool, Failed>
     }
 }
 
-/// The path of the folder that a path leads into: what stands before its last slash.
-fn folder_of(name: &str) -> &str {
-    match name.rsplit_once('/') {
-        Some(("", _)) => "/",
-        Some((folder, _)) => folder,
-        None => ".",
-    }
-}
-
-/// Opens a new file of this path. One that is there is not replaced.
-fn open_new(rt: &HostRuntime, name: &str) -> io::Result<File> {
-    let mut options = OpenOptions::new();
-    options.write(true).create_new(true).mode(OWNER_ALONE);
-    options.open(rt, name)
-}
-
 /// What is found where this file was to be opened: all its bytes, where there are at most `limit`. A
 /// path that leads through a file, or through a folder that isn't there, has no file.
 pub fn load_opened<R: Read + Drop>(
@@ -238,16 +153,18 @@ pub fn load_opened<R: Read + Drop>(
     ensures whole { IfOk opened (λ file. IfSome (R.remaining file)
         (λ bytes. IfOk result (λ found. IsLoaded bytes (min limit (2 ^ 30)) found))) }
     ensures absent { IfErr opened (λ error. IfOk result
-        (λ found. (found ≡ Loaded.Absent) × ((error_kind error ≡ ErrorKind.NotFound) ⊎
-        (error_kind error ≡ ErrorKind.NotADirectory)))) }
+        (λ found. (found ≡ Loaded.Absent) × IsMissing (error_kind error))) }
+    ensures missing { IfErr opened (λ error. IsMissing (error_kind error) →
+        result ≡ Ok Loaded.Absent) }
+    ensures no_memory { IfErr opened (λ error. IsErrOf result StoreError.NoMemory →
+        error_kind error ≡ ErrorKind.OutOfMemory) }
     ensures loads { IfOk result (λ found. Loads (untold_store 0 0) [] limit found) }
 {
     match opened {
         Ok(file) => read_file(alloc, file, limit.min(MOST)),
         Err(error) => match error.kind() {
             ErrorKind::NotFound | ErrorKind::NotADirectory => Ok(Loaded::Absent),
-            ErrorKind::OutOfMemory => Err(StoreError::NoMemory),
-            _ => Err(StoreError::Failed),
+            kind => Err(fault_of(kind)),
         },
     }
 }
@@ -261,27 +178,64 @@ fn read_file<R: Read + Drop>(alloc: Global, file: R, limit: usize) -> Result<Loa
 {
     let mut bytes = Vec::new(alloc);
     let mut front = file.take(limit as u64 + 1);
-    match front.read_to_end(&mut bytes) {
+    match as_told(front.read_to_end(&mut bytes)) {
         Ok(_) if bytes.len() > limit => Ok(Loaded::TooLong),
         Ok(_) => Ok(Loaded::Bytes(Bytes::own(bytes))),
-        Err(error) if error.kind() == ErrorKind::OutOfMemory => Err(StoreError::NoMemory),
-        Err(_) => Err(StoreError::Failed),
+        Err(error) => Err(error),
+    }
+}
+
+/// What a read is told as: want of memory exactly where its error says so.
+fn as_told(read: io::Result<usize>) -> Result<usize, StoreError>
+    ensures done { IfOk read (λ n. result ≡ Ok n) }
+    ensures failed { IsErr read → IsErr result }
+    ensures memory { IfErr read (λ error. error_kind error ≡ ErrorKind.OutOfMemory →
+        result ≡ Err StoreError.NoMemory) }
+    ensures fault { IfErr read (λ error. error_kind error ≢ ErrorKind.OutOfMemory →
+        result ≡ Err StoreError.Failed) }
+{
+    match read {
+        Ok(n) => Ok(n),
+        Err(error) => Err(fault_of(error.kind())),
+    }
+}
+
+/// What a call is told as that failed: want of memory exactly where the system says that it is.
+fn fault_of(kind: ErrorKind) -> StoreError
+    ensures memory { kind ≡ ErrorKind.OutOfMemory → result ≡ StoreError.NoMemory }
+    ensures fault { kind ≢ ErrorKind.OutOfMemory → result ≡ StoreError.Failed }
+{
+    match kind {
+        ErrorKind::OutOfMemory => StoreError::NoMemory,
+        _ => StoreError::Failed,
     }
 }
 
 /// A new file.
 pub trait NewFile: Write {
-    /// Whether what was written lasts.
-    ghost lasts: { Self → Bool };
+    /// Whether what was written lasts, where files tell that.
+    ghost lasts: { Self → Option Bool };
+
+    /// Lets its owner read and write it, where the process's mask has taken that away.
+    fn admit_owner(&mut self) -> io::Result<()>
+        ensures kept { Keeps (Self.contents self.old) (Self.contents self.new) };
 
     /// Waits until the system has put away what was written.
     fn put_away(&mut self) -> io::Result<()>
-        ensures lasts { OnOk result (IsTrue (lasts self.new)) }
+        ensures lasts { OnOk result (Lasts (lasts self.new)) }
         ensures kept { Keeps (Self.contents self.old) (Self.contents self.new) };
 }
 
 impl NewFile for File {
-    ghost lasts = { λ _. true };
+    ghost lasts = { λ _. None };
+
+    /// A file system that has no such rights gives its own, and is asked for none.
+    fn admit_owner(&mut self) -> io::Result<()> {
+        if self.metadata()?.mode() & OWNER_ALONE == OWNER_ALONE {
+            return Ok(());
+        }
+        self.set_permissions(Permissions::from_mode(OWNER_ALONE))
+    }
 
     fn put_away(&mut self) -> io::Result<()> {
         self.sync_all()
@@ -294,12 +248,14 @@ pub fn fill_opened<F: NewFile>(
     bytes: &[u8],
 ) -> Result<Created, StoreError>
     ensures made { IfOk opened.old (λ file. IfOk result (λ made. (made ≡ Created.Made) ×
-        IsOkAnd opened.new (λ filled. IsTrue (F.lasts filled) ×
+        IsOkAnd opened.new (λ filled. Lasts (F.lasts filled) ×
         Appends (F.contents file) (F.contents filled) bytes.now))) }
     ensures exists { IfErr opened.old (λ error. IfOk result (λ made. (made ≡ Created.Exists) ×
         (error_kind error ≡ ErrorKind.AlreadyExists))) }
     ensures taken { IfErr opened.old (λ error. error_kind error ≡ ErrorKind.AlreadyExists →
         result ≡ Ok Created.Exists) }
+    ensures no_memory { IfErr opened.old (λ error. IsErrOf result StoreError.NoMemory →
+        error_kind error ≡ ErrorKind.OutOfMemory) }
     ensures unfilled { IsOk opened.old → IfErr result (λ error. error ≡ StoreError.Failed) }
     ensures unopened { IfErr opened.old (λ error. opened.new ≡ Err error) }
 {
@@ -314,21 +270,23 @@ pub fn fill_opened<F: NewFile>(
 
 /// What a file is told as that couldn't be made, by the kind of the error.
 pub(crate) fn unmade(kind: ErrorKind) -> Result<Created, StoreError>
-    ensures exists { IfOk result (λ made. (made ≡ Created.Exists) × (kind ≡ ErrorKind.AlreadyExists)) }
     ensures taken { kind ≡ ErrorKind.AlreadyExists → result ≡ Ok Created.Exists }
+    ensures no_memory { kind ≡ ErrorKind.OutOfMemory → result ≡ Err StoreError.NoMemory }
+    ensures failed { kind ≢ ErrorKind.AlreadyExists → kind ≢ ErrorKind.OutOfMemory →
+        result ≡ Err StoreError.Failed }
 {
     match kind {
         ErrorKind::AlreadyExists => Ok(Created::Exists),
-        ErrorKind::OutOfMemory => Err(StoreError::NoMemory),
-        _ => Err(StoreError::Failed),
+        kind => Err(fault_of(kind)),
     }
 }
 
-/// Writes all the bytes, flushes them, and waits until they last.
+/// Lets the owner read and write the file, writes all the bytes, flushes them, and waits until they last.
 pub(crate) fn fill_file<F: NewFile>(file: &mut F, bytes: &[u8]) -> io::Result<()>
-    ensures { OnOk result (IsTrue (F.lasts file.new) ×
+    ensures { OnOk result (Lasts (F.lasts file.new) ×
         Appends (F.contents file.old) (F.contents file.new) bytes.now) }
 {
+    file.admit_owner()?;
     file.write_all(bytes)?;
     file.flush()?;
     file.put_away()

@@ -2,17 +2,17 @@
 //! it the name, under which so is all of the file or nothing. Where there are no links, it is filled
 //! under the name itself.
 
-ghost use Rattle.std.specs.Prelude.{◌≡◌, ◌≢◌, ℕ, List, Bool, Option, true, false, IsTrue, IfOk, IfErr, IfSome, OnOk, OnErr, option_map};
+ghost use Rattle.std.specs.Prelude.{◌≡◌, ◌≢◌, ℕ, List, Bool, Option, true, false, IfOk, IfErr, IfSome, OnOk, OnErr, option_map};
 ghost use Rattle.std.specs.Io.KnownBytes.{Keeps};
 ghost use Rattle.std.specs.IoError.{error_kind};
-ghost use Rattle.real_objects.specs.Naming.{Stage, Free, Taken, Linkless, Linked, Opened, IsAt, HasNoLinks, IsWhole, kept_as, EndsAs};
+ghost use Rattle.real_objects.specs.Naming.{Stage, Free, Starved, Begun, Taken, Linkless, Linked, Opened, Place, Gone, There, Left, IsAt, HasNoLinks, IsWhole, kept_as, EndsAs};
 
 use crate::folder::{NewFile, fill_file, fill_opened, unmade};
 use std::io::{self, ErrorKind};
 use tink_base::{Created, StoreError};
 
-/// How many names aside are tried at the most. Runs that were killed leave one each.
-const NAMES_ASIDE: u32 = 1_000;
+/// How many names aside are drawn at the most, where each one drawn before is taken.
+const DRAWS: u32 = 100;
 
 /// A name in a folder, under which a new file is to stand.
 pub trait NewName {
@@ -25,29 +25,38 @@ pub trait NewName {
     /// How far the name has come, where that is told.
     ghost stage: { Self → Option Stage };
 
-    /// Whether a file may stand under a name aside.
-    ghost aside: { Self → Bool };
+    /// Where the file is that was made last under a name aside.
+    ghost aside: { Self → Place };
 
     /// Looks whether the name is free. The error is `AlreadyExists` where something has it.
     fn look_up(&mut self) -> io::Result<()>
         ensures free { OnOk result (stage self.new ≡ stage self.old) }
         ensures taken { IfErr result (λ error. error_kind error ≡ ErrorKind.AlreadyExists →
             IsAt (stage self.new) Taken) }
+        ensures starved { IfErr result (λ error. error_kind error ≡ ErrorKind.OutOfMemory →
+            IsAt (stage self.new) Starved) }
         ensures unknown { IfErr result (λ error. error_kind error ≢ ErrorKind.AlreadyExists →
-            stage self.new ≡ stage self.old) }
+            error_kind error ≢ ErrorKind.OutOfMemory → stage self.new ≡ stage self.old) }
         ensures kept { aside self.new ≡ aside self.old };
 
-    /// Makes a new file under the name aside of this number. The error is `AlreadyExists` where
-    /// something has that name.
-    fn open_aside(&mut self, number: u32) -> io::Result<Self::File>
+    /// Makes a new file under a name aside that no other call draws. The error is `AlreadyExists` where
+    /// something has that name nonetheless.
+    fn open_aside(&mut self) -> io::Result<Self::File>
+        requires free { IsAt (stage self.old) Free }
         ensures fresh { IfOk result (λ file. Keeps fresh (Self.File.contents file)) }
+        ensures begun { OnOk result (IsAt (stage self.new) Begun) }
+        ensures there { OnOk result (aside self.new ≡ There) }
         ensures unopened { OnErr result (aside self.new ≡ aside self.old) }
-        ensures kept { stage self.new ≡ stage self.old };
+        ensures starved { IfErr result (λ error. error_kind error ≡ ErrorKind.OutOfMemory →
+            IsAt (stage self.new) Starved) }
+        ensures kept { IfErr result (λ error. error_kind error ≢ ErrorKind.OutOfMemory →
+            stage self.new ≡ stage self.old) };
 
     /// Gives the name to the file that was opened last under a name aside. The error is
     /// `AlreadyExists` where something has the name.
     fn link(&mut self, file: &Self::File) -> io::Result<()>
-        requires free { IsAt (stage self.old) Free }
+        requires begun { IsAt (stage self.old) Begun }
+        requires there { aside self.old ≡ There }
         ensures linked { OnOk result (IsAt (stage self.new)
             (Linked (Self.File.contents file.now) (Self.File.lasts file.now))) }
         ensures taken { IfErr result (λ error. error_kind error ≡ ErrorKind.AlreadyExists →
@@ -58,9 +67,18 @@ pub trait NewName {
             ¬ (HasNoLinks (error_kind error)) → stage self.new ≡ stage self.old) }
         ensures kept { aside self.new ≡ aside self.old };
 
-    /// Removes the name aside under which a file was opened last, as best it can.
-    fn clear(&mut self)
-        ensures cleared { aside self.new ≡ false }
+    /// Whether the file has the name, though a link of it failed.
+    fn is_linked(&mut self, file: &Self::File) -> bool
+        ensures linked { result ≡ true → IsAt (stage self.new)
+            (Linked (Self.File.contents file.now) (Self.File.lasts file.now)) }
+        ensures others { result ≡ false → stage self.new ≡ stage self.old }
+        ensures kept { aside self.new ≡ aside self.old };
+
+    /// Removes the name aside under which a file was opened last. Where that fails it is left.
+    fn clear(&mut self) -> io::Result<()>
+        requires there { aside self.old ≡ There }
+        ensures gone { OnOk result (aside self.new ≡ Gone) }
+        ensures left { OnErr result (aside self.new ≡ Left) }
         ensures kept { stage self.new ≡ stage self.old };
 
     /// Makes a new file under the name itself. The error is `AlreadyExists` where something has it.
@@ -71,10 +89,10 @@ pub trait NewName {
         ensures taken { IfErr result (λ error. error_kind error ≡ ErrorKind.AlreadyExists →
             IsAt (stage self.new) Taken) }
         ensures unopened { IfErr result (λ error. error_kind error ≢ ErrorKind.AlreadyExists →
-            IsAt (stage self.new) Free) }
+            IsAt (stage self.new) Begun) }
         ensures kept { aside self.new ≡ aside self.old };
 
-    /// Waits until the system has put away that the file has the name.
+    /// Waits until the system has put away that the file has the name, as far as it lets one ask for that.
     fn put_away(&mut self, file: &Self::File) -> io::Result<()>
         ensures lasts { OnOk result (stage self.new ≡ option_map
             (kept_as (Self.File.contents file.now) (Self.File.lasts file.now)) (stage self.old)) }
@@ -84,14 +102,15 @@ pub trait NewName {
 
 /// Makes a new file of this name with all the bytes.
 ///
-/// The answer is `Exists` exactly where a call on the name said that something has it, and `Made` exactly
-/// where the file is whole and its name was put away. A link gives the name to a file that is whole and
-/// lasts, or to none. Exactly where a link was refused, as there are none, a file is filled under the name
-/// itself, and may be there after `Failed` with the first of the bytes. Each name aside is asked to go.
+/// The answer is `Exists` exactly where a call on the name said that something else has it, and `Made`
+/// exactly where the file is whole and its name was put away. `NoMemory` comes exactly where a call said so
+/// before a file was made. A link gives the name to a file that is whole and lasts, or to none. Exactly where
+/// a link was refused, as there are none, a file is filled under the name itself, and may be there after
+/// `Failed` with the first of the bytes. Each name aside is asked to go.
 pub fn make_file<N: NewName>(name: &mut N, bytes: &[u8]) -> Result<Created, StoreError>
     requires free { IsAt (N.stage name.old) Free }
     ensures named { IfSome (N.stage name.new) (λ s. EndsAs N.fresh bytes.now result s) }
-    ensures cleared { N.aside name.old ≡ false → N.aside name.new ≡ false }
+    ensures cleared { N.aside name.old ≢ There → N.aside name.new ≢ There }
 {
     if let Err(error) = name.look_up() {
         return unmade(error.kind());
@@ -100,7 +119,7 @@ pub fn make_file<N: NewName>(name: &mut N, bytes: &[u8]) -> Result<Created, Stor
         Ok(mut file) => match fill_file(&mut file, bytes) {
             Ok(()) => give_name(name, &file, bytes),
             Err(_) => {
-                name.clear();
+                let _ = name.clear();
                 Err(StoreError::Failed)
             }
         },
@@ -108,15 +127,21 @@ pub fn make_file<N: NewName>(name: &mut N, bytes: &[u8]) -> Result<Created, Stor
     }
 }
 
-/// Makes a new file under the first name aside that is free.
+/// Makes a new file under a name aside that is free.
 fn open_aside<N: NewName>(name: &mut N) -> io::Result<N::File>
+    requires free { IsAt (N.stage name.old) Free }
     ensures fresh { IfOk result (λ file. Keeps N.fresh (N.File.contents file)) }
+    ensures begun { OnOk result (IsAt (N.stage name.new) Begun) }
+    ensures there { OnOk result (N.aside name.new ≡ There) }
     ensures untaken { IfErr result (λ error. error_kind error ≢ ErrorKind.AlreadyExists) }
     ensures unopened { OnErr result (N.aside name.new ≡ N.aside name.old) }
-    ensures kept { N.stage name.new ≡ N.stage name.old }
+    ensures starved { IfErr result (λ error. error_kind error ≡ ErrorKind.OutOfMemory →
+        IsAt (N.stage name.new) Starved) }
+    ensures kept { IfErr result (λ error. error_kind error ≢ ErrorKind.OutOfMemory →
+        N.stage name.new ≡ N.stage name.old) }
 {
-    for number in 0..NAMES_ASIDE {
-        match name.open_aside(number) {
+    for _ in 0..DRAWS {
+        match name.open_aside() {
             Err(error) if error.kind() == ErrorKind::AlreadyExists => {}
             opened => return opened,
         }
@@ -126,21 +151,50 @@ fn open_aside<N: NewName>(name: &mut N) -> io::Result<N::File>
 
 /// Gives the name to a file that is whole and lasts, and removes the name aside.
 fn give_name<N: NewName>(name: &mut N, file: &N::File, bytes: &[u8]) -> Result<Created, StoreError>
-    requires free { IsAt (N.stage name.old) Free }
+    requires begun { IsAt (N.stage name.old) Begun }
+    requires there { N.aside name.old ≡ There }
     requires whole { IsWhole N.fresh bytes.now (N.File.contents file.now) (N.File.lasts file.now) }
     ensures named { IfSome (N.stage name.new) (λ s. EndsAs N.fresh bytes.now result s) }
-    ensures cleared { N.aside name.new ≡ false }
+    ensures cleared { N.aside name.new ≢ There }
 {
-    let linked = name.link(file);
-    name.clear();
+    let linked = link_file(name, file);
+    let _ = name.clear();
     match linked {
         Ok(()) => keep_name(name, file),
         Err(error) => match error.kind() {
+            ErrorKind::AlreadyExists => Ok(Created::Exists),
             ErrorKind::PermissionDenied | ErrorKind::Unsupported | ErrorKind::TooManyLinks => {
                 fill_named(name, bytes)
             }
-            kind => unmade(kind),
+            _ => Err(StoreError::Failed),
         },
+    }
+}
+
+/// Gives the name to a file. Where the link fails and the file has the name nonetheless, as where a server
+/// got the call twice, it counts as linked.
+fn link_file<N: NewName>(name: &mut N, file: &N::File) -> io::Result<()>
+    requires begun { IsAt (N.stage name.old) Begun }
+    requires there { N.aside name.old ≡ There }
+    ensures linked { OnOk result (IsAt (N.stage name.new)
+        (Linked (N.File.contents file.now) (N.File.lasts file.now))) }
+    ensures taken { IfErr result (λ error. error_kind error ≡ ErrorKind.AlreadyExists →
+        IsAt (N.stage name.new) Taken) }
+    ensures linkless { IfErr result (λ error. HasNoLinks (error_kind error) →
+        IsAt (N.stage name.new) Linkless) }
+    ensures unlinked { IfErr result (λ error. error_kind error ≢ ErrorKind.AlreadyExists →
+        ¬ (HasNoLinks (error_kind error)) → N.stage name.new ≡ N.stage name.old) }
+    ensures kept { N.aside name.new ≡ N.aside name.old }
+{
+    match name.link(file) {
+        Ok(()) => Ok(()),
+        Err(error) => {
+            if name.is_linked(file) {
+                Ok(())
+            } else {
+                Err(error)
+            }
+        }
     }
 }
 
@@ -151,14 +205,16 @@ fn fill_named<N: NewName>(name: &mut N, bytes: &[u8]) -> Result<Created, StoreEr
     ensures kept { N.aside name.new ≡ N.aside name.old }
 {
     let mut opened = name.open();
-    let made = fill_opened(&mut opened, bytes)?;
-    match opened {
-        Ok(file) => keep_name(name, &file),
-        Err(_) => Ok(made),
+    match fill_opened(&mut opened, bytes) {
+        Ok(made) => match opened {
+            Ok(file) => keep_name(name, &file),
+            Err(_) => Ok(made),
+        },
+        Err(_) => Err(StoreError::Failed),
     }
 }
 
-/// Waits until the name lasts that the file has.
+/// Waits until the name that the file has is put away.
 fn keep_name<N: NewName>(name: &mut N, file: &N::File) -> Result<Created, StoreError>
     ensures made { IfOk result (λ made. (made ≡ Created.Made) × (N.stage name.new ≡ option_map
         (kept_as (N.File.contents file.now) (N.File.lasts file.now)) (N.stage name.old))) }

@@ -1,6 +1,7 @@
 //! The length of a file, and what is read of it at a place.
 
 ghost use Rattle.std.specs.Prelude.{◌≡◌, ◌≢◌, ◌<◌, ◌≤◌, ◌^◌, ℕ, List, Option, None, length, take, drop, IfOk, IfErr, IfSome, IsErr, OnErr};
+ghost use Rattle.std.specs.Fs.{IsFile, file_type, metadata_len};
 ghost use Rattle.std.specs.IoError.{error_kind};
 ghost use Rattle.real_objects.specs.Folder.{IsMissing, IsPieceAt, IsSize};
 
@@ -49,6 +50,8 @@ pub fn size_of(found: io::Result<Metadata>) -> Result<Option<u64>, Failed>
     ensures size { IfOk found (λ file. IfOk result (λ size. IsSize file size)) }
     ensures absent { IfErr found (λ error. IfOk result
         (λ size. (size ≡ None) × IsMissing (error_kind error))) }
+    ensures answers { IfOk found (λ file. IsFile (file_type file) → metadata_len file < 2 ^ 63 →
+        result ≡ Ok (Some (metadata_len file))) }
     ensures missing { IfErr found (λ error. IsMissing (error_kind error) → result ≡ Ok None) }
     ensures bound { IfOk result (λ size. IfSome size (λ n. n < 2 ^ 63)) }
 {

@@ -2,10 +2,12 @@
 //! or over any others.
 #![tactic(auto)]
 
+mod left;
 mod over_streams;
 mod standard;
 mod top;
 
+pub use left::tell_left;
 pub use over_streams::start_over_streams;
 pub use standard::start;
 pub use top::{obey, obey_listed, obey_to_the_end, program};

@@ -6,6 +6,7 @@ ghost use Rattle.real_objects.specs.Streams.{told_sink, stream_written, has_writ
 ghost use Rattle.tinkey_plans.specs.Ends.{world};
 ghost use Rattle.tinkey_host.specs.Program.{HasRun, HasObeyed, HasEnded};
 
+use crate::left::tell_left;
 use crate::standard::start;
 use lookahead::Lookahead;
 use real_objects::{
@@ -25,7 +26,7 @@ const OUT_OF_MEMORY: u8 = 7;
 const NO_WORDS: u8 = 8;
 
 /// Obeys the words after the program's name, over standard input, output and error, the system's
-/// random bytes and the files.
+/// random bytes and the files. A file that couldn't be removed is told on standard error behind that.
 ///
 /// Before a file is opened each of the three streams is asked whether it is open. Of what the system then
 /// gives and takes no contract can speak: what holds of the answer is what `obey_to_the_end` says of any
@@ -34,15 +35,18 @@ pub fn program(rt: &HostRuntime) -> ExitCode {
     let mut source = StdSource::probed(rt.stdin());
     let mut sink = StdSink::probed(StandardOutput::new(rt));
     let mut diag = StdSink::probed(rt.stderr());
-    obey_to_the_end(
+    let mut store = DirStore::new(rt);
+    let code = obey_to_the_end(
         rt,
         rt.alloc(),
         &mut source,
         &mut sink,
         &mut diag,
         &mut FileEntropy::new(RandomDevice::new(rt)),
-        &mut DirStore::new(rt),
-    )
+        &mut store,
+    );
+    tell_left(&mut diag, store.left());
+    code
 }
 
 /// Obeys the words of a command line as `obey_listed` does. Where that ended well and bytes were written to

@@ -4,8 +4,12 @@
 /// How far a name has come. Of a file that was linked it tells whether it lasted then.
 #[derive(Clone, Copy)]
 pub enum Came {
-    /// No file has the name.
+    /// No file was made.
     Free,
+    /// A call has said that memory is wanting.
+    Starved,
+    /// A file was made under a name aside.
+    Begun,
     /// A call has said that something has it.
     Taken,
     /// A link was refused, as there are none.
@@ -16,4 +20,15 @@ pub enum Came {
     Opened,
     /// The name was put away.
     Kept(bool),
+}
+
+/// Where the file is that was made under a name aside.
+#[derive(Clone, Copy)]
+pub enum Stands {
+    /// Nowhere.
+    Gone,
+    /// Under its name.
+    There,
+    /// Under its name, which couldn't be removed.
+    Left,
 }

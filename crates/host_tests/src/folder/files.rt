@@ -285,27 +285,20 @@ fn makes_files_of_the_longest_names(rt: HostRuntime) -> Result<(), Fail> {
     Ok(fs::remove_dir_all(&rt, "long")?)
 }
 
-// What killed runs left, and a link under the next name aside, are neither followed nor removed.
-const LEFT: [Step; 19] = [
+// What killed runs left, and a link of such a name, are neither followed, filled nor removed.
+const LEFT: [Step; 12] = [
     Step::Write("left/.tinkey-new-0", "part"),
+    Step::Write("left/.tinkey-new-0123456789abcdef", "part"),
+    Step::Link("nowhere", "left/.tinkey-new-00000000000000ff"),
     Step::Create("left/a", "new", "made"),
     Step::Create("left/a", "new", "exists"),
     Step::Holds("left/a", "new"),
-    Step::Write("left/.tinkey-new-1", "part"),
     Step::Create("left/b", "new", "made"),
-    Step::Create("left/b", "new", "exists"),
     Step::Holds("left/b", "new"),
-    Step::Write("left/.tinkey-new-3", "part"),
-    Step::Create("left/c", "new", "made"),
-    Step::Create("left/c", "new", "exists"),
-    Step::Holds("left/c", "new"),
-    Step::Link("nowhere", "left/.tinkey-new-2"),
-    Step::Create("left/d", "new", "made"),
     Step::Holds("left/.tinkey-new-0", "part"),
-    Step::Holds("left/.tinkey-new-1", "part"),
-    Step::Holds("left/.tinkey-new-3", "part"),
+    Step::Holds("left/.tinkey-new-0123456789abcdef", "part"),
     Step::Absent("left/nowhere"),
-    Step::Aside("left", 4),
+    Step::Aside("left", 3),
 ];
 
 #[test]
@@ -339,50 +332,58 @@ fn path_of_k(rt: &HostRuntime, folder: &str) -> Result<String, Fail> {
     Ok(format!(in rt.alloc(); "{here}/k")?)
 }
 
-/// A file with four bytes under a name aside.
-fn ours_aside(rt: &HostRuntime, name: &mut DirName<'_>) -> Result<File, Fail> {
-    name.look_up()?;
-    let mut file = name.open_aside(7)?;
-    file.write_all(b"ours")?;
-    is_private(rt, "since/.tinkey-new-7")?;
-    name.look_up()?;
-    Ok(file)
+/// The path of the name aside in a folder that has one.
+fn path_aside(rt: &HostRuntime, folder: &str) -> Result<String, Fail> {
+    for entry in fs::read_dir(rt, folder)? {
+        let entry = entry?;
+        let name = entry.file_name();
+        if name.starts_with(".tinkey-new-") {
+            let name = name.to_str().ok_or("a name of UTF-8")?;
+            return Ok(format!(in rt.alloc(); "{folder}/{name}")?);
+        }
+    }
+    Err("a name aside".into())
 }
 
-/// Lets another file have the name, and takes it away again.
-fn assert_theirs(rt: &HostRuntime, name: &mut DirName<'_>, file: &File) -> Result<(), Fail> {
+/// Holds the path of a name aside to 16 digits.
+fn has_digits(path: &str) -> Result<(), Fail> {
+    let (_, digits) = path.rsplit_once('-').ok_or("a dash")?;
+    if digits.len() != 16 || !digits.bytes().all(|digit| digit.is_ascii_hexdigit()) {
+        return Err(Fail::new(format_args!("{path}: no 16 digits")));
+    }
+    Ok(())
+}
+
+/// Gives the name to our file, where another one had it meanwhile.
+fn assert_since(rt: &HostRuntime, name: &mut DirName<'_>) -> Result<(), Fail> {
+    name.look_up()?;
+    let mut file = name.open_aside()?;
+    file.write_all(b"ours")?;
+    is_private(rt, &path_aside(rt, "since")?)?;
+    has_digits(&path_aside(rt, "since")?)?;
     fs::write(rt, "since/k", "theirs")?;
     refuses("a look", ErrorKind::AlreadyExists, name.look_up())?;
-    refuses("a link", ErrorKind::AlreadyExists, name.link(file))?;
+    refuses("a link", ErrorKind::AlreadyExists, name.link(&file))?;
+    same_word("theirs", false, name.is_linked(&file))?;
     refuses("an open", ErrorKind::AlreadyExists, name.open())?;
     holds(rt, "since/k", "theirs")?;
-    Ok(fs::remove_file(rt, "since/k")?)
-}
-
-/// Gives the name to our file.
-fn assert_ours(rt: &HostRuntime, name: &mut DirName<'_>, file: &File) -> Result<(), Fail> {
-    name.link(file)?;
-    name.clear();
-    name.put_away(file)?;
+    fs::remove_file(rt, "since/k")?;
+    same_word("nobody's", false, name.is_linked(&file))?;
+    name.link(&file)?;
+    refuses("a link again", ErrorKind::AlreadyExists, name.link(&file))?;
+    same_word("ours", true, name.is_linked(&file))?;
+    name.clear()?;
+    name.put_away(&file)?;
     holds(rt, "since/k", "ours")?;
-    has_aside(rt, "since", 0)?;
-    refuses(
-        "a link of nothing aside",
-        ErrorKind::NotFound,
-        name.link(file),
-    )
+    has_aside(rt, "since", 0)
 }
 
-/// Lets another file have the name aside.
-fn assert_aside_taken(rt: &HostRuntime, name: &mut DirName<'_>) -> Result<(), Fail> {
-    fs::write(rt, "since/.tinkey-new-7", "left")?;
-    refuses(
-        "an open aside",
-        ErrorKind::AlreadyExists,
-        name.open_aside(7),
-    )?;
-    name.clear();
-    holds(rt, "since/.tinkey-new-7", "left")
+/// Holds what is told of a file's name.
+fn same_word(whose: &str, want: bool, found: bool) -> Result<(), Fail> {
+    if found != want {
+        return Err(Fail::new(format_args!("the name is {whose}: {found}")));
+    }
+    Ok(())
 }
 
 // By an absolute path, of which each call is made alone: the name is taken once it was looked up.
@@ -390,10 +391,34 @@ fn assert_aside_taken(rt: &HostRuntime, name: &mut DirName<'_>) -> Result<(), Fa
 fn never_replaces_a_file_that_came_since(rt: HostRuntime) -> Result<(), Fail> {
     make_empty(&rt, "since")?;
     let path = path_of_k(&rt, "since")?;
-    let mut name = DirName::new(rt.alloc(), &rt, &path);
-    let file = ours_aside(&rt, &mut name)?;
-    assert_theirs(&rt, &mut name, &file)?;
-    assert_ours(&rt, &mut name, &file)?;
-    assert_aside_taken(&rt, &mut name)?;
+    assert_since(&rt, &mut DirName::new(rt.alloc(), &rt, &path))?;
     Ok(fs::remove_dir_all(&rt, "since")?)
+}
+
+/// Makes a file aside whose name a folder then has, so that it can't be removed.
+fn left_aside(rt: &HostRuntime, name: &mut DirName<'_>) -> Result<String, Fail> {
+    let _file = name.open_aside()?;
+    let path = path_aside(rt, "stays")?;
+    fs::remove_file(rt, path.as_str())?;
+    fs::create_dir(rt, path.as_str())?;
+    refuses("a removal", ErrorKind::IsADirectory, name.clear())?;
+    Ok(path)
+}
+
+/// Makes a file aside whose name somebody else removes.
+fn removed_aside(rt: &HostRuntime, name: &mut DirName<'_>) -> Result<(), Fail> {
+    let _file = name.open_aside()?;
+    fs::remove_file(rt, &path_aside(rt, "stays")?)?;
+    Ok(name.clear()?)
+}
+
+#[test]
+fn tells_a_name_aside_that_stays(rt: HostRuntime) -> Result<(), Fail> {
+    make_empty(&rt, "stays")?;
+    let mut name = DirName::new(rt.alloc(), &rt, "stays/k");
+    removed_aside(&rt, &mut name)?;
+    let path = left_aside(&rt, &mut name)?;
+    let left = name.into_left().ok_or("a path")?;
+    same_text("stays", "what is left", &path, &left)?;
+    Ok(fs::remove_dir_all(&rt, "stays")?)
 }

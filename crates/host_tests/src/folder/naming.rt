@@ -1,10 +1,10 @@
 //! How a new file gets its name, over names that tell each call and refuse some.
 
-ghost use Rattle.std.specs.Prelude.{◌≡◌, ◌≢◌, Some, None, false};
-ghost use Rattle.real_objects.specs.Naming.{HasNoLinks, kept_as};
-ghost use Rattle.host_tests.specs.Names.{stage_of};
+ghost use Rattle.std.specs.Prelude.{◌≡◌, ◌≢◌, Some, None};
+ghost use Rattle.real_objects.specs.Naming.{Free, HasNoLinks, kept_as};
+ghost use Rattle.host_tests.specs.Names.{stage_of, place_of};
 
-use crate::folder::came::Came;
+use crate::folder::came::{Came, Stands};
 use crate::folder::opened::Page;
 use real_objects::{NewName, make_file};
 use std::alloc::Global;
@@ -19,6 +19,7 @@ struct Traced<'a> {
     refused: &'a str,
     calls: String,
     came: Came,
+    stands: Stands,
 }
 
 const KINDS: [(&str, ErrorKind); 6] = [
@@ -56,6 +57,7 @@ impl Traced<'_> {
     /// Tells the call, and refuses it where the text says so.
     fn call(&mut self, call: &str) -> io::Result<()>
         ensures kept { self.new.came ≡ self.old.came }
+        ensures stands { self.new.stands ≡ self.old.stands }
     {
         if !self.calls.is_empty() {
             self.calls.push_str(" ")?;
@@ -64,10 +66,12 @@ impl Traced<'_> {
         refusal(self.refused, call)
     }
 
-    /// A new file, of whose calls the first is refused where writes are.
+    /// A new file, of whose calls the first lets its owner in, and the second writes.
     fn page(&self) -> Page {
-        let fails = if refusal(self.refused, "write").is_err() {
+        let fails = if refusal(self.refused, "admit").is_err() {
             1
+        } else if refusal(self.refused, "write").is_err() {
+            2
         } else {
             0
         };
@@ -82,7 +86,7 @@ impl NewName for Traced<'_> {
 
     ghost stage = { λ s. Some (stage_of s.came) };
 
-    ghost aside = { λ _. false };
+    ghost aside = { λ s. place_of s.stands };
 
     fn look_up(&mut self) -> io::Result<()> {
         match self.call("look") {
@@ -94,9 +98,23 @@ impl NewName for Traced<'_> {
         }
     }
 
-    fn open_aside(&mut self, number: u32) -> io::Result<Page> {
-        self.call(if number == 0 { "aside" } else { "again" })?;
-        Ok(self.page())
+    fn open_aside(&mut self) -> io::Result<Page> {
+        let call = if self.calls.as_str() == "look" {
+            "aside"
+        } else {
+            "again"
+        };
+        match self.call(call) {
+            Ok(()) => {
+                self.came = Came::Begun;
+                self.stands = Stands::There;
+                Ok(self.page())
+            }
+            Err(error) => {
+                self.came = after_aside(self.came, error.kind());
+                Err(error)
+            }
+        }
     }
 
     fn link(&mut self, file: &Page) -> io::Result<()> {
@@ -112,8 +130,27 @@ impl NewName for Traced<'_> {
         }
     }
 
-    fn clear(&mut self) {
-        let _ = self.call("clear");
+    fn is_linked(&mut self, file: &Page) -> bool {
+        match self.call("ours") {
+            Ok(()) => false,
+            Err(_) => {
+                self.came = Came::Linked(file.lasts());
+                true
+            }
+        }
+    }
+
+    fn clear(&mut self) -> io::Result<()> {
+        match self.call("clear") {
+            Ok(()) => {
+                self.stands = Stands::Gone;
+                Ok(())
+            }
+            Err(error) => {
+                self.stands = Stands::Left;
+                Err(error)
+            }
+        }
     }
 
     fn open(&mut self) -> io::Result<Page> {
@@ -126,7 +163,7 @@ impl NewName for Traced<'_> {
                 self.came = if error.kind() == ErrorKind::AlreadyExists {
                     Came::Taken
                 } else {
-                    Came::Free
+                    Came::Begun
                 };
                 Err(error)
             }
@@ -143,10 +180,23 @@ impl NewName for Traced<'_> {
 /// How far the name has come after a look that was refused so.
 fn after_look(came: Came, kind: ErrorKind) -> Came
     ensures taken { kind ≡ ErrorKind.AlreadyExists → result ≡ Came.Taken }
-    ensures kept { kind ≢ ErrorKind.AlreadyExists → result ≡ came }
+    ensures starved { kind ≡ ErrorKind.OutOfMemory → result ≡ Came.Starved }
+    ensures kept { kind ≢ ErrorKind.AlreadyExists → kind ≢ ErrorKind.OutOfMemory → result ≡ came }
 {
     match kind {
         ErrorKind::AlreadyExists => Came::Taken,
+        ErrorKind::OutOfMemory => Came::Starved,
+        _ => came,
+    }
+}
+
+/// How far the name has come after an open under a name aside that was refused so.
+fn after_aside(came: Came, kind: ErrorKind) -> Came
+    ensures starved { kind ≡ ErrorKind.OutOfMemory → result ≡ Came.Starved }
+    ensures kept { kind ≢ ErrorKind.OutOfMemory → result ≡ came }
+{
+    match kind {
+        ErrorKind::OutOfMemory => Came::Starved,
         _ => came,
     }
 }
@@ -168,46 +218,80 @@ fn after_link(came: Came, kind: ErrorKind) -> Came
 
 /// How far the name has come once it was put away, of a file that lasts or doesn't.
 fn put(came: Came, lasts: bool) -> Came
-    ensures { stage_of result ≡ kept_as None lasts (stage_of came) }
+    ensures { stage_of result ≡ kept_as None (Some lasts) (stage_of came) }
 {
     match came {
         Came::Linked(lasted) | Came::Kept(lasted) => Came::Kept(lasted),
-        Came::Free | Came::Taken | Came::Linkless | Came::Opened => Came::Kept(lasts),
+        Came::Free | Came::Starved | Came::Begun | Came::Taken | Came::Linkless | Came::Opened =>
+            Came::Kept(lasts),
     }
 }
 
-// The calls that are refused, what is told then, and the calls in their order: `aside` and `again` make
-// files under names aside, `clear` removes one, `open` makes one under the name, `put` puts it away.
-const WAYS: [&str; 16] = [
-    "a new file | | made | look aside link clear put",
-    "the name is taken | look exists | exists | look",
-    "the name can't be looked up | look denied | failed | look",
-    "there is no folder | look missing | failed | look",
-    "there is no memory | look memory | no memory | look",
-    "a name aside is taken | aside exists | made | look aside again link clear put",
-    "no file can be made | aside denied | failed | look aside",
-    "no memory for a name aside | aside memory | no memory | look aside",
-    "a write fails | write full | failed | look aside clear",
-    "the name was taken since | link exists | exists | look aside link clear",
-    "another failure of the link | link full | failed | look aside link clear",
-    "a link isn't permitted | link denied | made | look aside link clear open put",
-    "links aren't supported | link unsupported | made | look aside link clear open put",
-    "no second link | link links | made | look aside link clear open put",
-    "taken, and no links | link denied, open exists | exists | look aside link clear open",
-    "the name isn't put away | put full | failed | look aside link clear put",
+// The calls that are refused, what is told then, the calls in their order, and where the file aside is in the
+// end: `aside` and `again` make files under names aside, `ours` is refused where the file has the name though
+// its link failed, `clear` removes a name aside, `open` makes a file under the name, `put` puts it away.
+const WAYS: [&str; 25] = [
+    "a new file | | made | look aside link clear put | gone",
+    "the name is taken | look exists | exists | look | gone",
+    "the name can't be looked up | look denied | failed | look | gone",
+    "there is no folder | look missing | failed | look | gone",
+    "there is no memory | look memory | no memory | look | gone",
+    "a name aside is taken | aside exists | made | look aside again link clear put | gone",
+    "no file can be made | aside denied | failed | look aside | gone",
+    "no memory for a name aside | aside memory | no memory | look aside | gone",
+    "the owner isn't let in | admit denied | failed | look aside clear | gone",
+    "a write fails | write full | failed | look aside clear | gone",
+    "no memory for a write | write memory | failed | look aside clear | gone",
+    "the name was taken since | link exists | exists | look aside link ours clear | gone",
+    "another failure of the link | link full | failed | look aside link ours clear | gone",
+    "no memory for the link | link memory | failed | look aside link ours clear | gone",
+    "a link told twice | link exists, ours so | made | look aside link ours clear put | gone",
+    "a link lost on its way | link full, ours so | made | look aside link ours clear put | gone",
+    "a link of ours, denied | link denied, ours so | made | look aside link ours clear put | gone",
+    "a link isn't permitted | link denied | made | look aside link ours clear open put | gone",
+    "links aren't supported | link unsupported | made | look aside link ours clear open put | gone",
+    "no second link | link links | made | look aside link ours clear open put | gone",
+    "taken, and no links | link denied, open exists | exists | look aside link ours clear open | gone",
+    "no memory, and no links | link denied, open memory | failed | look aside link ours clear open | gone",
+    "the name isn't put away | put full | failed | look aside link clear put | gone",
+    "the name aside stays | clear denied | made | look aside link clear put | left",
+    "it stays behind a failed write | write full, clear denied | failed | look aside clear | left",
 ];
+
+/// A name that refuses these calls, and hasn't been looked up.
+fn named_by(alloc: Global, refused: &str) -> Traced<'_>
+    ensures { stage_of result.came ≡ Free }
+{
+    Traced {
+        alloc,
+        refused,
+        calls: String::new(alloc),
+        came: Came::Free,
+        stands: Stands::Gone,
+    }
+}
+
+/// Where the file aside is, as a word.
+fn stands_word(stands: Stands) -> &'static str {
+    match stands {
+        Stands::Gone => "gone",
+        Stands::There => "there",
+        Stands::Left => "left",
+    }
+}
 
 /// Makes a new file of ten bytes under the name of a row.
 fn assert_way(alloc: Global, row: &str) -> Result<(), Fail> {
-    let mut name = Traced {
-        alloc,
-        refused: cell(row, 1)?,
-        calls: String::new(alloc),
-        came: Came::Free,
-    };
+    let mut name = named_by(alloc, cell(row, 1)?);
     let answer = make_file(&mut name, b"ten bytes.");
     same_text(row, "the answer", cell(row, 2)?, create_word(&answer))?;
-    same_text(row, "the calls", cell(row, 3)?, &name.calls)
+    same_text(row, "the calls", cell(row, 3)?, &name.calls)?;
+    same_text(
+        row,
+        "the name aside",
+        cell(row, 4)?,
+        stands_word(name.stands),
+    )
 }
 
 #[test]
@@ -218,17 +302,12 @@ fn links_a_file_once_it_is_whole_and_lasts(rt: HostRuntime) -> Result<(), Fail> 
     Ok(())
 }
 
-// All 1,000 names aside are taken, of which only the first is told as `aside`.
+// Each name aside that is drawn is taken, a hundred of them, of which only the first is told as `aside`.
 #[test]
 fn gives_up_where_each_name_aside_is_taken(rt: HostRuntime) -> Result<(), Fail> {
-    let mut name = Traced {
-        alloc: rt.alloc(),
-        refused: "aside exists, again exists",
-        calls: String::new(rt.alloc()),
-        came: Came::Free,
-    };
+    let mut name = named_by(rt.alloc(), "aside exists, again exists");
     let answer = make_file(&mut name, b"x");
     same_text("all taken", "the answer", "failed", create_word(&answer))?;
-    assert_eq!(rt; name.calls.len(), "look aside".len() + 999 * " again".len());
+    assert_eq!(rt; name.calls.len(), "look aside".len() + 99 * " again".len());
     Ok(())
 }

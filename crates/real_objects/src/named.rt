@@ -1,0 +1,205 @@
+//! The path of a new file, and the paths aside in its folder. Each call looks the path up anew: there are no
+//! calls here that go from an open folder.
+
+ghost use Rattle.std.specs.Prelude.{◌≡◌, ◌≢◌, None, IfOk, IfErr, IsOk};
+ghost use Rattle.std.specs.IoError.{error_kind};
+ghost use Rattle.real_objects.specs.Folder.{IsFolder};
+
+use crate::entropy::{Opens, RandomDevice};
+use crate::folder::OWNER_ALONE;
+use crate::naming::NewName;
+use std::alloc::Global;
+use std::fs::{self, File, Metadata, OpenFile, OpenOptions};
+use std::io::{self, ErrorKind, Read};
+use std::mem;
+use std::os::unix::fs::{MetadataExt, OpenOptionsExt};
+use tink_base::ASIDE;
+
+/// A file that was made under a name aside, by its path.
+#[derive(Drop)]
+pub enum Aside {
+    /// There is none, or its name is gone.
+    Gone,
+    /// It stands under its name.
+    There(String),
+    /// Its name couldn't be removed.
+    Left(String),
+}
+
+/// The path of a new file. The names aside are those of its folder.
+#[derive(Drop)]
+pub struct DirName<'a> {
+    rt: &'a HostRuntime,
+    alloc: Global,
+    name: &'a str,
+    // the folder, once the name was looked up, where it may be read
+    folder: Option<File>,
+    aside: Aside,
+}
+
+impl<'a> DirName<'a> {
+    /// The path, before it is looked up. The memory is for the path of a name aside.
+    pub fn new(alloc: Global, rt: &'a HostRuntime, name: &'a str) -> DirName<'a> {
+        DirName {
+            rt,
+            alloc,
+            name,
+            folder: None,
+            aside: Aside::Gone,
+        }
+    }
+
+    /// The path of the file that couldn't be removed, where there is one.
+    pub fn into_left(self) -> Option<String> {
+        let DirName { aside, .. } = self;
+        match aside {
+            Aside::Left(path) => Some(path),
+            Aside::Gone | Aside::There(_) => None,
+        }
+    }
+
+    /// The path of a name aside: 16 hexadecimal digits of random bytes, so that no other run takes the same
+    /// one, and nobody can foresee it. The bytes are drawn here alone, and aren't those of the run.
+    fn draw_aside(&self) -> io::Result<String> {
+        let mut bytes = [0; 8];
+        RandomDevice::new(self.rt).open()?.read_exact(&mut bytes)?;
+        let (folder, number) = (folder_of(self.name), u64::from_be_bytes(bytes));
+        Ok(format!(in self.alloc; "{folder}/{ASIDE}{number:016x}")?)
+    }
+}
+
+impl NewName for DirName<'_> {
+    ghost use Rattle.real_objects.specs.Named.{place_of};
+
+    type File = File;
+
+    ghost fresh = { None };
+
+    ghost stage = { λ _. None };
+
+    ghost aside = { λ s. place_of s.aside };
+
+    /// Looks whether anything has the path, a link that leads nowhere too, and opens the folder, where it may
+    /// be read. A path without a last part is refused.
+    fn look_up(&mut self) -> io::Result<()> {
+        free_place(self.rt, self.name)?;
+        self.folder = readable(fs::open(self.rt, folder_of(self.name)))?;
+        Ok(())
+    }
+
+    fn open_aside(&mut self) -> io::Result<File> {
+        let path = self.draw_aside()?;
+        let file = open_new(self.rt, &path)?;
+        self.aside = Aside::There(path);
+        Ok(file)
+    }
+
+    fn link(&mut self, _file: &File) -> io::Result<()> {
+        match &self.aside {
+            Aside::There(path) => fs::hard_link(self.rt, path.as_str(), self.name),
+            Aside::Gone | Aside::Left(_) => Err(io::Error::from(ErrorKind::NotFound)),
+        }
+    }
+
+    fn is_linked(&mut self, file: &File) -> bool {
+        match (file.metadata(), fs::symlink_metadata(self.rt, self.name)) {
+            (Ok(ours), Ok(found)) => is_same(&ours, &found),
+            _ => false,
+        }
+    }
+
+    /// A name that somebody else removed is gone, too.
+    fn clear(&mut self) -> io::Result<()> {
+        let Aside::There(path) = mem::replace(&mut self.aside, Aside::Gone) else {
+            return Ok(());
+        };
+        match fs::remove_file(self.rt, path.as_str()) {
+            Err(error) if error.kind() != ErrorKind::NotFound => {
+                self.aside = Aside::Left(path);
+                Err(error)
+            }
+            _ => Ok(()),
+        }
+    }
+
+    fn open(&mut self) -> io::Result<File> {
+        open_new(self.rt, self.name)
+    }
+
+    /// Where the folder may not be read, its file system can be asked through the file alone.
+    fn put_away(&mut self, file: &File) -> io::Result<()> {
+        match &self.folder {
+            Some(folder) => folder_kept(folder.sync_all()),
+            None => file.sync_all(),
+        }
+    }
+}
+
+/// Whether two looks found one file.
+fn is_same(first: &Metadata, second: &Metadata) -> bool {
+    first.dev() == second.dev() && first.ino() == second.ino()
+}
+
+/// Finds that nothing has a path, and that its folder is there. The error is `AlreadyExists` where something
+/// has the path, a link that leads nowhere too. A path without a last part is refused.
+pub(crate) fn free_place(rt: &HostRuntime, name: &str) -> io::Result<()> {
+    if name.is_empty() || name.ends_with('/') {
+        return Err(io::Error::from(ErrorKind::IsADirectory));
+    }
+    match fs::symlink_metadata(rt, name) {
+        Ok(_) => Err(io::Error::from(ErrorKind::AlreadyExists)),
+        Err(error) if error.kind() == ErrorKind::NotFound => {
+            fs::metadata(rt, folder_of(name))?;
+            Ok(())
+        }
+        Err(error) => Err(error),
+    }
+}
+
+/// A folder that was to be opened, where it may be read. One that may be written and not read has none.
+fn readable<F: Drop>(opened: io::Result<F>) -> io::Result<Option<F>>
+    ensures readable { IfOk opened (λ folder. result ≡ Ok (Some folder)) }
+    ensures denied { IfErr opened (λ error. error_kind error ≡ ErrorKind.PermissionDenied →
+        result ≡ Ok None) }
+    ensures failed { IfErr opened (λ error. error_kind error ≢ ErrorKind.PermissionDenied →
+        result ≡ Err error) }
+{
+    match opened {
+        Ok(folder) => Ok(Some(folder)),
+        Err(error) if error.kind() == ErrorKind::PermissionDenied => Ok(None),
+        Err(error) => Err(error),
+    }
+}
+
+/// Whether a folder counts as put away, by what the system answered. A file system that can't be asked for
+/// that at all (EINVAL) has nothing to put away; no other error is forgiven.
+fn folder_kept(synced: io::Result<()>) -> io::Result<()>
+    ensures kept { IsOk synced → IsOk result }
+    ensures unasked { IfErr synced (λ error. error_kind error ≡ ErrorKind.InvalidInput → IsOk result) }
+    ensures failed { IfErr synced (λ error. error_kind error ≢ ErrorKind.InvalidInput →
+        result ≡ Err error) }
+{
+    match synced {
+        Err(error) if error.kind() == ErrorKind::InvalidInput => Ok(()),
+        synced => synced,
+    }
+}
+
+/// The path of the folder that a path leads into: what stands before its last slash. That of a path without
+/// one is the working folder, and that of a path with nothing before it is the root.
+pub fn folder_of(name: &str) -> &str
+    ensures { IsFolder name.now result.now }
+{
+    match name.rsplit_once('/') {
+        Some((folder, _)) if folder.is_empty() => "/",
+        Some((folder, _)) => folder,
+        None => ".",
+    }
+}
+
+/// Opens a new file of this path. One that is there is not replaced.
+fn open_new(rt: &HostRuntime, name: &str) -> io::Result<File> {
+    let mut options = OpenOptions::new();
+    options.write(true).create_new(true).mode(OWNER_ALONE);
+    options.open(rt, name)
+}
