@@ -113,7 +113,7 @@ struct Ended {
 }
 
 /// Runs a row over a store with a keyset `k`.
-fn ended(alloc: Global, row: &str, store: &mut MemStore) -> Result<Ended, Fail> {
+fn run_over(alloc: Global, row: &str, store: &mut MemStore) -> Result<Ended, Fail> {
     let words = in_text(alloc, cell(row, 1)?)?;
     let keyset = bytes_of(alloc, GCM)?;
     let (reads, writes, asked) = (Cell::new(0), Cell::new(0), Cell::new(0));
@@ -161,7 +161,7 @@ fn ended(alloc: Global, row: &str, store: &mut MemStore) -> Result<Ended, Fail> 
 fn runs(alloc: Global, row: &str) -> Result<(), Fail> {
     let mut store = MemStore::new(alloc, Vec::new(alloc));
     store.put("k", &bytes_of(alloc, GCM)?)?;
-    let ended = ended(alloc, row, &mut store)?;
+    let ended = run_over(alloc, row, &mut store)?;
     let want = cell(row, 3)?;
     if ended.code != ExitCode::from(want.parse::<u8>()?) {
         return Err(unlike(row, "the exit code", want, "another"));
