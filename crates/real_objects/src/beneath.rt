@@ -117,7 +117,7 @@ impl WriteStream for StandardOutput<'_> {
 /// Syncs the file that standard output is. A file system without that call (EINVAL) keeps no fault back.
 fn sync_output(rt: &HostRuntime) -> io::Result<()> {
     let mut options = OpenOptions::new();
-    options.write(true);
+    options.append(true);
     let Ok(file) = options.open(rt, OUTPUT) else {
         return Ok(());
     };
