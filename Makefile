@@ -1,4 +1,4 @@
-# The commands of this repository. `make run` keeps what it proves, and `make test` proves all anew.
+# The commands of this repository. `make run` keeps what it proves, and `make test` is the merge gate.
 .PHONY: run test wrong try bench install
 
 # Where `make install` puts things.
