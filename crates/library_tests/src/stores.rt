@@ -20,18 +20,19 @@ fn looks_up_names_and_lengths(rt: HostRuntime) -> Result<(), Fail> {
     Ok(())
 }
 
-// The count of bytes given rises by a load alone.
+// The count of bytes given rises by a load alone: by what the file has, or by one more than a limit that it is
+// past.
 #[test]
 fn counts_what_it_gives(rt: HostRuntime) -> Result<(), Fail> {
     let mut store = MemStore::new(rt.alloc(), Vec::new(rt.alloc()));
     store.put("a", b"seven b")?;
-    for &(limit, given) in &[(6, 0), (7, 7), (9, 14)] {
+    for &(limit, given) in &[(3, 4), (7, 11), (9, 18)] {
         let _ = store.load(rt.alloc(), "a", limit);
         assert!(rt; store.given() == given, "up to {limit}");
     }
     let _ = store.load(rt.alloc(), "b", 9);
     assert!(rt; matches!(store.size("a"), Ok(Some(7))));
-    assert!(rt; store.given() == 14);
+    assert!(rt; store.given() == 18);
     Ok(())
 }
 

@@ -1,6 +1,6 @@
 //! An entropy over bytes that were drawn before.
 
-ghost use Rattle.std.specs.Prelude.{◌≡◌, ◌<◌, ◌↔◌, [], length, take, drop, IsErr, OnOk, OnErr};
+ghost use Rattle.std.specs.Prelude.{◌≡◌, ◌<◌, ◌↔◌, length, take, drop, IsErr, OnOk, OnErr};
 ghost use Rattle.tink_spec.specs.Outside.{Drew, RanShort, RoseOnce, Stood, next};
 ghost use Rattle.lookahead.specs.Lent.{told_lent};
 
@@ -48,7 +48,6 @@ impl Entropy for Drawn<'_> {
         ensures failed { OnErr result
             (RanShort (told_lent self.old) (told_lent self.new) (length out.old)) }
         ensures once { OnErr result (RoseOnce self.old.faults self.new.faults) }
-        ensures kept { OnErr result (Drew (told_lent self.old) (told_lent self.new) []) }
 
         // Exactly when it fails, and which bytes it gives.
         ensures short { IsErr result ↔ (length self.old.left < length out.old) }

@@ -1,6 +1,6 @@
 //! An entropy that holds bytes which come next.
 
-ghost use Rattle.std.specs.Prelude.{◌≡◌, ◌≤◌, ℕ, List, length, take};
+ghost use Rattle.std.specs.Prelude.{◌≡◌, ◌≤◌, ℕ, List, length, take, IfSome};
 ghost use Rattle.tink_spec.specs.Outside.{Drew, Stood};
 
 use tink_base::Entropy;
@@ -10,9 +10,12 @@ pub trait Lookahead: Entropy {
     /// The bytes that are held.
     ghost held: { Self → List ℕ };
 
-    /// The bytes that are held, none of which is used by that.
+    /// The bytes that are held, none of which is used by that. Where the entropy tells its bytes, they are
+    /// the first of those that are left.
     fn held(&self) -> &[u8]
-        ensures { result.now ≡ held self.now };
+        ensures bytes { result.now ≡ held self.now }
+        ensures front { IfSome (Self.state self.now).left (λ left.
+            take (length (held self.now)) left ≡ held self.now) };
 
     /// Draws so many of the bytes that are held, without giving them.
     fn skip(&mut self, count: usize)

@@ -1,5 +1,5 @@
 -- What the calls of a store say of the files, and how many bytes they give.
-use Rattle.std.specs.Prelude.{◌≤◌, ℕ, Bool, true, false, List, length, take, Option, Some, None, Result, Ok, Err}
+use Rattle.std.specs.Prelude.{◌≡◌, ◌≤◌, ◌+◌, ◌^◌, min, ℕ, Bool, true, false, List, length, take, Option, Some, None, Result, Ok, Err}
 use Rattle.tink_spec.specs.Files.{StoreState, Holds, HoldsLonger, HoldsSome, HoldsSize, HoldsAt, KeptFiles, Added, more_given}
 use Rattle.tink_base.specs.declared.faults.Failed.{Failed}
 use Rattle.tink_base.specs.declared.store.Created.{Created}
@@ -14,12 +14,17 @@ Loads store name limit loaded.Absent = Holds store name None
 Loads store name limit loaded.TooLong = HoldsLonger store name limit
 Loads store name limit (loaded.Bytes bytes) = (length bytes ≤ limit) × Holds store name (Some bytes)
 
--- how many bytes have been given after a load: those of the file, where it was loaded
-abbrev pub given_by_load : ℕ → Result Loaded StoreError → ℕ
-given_by_load given (Ok (loaded.Bytes bytes)) = more_given given (length bytes)
-given_by_load given (Ok loaded.Absent) = given
-given_by_load given (Ok loaded.TooLong) = given
-given_by_load given (Err error) = given
+-- how many bytes a load reads to see that a file is too long: one more than the limit, or than 2^30 under a
+-- greater one
+abbrev pub too_many : (limit : ℕ) → ℕ
+too_many limit = min limit (2 ^ 30) + 1
+
+-- How many bytes have been given after a load: those that were read, whether the file was loaded or not.
+abbrev pub GivenByLoad : (limit : ℕ) → Result Loaded StoreError → (old new : ℕ) → Type 0
+GivenByLoad limit (Ok loaded.Absent) old new = new ≡ old
+GivenByLoad limit (Ok loaded.TooLong) old new = new ≡ more_given old (too_many limit)
+GivenByLoad limit (Ok (loaded.Bytes bytes)) old new = new ≡ more_given old (length bytes)
+GivenByLoad limit (Err error) old new = (old ≤ new) × (new ≤ old + too_many limit)
 
 -- whether there is a file of that name
 abbrev pub IsTaken : StoreState → List ℕ → Bool → Type 0

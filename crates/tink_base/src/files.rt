@@ -5,11 +5,14 @@ ghost use Rattle.std.specs.FinMap as map;
 ghost use Rattle.tink_spec.specs.Outside.{Rose, RoseOnce, Stood, next};
 ghost use Rattle.tink_spec.specs.Files.{HoldsLonger, KeptFiles, MayAdd};
 ghost use Rattle.tink_base.specs.Memory.{told_store};
-ghost use Rattle.tink_base.specs.Store.{Loads, Creates, HasSize, IsTaken, ReadsAt, given_by_load, given_by_read};
+ghost use Rattle.tink_base.specs.Store.{Loads, Creates, HasSize, IsTaken, ReadsAt, GivenByLoad, given_by_read};
 
 use crate::{Bytes, Created, Failed, Loaded, NoMemory, Store, StoreError, Text};
 use std::alloc::Global;
 use std::marker::Model;
+
+/// How many bytes a load counts as read at the most, but one, where it finds a file too long.
+const MOST: usize = 1 << 30;
 
 /// A store in memory, which contracts see as a `StoreInMemory`.
 #[derive(Drop)]
@@ -120,7 +123,7 @@ impl Store for MemStore {
         ensures failed { IsErrOf result StoreError.Failed → Rose self.old.faults self.new.faults }
         ensures once { IsErrOf result StoreError.Failed →
             RoseOnce self.old.faults self.new.faults }
-        ensures given { self.new.given ≡ given_by_load self.old.given result }
+        ensures given { GivenByLoad limit result self.old.given self.new.given }
 
         // Exactly when it fails.
         ensures listed { IsErrOf result StoreError.Failed ↔
@@ -137,6 +140,7 @@ impl Store for MemStore {
             None => Ok(Loaded::Absent),
             Some(bytes) => {
                 if bytes.len() > limit {
+                    self.given = self.given.saturating_add(limit.min(MOST) as u64 + 1);
                     return Ok(Loaded::TooLong);
                 }
                 match Bytes::copy(alloc, bytes) {

@@ -3,7 +3,7 @@
 ghost use Rattle.std.specs.Prelude.{◌≡◌, ◌<◌, ◌^◌, length, drop, IfOk, IfSome, OnOk, OnErr, IsErrOf};
 ghost use Rattle.tink_spec.specs.Outside.{Rose, RoseOnce, Stood};
 ghost use Rattle.tink_spec.specs.Files.{StoreState, HoldsLonger, KeptFiles, MayAdd};
-ghost use Rattle.tink_base.specs.Store.{Loads, Creates, HasSize, IsTaken, ReadsAt, given_by_load, given_by_read};
+ghost use Rattle.tink_base.specs.Store.{Loads, Creates, HasSize, IsTaken, ReadsAt, GivenByLoad, given_by_read};
 
 use crate::{Bytes, Failed};
 use std::alloc::Global;
@@ -44,7 +44,9 @@ pub trait Store {
 
     /// Loads the file of this name where it has at most `limit` bytes. No file changes. The count of
     /// faults has risen after `Failed`, and is as it was with any other answer. The count of bytes given
-    /// rises by the file's length after `Bytes`, and by nothing else.
+    /// rises by those that were read: by the file's length after `Bytes`; by one more than the limit after
+    /// `TooLong`, or than 2^30 under a greater limit; by at most so many after an error; and not after
+    /// `Absent`.
     fn load(&mut self, alloc: Global, name: &str, limit: usize) -> Result<Loaded, StoreError>
         ensures loads { IfOk result (λ found. Loads (state self.old) name.now limit found) }
         ensures kept { KeptFiles (state self.old) (state self.new) }
@@ -54,7 +56,7 @@ pub trait Store {
             Rose (state self.old).faults (state self.new).faults }
         ensures once { IsErrOf result StoreError.Failed →
             RoseOnce (state self.old).faults (state self.new).faults }
-        ensures given { (state self.new).given ≡ given_by_load (state self.old).given result };
+        ensures given { GivenByLoad limit result (state self.old).given (state self.new).given };
 
     /// Whether a new file of this name would find the name taken. No file changes. `Failed` comes also
     /// where no new file could have the name. The count of faults has risen after `Failed`, and is as it

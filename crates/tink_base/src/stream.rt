@@ -1,7 +1,7 @@
 //! An entropy in memory, which fails exactly at the calls that it is told and where too few bytes are
 //! left.
 
-ghost use Rattle.std.specs.Prelude.{◌≡◌, ◌<◌, ◌↔◌, ◌⊎◌, [], length, take, drop, IsErr, OnOk, OnErr, Contains};
+ghost use Rattle.std.specs.Prelude.{◌≡◌, ◌<◌, ◌↔◌, ◌⊎◌, length, take, drop, IsErr, OnOk, OnErr, Contains};
 ghost use Rattle.tink_spec.specs.Outside.{Drew, RanShort, RoseOnce, Stood, next};
 ghost use Rattle.tink_base.specs.Memory.{told_entropy};
 
@@ -69,7 +69,6 @@ impl Entropy for MemEntropy {
         ensures failed { OnErr result
             (RanShort (told_entropy self.old) (told_entropy self.new) (length out.old)) }
         ensures once { OnErr result (RoseOnce self.old.faults self.new.faults) }
-        ensures kept { OnErr result (Drew (told_entropy self.old) (told_entropy self.new) []) }
 
         // Exactly when it fails, and which bytes it gives.
         ensures listed { IsErr result ↔

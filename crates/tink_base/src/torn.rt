@@ -5,7 +5,7 @@ ghost use Rattle.std.specs.FinMap as map;
 ghost use Rattle.tink_spec.specs.Outside.{Rose, RoseOnce, Stood, next};
 ghost use Rattle.tink_spec.specs.Files.{HoldsLonger, KeptFiles, MayAdd};
 ghost use Rattle.tink_base.specs.Memory.{told_torn};
-ghost use Rattle.tink_base.specs.Store.{Loads, Creates, HasSize, IsTaken, ReadsAt, given_by_load, given_by_read};
+ghost use Rattle.tink_base.specs.Store.{Loads, Creates, HasSize, IsTaken, ReadsAt, GivenByLoad, given_by_read};
 ghost use Rattle.tink_base.specs.declared.store.Created.TheVariants as created;
 
 use crate::{Created, Failed, Loaded, MemStore, NoMemory, Store, StoreError};
@@ -83,7 +83,7 @@ impl Store for TornStore {
         ensures failed { IsErrOf result StoreError.Failed → Rose self.old.faults self.new.faults }
         ensures once { IsErrOf result StoreError.Failed →
             RoseOnce self.old.faults self.new.faults }
-        ensures given { self.new.given ≡ given_by_load self.old.given result }
+        ensures given { GivenByLoad limit result self.old.given self.new.given }
 
         // It never fails.
         ensures never { IsErrOf result StoreError.Failed → ⊥ }

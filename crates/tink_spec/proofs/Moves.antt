@@ -1,7 +1,7 @@
 -- One call of a source, a sink or an entropy after another.
 use Rattle.std.proofs.Common.{◌≡◌, List, [], ◌++◌, ℕ, refl, sym, ◌∙◌, ap, subst, arith, append_assoc, append-nil, length, length-append, ◌+◌, ◌<◌, inl, inr}
 use Rattle.std.specs.Prelude.{Option, Some, None, IfSome, IsTrue, option_map}
-use Rattle.tink_spec.specs.Outside.{SourceState, SinkState, EntropyState, Gave, Took, Drew, RanShort, Rose, GoesOn, StopsAtEnd, late_after}
+use Rattle.tink_spec.specs.Outside.{SourceState, SinkState, EntropyState, Gave, Took, Drew, DrewLosing, RanShort, Rose, GoesOn, StopsAtEnd, late_after}
 
 prepend_twice : (p q : List ℕ) (o : Option (List ℕ)) → option_map (λ rest. p ++ rest) (option_map (λ rest. q ++ rest) o) ≡ option_map (λ rest. (p ++ q) ++ rest) o
 prepend_twice p q None = refl
@@ -73,18 +73,35 @@ drew_more old mid new p q first second = record {
   steady = second.steady ∙ first.steady;
 }
 
--- what an entropy lacks after some bytes were drawn, it lacked before
-pub ran_short_later : (old mid new : EntropyState) (p : List ℕ) (asked : ℕ) → Drew old mid p → RanShort mid new asked → RanShort old new (length p + asked)
-ran_short_later old mid new p asked first second = record {
-  rose = later second.rose;
-  short = λ steady. subst (λ (o : Option (List ℕ)). IfSome o (λ left. length left < length p + asked)) (sym first.left)
-      (behind mid.left (second.short (subst IsTrue (sym first.steady) steady)));
-}
-  where
-    later : Rose mid.faults new.faults → Rose old.faults new.faults
-    later (inl before) = inl (omega (arith, first.faults))
-    later (inr last) = inr last
+-- where nothing is lost
+abbrev pub lost_nothing : (old new : EntropyState) (drawn : List ℕ) → Drew old new drawn → DrewLosing old new drawn
+lost_nothing old new drawn drew = record { lost = []; kept = λ steady. refl; drew = subst (Drew old new) (sym (append-nil drawn)) drew }
 
+-- what was drawn before comes before what is lost
+abbrev pub lost_later : (old mid new : EntropyState) (first drawn : List ℕ) → Drew old mid first → DrewLosing mid new drawn → DrewLosing old new (first ++ drawn)
+lost_later old mid new first drawn drew later = record {
+  lost = later.lost;
+  kept = λ steady. later.kept (subst IsTrue (sym drew.steady) steady);
+  drew = subst (Drew old new) (sym (append_assoc first drawn later.lost)) (drew_more old mid new first (drawn ++ later.lost) drew later.drew);
+}
+
+abbrev pub lost_behind : (old mid new : EntropyState) (first : List ℕ) → Drew old mid first → DrewLosing mid new [] → DrewLosing old new first
+lost_behind old mid new first drew later = record {
+  lost = later.lost;
+  kept = λ steady. later.kept (subst IsTrue (sym drew.steady) steady);
+  drew = drew_more old mid new first later.lost drew later.drew;
+}
+
+-- what an entropy lacks after some bytes were drawn, it lacked before
+pub short_later : (old mid new : EntropyState) (p : List ℕ) (asked : ℕ) → Drew old mid p → RanShort mid new asked → IsTrue old.steady → IfSome old.left (λ left. length left < length p + asked)
+short_later old mid new p asked first second steady = subst (λ (o : Option (List ℕ)). IfSome o (λ left. length left < length p + asked)) (sym first.left)
+    (behind mid.left (second.short (subst IsTrue (sym first.steady) steady)))
+  where
     behind : (o : Option (List ℕ)) → IfSome o (λ left. length left < asked) → IfSome (option_map (λ rest. p ++ rest) o) (λ left. length left < length p + asked)
     behind None less = tt
     behind (Some rest) less = rw length-append (omega (arith, less))
+
+-- the count of faults rose in all
+pub rose_later : (old mid new : EntropyState) (p : List ℕ) → Drew old mid p → Rose mid.faults new.faults → Rose old.faults new.faults
+rose_later old mid new p first (inl before) = inl (omega (arith, first.faults))
+rose_later old mid new p first (inr last) = inr last

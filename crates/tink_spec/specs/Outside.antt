@@ -10,7 +10,10 @@
 --   StopsAtEnd   nothing was read after the end was answered
 --   Gave, Took, Drew   what went out of a source, into a sink, or out of an entropy, between two
 --             moments
---   RanShort  why an entropy fails
+--   DrewLosing   what went out of an entropy that failed at last: some bytes were drawn, and then some
+--             may be lost. A device may have given bytes before it failed, and none is given again. An
+--             entropy that is steady, which fails only for want of bytes, loses none.
+--   RanShort  why an entropy fails, and what is lost then
 use Rattle.std.specs.Prelude.{◌≡◌, ◌⊎◌, ℕ, ◌<◌, ◌≤◌, ◌^◌, ◌+◌, ◌-◌, min, List, [], ◌++◌, length, Option, IfSome, option_map, Bool, false, IsTrue, if◌then◌else◌}
 
 -- a count of 64 bits, one later; it stands still at its end
@@ -101,8 +104,16 @@ pub record Drew (old new : EntropyState) (piece : List ℕ) : Type 0 where
   pub faults : old.faults ≤ new.faults
   pub steady : new.steady ≡ old.steady
 
+-- these bytes were drawn, and those behind them are lost; of a steady entropy none is
+pub record DrewLosing (old new : EntropyState) (drawn : List ℕ) : Type 0 where
+  pub lost : List ℕ
+  pub kept : IsTrue old.steady → lost ≡ []
+  pub drew : Drew old new (drawn ++ lost)
+
 -- the entropy failed where so many bytes were asked for: its count of faults rose, and if it is
--- steady, fewer were left, where it tells
+-- steady, fewer were left, where it tells. At most so many are lost.
 pub record RanShort (old new : EntropyState) (asked : ℕ) : Type 0 where
   pub rose : Rose old.faults new.faults
   pub short : IsTrue old.steady → IfSome old.left (λ left. length left < asked)
+  pub gone : DrewLosing old new []
+  pub few : length gone.lost ≤ asked

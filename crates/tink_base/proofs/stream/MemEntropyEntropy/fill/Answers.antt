@@ -1,4 +1,4 @@
-use Rattle.std.proofs.Common.{refl, ap, arith, length, Some}
+use Rattle.std.proofs.Common.{refl, ap, arith, rules, length, [], Some}
 use Rattle.std.proofs.lemmas.Grind.{common_steps}
 use Rattle.tink_base.proofs.Fronts.{front_and_left}
 use Rattle.tink_base.proofs.stream.MemEntropyEntropy.fill.Goals as goal
@@ -10,3 +10,11 @@ returns-clause-fills c = rw (← c.self.view_is) (record {
   faults = omega arith;
   steady = refl;
 })
+
+pub returns-then-contains-clause-failed : goal.returns-then-contains-clause-failed
+returns-then-contains-clause-failed c = record {
+  rose = search rules;
+  short = search rules;
+  gone = record { lost = []; kept = λ steady. refl; drew = search rules };
+  few = omega arith;
+}
