@@ -4,7 +4,7 @@ use Rattle.std.specs.Prelude.{slice_get, slice_range}
 use Rattle.std.specs.Int.{to_be_bytes, w32}
 use Rattle.std.specs.Option.{option_and_then, option_map}
 use Rattle.std.specs.Str.{bytes_eq}
-use Rattle.std.proofs.lemmas.List.{append_assoc, append-nil, drop-append-le, drop_at, take_at}
+use Rattle.std.proofs.lemmas.List.{append_assoc, drop-append-le, drop_at, take_at}
 use Rattle.std.proofs.lemmas.List.Quantifiers.{position-Some}
 use Rattle.std.proofs.lemmas.Option.{get_or_from_slice_get}
 use Rattle.std.proofs.lemmas.Slice.{between_to_end}
@@ -15,7 +15,7 @@ use Rattle.keyset_model.specs.Keyset.{Keys}
 use Rattle.managers.specs.Schemes.{Scheme, key_under}
 use Rattle.managers.specs.Table.{Entry, Table, place_in}
 use Rattle.managers.specs.Uses.{iv_size, seal_of}
-use Rattle.tink_spec.proofs.Moves.{drew_more, drew_nothing, ran_short_later}
+use Rattle.tink_spec.proofs.Moves.{drew_more, drew_nothing, lost_behind, rose_later, short_later}
 use Rattle.tink_spec.specs.Outside.{Drew, EntropyState, Stood}
 use Rattle.wrapped_prims.proofs.SealLemmas.{enough, seal-drawn}
 use Rattle.wrapped_prims.specs.Answers.{Sealed, seal_answer}
@@ -88,9 +88,11 @@ fault_making keys table scheme row plain ad old new faults.EntropyFault is = rec
   before = [];
   asked = random_of row;
   asks = asks_key keys table scheme row;
-  drew = is.drew;
   some = is.some;
-  short = ran_short_later old old new [] (random_of row) (drew_nothing old) is.short;
+  rose = is.short.rose;
+  gone = is.short.gone;
+  few = is.short.few;
+  short = short_later old old new [] (random_of row) (drew_nothing old) is.short;
 }
 fault_making keys table scheme row plain ad old new (faults.Refused rule) is = record {
   drawn = is.drawn;
@@ -121,9 +123,11 @@ failed_sealing keys table scheme row old one new value data_key made is = record
   before = made.drawn;
   asked = iv_size is.key;
   asks = asks_iv keys table scheme row old one new value data_key _ made is;
-  drew = subst (Drew old new) (append-nil made.drawn) (drew_more old one new made.drawn [] made.drew is.entropy.2);
   some = is.entropy.0;
-  short = ran_short_later old one new made.drawn (iv_size is.key) made.drew is.entropy.1;
+  rose = rose_later old one new made.drawn made.drew is.entropy.1.rose;
+  gone = lost_behind old one new made.drawn made.drew is.entropy.1.gone;
+  few = is.entropy.1.few;
+  short = short_later old one new made.drawn (iv_size is.key) made.drew is.entropy.1;
 }
 
 -- memory was wanting there
@@ -184,9 +188,11 @@ fault_payload keys table scheme row plain ad old two new key faults.EntropyFault
   before = behind.before;
   asked = iv_size key;
   asks = behind.asks;
-  drew = subst (Drew old new) (append-nil behind.before) (drew_more old two new behind.before [] behind.drew is.drew);
   some = is.some;
-  short = ran_short_later old two new behind.before (iv_size key) behind.drew is.short;
+  rose = rose_later old two new behind.before behind.drew is.short.rose;
+  gone = lost_behind old two new behind.before behind.drew is.short.gone;
+  few = is.short.few;
+  short = short_later old two new behind.before (iv_size key) behind.drew is.short;
 }
 fault_payload keys table scheme row plain ad old two new key (faults.Refused rule) behind is = absurd is
 fault_payload keys table scheme row plain ad old two new key faults.NoMemory behind is = record {

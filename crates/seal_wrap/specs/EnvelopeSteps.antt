@@ -25,7 +25,6 @@ pub record DrewWhole (size : ℕ) (old new : EntropyState) (bytes : List ℕ) : 
 pub record FailedAt (size : ℕ) (old new : EntropyState) : Type 0 where
   pub some : 0 < size
   pub short : RanShort old new size
-  pub drew : Drew old new []
 
 -- it didn't fail, and gave so many bytes or none
 pub record StoodAt (size : ℕ) (old new : EntropyState) : Type 0 where

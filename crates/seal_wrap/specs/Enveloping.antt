@@ -6,7 +6,7 @@
 --
 -- Three fills at most are asked for: the random bytes of the data key, an IV of the keyset's primary
 -- key, and an IV of the data key. An IV of no bytes isn't asked for.
-use Rattle.std.specs.Prelude.{◌≡◌, ◌≢◌, ◌⊎◌, ℕ, ◌+◌, ◌<◌, List, [], ◌++◌, length, Some, None, Ok, Err}
+use Rattle.std.specs.Prelude.{◌≡◌, ◌≢◌, ◌⊎◌, ℕ, ◌+◌, ◌<◌, ◌≤◌, List, [], ◌++◌, length, Some, None, IfSome, IsTrue, Ok, Err}
 use Rattle.key_msgs.specs.KeyTypes.{primitive_of_type, url_of_type}
 use Rattle.key_msgs.specs.Templates.{Row, random_of, type_made}
 use Rattle.key_msgs.specs.declared.key.KeyKind.{KeyKind}
@@ -16,7 +16,7 @@ use Rattle.keyset_model.specs.Keyset.{Keys}
 use Rattle.managers.specs.Schemes.{Scheme, key_under}
 use Rattle.managers.specs.Table.{Table, scheme_at}
 use Rattle.managers.specs.Uses.{iv_size}
-use Rattle.tink_spec.specs.Outside.{Drew, EntropyState, RanShort, Stood}
+use Rattle.tink_spec.specs.Outside.{Drew, DrewLosing, EntropyState, Rose, Stood}
 use Rattle.wrapped_prims.specs.Answers.{primary_key}
 use Rattle.seal_wrap.specs.Enveloped.{data_key_of, envelope_of}
 use Rattle.seal_wrap.specs.declared.data_keys.DataKeyFault.{DataKeyFault}
@@ -80,15 +80,18 @@ Asks keys table scheme row drawn asked =
     ((drawn ≡ []) × (asked ≡ random_of row))
     ⊎ (AsksIv keys table scheme row drawn asked ⊎ AsksPayloadIv keys table scheme row drawn asked)
 
--- the entropy gave the fills before one, and failed at that one, of some bytes, of which it gave none
+-- the entropy gave the fills before one, and failed at that one, of some bytes: its count of faults rose,
+-- at most so many as were asked for are lost, and if it is steady, fewer were left, where it tells
 pub record FailedAtFill (keys : Keys) (table : Table) (scheme : Scheme) (row : Row)
     (old new : EntropyState) : Type 0 where
   pub before : List ℕ
   pub asked : ℕ
   pub asks : Asks keys table scheme row before asked
-  pub drew : Drew old new before
   pub some : 0 < asked
-  pub short : RanShort old new (length before + asked)
+  pub rose : Rose old.faults new.faults
+  pub gone : DrewLosing old new before
+  pub few : length gone.lost ≤ asked
+  pub short : IsTrue old.steady → IfSome old.left (λ left. length left < length before + asked)
 
 -- the entropy didn't fail, and gave the fills before one, and that one or nothing of it
 pub record StoodAtFill (keys : Keys) (table : Table) (scheme : Scheme) (row : Row)

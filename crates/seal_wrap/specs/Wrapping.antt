@@ -37,8 +37,8 @@ abbrev pub of_sealing : WrapFault → SealFault
 of_sealing wraps.EntropyFault = seals.EntropyFault
 of_sealing wraps.NoMemory = seals.NoMemory
 
--- What happened to the entropy: it failed at an IV of the master's primary key, which has some bytes,
--- and gave none; or it didn't fail, and gave an IV or nothing.
+-- What happened to the entropy: it failed at an IV of the master's primary key, which has some bytes; or
+-- it didn't fail, and gave an IV or nothing.
 abbrev pub IsWrapFault : (master : Keys) → Table → EntropyState → EntropyState → WrapFault → Type 0
 IsWrapFault master table old new fault = IsSealFault master table old new (of_sealing fault)
 

@@ -162,10 +162,10 @@ fn seal_made<E: Entropy>(
 ///
 /// The data key is drawn in one fill, then an IV of the primary key, then one of the data key, each in one
 /// fill unless it has no bytes. `EntropyFault` comes only where the entropy failed at one of these, and
-/// what was drawn are the fills before it. `Refused` comes exactly where the data key that was made breaks
-/// a rule of the manager's scheme, and names the first one; the fill of the data key alone was drawn then.
-/// After `NoMemory` none, one, two or all of the fills were drawn. No output prefix stands in front of the
-/// payload. No running time is promised.
+/// what was drawn are the fills before it; what that one took is lost. `Refused` comes exactly where the
+/// data key that was made breaks a rule of the manager's scheme, and names the first one; the fill of the
+/// data key alone was drawn then. After `NoMemory` none, one, two or all of the fills were drawn. No output
+/// prefix stands in front of the payload. No running time is promised.
 pub fn envelope_seal<E: Entropy>(
     alloc: Global,
     handle: &Handle<'_>,

@@ -33,8 +33,8 @@ pub enum WrapFault {
 /// `EncryptedKeyset` of tink.proto, as JSON or else in the binary form.
 ///
 /// One IV is drawn, in one fill, unless it has no bytes. `EntropyFault` comes only where the entropy
-/// failed at that, and nothing was drawn then. After `NoMemory` nothing or the IV was drawn. Of the
-/// master nothing is in the text but the output prefix of its primary key.
+/// failed at that. After `NoMemory` nothing or the IV was drawn. Of the master nothing is in the text but
+/// the output prefix of its primary key.
 pub fn wrap<E: Entropy>(
     alloc: Global,
     handle: &Handle<'_>,

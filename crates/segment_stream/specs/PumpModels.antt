@@ -51,11 +51,10 @@ pub record IsMade (keys : KeysForStreams) (ad : List ℕ) (old new : EntropyStat
   pub header : sealer.header ≡ header_of (cipher_of ad keys.primary) random
   pub under : SealsUnder sealer (cipher_of ad keys.primary)
 
--- the entropy failed at the bytes of a header, and gave none; or it didn't fail, and nothing was
--- drawn
+-- the entropy failed at the bytes of a header; or it didn't fail, and nothing was drawn
 abbrev pub IsSealerFault : KeysForStreams → EntropyState → EntropyState → SealerFault → Type 0
 IsSealerFault keys old new faults.EntropyFault =
-    RanShort old new (keys.primary.derived + 7) × Drew old new []
+    RanShort old new (keys.primary.derived + 7)
 IsSealerFault keys old new faults.NoMemory = Stood old.faults new.faults × Drew old new []
 
 -- a sealer's fault among those of passes

@@ -59,8 +59,8 @@ impl Sealer {
     ///
     /// The buffer is reserved here, once: one byte more than the largest segment under these keys.
     /// It is lengthened in its block as bytes come, by at most 65,536 at once. Then salt and nonce
-    /// prefix are drawn, in one fill. `EntropyFault` comes only where the
-    /// entropy failed at that, and nothing was drawn then. After `NoMemory` nothing was drawn.
+    /// prefix are drawn, in one fill. `EntropyFault` comes only where the entropy failed at that.
+    /// After `NoMemory` nothing was drawn.
     pub fn new<E: Entropy>(
         alloc: Global,
         keys: &StreamKeys,
@@ -131,7 +131,6 @@ fn draw_header<E: Entropy>(buffer: &mut [u8], header: usize, entropy: &mut E) ->
         (Stood (E.state entropy.old).faults (E.state entropy.new).faults) }
     ensures failed { OnErr result
         (RanShort (E.state entropy.old) (E.state entropy.new) (header - 1)) }
-    ensures kept { OnErr result (Drew (E.state entropy.old) (E.state entropy.new) []) }
 {
     buffer[0] = header as u8;
     match entropy.fill(&mut buffer[1..header]) {

@@ -6,8 +6,8 @@ use Rattle.std.specs.Int.{w32, from_be_bytes}
 use Rattle.tink_base.specs.declared.faults.Failed.{Failed}
 use Rattle.std.proofs.lemmas.Bool.{lt-ltb, ne_eqb, false≢true}
 use Rattle.std.proofs.lemmas.List.{append_assoc}
-use Rattle.tink_spec.specs.Outside.{EntropyState, Drew, Rose, RanShort}
-use Rattle.tink_spec.proofs.Moves.{drew_nothing, drew_more}
+use Rattle.tink_spec.specs.Outside.{EntropyState, Drew, RanShort}
+use Rattle.tink_spec.proofs.Moves.{drew_nothing, drew_more, lost_later, rose_later}
 use Rattle.key_msgs.specs.Templates.{Row, random_of}
 use Rattle.keyset_model.specs.declared.record.Record.{Record}
 use Rattle.keyset_model.specs.Keyset.{has_id, is_in}
@@ -42,10 +42,6 @@ continues-draws f g old mid new answer one two = (
   λ more. ap f (append_assoc one.drawn two.0 more) ∙ one.same (two.0 ++ more) ∙ two.2 more,
 )
 
-rose_later : (old mid new : EntropyState) → old.faults ≤ mid.faults → Rose mid.faults new.faults → Rose old.faults new.faults
-rose_later old mid new more (inl before) = inl (omega (arith, more, before))
-rose_later old mid new more (inr last) = inr last
-
 none_behind : {A : Type 0} (f g : Draw A) (drawn : List ℕ) (o : Option (List ℕ)) → ((more : List ℕ) → f (drawn ++ more) ≡ g more)
     → IfSome o (λ left. g left ≡ None) → IfSome (option_map (λ rest. drawn ++ rest) o) (λ left. f left ≡ None)
 none_behind f g drawn None same none = tt
@@ -53,9 +49,9 @@ none_behind f g drawn (Some rest) same none = same rest ∙ none
 
 pub continues-ran_out : {A : Type 0} (f g : Draw A) (old mid new : EntropyState) → Continues f g old mid → RanOut g mid new → RanOut f old new
 continues-ran_out f g old mid new one two = record {
-  rose = rose_later old mid new one.drew.faults two.rose;
+  rose = rose_later old mid new one.drawn one.drew two.rose;
   drawn = one.drawn ++ two.drawn;
-  drew = drew_more old mid new one.drawn two.drawn one.drew two.drew;
+  gone = lost_later old mid new one.drawn two.drawn one.drew two.gone;
   undecided = one.same two.drawn ∙ two.undecided;
   short = λ steady. subst (λ (o : Option (List ℕ)). IfSome o (λ left. f left ≡ None)) (sym one.drew.left)
       (none_behind f g one.drawn mid.left one.same (two.short (subst IsTrue (sym one.drew.steady) steady)));
@@ -73,11 +69,11 @@ few_left : (o : Option (List ℕ)) (count : ℕ) → IfSome o (λ left. length l
 few_left None count few = tt
 few_left (Some left) count few = few_bytes left count few
 
-pub ran_out-fill : (old new : EntropyState) (count : ℕ) → RanShort old new count → Drew old new [] → 0 < count → RanOut (fill count) old new
-ran_out-fill old new count ran drew some = record {
+pub ran_out-fill : (old new : EntropyState) (count : ℕ) → RanShort old new count → 0 < count → RanOut (fill count) old new
+ran_out-fill old new count ran some = record {
   rose = ran.rose;
   drawn = [];
-  drew = drew;
+  gone = ran.gone;
   undecided = few_bytes [] count some;
   short = λ steady. few_left old.left count (ran.short steady);
 }
@@ -98,7 +94,7 @@ pub ran_out-first : {A B : Type 0} (f : Draw A) (next : A → Draw B) (old new :
 ran_out-first f next old new ran = record {
   rose = ran.rose;
   drawn = ran.drawn;
-  drew = ran.drew;
+  gone = ran.gone;
   undecided = ap (λ d. and_then d next) ran.undecided;
   short = λ steady. none_then f next old.left (ran.short steady);
 }
@@ -135,9 +131,9 @@ unfolding new_id
 draws-exhausted records s = draws-answered (Err IdsExhausted) s
 
 -- a draw that failed
-pub ran_out-id : (tries : ℕ) (records : List Record) (old new : EntropyState) → RanShort old new 4 → Drew old new [] → RanOut (new_id (suc tries) records) old new
+pub ran_out-id : (tries : ℕ) (records : List Record) (old new : EntropyState) → RanShort old new 4 → RanOut (new_id (suc tries) records) old new
 unfolding new_id
-ran_out-id tries records old new ran drew = ran_out-first (fill 4) _ old new (ran_out-fill old new 4 ran drew (lit< tt))
+ran_out-id tries records old new ran = ran_out-first (fill 4) _ old new (ran_out-fill old new 4 ran (lit< tt))
 
 -- an id that isn't 0 is taken where it is found
 pub found-taken : (records : List Record) (id : ℕ) (found : Option ℕ) (some : Bool) → id ≢ 0 → found ≡ position (has_id id) records → some ≡ is_some found → some ≡ is_taken records id
@@ -148,10 +144,10 @@ found-taken records id found some other place is =
 
 -- the id was drawn, and the key wasn't
 pub ran_out-key : (row : Row) (records : List Record) (id asked : ℕ) (old mid new : EntropyState) → Draws (new_id 64 records) old mid (Ok id)
-    → asked ≡ random_of row → 1 ≤ random_of row → RanShort mid new asked → Drew mid new [] → RanOut (new_record row records) old new
-ran_out-key row records id asked old mid new one is some ran drew = continues-ran_out (new_record row records) (with_key row id) old mid new
+    → asked ≡ random_of row → 1 ≤ random_of row → RanShort mid new asked → RanOut (new_record row records) old new
+ran_out-key row records id asked old mid new one is some ran = continues-ran_out (new_record row records) (with_key row id) old mid new
     (continues-and_then (new_id 64 records) (with_key row) id old mid one)
-    (ran_out-first (fill (random_of row)) _ mid new (ran_out-fill mid new (random_of row) (subst (RanShort mid new) is ran) drew some))
+    (ran_out-first (fill (random_of row)) _ mid new (ran_out-fill mid new (random_of row) (subst (RanShort mid new) is ran) some))
 
 -- both were drawn
 pub draws-key : (row : Row) (records : List Record) (id : ℕ) (key : List ℕ) (old mid new : EntropyState) → Draws (new_id 64 records) old mid (Ok id)
@@ -191,11 +187,11 @@ loop-taken i records group id old mid new l before drew four is word taken =
 
 -- it failed
 pub loop-failed : (i : ℕ) (records : List Record) (old mid new : EntropyState) → i < 64
-    → Continues (new_id 64 records) (new_id (64 - i) records) old mid → RanShort mid new 4 → Drew mid new [] → RanOut (new_id 64 records) old new
-loop-failed i records old mid new l before ran drew =
+    → Continues (new_id 64 records) (new_id (64 - i) records) old mid → RanShort mid new 4 → RanOut (new_id 64 records) old new
+loop-failed i records old mid new l before ran =
     continues-ran_out (new_id 64 records) (new_id (suc (63 - i)) records) old mid new
     (subst (λ n. Continues (new_id 64 records) (new_id n records) old mid) (tries_left i l) before)
-    (ran_out-id (63 - i) records mid new ran drew)
+    (ran_out-id (63 - i) records mid new ran)
 
 -- all were taken
 pub loop-end : (i : ℕ) (records : List Record) (old new : EntropyState) → 64 ≤ i

@@ -1,6 +1,6 @@
 -- How code answers that draws from an entropy, by what is to be drawn.
 use Rattle.std.specs.Prelude.{◌≡◌, ◌≤◌, ◌*◌, ℕ, List, [], ◌++◌, length, Option, Some, None, IfSome, IsTrue, Result, Ok, Err}
-use Rattle.tink_spec.specs.Outside.{EntropyState, Drew, Rose, Stood}
+use Rattle.tink_spec.specs.Outside.{EntropyState, Drew, DrewLosing, Rose, Stood}
 use Rattle.tinkey_cmds.specs.declared.command.CmdError.{CmdError}
 use Rattle.tinkey_cmds.specs.declared.command.CmdError.TheVariants.{Refused, EntropyFault, NoMemory}
 use Rattle.tinkey_cmds.specs.declared.command.CmdFault.{CmdFault}
@@ -17,12 +17,12 @@ abbrev pub Draws : {A : Type 0} → Draw A → (old new : EntropyState)
 Draws give old new answer = (drawn : List ℕ) × Drew old new drawn
     × ((more : List ℕ) → give (drawn ++ more) ≡ answered answer more)
 
--- The entropy failed: its count of faults rose, the bytes drawn so far decide nothing, and where it
--- is steady and tells its bytes, they don't suffice.
+-- The entropy failed: its count of faults rose, the bytes drawn by then decide nothing, and where it
+-- is steady and tells its bytes, they don't suffice. Some behind those drawn may be lost.
 pub record RanOut {A : Type 0} (give : Draw A) (old new : EntropyState) : Type 0 where
   pub rose : Rose old.faults new.faults
   pub drawn : List ℕ
-  pub drew : Drew old new drawn
+  pub gone : DrewLosing old new drawn
   pub undecided : give drawn ≡ None
   pub short : IsTrue old.steady → IfSome old.left (λ left. give left ≡ None)
 
@@ -44,10 +44,19 @@ pub record DrewIds (old new : EntropyState) : Type 0 where
   pub most : ids ≤ 64
   pub whole : length drawn ≡ 4 * ids
 
+-- whole ids were drawn, and in the fill that failed then at most so many bytes are lost
+pub record LostBehindIds (old new : EntropyState) (most : ℕ) : Type 0 where
+  pub drawn : List ℕ
+  pub gone : DrewLosing old new drawn
+  pub few : length gone.lost ≤ most
+  pub ids : ℕ
+  pub most_ids : ids ≤ 64
+  pub whole : length drawn ≡ 4 * ids
+
 -- Where the entropy failed, nothing was drawn of the id or the key at which it did: each is drawn in
--- one fill.
+-- one fill, of at most 64 bytes, and what that may have taken is lost.
 abbrev pub DrawsWhole : {A : Type 0} → Result A CmdError → (old new : EntropyState) → Type 0
-DrawsWhole (Err EntropyFault) old new = DrewIds old new
+DrawsWhole (Err EntropyFault) old new = LostBehindIds old new 64
 DrawsWhole _ old new = Unit {0}
 
 -- the records of a keyset, or none

@@ -26,7 +26,7 @@ const MOST_RECORDS: usize = 1000;
 /// Its id is four random bytes, big-endian, drawn until it isn't 0, at most 64 times; the bytes of
 /// the key are drawn behind it, in one call. `Refused` comes exactly where each of those ids is 0,
 /// and is `IdsExhausted`. `EntropyFault` comes only where the entropy failed; whole ids were drawn
-/// by then, and nothing else. At `NoMemory` all has been drawn.
+/// by then, and nothing else, but what the failed fill may have lost. At `NoMemory` all has been drawn.
 pub fn create<E: Entropy>(
     alloc: Global,
     template: &Template,
@@ -55,8 +55,8 @@ pub fn create<E: Entropy>(
 /// record that has it, and all others stay in their places. `Refused` comes exactly where the edit
 /// is refused, with the first reason in the order of the edit's own checks; only `IdsExhausted`
 /// comes after bytes were drawn. `EntropyFault` comes only where the entropy failed; whole ids were
-/// drawn by then, and nothing else. At `NoMemory` all that the edit draws has been drawn. A keyset of
-/// short records gives one of short records.
+/// drawn by then, and nothing else, but what the failed fill may have lost. At `NoMemory` all that the
+/// edit draws has been drawn. A keyset of short records gives one of short records.
 pub fn apply<E: Entropy>(
     alloc: Global,
     keyset: &Keyset,

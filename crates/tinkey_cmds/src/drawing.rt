@@ -1,11 +1,11 @@
 //! New records: their ids and their keys are drawn from an entropy.
 
-ghost use Rattle.std.specs.Prelude.{◌≡◌, ◌≤◌, [], length, take, IfOk, OnOk, OnErr};
+ghost use Rattle.std.specs.Prelude.{◌≡◌, ◌≤◌, length, take, IfOk, OnOk, OnErr};
 ghost use Rattle.std.specs.Option.{option_copied};
 ghost use Rattle.tink_spec.specs.Outside.{Drew, RanShort, Stood};
 ghost use Rattle.key_msgs.specs.Templates.{seen, random_of};
 ghost use Rattle.keyset_model.specs.Keyset.{HasSizes};
-ghost use Rattle.tinkey_cmds.specs.Applying.{Applied, DrawsWhole, DrewId, DrewIds, records_in};
+ghost use Rattle.tinkey_cmds.specs.Applying.{Applied, DrawsWhole, DrewId, DrewIds, LostBehindIds, records_in};
 ghost use Rattle.tinkey_cmds.specs.Edits.{is_taken, new_id, new_record, record_of};
 ghost use Rattle.tinkey_cmds.specs.Laws.{IsTemplate};
 
@@ -42,7 +42,8 @@ fn is_taken(keyset: Option<&Keyset>, id: u32) -> bool
 fn draw_id<E: Entropy>(keyset: Option<&Keyset>, entropy: &mut E) -> Result<Option<u32>, Failed>
     ensures id { DrewId result (new_id 64 (records_in (option_copied keyset.entry)))
         (E.state entropy.old) (E.state entropy.new) }
-    ensures ids { DrewIds (E.state entropy.old) (E.state entropy.new) }
+    ensures ids { OnOk result (DrewIds (E.state entropy.old) (E.state entropy.new)) }
+    ensures lost { OnErr result (LostBehindIds (E.state entropy.old) (E.state entropy.new) 4) }
 {
     for _try in 0..DRAWS {
         let mut group = [0u8; 4];
@@ -78,7 +79,6 @@ fn draw_key<E: Entropy>(
     ensures key { OnOk result
         (Drew (E.state entropy.old) (E.state entropy.new) (take size material.new)) }
     ensures failed { OnErr result (RanShort (E.state entropy.old) (E.state entropy.new) size) }
-    ensures kept { OnErr result (Drew (E.state entropy.old) (E.state entropy.new) []) }
 {
     entropy.fill(&mut material[..size])
 }

@@ -25,11 +25,11 @@ pub record DrewIv (key : KeyKind) (old new : EntropyState) : Type 0 where
   pub drew : Drew old new drawn
   pub whole : length drawn ≡ iv_size key
 
--- what happened to the entropy: it failed at an IV of the key, which has some bytes, and gave none; or
--- it didn't fail, and gave an IV or nothing
+-- what happened to the entropy: it failed at an IV of the key, which has some bytes; or it didn't
+-- fail, and gave an IV or nothing
 abbrev pub IsKeyFault : KeyKind → EntropyState → EntropyState → SealFault → Type 0
 IsKeyFault key old new faults.EntropyFault =
-    (0 < iv_size key) × RanShort old new (iv_size key) × Drew old new []
+    (0 < iv_size key) × RanShort old new (iv_size key)
 IsKeyFault key old new faults.NoMemory =
     Stood old.faults new.faults × (Drew old new [] ⊎ DrewIv key old new)
 

@@ -37,7 +37,6 @@ fn draw_iv<E: Entropy>(entropy: &mut E, iv: &mut [u8]) -> Result<(), Failed>
     ensures some { OnErr result (0 < length iv.old) }
     ensures short { OnErr result
         (RanShort (E.state entropy.old) (E.state entropy.new) (length iv.old)) }
-    ensures kept { OnErr result (Drew (E.state entropy.old) (E.state entropy.new) []) }
 {
     if iv.is_empty() {
         return Ok(());
@@ -104,8 +103,9 @@ fn seal_kept<E: Entropy>(
     let Ok(mut iv) = vec![in alloc; 0; iv_size] else {
         return Err(SealFault::NoMemory);
     };
-    if draw_iv(entropy, &mut iv).is_err() {
-        return Err(SealFault::EntropyFault);
+    match draw_iv(entropy, &mut iv) {
+        Ok(()) => {}
+        Err(_) => return Err(SealFault::EntropyFault),
     }
     match seal_with(managers, kept, bytes, &iv, ad) {
         Ok(sealed) => Ok(sealed),
@@ -118,7 +118,7 @@ impl Handle<'_> {
     /// associated data have at most 2^30 bytes each.
     ///
     /// One IV is drawn, in one fill, unless it has no bytes. `EntropyFault` comes only where the
-    /// entropy failed at that, and nothing was drawn then. After `NoMemory` nothing or the IV was drawn.
+    /// entropy failed at that. After `NoMemory` nothing or the IV was drawn.
     pub fn seal<E: Entropy>(
         &self,
         alloc: Global,

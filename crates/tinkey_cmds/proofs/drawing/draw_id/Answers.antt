@@ -3,7 +3,7 @@ use Rattle.std.proofs.Common.{◌∙◌, ◌+◌, arith, refl, sym}
 use Rattle.std.specs.Option.{option_copied}
 use Rattle.tinkey_cmds.specs.Applying.{records_in}
 use Rattle.tinkey_cmds.proofs.Drawings.{continues-nothing, loop-free, loop-taken, loop-failed, loop-end, failed-id}
-use Rattle.tinkey_cmds.proofs.Wholes.{groups-end, groups-ids, groups-more, groups-nothing}
+use Rattle.tinkey_cmds.proofs.Wholes.{groups-end, groups-ids, groups-more, groups-nothing, in_all, on_error}
 use Rattle.tinkey_cmds.proofs.drawing.draw_id.Goals as goal
 
 pub loop-try-init : goal.loop-try-init
@@ -11,11 +11,13 @@ loop-try-init g c = record { no_fault = refl; ids = groups-nothing _; before = c
 
 pub returns-in_err-fill-clause-id : goal.returns-in_err-fill-clause-id
 returns-in_err-fill-clause-id g c = failed-id c.from_residual.result _ _ _ c.from_residual.ensures.0
-    (loop-failed c.loop-try._try (records_in (option_copied c.args.keyset)) _ _ _ c.loop-try-test.true c.loop-try.invariant.before c.in_err-fill.ensures.failed c.in_err-fill.ensures.kept)
+    (loop-failed c.loop-try._try (records_in (option_copied c.args.keyset)) _ _ _ c.loop-try-test.true c.loop-try.invariant.before c.in_err-fill.ensures.failed)
 
 pub returns-in_err-fill-clause-ids : goal.returns-in_err-fill-clause-ids
-returns-in_err-fill-clause-ids g c =
-    groups-end _ _ _ c.loop-try._try (omega arith) c.loop-try.invariant.ids c.in_err-fill.ensures.kept
+returns-in_err-fill-clause-ids g c = on_error c.from_residual.result _ c.from_residual.ensures.0
+
+pub returns-in_err-fill-clause-lost : goal.returns-in_err-fill-clause-lost
+returns-in_err-fill-clause-lost g c = in_all c.from_residual.result _ (groups-end _ _ _ c.loop-try._try (omega arith) c.loop-try.invariant.ids c.in_err-fill.ensures.failed)
 
 pub returns-then-not-is_taken-clause-ids : goal.returns-then-not-is_taken-clause-ids
 returns-then-not-is_taken-clause-ids g c =

@@ -6,14 +6,14 @@ use Rattle.key_msgs.specs.Templates.{seen, random_of}
 use Rattle.tinkey_cmds.specs.Applying.{records_in, Draws}
 use Rattle.tinkey_cmds.specs.Edits.{new_record, record_of}
 use Rattle.tinkey_cmds.proofs.Drawings.{ran_out-key, draws-key}
-use Rattle.tinkey_cmds.proofs.Wholes.{ids-kept}
+use Rattle.tinkey_cmds.proofs.Wholes.{id-fault, ids-lost}
 use Rattle.tinkey_cmds.proofs.drawing.new_record.Goals as goal
 
 pub returns-in-Err-draw_key-clause-drawn : goal.returns-in-Err-draw_key-clause-drawn
 returns-in-Err-draw_key-clause-drawn g c =
     let id = rw c.in-Ok-Some.field-0-is at c.in-Ok-Some.ensures.id in
     ran_out-key (seen c.args.template.now) (records_in (option_copied c.args.keyset)) c.in-Ok-Some.id c.random_len-size.result _ _ _ id.1 c.random_len-size.ensures.size
-    (subst (λ n. 1 ≤ n) c.random_len-size.ensures.size c.random_len-size.ensures.least) c.in-Err-draw_key.ensures.failed c.in-Err-draw_key.ensures.kept
+    (subst (λ n. 1 ≤ n) c.random_len-size.ensures.size c.random_len-size.ensures.least) c.in-Err-draw_key.ensures.failed
 
 pub returns-in-Ok-record_of-clause-drawn : goal.returns-in-Ok-record_of-clause-drawn
 returns-in-Ok-record_of-clause-drawn g c =
@@ -42,4 +42,7 @@ returns-in-Err-record_of-clause-drawn g c =
     )
 
 pub returns-in-Err-draw_key-clause-whole : goal.returns-in-Err-draw_key-clause-whole
-returns-in-Err-draw_key-clause-whole g c = ids-kept _ _ _ c.draw_id.ensures.ids c.in-Err-draw_key.ensures.kept
+returns-in-Err-draw_key-clause-whole g c = ids-lost _ _ _ c.random_len-size.result 64 c.random_len-size.ensures.most c.in-Ok-Some.ensures.ids c.in-Err-draw_key.ensures.failed
+
+pub returns-in-Err-clause-whole : goal.returns-in-Err-clause-whole
+returns-in-Err-clause-whole g c = id-fault _ _ c.in-Err.ensures.lost

@@ -1,5 +1,6 @@
-use Rattle.std.proofs.Common.{◌≡◌, ◌∷◌, List, ℕ, take, ap, arith, subst, sym, ◌∙◌}
+use Rattle.std.proofs.Common.{◌≡◌, ◌+◌, ◌-◌, ◌∷◌, List, ℕ, take, ap, arith, subst, sym, ◌∙◌}
 use Rattle.std.proofs.lemmas.List.{take_at}
+use Rattle.tink_spec.specs.Outside.{RanShort}
 use Rattle.segment_stream.specs.Segments.{cipher_of, header_size}
 use Rattle.segment_stream.specs.Streams.{IsUnder}
 use Rattle.segment_stream.specs.declared.key.StreamKey.{StreamKey}
@@ -30,3 +31,9 @@ returns-clause-made g c =
           (subst (λ (k : StreamKey). IsUnder c.new-stream.result (cipher_of c.args.ad.now k) (take c.header_size-header.result c.as_slice.result.now)) c.primary-key.ensures.key
           c.new-stream.ensures);
     }
+
+pub returns-in-Err-clause-fault : goal.returns-in-Err-clause-fault
+returns-in-Err-clause-fault g c =
+    let size : c.header_size-header.result - 1 ≡ c.args.keys.now.primary.derived + 7
+    = omega (arith, c.header_size-header.ensures, ap (λ (k : StreamKey). k.derived) c.primary-key.ensures.key) in
+    subst (λ n. RanShort (g.E.Entropy.state c.args.entropy.now) (g.E.Entropy.state c.draw_header.new.entropy) n) size c.in-Err.ensures.failed
