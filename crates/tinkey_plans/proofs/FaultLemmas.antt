@@ -1,7 +1,7 @@
 -- The causes of faults, that none is hidden, and completeness, of every end of every plan.
 use Rattle.std.proofs.Common.{◌≡◌, ◌≢◌, inl, inr, ℕ, ◌≤◌, List, [], refl, sym, ◌∙◌, ap, subst, arith}
 use Rattle.std.specs.Prelude.{Result, Ok, Err, true, false}
-use Rattle.tink_spec.specs.Outside.{SourceState, SinkState, EntropyState, Rose, Stood}
+use Rattle.tink_spec.specs.Outside.{SourceState, SinkState, EntropyState, Drew, Rose, Stood}
 use Rattle.tink_spec.specs.Files.{StoreState}
 use Rattle.segment_stream.specs.Opening.{StreamRefusal, too_many, failed}
 use Rattle.segment_stream.specs.Pumping.{Part, Pumps, fault_of}
@@ -80,7 +80,7 @@ pub record Went (exchange : Exchange) (keys : Keys) (old new : Sides) : Type 0 w
   pub taken : List ℕ
   pub drawn : List ℕ
   pub last : keys ≡ (exchange taken drawn true).keys
-  pub has : HasTalked exchange taken drawn true goes old new
+  pub has : HasTalked Drew exchange taken drawn true goes old new
   pub none : NoneRose old new
 
 pub went : (exchange : Exchange) (keys : Keys) (old new : Sides) → Talks exchange (Ok keys) old new → Went exchange keys old new

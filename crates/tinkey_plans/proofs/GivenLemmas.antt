@@ -47,11 +47,11 @@ reads (looks name taken stated next) old s new (look_failed is only kept rose gi
 reads (allocates next) old s new (inl run) = given_later _ next old old new refl (none_given old.store old.store refl) (λ n may. inr may) (reads next old s new run)
 reads (allocates next) old s new (inr (is, same)) = given_none _ old new (inl refl) (none_given _ _ (ap (λ (w : World). w.store) same))
 reads (loads name limit absent long a l next) old s new (loaded bytes store kept stood given within holds run) =
-    given_more _ (next bytes) old (record old { store = store }) new (length bytes) kept.files given (λ more may. inr (bytes, more, holds, within, refl, may)) (reads (next bytes) (record old { store = store }) s new run)
+    given_more _ (next bytes) old (record old { store = store }) new (length bytes) kept.files given (λ more may. inr (inr (bytes, more, holds, within, refl, may))) (reads (next bytes) (record old { store = store }) s new run)
 reads (loads name limit absent long a l next) old s new (load_absent is only kept stood given holds) = given_none _ old new (inl refl) given
-reads (loads name limit absent long a l next) old s new (load_long is only kept stood given holds) = given_none _ old new (inl refl) given
-reads (loads name limit absent long a l next) old s new (load_failed is only kept rose given) = given_none _ old new (inl refl) given
-reads (loads name limit absent long a l next) old s new (load_starved is only kept stood given) = given_none _ old new (inl refl) given
+reads (loads name limit absent long a l next) old s new (load_long is only kept stood given holds) = record { given = limit + 1; may = inr (inl refl); within = given }
+reads (loads name limit absent long a l next) old s new (load_failed is only kept rose given) = record { given = limit + 1; may = inr (inl refl); within = given }
+reads (loads name limit absent long a l next) old s new (load_starved is only kept stood given) = record { given = limit + 1; may = inr (inl refl); within = given }
 reads (ranges x absent a next) old s new (ranged opened store most kept stood given least past holds run) =
     given_more _ (next opened) old (record old { store = store }) new most kept.files given (λ more may. inr (inr (opened, most, more, holds, least, past, refl, may))) (reads (next opened) (record old { store = store }) s new run)
 reads (ranges x absent a next) old s new (range_absent is only kept stood given holds) = given_none _ old new (inl refl) given

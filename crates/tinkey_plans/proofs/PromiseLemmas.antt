@@ -1,12 +1,12 @@
 -- Each promise, proved once for every end of every plan.
-use Rattle.std.proofs.Common.{◌≡◌, ◌⊎◌, inl, inr, ℕ, ◌+◌, ◌<◌, ◌≤◌, List, [], ◌++◌, length, drop, refl, sym, ◌∙◌, ap, subst, arith, append-nil, length-append}
+use Rattle.std.proofs.Common.{◌≡◌, ◌⊎◌, inl, inr, ℕ, ◌+◌, ◌<◌, ◌≤◌, List, [], ◌++◌, length, drop, refl, sym, ◌∙◌, ap, subst, arith, append-nil, length-append, ◌≢◌}
 use Rattle.std.specs.Prelude.{Option, Some, None, option_map, IfSome, Result, Ok, Err, nat_le, Bool, true, false}
 use Rattle.std.proofs.lemmas.List.{drop_at}
 use Rattle.std.proofs.lemmas.Bool.Decides.{nat_tests}
-use Rattle.tink_spec.specs.Outside.{SourceState, SinkState, EntropyState, Gave, GaveCount, Took, TookPrefix, Drew, IsAtEnd}
+use Rattle.tink_spec.specs.Outside.{SourceState, SinkState, EntropyState, Gave, GaveCount, Took, TookPrefix, Drew, DrewLosing, IsAtEnd}
 use Rattle.tink_spec.specs.Files.{Files, StoreState, KeptFiles, Holds, HoldsSome, HoldsLonger, Added, AddedFront, MayAdd}
 use Rattle.std.specs.FinMap as map
-use Rattle.tink_spec.proofs.Moves.{gave_same, gave_more, took_same, took_more, drew_nothing, drew_more}
+use Rattle.tink_spec.proofs.Moves.{gave_same, gave_more, took_same, took_more, drew_nothing, lost_later, lost_nothing}
 use Rattle.segment_stream.specs.Opening.{StreamRefusal}
 use Rattle.segment_stream.specs.Pumping.{Part, Pumps}
 use Rattle.segment_stream.specs.Pumping as pass
@@ -70,6 +70,10 @@ kept_twice old mid new first second = record { files = first.files ∙ second.fi
 
 drew_same : (old new : EntropyState) → old ≡ new → Drew old new []
 drew_same old new same = subst (λ (x : EntropyState). Drew old x []) same (drew_nothing old)
+
+-- nothing is lost of an entropy that is as before
+abbrev none_gone : (old new : EntropyState) → old ≡ new → DrewLosing old new []
+none_gone old new same = lost_nothing old new [] (drew_same old new same)
 
 -- what a load found, told
 file_told : (store : StoreState) (files : Files) (name : List ℕ) (found : Option (List ℕ)) → store.files ≡ Some files → Holds store name found → map.get files name ≡ found
@@ -227,7 +231,7 @@ is_told exchange next keys old mid told w store steady tells =
     }
 
 -- a session past a limit, over what is told
-passed_talk : (exchange : Exchange) (next : Keys → Plan) (limit : Limit) (taken drawn : List ℕ) (told : Told) (old : World) (s : Status) (new : World) → s ≡ limit_status limit → HasTalked exchange taken drawn false (passes limit) (sides_of old) (sides_of new) → old.store ≡ new.store → IsSteady exchange → Tells old told → IsAnswer (answer (exchanges exchange next) told) old s new
+passed_talk : (exchange : Exchange) (next : Keys → Plan) (limit : Limit) (taken drawn : List ℕ) (told : Told) (old : World) (s : Status) (new : World) → s ≡ limit_status limit → HasTalked Drew exchange taken drawn false (passes limit) (sides_of old) (sides_of new) → old.store ≡ new.store → IsSteady exchange → Tells old told → IsAnswer (answer (exchanges exchange next) told) old s new
 passed_talk exchange next limit taken drawn told old s new is has store steady tells =
     let x = exchange taken drawn false in
     let input = split_told new.source.left old.source.left told.input taken tells.input has.gave.left in
@@ -481,29 +485,31 @@ none_moved : (p : Plan) (old : World) (s : Status) (new : World) → old ≡ new
 none_moved p old s new same is = record {
   moved = nothing;
   gave = gave_same _ _ (ap (λ (w : World). w.source) same);
-  drew = drew_same _ _ (ap (λ (w : World). w.entropy) same);
+  gone = none_gone _ _ (ap (λ (w : World). w.entropy) same);
+  none_lost = λ other. refl;
   took = took_same _ _ (ap (λ (w : World). w.sink) same);
   is = is;
 }
 
 -- the store alone was used
 store_used : (p : Plan) (old : World) (s : Status) (new : World) → OnlyStore old new → IsLeft p old.store.files s nothing → Leaves p old s new
-store_used p old s new only is = record { moved = nothing; gave = gave_same _ _ only.source; drew = drew_same _ _ only.entropy; took = took_same _ _ only.sink; is = is }
+store_used p old s new only is = record { moved = nothing; gave = gave_same _ _ only.source; gone = none_gone _ _ only.entropy; none_lost = λ other. refl; took = took_same _ _ only.sink; is = is }
 
 -- bytes were written alone
 some_written : (p : Plan) (old : World) (s : Status) (new : World) (written : List ℕ) → Took old.sink new.sink written → OnlySink old new → IsLeft p old.store.files s (record nothing { written = written }) → Leaves p old s new
-some_written p old s new written took only is = record { moved = record nothing { written = written }; gave = gave_same _ _ only.source; drew = drew_same _ _ only.entropy; took = took; is = is }
+some_written p old s new written took only is = record { moved = record nothing { written = written }; gave = gave_same _ _ only.source; gone = none_gone _ _ only.entropy; none_lost = λ other. refl; took = took; is = is }
 
 -- bytes were taken alone
 some_taken : (p : Plan) (old : World) (s : Status) (new : World) (taken : List ℕ) → Gave old.source new.source taken → OnlySource old new → IsLeft p old.store.files s (record nothing { taken = taken }) → Leaves p old s new
-some_taken p old s new taken gave only is = record { moved = record nothing { taken = taken }; gave = gave; drew = drew_same _ _ only.entropy; took = took_same _ _ only.sink; is = is }
+some_taken p old s new taken gave only is = record { moved = record nothing { taken = taken }; gave = gave; gone = none_gone _ _ only.entropy; none_lost = λ other. refl; took = took_same _ _ only.sink; is = is }
 
 -- what a pass took and wrote
 passed : (part : Part) (old : World) (s : Status) (new : World) (taken written : List ℕ) → OnlyStreams old new → Gave old.source new.source taken → Took old.sink new.sink written → IsPassLeft part s taken written → Leaves (pumps part) old s new
 passed part old s new taken written only gave took is = record {
   moved = record nothing { taken = taken; written = written };
   gave = gave;
-  drew = drew_same _ _ only.entropy;
+  gone = none_gone _ _ only.entropy;
+  none_lost = λ other. refl;
   took = took;
   is = (refl, is);
 }
@@ -515,31 +521,34 @@ pump_leaves part result old s new is only (pass.unread more out r rose gave foll
 pump_leaves part result old s new is only (pass.unwritten more out rest ended r rose gave follows end took some o) = passed part old s new more out only gave took (pass_unwritten ended (of_result s result (Err faults.WriteFault) is r) (record { rest = rest; some = some; is = o }))
 
 -- what a session took, drew and wrote
-talk_left : (exchange : Exchange) (next : Keys → Plan) (old : World) (s : Status) (new : World) (taken drawn : List ℕ) (ended : Bool) (stop : Stop) → HasTalked exchange taken drawn ended stop (sides_of old) (sides_of new) → (HasReplied exchange (record { taken = taken; drawn = drawn; written = (exchange taken drawn ended).output }) ended stop → IsTalkLeft exchange s (record { taken = taken; drawn = drawn; written = (exchange taken drawn ended).output })) → Leaves (exchanges exchange next) old s new
-talk_left exchange next old s new taken drawn ended stop has is = record {
+talk_left : {D : (old new : EntropyState) → List ℕ → Type 0} (exchange : Exchange) (next : Keys → Plan) (old : World) (s : Status) (new : World) (taken drawn : List ℕ) (ended : Bool) (stop : Stop) → HasTalked D exchange taken drawn ended stop (sides_of old) (sides_of new) → (gone : DrewLosing old.entropy new.entropy drawn) → (s ≢ status.EntropyFault → gone.lost ≡ []) → (HasReplied exchange (record { taken = taken; drawn = drawn; written = (exchange taken drawn ended).output }) ended stop → IsTalkLeft exchange s (record { taken = taken; drawn = drawn; written = (exchange taken drawn ended).output })) → Leaves (exchanges exchange next) old s new
+talk_left exchange next old s new taken drawn ended stop has gone none_lost is = record {
   moved = record { taken = taken; drawn = drawn; written = (exchange taken drawn ended).output };
   gave = has.gave;
-  drew = has.drew;
+  gone = gone;
+  none_lost = none_lost;
   took = has.took;
   is = inl (is (record { stands = has.stands; used = has.used; written = refl }));
 }
 
 talk_leaves : (exchange : Exchange) (next : Keys → Plan) (fault : TalkFault) (old : World) (s : Status) (new : World) → s ≡ talk_status fault → Talks exchange (Err fault) (sides_of old) (sides_of new) → Leaves (exchanges exchange next) old s new
 talk_leaves exchange next fault old s new is (talks.talked taken drawn r has none) = absurd (cc)
-talk_leaves exchange next fault old s new is (talks.passed taken drawn limit r has none) = talk_left exchange next old s new taken drawn false (passes limit) has (λ h. talk_passed limit (of_limit s fault limit is r) h)
-talk_leaves exchange next fault old s new is (talks.unread taken drawn r has rose sink entropy) = talk_left exchange next old s new taken drawn false goes has (λ h. talk_unread (of_fault s fault talk_faults.ReadFault is r) h)
-talk_leaves exchange next fault old s new is (talks.undrawn taken drawn ended r has rose source sink) = talk_left exchange next old s new taken drawn ended wants has (λ h. talk_undrawn ended (of_fault s fault talk_faults.EntropyFault is r) h)
+talk_leaves exchange next fault old s new is (talks.passed taken drawn limit r has none) = talk_left exchange next old s new taken drawn false (passes limit) has (lost_nothing _ _ drawn has.drew) (λ other. refl) (λ h. talk_passed limit (of_limit s fault limit is r) h)
+talk_leaves exchange next fault old s new is (talks.unread taken drawn r has rose sink entropy) = talk_left exchange next old s new taken drawn false goes has (lost_nothing _ _ drawn has.drew) (λ other. refl) (λ h. talk_unread (of_fault s fault talk_faults.ReadFault is r) h)
+talk_leaves exchange next fault old s new is (talks.undrawn taken drawn ended r has rose source sink) = talk_left exchange next old s new taken drawn ended wants has has.drew (λ other. absurd (other (of_fault s fault talk_faults.EntropyFault is r))) (λ h. talk_undrawn ended (of_fault s fault talk_faults.EntropyFault is r) h)
 talk_leaves exchange next fault old s new is (talks.unwritten taken drawn ended r gave drew front end rose source entropy) = record {
   moved = record { taken = taken; drawn = drawn; written = front.front };
   gave = gave;
-  drew = drew;
+  gone = lost_nothing _ _ drawn drew;
+  none_lost = λ other. refl;
   took = front.took;
   is = inl (talk_unwritten ended (of_fault s fault talk_faults.WriteFault is r) (front_of _ _ _ front));
 }
 talk_leaves exchange next fault old s new is (talks.starved taken more drawn part r gave drew took stop none) = record {
   moved = record { taken = taken ++ more; drawn = drawn ++ part; written = (exchange taken drawn false).output };
   gave = gave;
-  drew = drew;
+  gone = lost_nothing _ _ (drawn ++ part) drew;
+  none_lost = λ other. refl;
   took = took;
   is = inl (talk_starved taken more drawn part (of_fault s fault talk_faults.NoMemory is r) refl refl stop refl);
 }
@@ -554,35 +563,35 @@ leaves (creates name output taken stated) old s new (create_failed is only rose 
 leaves (creates name output taken stated) old s new (create_starved is only kept stood given) = store_used _ old s new only (refl, inr (inr (inr is)))
 leaves (looks name taken stated next) old s new (look_free store kept stood given holds run) =
     let later = leaves next (record old { store = store }) s new run in
-    record { moved = later.moved; gave = later.gave; drew = later.drew; took = later.took; is = inr (holds, subst (λ (f : Option Files). IsLeft next f s later.moved) (sym kept.files) later.is) }
+    record { moved = later.moved; gave = later.gave; gone = later.gone; none_lost = later.none_lost; took = later.took; is = inr (holds, subst (λ (f : Option Files). IsLeft next f s later.moved) (sym kept.files) later.is) }
 leaves (looks name taken stated next) old s new (look_taken is only kept stood given there) = store_used _ old s new only (inl (refl, inl (is, there)))
 leaves (looks name taken stated next) old s new (look_failed is only kept rose given) = store_used _ old s new only (inl (refl, inr is))
-leaves (allocates next) old s new (inl run) = let later = leaves next old s new run in record { moved = later.moved; gave = later.gave; drew = later.drew; took = later.took; is = inr later.is }
+leaves (allocates next) old s new (inl run) = let later = leaves next old s new run in record { moved = later.moved; gave = later.gave; gone = later.gone; none_lost = later.none_lost; took = later.took; is = inr later.is }
 leaves (allocates next) old s new (inr (is, same)) = none_moved _ old s new same (inl (is, refl))
 leaves (loads name limit absent long a l next) old s new (loaded bytes store kept stood given within holds run) =
     let later = leaves (next bytes) (record old { store = store }) s new run in
-    record { moved = later.moved; gave = later.gave; drew = later.drew; took = later.took; is = inr (bytes, holds, within, subst (λ (f : Option Files). IsLeft (next bytes) f s later.moved) (sym kept.files) later.is) }
+    record { moved = later.moved; gave = later.gave; gone = later.gone; none_lost = later.none_lost; took = later.took; is = inr (bytes, holds, within, subst (λ (f : Option Files). IsLeft (next bytes) f s later.moved) (sym kept.files) later.is) }
 leaves (loads name limit absent long a l next) old s new (load_absent is only kept stood given holds) = store_used _ old s new only (inl (refl, inl (is, holds)))
 leaves (loads name limit absent long a l next) old s new (load_long is only kept stood given holds) = store_used _ old s new only (inl (refl, inr (inl (is, holds))))
 leaves (loads name limit absent long a l next) old s new (load_failed is only kept rose given) = store_used _ old s new only (inl (refl, inr (inr (inl is))))
 leaves (loads name limit absent long a l next) old s new (load_starved is only kept stood given) = store_used _ old s new only (inl (refl, inr (inr (inr is))))
 leaves (ranges x absent a next) old s new (ranged opened store most kept stood given least past holds run) =
     let later = leaves (next opened) (record old { store = store }) s new run in
-    record { moved = later.moved; gave = later.gave; drew = later.drew; took = later.took; is = inr (opened, holds, subst (λ (f : Option Files). IsLeft (next opened) f s later.moved) (sym kept.files) later.is) }
+    record { moved = later.moved; gave = later.gave; gone = later.gone; none_lost = later.none_lost; took = later.took; is = inr (opened, holds, subst (λ (f : Option Files). IsLeft (next opened) f s later.moved) (sym kept.files) later.is) }
 leaves (ranges x absent a next) old s new (range_absent is only kept stood given holds) = store_used _ old s new only (inl (refl, inl (is, holds)))
 leaves (ranges x absent a next) old s new (range_failed most is only kept rose given least) = store_used _ old s new only (inl (refl, inr (inl is)))
 leaves (ranges x absent a next) old s new (range_starved most is only kept stood given least) = store_used _ old s new only (inl (refl, inr (inr is)))
 leaves (reads_all limit long stated next) old s new (read all source gave stood within end run) =
     let later = leaves (next all) (record old { source = source }) s new run in
-    record { moved = record later.moved { taken = all ++ later.moved.taken }; gave = gave_more _ _ _ _ _ gave later.gave; drew = later.drew; took = later.took; is = inr (all, later.moved.taken, refl, within, later.is) }
+    record { moved = record later.moved { taken = all ++ later.moved.taken }; gave = gave_more _ _ _ _ _ gave later.gave; gone = later.gone; none_lost = later.none_lost; took = later.took; is = inr (all, later.moved.taken, refl, within, later.is) }
 leaves (reads_all limit long stated next) old s new (too_long is only stood count) = some_taken _ old s new count.piece count.gave only (inl (refl, inl (is, count.exact)))
 leaves (reads_all limit long stated next) old s new (read_failed is only rose upto) = some_taken _ old s new upto.piece upto.gave only (inl (refl, inr (inl is, upto.within)))
 leaves (reads_all limit long stated next) old s new (read_starved is only stood upto) = some_taken _ old s new upto.piece upto.gave only (inl (refl, inr (inr is, upto.within)))
 leaves (draws kind give next) old s new (settled drawn entropy given drew stood settles run) =
     let later = leaves (next given) (record old { entropy = entropy }) s new run in
-    record { moved = record later.moved { drawn = drawn ++ later.moved.drawn }; gave = later.gave; drew = drew_more _ _ _ _ _ drew later.drew; took = later.took; is = inr (drawn, later.moved.drawn, given, refl, settles, later.is) }
-leaves (draws kind give next) old s new (draw_failed is only out) = record { moved = record nothing { drawn = out.drawn }; gave = gave_same _ _ only.source; drew = out.drew; took = took_same _ _ only.sink; is = inl (inl is, out.undecided, refl) }
-leaves (draws kind give next) old s new (draw_starved parts is only drawn drew stood none) = record { moved = record nothing { drawn = drawn }; gave = gave_same _ _ only.source; drew = drew; took = took_same _ _ only.sink; is = inl (inr (is, parts), none, refl) }
+    record { moved = record later.moved { drawn = drawn ++ later.moved.drawn }; gave = later.gave; gone = lost_later _ _ _ _ _ drew later.gone; none_lost = later.none_lost; took = later.took; is = inr (drawn, later.moved.drawn, given, refl, settles, later.is) }
+leaves (draws kind give next) old s new (draw_failed is only out) = record { moved = record nothing { drawn = out.drawn }; gave = gave_same _ _ only.source; gone = out.gone; none_lost = λ other. absurd (other is); took = took_same _ _ only.sink; is = inl (inl is, out.undecided, refl) }
+leaves (draws kind give next) old s new (draw_starved parts is only drawn drew stood none) = record { moved = record nothing { drawn = drawn }; gave = gave_same _ _ only.source; gone = lost_nothing _ _ drawn drew; none_lost = λ other. refl; took = took_same _ _ only.sink; is = inl (inr (is, parts), none, refl) }
 leaves (pumps part) old s new e = pump_leaves part e.result old s new e.status e.only e.pass
 leaves (exchanges exchange next) old s new (exchanged keys mid talk store steady run) =
     let w = went exchange keys (sides_of old) (sides_of mid) talk in
@@ -592,7 +601,8 @@ leaves (exchanges exchange next) old s new (exchanged keys mid talk store steady
     record {
       moved = then_moved first later.moved;
       gave = gave_more _ _ _ _ _ w.has.gave later.gave;
-      drew = drew_more _ _ _ _ _ w.has.drew later.drew;
+      gone = lost_later _ _ _ _ _ w.has.drew later.gone;
+      none_lost = later.none_lost;
       took = took_more _ _ _ _ _ w.has.took later.took;
       is = inr (
         first,

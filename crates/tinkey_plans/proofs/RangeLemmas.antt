@@ -1,5 +1,5 @@
 -- How much a run of srange reads.
-use Rattle.std.proofs.Common.{arith, ◌≡◌, ◌≢◌, ◌⊎◌, inl, inr, refl, sym, ap, subst, ℕ, ◌*◌, ◌≤◌, List, Option, Some, None, Result, Ok, Err}
+use Rattle.std.proofs.Common.{arith, ◌≡◌, ◌≢◌, ◌⊎◌, inl, inr, refl, sym, ap, subst, ℕ, ◌*◌, ◌≤◌, List, Option, Some, None, Result, Ok, Err, ◌+◌}
 use Rattle.keyset_json.specs.Reading as Json
 use Rattle.keyset_json.specs.Reading.{reads_json}
 use Rattle.keyset_model.specs.Keyset.{Keys}
@@ -131,7 +131,7 @@ keyset_ends formats.Binary bytes then' old s new (inr (is, same)) = inl same
 abbrev stretch_plan : List ℕ → AskedRange → Option (List ℕ) → KeysForStreams → Plan
 stretch_plan ad range out keys = opens_stretch keys ad range (puts out)
 
-range_gave : (name : List ℕ) (form : Format) (ad : List ℕ) (range : AskedRange) (out : Option (List ℕ)) (old : World) (s : Status) (new : World) → Ends (range_output name form ad range (puts out)) old s new → GaveWithin old.store new.store keyset_limit ⊎ RangeGave name form ad range old.store s new.store
+range_gave : (name : List ℕ) (form : Format) (ad : List ℕ) (range : AskedRange) (out : Option (List ℕ)) (old : World) (s : Status) (new : World) → Ends (range_output name form ad range (puts out)) old s new → GaveWithin old.store new.store (keyset_limit + 1) ⊎ RangeGave name form ad range old.store s new.store
 range_gave name form ad range out old s new (load_absent is only kept stood given holds) = inl (omega (arith, given))
 range_gave name form ad range out old s new (load_long is only kept stood given holds) = inl (omega (arith, given))
 range_gave name form ad range out old s new (load_failed is only kept rose given) = inl (omega (arith, given))
@@ -141,10 +141,10 @@ range_gave name form ad range out old s new (loaded bytes store kept stood given
     mid : World
     mid = record old { store = store }
 
-    none : mid ≡ new → GaveWithin old.store new.store keyset_limit
+    none : mid ≡ new → GaveWithin old.store new.store (keyset_limit + 1)
     none same = let e : store.given ≡ new.store.given = ap (λ (w : World). w.store.given) same in omega (arith, given, within, e)
 
-    by_stretch : (h : HasKeys form bytes (stretch_plan ad range out) mid s new) → GaveWithin store new.store 0 ⊎ StretchGave (stretch_for h.keys ad range) store s new.store → GaveWithin old.store new.store keyset_limit ⊎ RangeGave name form ad range old.store s new.store
+    by_stretch : (h : HasKeys form bytes (stretch_plan ad range out) mid s new) → GaveWithin store new.store 0 ⊎ StretchGave (stretch_for h.keys ad range) store s new.store → GaveWithin old.store new.store (keyset_limit + 1) ⊎ RangeGave name form ad range old.store s new.store
     by_stretch h (inl later) = inl (omega (arith, given, within, later))
     by_stretch h (inr gave) = inr (record {
       keys = h.keys;
@@ -155,11 +155,11 @@ range_gave name form ad range out old s new (loaded bytes store kept stood given
       within = (let later = gave.within in omega (arith, given, within, later));
     })
 
-    by_keys : (h : HasKeys form bytes (stretch_plan ad range out) mid s new) → Ends (stretch_plan ad range out h.keys) mid s new → GaveWithin old.store new.store keyset_limit ⊎ RangeGave name form ad range old.store s new.store
+    by_keys : (h : HasKeys form bytes (stretch_plan ad range out) mid s new) → Ends (stretch_plan ad range out h.keys) mid s new → GaveWithin old.store new.store (keyset_limit + 1) ⊎ RangeGave name form ad range old.store s new.store
     by_keys h (inl run) = by_stretch h (stretch_gave (stretch_for h.keys ad range) out mid s new run)
     by_keys h (inr (is, same)) = inl (none same)
 
-    by : (mid ≡ new) ⊎ HasKeys form bytes (stretch_plan ad range out) mid s new → GaveWithin old.store new.store keyset_limit ⊎ RangeGave name form ad range old.store s new.store
+    by : (mid ≡ new) ⊎ HasKeys form bytes (stretch_plan ad range out) mid s new → GaveWithin old.store new.store (keyset_limit + 1) ⊎ RangeGave name form ad range old.store s new.store
     by (inl same) = inl (none same)
     by (inr h) = by_keys h h.run
 

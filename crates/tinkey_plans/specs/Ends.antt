@@ -103,7 +103,7 @@ pub data EndsLooking (name : List ℕ) (taken : Status) (Then : World → Status
       EndsLooking name taken Then old s new
 
 -- the file was loaded, and then it went on; or it is missing, or longer than the limit; or the store
--- failed, or memory was wanting
+-- failed, or memory was wanting. Of a file that wasn't loaded at most one byte more than the limit was read.
 pub data EndsLoading (name : List ℕ) (limit : ℕ) (absent long : Status)
     (Then : List ℕ → World → Status → World → Type 0)
     (old : World) (s : Status) (new : World) : Type 0 where
@@ -116,13 +116,13 @@ pub data EndsLoading (name : List ℕ) (limit : ℕ) (absent long : Status)
       Stood old.store.faults new.store.faults → GaveWithin old.store new.store 0 →
       Holds old.store name None → EndsLoading name limit absent long Then old s new
   load_long : s ≡ long → OnlyStore old new → KeptFiles old.store new.store →
-      Stood old.store.faults new.store.faults → GaveWithin old.store new.store 0 →
+      Stood old.store.faults new.store.faults → GaveWithin old.store new.store (limit + 1) →
       HoldsLonger old.store name limit → EndsLoading name limit absent long Then old s new
   load_failed : s ≡ status.StoreFault → OnlyStore old new → KeptFiles old.store new.store →
-      Rose old.store.faults new.store.faults → GaveWithin old.store new.store 0 →
+      Rose old.store.faults new.store.faults → GaveWithin old.store new.store (limit + 1) →
       EndsLoading name limit absent long Then old s new
   load_starved : s ≡ status.NoMemory → OnlyStore old new → KeptFiles old.store new.store →
-      Stood old.store.faults new.store.faults → GaveWithin old.store new.store 0 →
+      Stood old.store.faults new.store.faults → GaveWithin old.store new.store (limit + 1) →
       EndsLoading name limit absent long Then old s new
 
 -- The stretch was opened or refused, and then it went on; or the file is missing; or the store failed, or

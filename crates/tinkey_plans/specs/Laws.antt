@@ -111,12 +111,13 @@ pub record RangeGave (name : List ℕ) (form : Format) (ad : List ℕ) (range : 
   pub past : s ≡ status.PastEnd → most ≤ 2 * largest_of keys.keys
   pub within : GaveWithin old new (keyset_limit + most)
 
--- A run of srange reads no more than that, whatever fails; without keys for streams, the keyset alone.
+-- A run of srange reads no more than that, whatever fails; without keys for streams, the keyset alone, and of
+-- one that is too long one byte more than its limit.
 abbrev pub RangesReadLittle : Type 0
 RangesReadLittle = (table : Table) (words : List (List ℕ)) (name : List ℕ) (form : Format) (ad : List ℕ)
     (range : AskedRange) (out : Option (List ℕ)) (old : World) (s : Status) (new : World)
     → words_of words ≡ Ok (open_range name form ad range out) → Ends (plan_of table words) old s new
-    → GaveWithin old.store new.store keyset_limit
+    → GaveWithin old.store new.store (keyset_limit + 1)
     ⊎ RangeGave name form ad range old.store s new.store
 
 -- ---- the self-test

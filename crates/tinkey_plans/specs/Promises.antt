@@ -2,7 +2,7 @@
 use Rattle.std.specs.Prelude.{◌≡◌, ◌≢◌, ◌⊎◌, ℕ, ◌+◌, ◌<◌, ◌≤◌, List, [], ◌++◌, length, true, false, Bool, Option, Some, None, IfSome, Result}
 use Rattle.std.specs.FinMap as map
 use Rattle.tink_spec.specs.Files.{Files, StoreState, KeptFiles, Holds, HoldsSome, HoldsLonger, AddedFront}
-use Rattle.tink_spec.specs.Outside.{Rose, Stood, Gave, Took, TookPrefix, Drew}
+use Rattle.tink_spec.specs.Outside.{Rose, Stood, Gave, Took, TookPrefix, DrewLosing}
 use Rattle.segment_stream.specs.Opening.{StreamRefusal}
 use Rattle.keyset_model.specs.Keyset.{Keys}
 use Rattle.segment_stream.specs.Pumping.{Part}
@@ -184,16 +184,18 @@ IsWhole (exchanges exchange next) = ⊥
 
 -- What was taken, drawn and written, whatever the status: a fault comes before each refusal that the
 -- files and the bytes taken and drawn decide, and what was written is what the plan gives out for
--- them.
+-- them. Random bytes behind those drawn are lost only where the entropy failed, and none where it fails
+-- only for want of bytes.
 pub record Leaves (p : Plan) (old : World) (s : Status) (new : World) : Type 0 where
   pub moved : Moved
   pub gave : Gave old.source new.source moved.taken
-  pub drew : Drew old.entropy new.entropy moved.drawn
+  pub gone : DrewLosing old.entropy new.entropy moved.drawn
+  pub none_lost : s ≢ status.EntropyFault → gone.lost ≡ []
   pub took : Took old.sink new.sink moved.written
   pub is : IsLeft p old.store.files s moved
 
--- A run of the plan over these files may be given so many bytes of them: each file that was loaded, of a
--- stretch what it takes, and nothing else.
+-- A run of the plan over these files may be given so many bytes of them: each file that was loaded, one byte
+-- more than its limit of one that wasn't, of a stretch what it takes, and nothing else.
 abbrev pub MayGive : Plan → Option Files → (given : ℕ) → Type 0
 MayGive (ends stated_status stated) files given = given ≡ 0
 MayGive (writes output) files given = given ≡ 0
@@ -201,7 +203,7 @@ MayGive (creates name output taken stated) files given = given ≡ 0
 MayGive (looks name taken stated next) files given = (given ≡ 0) ⊎ MayGive next files given
 MayGive (allocates next) files given = (given ≡ 0) ⊎ MayGive next files given
 MayGive (loads name limit absent long a l next) files given =
-    (given ≡ 0)
+    (given ≡ 0) ⊎ (given ≡ limit + 1)
     ⊎ ((bytes : List ℕ) × (more : ℕ) × Holds (over_files files) name (Some bytes)
     × (length bytes ≤ limit) × (given ≡ length bytes + more) × MayGive (next bytes) files more)
 MayGive (ranges x absent a next) files given =

@@ -11,9 +11,9 @@ use Rattle.keyset_model.specs.Reading.{reads_binary}
 use Rattle.keyset_model.specs.Writing.{ReadKeysFit}
 use Rattle.managers.specs.Standard.{standard_table}
 use Rattle.managers.specs.Table.{Table}
-use Rattle.tink_spec.proofs.Moves.{took_same}
+use Rattle.tink_spec.proofs.Moves.{lost_nothing, took_same}
 use Rattle.tink_spec.specs.Files.{StoreState, Files, Holds}
-use Rattle.tink_spec.specs.Outside.{SinkState, Took, TookPrefix}
+use Rattle.tink_spec.specs.Outside.{DrewLosing, EntropyState, SinkState, Took, TookPrefix}
 use Rattle.tinkey_session.proofs.CutLemmas.{lines_go_on, no_newline, no_newline-more}
 use Rattle.tinkey_session.proofs.DrawLemmas.{lines_draw_fronts}
 use Rattle.tinkey_session.proofs.TalkLemmas.{byte_by, over-stopped}
@@ -280,17 +280,17 @@ session_left readable law table keys told old s new fault is tells ended run = b
         → (s ≡ status.WriteFault → TookPrefix old.sink new.sink (talk table keys taken drawn end).output) → HasReplies table keys told old s new
     some_lines taken more drawn rest input random end whole took front = has_replies readable table keys told old s new _ _ is (told_either law table keys told taken more drawn rest end input random whole) undone took front
 
-    of_talk : (taken drawn : List ℕ) (end : Bool) (stop : Stop) → HasTalked (talk table keys) taken drawn end stop (sides_of old) (sides_of new) → s ≢ status.WriteFault → HasReplies table keys told old s new
-    of_talk taken drawn end stop has other =
+    of_talk : {D : (old new : EntropyState) → List ℕ → Type 0} (taken drawn : List ℕ) (end : Bool) (stop : Stop) → HasTalked D (talk table keys) taken drawn end stop (sides_of old) (sides_of new) → DrewLosing old.entropy new.entropy drawn → s ≢ status.WriteFault → HasReplies table keys told old s new
+    of_talk taken drawn end stop has gone other =
         let input = split new.source.left old.source.left told.input taken tells.input has.gave.left in
-        let random = split new.entropy.left old.entropy.left told.random drawn tells.random has.drew.left in
-        some_lines taken input.0 drawn random.0 input.2 random.2 end (λ h. at_end new.source.left input.0 input.1 (has.end h)) (λ h. has.took) (λ h. absurd (other h))
+        let random = split new.entropy.left old.entropy.left told.random (drawn ++ gone.lost) tells.random gone.drew.left in
+        some_lines taken input.0 drawn (gone.lost ++ random.0) input.2 (random.2 ∙ append_assoc drawn gone.lost random.0) end (λ h. at_end new.source.left input.0 input.1 (has.end h)) (λ h. has.took) (λ h. absurd (other h))
 
     by : Talks (talk table keys) (Err fault) (sides_of old) (sides_of new) → HasReplies table keys told old s new
     by (talks.talked taken drawn r has none) = absurd (cc)
-    by (talks.passed taken drawn limit r has none) = of_talk taken drawn false (passes limit) has (λ h. limit_other limit (sym (of_limit s fault limit ended r) ∙ h))
-    by (talks.unread taken drawn r has rose sink entropy) = let e : s ≡ status.ReadFault = of_fault s fault talk_faults.ReadFault ended r in of_talk taken drawn false goes has (λ h. absurd (cc))
-    by (talks.undrawn taken drawn end r has rose source sink) = let e : s ≡ status.EntropyFault = of_fault s fault talk_faults.EntropyFault ended r in of_talk taken drawn end wants has (λ h. absurd (cc))
+    by (talks.passed taken drawn limit r has none) = of_talk taken drawn false (passes limit) has (lost_nothing _ _ drawn has.drew) (λ h. limit_other limit (sym (of_limit s fault limit ended r) ∙ h))
+    by (talks.unread taken drawn r has rose sink entropy) = let e : s ≡ status.ReadFault = of_fault s fault talk_faults.ReadFault ended r in of_talk taken drawn false goes has (lost_nothing _ _ drawn has.drew) (λ h. absurd (cc))
+    by (talks.undrawn taken drawn end r has rose source sink) = let e : s ≡ status.EntropyFault = of_fault s fault talk_faults.EntropyFault ended r in of_talk taken drawn end wants has has.drew (λ h. absurd (cc))
     by (talks.unwritten taken drawn end r gave drew front at rose source entropy) =
         let e : s ≡ status.WriteFault = of_fault s fault talk_faults.WriteFault ended r in
         let input = split new.source.left old.source.left told.input taken tells.input gave.left in

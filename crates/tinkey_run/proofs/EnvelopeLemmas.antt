@@ -178,19 +178,25 @@ pub envelope_refused : (table : Table) (keys : Keys) (scheme : Scheme) (row : Ro
 envelope_refused table keys scheme row plain ad rule old entropy is next =
     inl (settled is.drawn entropy (Ok (Err rule)) is.drew is.stood (λ more. ap (option_map as_enveloped) (is.answer more)) (inl (refl, refl)))
 
+-- what is lost comes behind what was drawn
+lost_first : (drawn lost : List ℕ) (o : Option (List ℕ)) → option_map (λ rest. (drawn ++ lost) ++ rest) o ≡ option_map (λ rest. drawn ++ rest) (option_map (λ rest. lost ++ rest) o)
+lost_first drawn lost None = refl
+lost_first drawn lost (Some rest) = ap Some (append_assoc drawn lost rest)
+
 -- the entropy failed at a fill
 pub envelope_failed : (table : Table) (keys : Keys) (scheme : Scheme) (row : Row) (plain ad : List ℕ) (old : World) (entropy : EntropyState) → FailedAtFill keys table scheme row old.entropy entropy
     → (next : List ℕ → Plan) → Ends (envelopes table keys scheme row (to_eseal ad) plain next) old status.EntropyFault (record old { entropy = entropy })
 envelope_failed table keys scheme row plain ad old entropy fault next =
     inl (draw_failed refl (record { source = refl; sink = refl; store = refl }) (record {
-      rose = fault.short.rose;
+      rose = fault.rose;
       drawn = fault.before;
-      drew = fault.drew;
+      gone = fault.gone;
       undecided = ap (option_map as_enveloped) (
           ap (envelope_of keys table scheme row plain ad) (sym (append-nil fault.before))
           ∙ asks_none keys table scheme row plain ad fault.before [] fault.asked fault.asks fault.some
           );
-      short = λ steady. short_left old.entropy.left entropy.left fault.drew.left (fault.short.short steady);
+      short = λ steady. short_left old.entropy.left (option_map (λ rest. fault.gone.lost ++ rest) entropy.left)
+          (fault.gone.drew.left ∙ lost_first fault.before fault.gone.lost entropy.left) (fault.short steady);
     }))
   where
     short_left : (left behind : Option (List ℕ)) → left ≡ option_map (λ rest. fault.before ++ rest) behind → IfSome left (λ all. length all < length fault.before + fault.asked)

@@ -23,11 +23,13 @@ use Rattle.segment_stream.specs.declared.keys.StreamKeysFault.TheVariants as key
 use Rattle.segment_stream.proofs.CipherLemmas.{cipher_of-is_cipher, ciphers_of-are_ciphers}
 use Rattle.segment_stream.proofs.OpeningLemmas.{decides_stays}
 use Rattle.segment_stream.proofs.SealAnswering.{seal-pass-answers}
-use Rattle.tink_spec.specs.Outside.{SourceState, SinkState, EntropyState, Stood}
+use Rattle.tink_spec.specs.Outside.{SourceState, SinkState, EntropyState, RanShort, Stood}
 use Rattle.tinkey_cmds.specs.Draws.{Drawn, fill, answered}
 use Rattle.tinkey_plans.specs.declared.status.Status.{Status}
+use Rattle.tinkey_plans.specs.declared.status.Status.TheVariants as status
+use Rattle.tinkey_cmds.proofs.Drawings.{ran_out-fill}
 use Rattle.tinkey_words.specs.declared.words.rows.Format.{Format}
-use Rattle.tinkey_plans.specs.Ends.{World, Ends, OnlyStreams, IsLasting, pump_status, settled}
+use Rattle.tinkey_plans.specs.Ends.{World, Ends, OnlyStreams, IsLasting, pump_status, draw_failed, settled}
 use Rattle.tinkey_plans.specs.Plan.{Plan, allocates}
 use Rattle.tinkey_plans.specs.Steps.{loads_keyset, Passes}
 use Rattle.tinkey_plans.specs.Streaming.{unless_unfit, keys_for, with_keys, loads_stream_keys, seals_stream, opens_stream, stream_keys_refusal}
@@ -148,3 +150,8 @@ sealed_ends keys ad sealer result s old entropy new sound made stood is only run
       shown = shown;
       lasting = sealing_lasts cipher (header_of cipher made.random) (cipher_of-is_cipher ad keys.primary sound.primary);
     }))
+
+-- the entropy failed at the header
+pub unsealed_ends : (keys : KeysForStreams) (ad : List ℕ) (old : World) (entropy : EntropyState) → RanShort old.entropy entropy (keys.primary.derived + 7) → Ends (seals_stream keys ad) old status.EntropyFault (record old { entropy = entropy })
+unsealed_ends keys ad old entropy ran =
+    inl (draw_failed refl (record { source = refl; sink = refl; store = refl }) (ran_out-fill old.entropy entropy (keys.primary.derived + 7) ran (omega arith)))

@@ -87,7 +87,7 @@ draw_failed_there table keys plain ad text give made old entropy fault next =
     inl (draw_failed refl (record { source = refl; sink = refl; store = refl }) (record {
       rose = fault.entropy.1.rose;
       drawn = [];
-      drew = fault.entropy.2;
+      gone = fault.entropy.1.gone;
       undecided = made [] ∙ ap (option_map (made_so text)) (short_random fault.key table keys plain ad [] fault.primary fault.entropy.0);
       short = λ steady. short_left fault.key table keys plain ad text give made old.entropy.left fault.primary (fault.entropy.1.short steady);
     }))

@@ -82,7 +82,7 @@ pub unsealed : (table : Table) (keys : Keys) (plain ad : List ℕ) (old new : En
 unsealed table keys plain ad old new fit fault = record {
   rose = fault.entropy.1.rose;
   drawn = [];
-  drew = fault.entropy.2;
+  gone = fault.entropy.1.gone;
   undecided = short_random fault.key table keys plain ad [] fit fault.primary fault.entropy.0;
   short = λ steady. short_left fault.key table keys plain ad old.left fit fault.primary (fault.entropy.1.short steady);
 }

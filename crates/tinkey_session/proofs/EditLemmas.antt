@@ -69,7 +69,7 @@ unapplied_serves keys edit (errors.Refused fault) old new (stood, (drawn, drew, 
 unapplied_serves keys edit errors.EntropyFault old new out = record {
   rose = out.rose;
   drawn = out.drawn;
-  drew = out.drew;
+  gone = out.gone;
   undecided = ap (option_map (stepped edit keys)) out.undecided;
   short = λ steady. undecided_left keys edit old.left (out.short steady);
 }

@@ -2,7 +2,7 @@
 use Rattle.std.proofs.Common.{◌≡◌, ◌∙◌, refl, sym, ap, subst, ℕ, true, false, List, [], ◌∷◌, ◌++◌, Result, Ok, Err, IfOk, IfErr, Option, Some, None, IfSome, append-nil}
 use Rattle.keyset_model.specs.Keyset.{Keys}
 use Rattle.managers.specs.Table.{Table}
-use Rattle.tink_spec.proofs.Moves.{drew_more, drew_nothing, gave_more, gave_nothing, took_more}
+use Rattle.tink_spec.proofs.Moves.{drew_more, drew_nothing, gave_more, gave_nothing, lost_later, took_more}
 use Rattle.tink_spec.specs.Outside.{SourceState, Drew, Gave, IsAtEnd, Rose, Stood, Took, TookPrefix}
 use Rattle.tinkey_session.proofs.FeedLemmas.{IsStart, fed_more, fed_over, rose_later, stopped_more, told_cut, told_nothing, told_took, told_with}
 use Rattle.tinkey_session.specs.Feeding.{Fed, Finished, InLine, InPiece, Outside, Start, Stopped, dry, full, Point, from, outside, past, torn}
@@ -159,7 +159,7 @@ ends_last table keys at fault old mid new so gave stood end stopped = by (stoppe
         undrawn so.taken (so.fed.drawn ++ drawn) true (ap Err same)
         (record {
           gave = all;
-          drew = drew_more _ _ _ _ _ so.fed.drew drew;
+          drew = lost_later _ _ _ _ _ so.fed.drew drew;
           took = subst (Took old.sink new.sink) (sym (ap (λ x. x.output) e ∙ told)) (took_more _ _ _ _ _ (written_of table keys at old mid so) took);
           stands = ap (λ x. x.stop) e ∙ stop;
           used = ap (λ x. x.random) e ∙ left;

@@ -4,7 +4,7 @@ use Rattle.std.specs.Prelude.{◌==◌, nat_le}
 use Rattle.std.proofs.lemmas.Bool.{eq-eqb, le-leb, lt-leb}
 use Rattle.keyset_model.specs.Keyset.{Keys}
 use Rattle.managers.specs.Table.{Table}
-use Rattle.tink_spec.proofs.Moves.{drew_more, drew_nothing, took_more, took_nothing}
+use Rattle.tink_spec.proofs.Moves.{drew_more, drew_nothing, lost_later, took_more, took_nothing}
 use Rattle.tink_spec.specs.Outside.{SinkState, EntropyState, Drew, Rose, Stood, Took, TookPrefix}
 use Rattle.tinkey_session.proofs.TalkLemmas.{byte_by, over-append, over-more, over-stopped, with_more}
 use Rattle.tinkey_session.specs.Answered.{DrewSome, Gives, IsUnanswered}
@@ -164,7 +164,7 @@ pub dry_line : (table : Table) (old : Point) (line output : List ℕ) (a b : Out
     → Stopped (from old) (line_ended table) InLine output faults.EntropyFault a b
 dry_line table old line output a b is took stood so =
     let r : IsUnanswered (serve table old.keys (line_of old.line)) a.entropy b.entropy = subst (λ l. IsUnanswered (serve table old.keys (line_of l)) a.entropy b.entropy) is so in
-    dry r.drawn [] refl r.drew (none_behind _ _ _ took)
+    dry r.drawn [] refl r.gone (none_behind _ _ _ took)
     (ap (λ o. (replied (from old output r.drawn) o).stop) r.undecided)
     (ap (λ o. (replied (from old output r.drawn) o).output) r.undecided ∙ sym (append-nil output))
     (ap (λ o. (replied (from old output r.drawn) o).random) r.undecided)
@@ -362,7 +362,7 @@ stopped_more table start mid p q r piece output fault a b c is whole first (past
     (no_draw_fault ∙ first.no_draw_fault) (no_write_fault ∙ first.no_write_fault)
 stopped_more table start mid p q r piece output fault a b c is whole first (dry drawn written same drew took stop told left rose no_write_fault) =
     let e = stopped_at table start mid p q r piece output first.drawn (output ++ first.written) drawn is whole first.is (λ g. wants≢goes (sym stop ∙ g)) in
-    dry (first.drawn ++ drawn) (first.written ++ written) same (drew_more _ _ _ _ _ first.drew drew) (told_written _ _ _ _ _ _ (told_with _ _ _ _ _ written first.told) took)
+    dry (first.drawn ++ drawn) (first.written ++ written) same (lost_later _ _ _ _ _ first.drew drew) (told_written _ _ _ _ _ _ (told_with _ _ _ _ _ written first.told) took)
     (ap (λ x. x.stop) e ∙ stop) (ap (λ x. x.output) e ∙ told ∙ append_assoc output first.written written) (ap (λ x. x.random) e ∙ left)
     (rose_later _ _ _ first.drew.faults rose) (no_write_fault ∙ first.no_write_fault)
 stopped_more table start mid p q r piece output fault a b c is whole first (torn drawn written same drew took told no_draw_fault rose) =

@@ -1,7 +1,7 @@
 -- What answering a line says of the random bytes.
 use Rattle.std.specs.Prelude.{◌≡◌, ℕ, List, ◌++◌, Option, Some, None, IfSome, IsTrue, Result, Ok, Err}
 use Rattle.keyset_model.specs.Keyset.{Keys}
-use Rattle.tink_spec.specs.Outside.{EntropyState, Drew, Rose, Stood}
+use Rattle.tink_spec.specs.Outside.{EntropyState, Drew, DrewLosing, Rose, Stood}
 use Rattle.tinkey_session.specs.Serving.{Served}
 use Rattle.tinkey_session.specs.declared.reply.Reply.{Reply}
 use Rattle.tinkey_session.specs.declared.session.LineFault.{LineFault}
@@ -21,11 +21,11 @@ pub record IsAnswered (gives : Gives) (reply : Reply) (keys : Keys) (old new : E
       → gives (drawn ++ more) ≡ Some (record { reply = reply; keys = keys; left = more })
 
 -- The entropy failed: its count of faults rose, the line wants more than was drawn, and where the
--- entropy is steady and tells its bytes, more than there are.
+-- entropy is steady and tells its bytes, more than there are. Some behind those drawn may be lost.
 pub record IsUnanswered (gives : Gives) (old new : EntropyState) : Type 0 where
   pub rose : Rose old.faults new.faults
   pub drawn : List ℕ
-  pub drew : Drew old new drawn
+  pub gone : DrewLosing old new drawn
   pub undecided : gives drawn ≡ None
   pub short : IsTrue old.steady → IfSome old.left (λ left. gives left ≡ None)
 

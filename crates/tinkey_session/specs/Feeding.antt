@@ -9,7 +9,7 @@
 use Rattle.std.specs.Prelude.{◌≡◌, ℕ, ◌+◌, ◌*◌, List, [], ◌++◌, length, true}
 use Rattle.keyset_model.specs.Keyset.{Keys}
 use Rattle.managers.specs.Table.{Table}
-use Rattle.tink_spec.specs.Outside.{SinkState, EntropyState, Drew, Rose, Stood, Took, TookPrefix}
+use Rattle.tink_spec.specs.Outside.{SinkState, EntropyState, Drew, DrewLosing, Rose, Stood, Took, TookPrefix}
 use Rattle.tinkey_session.specs.Answered.{DrewSome, Gives, IsAnswered, IsUnanswered}
 use Rattle.tinkey_session.specs.declared.reply.Reply.{Reply}
 use Rattle.tinkey_session.specs.Talking.{Limit, goes, wants, passes, Talk, finish, going, over}
@@ -106,7 +106,7 @@ pub data Stopped (start : Start) (takes : Talk → Talk) (Leaves : (drawn writte
       → Stood old.entropy.faults new.entropy.faults → Stood old.sink.faults new.sink.faults
       → Stopped start takes Leaves output fault old new
   dry : (drawn written : List ℕ) → fault ≡ faults.EntropyFault
-      → Drew old.entropy new.entropy drawn → Took old.sink new.sink (old.held ++ written)
+      → DrewLosing old.entropy new.entropy drawn → Took old.sink new.sink (old.held ++ written)
       → (takes (start output drawn)).stop ≡ wants
       → (takes (start output drawn)).output ≡ output ++ written
       → (takes (start output drawn)).random ≡ []

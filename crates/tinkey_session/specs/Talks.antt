@@ -1,7 +1,7 @@
 -- How a session over the outside objects may end, whatever fails.
 use Rattle.std.specs.Prelude.{◌≡◌, ◌≢◌, ℕ, List, [], ◌++◌, Bool, true, false, Result, Ok, Err}
 use Rattle.keyset_model.specs.Keyset.{Keys}
-use Rattle.tink_spec.specs.Outside.{SourceState, SinkState, EntropyState, Rose, Stood, Gave, Took, TookPrefix, Drew, IsAtEnd}
+use Rattle.tink_spec.specs.Outside.{SourceState, SinkState, EntropyState, Rose, Stood, Gave, Took, TookPrefix, Drew, DrewLosing, IsAtEnd}
 use Rattle.tinkey_session.specs.Talking.{Exchange, Limit, long_line, many_lines, Stop, goes, wants, passes}
 use Rattle.tinkey_session.specs.declared.talk.TalkFault.{TalkFault}
 use Rattle.tinkey_session.specs.declared.talk.TalkFault.TheVariants as faults
@@ -17,11 +17,12 @@ abbrev pub sides : SourceState → SinkState → EntropyState → Sides
 sides source sink entropy = record { source = source; sink = sink; entropy = entropy }
 
 -- These bytes were taken and drawn, no more random bytes than the session uses, and all replies to
--- the lines among them were written.
-pub record HasTalked (talk : Exchange) (taken drawn : List ℕ) (ended : Bool) (stop : Stop)
-    (old new : Sides) : Type 0 where
+-- the lines among them were written. `Draws` says whether more may be lost behind those drawn.
+pub record HasTalked (Draws : (old new : EntropyState) → (drawn : List ℕ) → Type 0)
+    (talk : Exchange) (taken drawn : List ℕ) (ended : Bool) (stop : Stop) (old new : Sides)
+    : Type 0 where
   pub gave : Gave old.source new.source taken
-  pub drew : Drew old.entropy new.entropy drawn
+  pub drew : Draws old.entropy new.entropy drawn
   pub took : Took old.sink new.sink (talk taken drawn ended).output
   pub stands : (talk taken drawn ended).stop ≡ stop
   pub used : (talk taken drawn ended).random ≡ []
@@ -42,20 +43,20 @@ limit_fault many_lines = faults.TooManyLines
 pub data Talks (talk : Exchange) (result : Result Keys TalkFault) (old new : Sides) : Type 0 where
   -- the input ended, and the last keyset is answered
   talked : (taken drawn : List ℕ) → result ≡ Ok (talk taken drawn true).keys
-      → HasTalked talk taken drawn true goes old new → NoneRose old new
+      → HasTalked Drew talk taken drawn true goes old new → NoneRose old new
       → Talks talk result old new
   -- the bytes taken are past a limit
   passed : (taken drawn : List ℕ) (limit : Limit) → result ≡ Err (limit_fault limit)
-      → HasTalked talk taken drawn false (passes limit) old new → NoneRose old new
+      → HasTalked Drew talk taken drawn false (passes limit) old new → NoneRose old new
       → Talks talk result old new
   -- a read failed, and nothing is left to write
   unread : (taken drawn : List ℕ) → result ≡ Err faults.ReadFault
-      → HasTalked talk taken drawn false goes old new → Rose old.source.faults new.source.faults
+      → HasTalked Drew talk taken drawn false goes old new → Rose old.source.faults new.source.faults
       → Stood old.sink.faults new.sink.faults → Stood old.entropy.faults new.entropy.faults
       → Talks talk result old new
-  -- the entropy failed, and the line wants more than was drawn
+  -- the entropy failed, and the line wants more than was drawn; behind that some may be lost
   undrawn : (taken drawn : List ℕ) (ended : Bool) → result ≡ Err faults.EntropyFault
-      → HasTalked talk taken drawn ended wants old new
+      → HasTalked DrewLosing talk taken drawn ended wants old new
       → Rose old.entropy.faults new.entropy.faults
       → Stood old.source.faults new.source.faults → Stood old.sink.faults new.sink.faults
       → Talks talk result old new
