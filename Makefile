@@ -1,14 +1,29 @@
-# The commands of this repository. `make run` keeps what it proves, and `make test` is the merge gate.
-.PHONY: run test wrong try bench install
+# The commands of this repository. `make` alone lists them.
+.PHONY: help run test check profile wrong try bench install uninstall
+.DEFAULT_GOAL := help
 
 # Where `make install` puts things.
 PREFIX ?= /usr/local
+BIN = $(DESTDIR)$(PREFIX)/bin
+SHARE = $(DESTDIR)$(PREFIX)/share
 
-# What `make run` builds for: `here` is x86-64-v3 where this machine has all of that, and else x86-64-v2.
+# What `make run` builds for: `here` is x86-64-v3 if this machine has all of it, and else x86-64-v2.
 run: CPU ?= here
 
-# Proves the program and the crates below it side by side, leaves it as ./tinkey, and lists the
-# example's keyset with it. With CPU=x86-64-v2 it runs on older machines too.
+# The first word of each line is a target below; a word in capitals after it is set on the command line.
+help:
+	@echo 'make run                 prove the program and the crates below it, and build ./tinkey'
+	@echo 'make run CPU=x86-64-v2   the same, for a program that also runs on older machines'
+	@echo 'make test                the merge gate: every proof, test, planted bug and program'
+	@echo 'make check CRATE=NAME    prove one crate, over what earlier checks kept'
+	@echo 'make profile CRATE=NAME  prove one crate, and name each function as its proof ends'
+	@echo 'make wrong               try the planted bugs that the gate leaves out; CRATE=NAME for one crate'
+	@echo 'make try                 list an example keyset in about a minute, with nothing proved'
+	@echo 'make bench               time the kernels and the program beside OpenSSL'
+	@echo 'make install             copy ./tinkey, its manual page and completions under PREFIX=/usr/local'
+	@echo 'make uninstall           remove what make install copied'
+
+# Proves the program and the crates below it side by side, leaves it as ./tinkey, and lists the example's keyset.
 run:
 	@tools/build tinkey $(CPU)
 	@cp crates/tinkey/out/tinkey tinkey
@@ -18,24 +33,39 @@ run:
 test:
 	rt ci
 
-# Tries the wrong bodies that stand outside the gate, of all crates or of CRATE: each must be refused.
+# Proves one crate.
+check:
+	@test -n "$(CRATE)" -a -d "crates/$(CRATE)" || { echo "CRATE=NAME names a crate of crates/" >&2; exit 1; }
+	@cd crates/$(CRATE) && rt check
+
+# Proves one crate and names each function as its proof ends, so that slow ones show.
+profile:
+	@test -n "$(CRATE)" -a -d "crates/$(CRATE)" || { echo "CRATE=NAME names a crate of crates/" >&2; exit 1; }
+	@cd crates/$(CRATE) && rt check --progress
+
+# Tries the planted bugs outside the gate: each must be refused.
 wrong:
 	@tools/wrong $(CRATE)
 
-# The same listing in seconds, with nothing proved.
+# The same listing as `make run`, with nothing proved.
 try:
 	@echo "nothing is proved in this run" >&2
 	@cd crates/tinkey && rt try -- list-keyset --in-format binary \
 	    < ../../examples/aes128-gcm.binary
 
-# Puts the program that `make run` left, its manual page and the completions of bash and zsh in their places.
-install:
-	@test -x tinkey || { echo "make run builds ./tinkey first" >&2; exit 1; }
-	install -D -m 755 tinkey $(DESTDIR)$(PREFIX)/bin/tinkey
-	install -D -m 644 docs/tinkey.1 $(DESTDIR)$(PREFIX)/share/man/man1/tinkey.1
-	install -D -m 644 completions/tinkey.bash $(DESTDIR)$(PREFIX)/share/bash-completion/completions/tinkey
-	install -D -m 644 completions/_tinkey $(DESTDIR)$(PREFIX)/share/zsh/site-functions/_tinkey
-
-# Times the kernels and the program beside OpenSSL, and prints a table.
+# Prints a table of the kernels' and the program's times.
 bench:
 	@tools/bench
+
+# Copies what `make run` left.
+install:
+	@test -x tinkey || { echo "make run builds ./tinkey first" >&2; exit 1; }
+	install -D -m 755 tinkey $(BIN)/tinkey
+	install -D -m 644 docs/tinkey.1 $(SHARE)/man/man1/tinkey.1
+	install -D -m 644 completions/tinkey.bash $(SHARE)/bash-completion/completions/tinkey
+	install -D -m 644 completions/_tinkey $(SHARE)/zsh/site-functions/_tinkey
+
+# Removes the same files again.
+uninstall:
+	rm -f $(BIN)/tinkey $(SHARE)/man/man1/tinkey.1 \
+	    $(SHARE)/bash-completion/completions/tinkey $(SHARE)/zsh/site-functions/_tinkey
