@@ -18,11 +18,12 @@ const SIZES: [usize; 4] = [1, 0, 4_096, 1];
 #[test]
 fn a_closed_stream_is_never_read(rt: HostRuntime) -> Result<(), Fail> {
     let reads = Cell::new(0);
-    let mut source = StdSource::probed(MayBeClosed {
+    let stream = MayBeClosed {
         left: b"bytes",
         open: false,
         reads: &reads,
-    });
+    };
+    let mut source = StdSource::probed(rt.alloc(), stream)?;
     for &size in &SIZES {
         let mut out = vec![in rt.alloc(); 7u8; size]?;
         if source.read(&mut out).is_ok() {
@@ -120,11 +121,12 @@ fn run_over(alloc: Global, row: &str, store: &mut MemStore) -> Result<Ended, Fai
     let (lines, line_asked) = (Cell::new(0), Cell::new(0));
     let mut written = Vec::new(alloc);
     let mut line = Vec::new(alloc);
-    let mut source = StdSource::probed(MayBeClosed {
+    let stream = MayBeClosed {
         left: &keyset,
         open: is_open(row, 0)?,
         reads: &reads,
-    });
+    };
+    let mut source = StdSource::probed(alloc, stream)?;
     let mut sink = StdSink::probed(Taking {
         written: &mut written,
         open: is_open(row, 1)?,

@@ -54,12 +54,13 @@ fn answers_over_bytes_that_were_read_ahead(rt: HostRuntime) -> Result<(), Fail> 
     let bytes = input(rt.alloc())?;
     let (reads, writes, asked) = (Cell::new(0), Cell::new(0), Cell::new(0));
     let mut written = Vec::new(rt.alloc());
-    let mut source = StdSource::new(Metered {
+    let stream = Metered {
         left: &bytes,
         piece: WHOLE,
         fails: 0,
         reads: &reads,
-    });
+    };
+    let mut source = StdSource::new(rt.alloc(), stream)?;
     let mut sink = StdSink::new(Taking {
         written: &mut written,
         open: true,

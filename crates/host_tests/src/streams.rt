@@ -7,7 +7,7 @@ use std::cell::Cell;
 use std::io::{self, ErrorKind, Read, Write};
 use std::test::Fail;
 use test_words::{counting, same_bytes};
-use tink_base::{Failed, Source, read_all, write_all};
+use tink_base::{Failed, NoMemory, Source, read_all, write_all};
 
 /// A stream each of whose calls is interrupted once, before it is done.
 #[derive(Drop)]
@@ -71,7 +71,7 @@ impl<W: Write> WriteStream for Interrupted<W> {
 
 #[test]
 fn reads_on_after_a_signal(rt: HostRuntime) -> Result<(), Fail> {
-    let mut source = StdSource::new(Interrupted::new(b"bytes".as_slice()));
+    let mut source = StdSource::new(rt.alloc(), Interrupted::new(b"bytes".as_slice()))?;
     let bytes = read_all(rt.alloc(), &mut source, 5)?;
     same_bytes(rt.alloc(), "a read", "what was read", b"bytes", &bytes)
 }
@@ -97,17 +97,21 @@ fn writes_on_after_a_signal(rt: HostRuntime) -> Result<(), Fail> {
 
 /// A source over a stream in memory, one of whose reads fails.
 fn source_over<'a>(
+    alloc: Global,
     bytes: &'a [u8],
     piece: usize,
     fails: usize,
     reads: &'a Cell<usize>,
-) -> StdSource<Metered<'a>> {
-    StdSource::new(Metered {
-        left: bytes,
-        piece,
-        fails,
-        reads,
-    })
+) -> Result<StdSource<Metered<'a>>, NoMemory> {
+    StdSource::new(
+        alloc,
+        Metered {
+            left: bytes,
+            piece,
+            fails,
+            reads,
+        },
+    )
 }
 
 /// What so many reads into `size` bytes give, one behind another. None of them may fail.
@@ -139,7 +143,7 @@ fn reads(
     let (shows, size, times, want, beneath) = row;
     let bytes = counting(alloc, whole)?;
     let reads = Cell::new(0);
-    let mut source = source_over(&bytes, piece, 0, &reads);
+    let mut source = source_over(alloc, &bytes, piece, 0, &reads)?;
     let all = given(alloc, &mut source, size, times)?;
     are_first(alloc, shows, &bytes, want, &all)?;
     counts(shows, reads.get(), beneath)
@@ -218,7 +222,7 @@ fn goes_on_behind(
 ) -> Result<(), Fail> {
     let (shows, piece, fault, size, times, before) = row;
     let reads = Cell::new(0);
-    let mut source = source_over(bytes, piece, fault, &reads);
+    let mut source = source_over(alloc, bytes, piece, fault, &reads)?;
     let first = given(alloc, &mut source, size, times)?;
     are_first(alloc, shows, bytes, before, &first)?;
     fails(alloc, &mut source, size)?;

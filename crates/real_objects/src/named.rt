@@ -81,12 +81,14 @@ impl NewName for DirName<'_> {
 
     /// Looks whether anything has the path, a link that leads nowhere too, and opens the folder, where it may
     /// be read. A path without a last part is refused.
+    #[inline(never)]
     fn look_up(&mut self) -> io::Result<()> {
         free_place(self.rt, self.name)?;
         self.folder = readable(fs::open(self.rt, folder_of(self.name)))?;
         Ok(())
     }
 
+    #[inline(never)]
     fn open_aside(&mut self) -> io::Result<File> {
         let path = self.draw_aside()?;
         let file = open_new(self.rt, &path)?;
@@ -94,6 +96,7 @@ impl NewName for DirName<'_> {
         Ok(file)
     }
 
+    #[inline(never)]
     fn link(&mut self, _file: &File) -> io::Result<()> {
         match &self.aside {
             Aside::There(path) => fs::hard_link(self.rt, path.as_str(), self.name),
@@ -101,6 +104,7 @@ impl NewName for DirName<'_> {
         }
     }
 
+    #[inline(never)]
     fn is_linked(&mut self, file: &File) -> bool {
         match (file.metadata(), fs::symlink_metadata(self.rt, self.name)) {
             (Ok(ours), Ok(found)) => is_same(&ours, &found),
@@ -122,11 +126,13 @@ impl NewName for DirName<'_> {
         }
     }
 
+    #[inline(never)]
     fn open(&mut self) -> io::Result<File> {
         open_new(self.rt, self.name)
     }
 
     /// Where the folder may not be read, its file system can be asked through the file alone.
+    #[inline(never)]
     fn put_away(&mut self, file: &File) -> io::Result<()> {
         match &self.folder {
             Some(folder) => folder_kept(folder.sync_all()),
@@ -142,6 +148,7 @@ fn is_same(first: &Metadata, second: &Metadata) -> bool {
 
 /// Finds that nothing has a path, and that its folder is there. The error is `AlreadyExists` where something
 /// has the path, a link that leads nowhere too. A path without a last part is refused.
+#[inline(never)]
 pub(crate) fn free_place(rt: &HostRuntime, name: &str) -> io::Result<()> {
     if name.is_empty() || name.ends_with('/') {
         return Err(io::Error::from(ErrorKind::IsADirectory));

@@ -9,8 +9,9 @@ ghost use Rattle.real_objects.specs.Streams.{told_source, told_sink, stream_read
 
 use crate::beneath::{ReadStream, WriteStream};
 use crate::unread::Unread;
+use std::alloc::Global;
 use std::io::{self, ErrorKind, Read, Write};
-use tink_base::{Failed, Sink, Source};
+use tink_base::{Failed, NoMemory, Sink, Source};
 
 /// A stream that is read, as standard input.
 ///
@@ -30,46 +31,48 @@ pub struct StdSource<R> {
     closed: bool,
 }
 
-impl<R: ReadStream> StdSource<R> {
-    /// A stream before its first read, which isn't asked whether it is open.
-    pub fn new(from: R) -> StdSource<R>
-        ensures beneath { stream_read result ≡ from }
-        ensures not_ahead { read_ahead result ≡ [] }
-        ensures open { IsClosed result → ⊥ }
-        ensures left { (told_source R.remaining result).left ≡ R.remaining from }
-        ensures new { (told_source R.remaining result).faults ≡ 0 }
-        ensures not_ended { (told_source R.remaining result).ended ≡ false }
+impl<R: ReadStream + Drop> StdSource<R> {
+    /// A stream before its first read, which isn't asked whether it is open. Memory is taken for what will be
+    /// read ahead.
+    pub fn new(alloc: Global, from: R) -> Result<StdSource<R>, NoMemory>
+        ensures beneath { IfOk result (λ s. stream_read s ≡ from) }
+        ensures not_ahead { IfOk result (λ s. read_ahead s ≡ []) }
+        ensures open { IfOk result (λ s. IsClosed s → ⊥) }
+        ensures left { IfOk result (λ s. (told_source R.remaining s).left ≡ R.remaining from) }
+        ensures new { IfOk result (λ s. (told_source R.remaining s).faults ≡ 0) }
+        ensures not_ended { IfOk result (λ s. (told_source R.remaining s).ended ≡ false) }
     {
-        StdSource {
+        Ok(StdSource {
             input: from,
-            unread: Unread::new(),
+            unread: Unread::new(alloc)?,
             faults: 0,
             ended: false,
             late: 0,
             closed: false,
-        }
+        })
     }
 
     /// A stream before its first read, which is asked whether it is open. One that is closed stays a fault:
-    /// each read of it fails, and it isn't read, so what is opened in its place later isn't either.
-    pub fn probed(from: R) -> StdSource<R>
-        ensures beneath { stream_read result ≡ from }
-        ensures not_ahead { read_ahead result ≡ [] }
-        ensures open { R.opened from ≡ Some true → IsClosed result → ⊥ }
-        ensures closed { R.opened from ≡ Some false → IsClosed result }
-        ensures left { (told_source R.remaining result).left ≡ R.remaining from }
-        ensures new { (told_source R.remaining result).faults ≡ 0 }
-        ensures not_ended { (told_source R.remaining result).ended ≡ false }
+    /// each read of it fails, and it isn't read, so what is opened in its place later isn't either. Memory is
+    /// taken as by `new`.
+    pub fn probed(alloc: Global, from: R) -> Result<StdSource<R>, NoMemory>
+        ensures beneath { IfOk result (λ s. stream_read s ≡ from) }
+        ensures not_ahead { IfOk result (λ s. read_ahead s ≡ []) }
+        ensures open { IfOk result (λ s. R.opened from ≡ Some true → IsClosed s → ⊥) }
+        ensures closed { IfOk result (λ s. R.opened from ≡ Some false → IsClosed s) }
+        ensures left { IfOk result (λ s. (told_source R.remaining s).left ≡ R.remaining from) }
+        ensures new { IfOk result (λ s. (told_source R.remaining s).faults ≡ 0) }
+        ensures not_ended { IfOk result (λ s. (told_source R.remaining s).ended ≡ false) }
     {
         let closed = !from.is_open();
-        StdSource {
+        Ok(StdSource {
             input: from,
-            unread: Unread::new(),
+            unread: Unread::new(alloc)?,
             faults: 0,
             ended: false,
             late: 0,
             closed,
-        }
+        })
     }
 }
 

@@ -4,43 +4,47 @@ ghost use Rattle.std.specs.Prelude.{◌≡◌, ◌<◌, ◌≤◌, [], ◌++◌,
 ghost use Rattle.std.specs.Io.KnownBytes.{Consumes, IsAtEnd, Keeps, prepend_known};
 
 use crate::streams::read_through_signals;
+use std::alloc::Global;
 use std::io::{self, Read};
 use std::marker::Model;
+use tink_base::NoMemory;
 
 /// How many bytes are read ahead at the most.
 const AHEAD: usize = 1 << 15;
 
-/// Bytes that were read and not handed out yet, in order; at most 32,768 of them.
+/// Bytes that were read and not handed out yet, in order; at most 32,768 of them. They lie on the heap: a
+/// program with a stack of 64 KiB has no room for them there.
 ///
 /// Contracts see the list of them. What was handed out stays here until it is read over: it was a stream's,
 /// and nothing is promised of it (`ahead` has the random bytes, which are overwritten).
 #[derive(Drop)]
 pub(crate) struct Unread {
-    bytes: [u8; AHEAD],
+    bytes: Vec<u8>,
     from: usize,
     to: usize,
 }
 
 impl Model for Unread {
-    ghost use Rattle.std.specs.Prelude.{◌≤◌, List, ℕ, slice_range};
+    ghost use Rattle.std.specs.Prelude.{◌≡◌, ◌≤◌, List, ℕ, length, slice_range};
 
     ghost Value = { List ℕ };
 
-    ghost view = { λ unread. slice_range unread.bytes unread.from unread.to };
+    ghost view = { λ unread. slice_range unread.bytes.items unread.from unread.to };
 
-    ghost invariant = { λ unread. (unread.from ≤ unread.to) × (unread.to ≤ 32768) };
+    ghost invariant = { λ unread. (unread.from ≤ unread.to) × (unread.to ≤ 32768)
+        × (length unread.bytes.items ≡ 32768) };
 }
 
 impl Unread {
-    /// No bytes.
-    pub(crate) fn new() -> Unread
-        ensures { result ≡ [] }
+    /// No bytes, and the room for what will be read ahead.
+    pub(crate) fn new(alloc: Global) -> Result<Unread, NoMemory>
+        ensures { IfOk result (λ unread. unread ≡ []) }
     {
-        Unread {
-            bytes: [0; AHEAD],
+        Ok(Unread {
+            bytes: vec![in alloc; 0; AHEAD]?,
             from: 0,
             to: 0,
-        }
+        })
     }
 
     /// Whether there are none.

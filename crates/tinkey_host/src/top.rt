@@ -17,7 +17,7 @@ use std::alloc::Global;
 use std::process::ExitCode;
 use tink_base::{Failed, Sink, Source, Store};
 use tinkey_plans::report;
-use tinkey_run::Status;
+use tinkey_run::{Status, starve};
 
 /// The exit code where memory for the words is refused, as where a run's memory is.
 const OUT_OF_MEMORY: u8 = 7;
@@ -30,11 +30,15 @@ const NO_WORDS: u8 = 8;
 ///
 /// Before a file is opened each of the three streams is asked whether it is open. Of what the system then
 /// gives and takes no contract can speak: what holds of the answer is what `obey_to_the_end` says of any
-/// words and objects, these among them.
+/// words and objects, these among them. Where memory for what is read ahead of standard input is refused,
+/// that is told as a run's want of memory is, before the words are looked at.
 pub fn program(rt: &HostRuntime) -> ExitCode {
-    let mut source = StdSource::probed(rt.stdin());
+    let source = StdSource::probed(rt.alloc(), rt.stdin());
     let mut sink = StdSink::probed(StandardOutput::new(rt));
     let mut diag = StdSink::probed(rt.stderr());
+    let Ok(mut source) = source else {
+        return ExitCode::from(starve(&mut diag).code());
+    };
     let mut store = DirStore::new(rt);
     let code = obey_to_the_end(
         rt,

@@ -20,6 +20,7 @@ use tinkey_plans::Status;
 use tinkey_words::Place;
 
 /// create-keyset: the keyset of one new key of the template of this name.
+#[inline(never)]
 pub(crate) fn create_keyset<E: Entropy>(
     alloc: Global,
     name: &str,
@@ -35,6 +36,7 @@ pub(crate) fn create_keyset<E: Entropy>(
 }
 
 /// The commands that edit a keyset: the keyset after the edit.
+#[inline(never)]
 pub(crate) fn edit_keyset<S: Source, E: Entropy, D: Store>(
     alloc: Global,
     edit: Command<&str>,

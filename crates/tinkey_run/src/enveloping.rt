@@ -26,6 +26,7 @@ use wrapped_prims::Handle;
 
 /// Work on the whole input, by data keys of a template under the keys of the keyset in the file of this
 /// name: what is put out.
+#[inline(never)]
 pub(crate) fn use_envelope<S: Source, E: Entropy, D: Store>(
     alloc: Global,
     managers: &Managers,

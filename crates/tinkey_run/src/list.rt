@@ -13,6 +13,7 @@ use tinkey_plans::Status;
 use tinkey_words::Place;
 
 /// list-keyset: the listing of the keyset in a file, or of the one that the whole input is.
+#[inline(never)]
 pub(crate) fn list_keyset<S: Source, D: Store>(
     alloc: Global,
     input: Place<'_>,

@@ -20,6 +20,7 @@ use tinkey_words::{Format, Place};
 
 /// Puts out the bytes that a command gives, as its last step: into a new file, or where none is named,
 /// to the sink. Or hands on why there are none.
+#[inline(never)]
 pub(crate) fn finish_output<K: Sink, D: Store>(
     alloc: Global,
     out: Option<&str>,
@@ -40,6 +41,7 @@ pub(crate) fn finish_output<K: Sink, D: Store>(
 }
 
 /// What work by keys gives, as it is or in hexadecimal. Or hands on why it gives nothing.
+#[inline(never)]
 pub(crate) fn shown(alloc: Global, hex: bool, made: Result<Bytes, Status>) -> Result<Bytes, Status>
     ensures { (step : (List ℕ → Plan) → Plan) (first w : World) → Passes step first made w →
         Passes (λ next. step (λ bytes. shows hex bytes next)) first result w }
@@ -87,6 +89,7 @@ pub(crate) fn write_output<K: Sink>(sink: &mut K, output: &[u8]) -> Status
 
 /// Puts out the keyset that a command gives, in its written form, as its last step: into a new
 /// file, or where none is named, to the sink. Or hands on why there is no keyset.
+#[inline(never)]
 pub(crate) fn finish_keyset<K: Sink, D: Store>(
     alloc: Global,
     out: Place<'_>,

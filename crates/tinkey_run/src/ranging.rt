@@ -22,6 +22,7 @@ use tinkey_plans::Status;
 use tinkey_words::{Datum, Format, Range};
 
 /// The plaintext of a range of the stream in a file, by the keys of the keyset in another one.
+#[inline(never)]
 pub(crate) fn open_stretch<D: Store>(
     alloc: Global,
     keyset: &str,
@@ -39,6 +40,7 @@ pub(crate) fn open_stretch<D: Store>(
 }
 
 /// The plaintext of the range under these keys.
+#[inline(never)]
 fn open_under<D: Store>(
     alloc: Global,
     keys: &StreamKeys,

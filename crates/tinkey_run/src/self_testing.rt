@@ -14,6 +14,7 @@ use tinkey_plans::Status;
 use tinkey_selftest::{Counts, SelfTestFault, counts_text, self_test};
 
 /// selftest: the line of its counts.
+#[inline(never)]
 pub(crate) fn tell_self_test(
     alloc: Global,
     managers: &Managers,

@@ -23,6 +23,7 @@ use tinkey_words::{Format, Place};
 
 /// session: answers the lines of the input over a keyset, and puts the last keyset into a new file,
 /// where one is named. Or hands on why there is no keyset.
+#[inline(never)]
 pub(crate) fn answer_lines<S: Source, K: Sink, E: Lookahead, D: Store>(
     alloc: Global,
     managers: &Managers,

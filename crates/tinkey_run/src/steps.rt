@@ -21,6 +21,7 @@ use tinkey_words::{Format, Place};
 pub(crate) const KEYSET_LIMIT: usize = 1_048_576;
 
 /// The keyset in a file, or where none is named, the one that the whole input is.
+#[inline(never)]
 pub(crate) fn take_keyset<S: Source, D: Store>(
     alloc: Global,
     place: Place<'_>,
@@ -39,6 +40,7 @@ pub(crate) fn take_keyset<S: Source, D: Store>(
 }
 
 /// The keyset in the file of this name.
+#[inline(never)]
 pub(crate) fn load_keyset<D: Store>(
     alloc: Global,
     name: &str,

@@ -20,6 +20,7 @@ use tinkey_plans::Status;
 use tinkey_words::{Datum, Format};
 
 /// The keys for streams of the keyset in the file of this name.
+#[inline(never)]
 pub(crate) fn load_stream_keys<D: Store>(
     alloc: Global,
     name: &str,
@@ -49,6 +50,7 @@ fn refusal(fault: StreamKeysFault) -> Status
 }
 
 /// sseal: seals the input as a stream under the primary key.
+#[inline(never)]
 pub(crate) fn seal_stream<S: Source, K: Sink, E: Entropy>(
     alloc: Global,
     keys: Result<StreamKeys, Status>,
@@ -111,6 +113,7 @@ fn seal_under<S: Source, K: Sink, E: Entropy>(
 }
 
 /// sopen: opens the input as a stream.
+#[inline(never)]
 pub(crate) fn open_stream<S: Source, K: Sink>(
     alloc: Global,
     keys: Result<StreamKeys, Status>,

@@ -11,6 +11,7 @@ use tink_base::{Failed, Sink, write_all};
 use tinkey_plans::Status;
 
 /// list-key-templates: the names of the templates, one a line. No memory is taken.
+#[inline(never)]
 pub(crate) fn list_templates<K: Sink>(sink: &mut K) -> Status
     ensures { (w : World) → Ends (writes template_names)
         (record w { sink = K.state sink.old }) result (record w { sink = K.state sink.new }) }

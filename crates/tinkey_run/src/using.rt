@@ -29,6 +29,7 @@ pub(crate) const INPUT_LIMIT: usize = 16_777_216;
 pub(crate) const SEALED_LIMIT: usize = INPUT_LIMIT + 1024;
 
 /// Work on the whole input, by the keys of the keyset in the file of this name: what is put out.
+#[inline(never)]
 pub(crate) fn use_keyset<S: Source, E: Entropy, D: Store>(
     alloc: Global,
     managers: &Managers,

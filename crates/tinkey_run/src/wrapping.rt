@@ -30,6 +30,7 @@ const WRAPPED_LIMIT: usize = 4_194_304;
 
 /// wrap-keyset: the text of a keyset that is sealed under the master, the keyset in the file of this
 /// name, in the form of the output.
+#[inline(never)]
 pub(crate) fn wrap_keyset<S: Source, E: Entropy, D: Store>(
     alloc: Global,
     managers: &Managers,
@@ -87,6 +88,7 @@ fn wrap_under<E: Entropy>(
 }
 
 /// unwrap-keyset: the keyset that the text gives under the master, the keyset in the file of this name.
+#[inline(never)]
 pub(crate) fn unwrap_keyset<S: Source, D: Store>(
     alloc: Global,
     managers: &Managers,
