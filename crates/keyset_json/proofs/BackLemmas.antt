@@ -28,8 +28,9 @@ use Rattle.keyset_json.specs.Numbers.{uint32_of, within_32_bits}
 use Rattle.keyset_json.specs.Reading.{of_keyset, of_key, or_at, object_of, field, without_newline, json_value, record_of, records_of, without_fault}
 use Rattle.keyset_json.specs.Writing.{data_value, key_value, keyset_value, json_of, HasJsonBounds, JsonBack}
 use Rattle.keyset_json.proofs.Base64Lemmas.{first}
-use Rattle.keyset_json.proofs.ReadingLemmas.{value_read, whole_record, ahead, list_of, keyset_built}
-use Rattle.keyset_json.proofs.PrintedLemmas.{Good, GoodItems, utf8_value, read_printed}
+use Rattle.keyset_json.proofs.ReadingLemmas.{whole_record, ahead, list_of, keyset_built}
+use Rattle.keyset_json.proofs.PrintedLemmas.{Good, GoodItems}
+use Rattle.keyset_json.proofs.NestingLemmas.{value_printed}
 
 -- ---- names and numbers
 
@@ -121,7 +122,7 @@ items_depth : (rs : List Record) → tree.items_depth (items_outline (items_of (
 items_depth [] = omega arith
 items_depth (r ∷ rs) = omega (arith, key_depth r (is_bare r) refl, items_depth rs)
 
-value_depth : (keys : Keys) → tree.depth (outline (keyset_value keys)) ≤ 127
+value_depth : (keys : Keys) → tree.depth (outline (keyset_value keys)) ≤ 32
 unfolding keyset_value
 value_depth keys = omega (arith, items_depth keys.records)
 
@@ -152,7 +153,7 @@ unfolding json_of
 text_back keys small all =
     let v = keyset_value keys in
     let good = value_good keys small all in
-    ap json_value (newline_off (compact_text v)) ∙ value_read (compact_text v) v (utf8_value v good) (read_printed v good (value_back keys small all) (value_depth keys))
+    ap json_value (newline_off (compact_text v)) ∙ value_printed v good (value_back keys small all) (value_depth keys)
 
 -- ---- the value gives the keys
 

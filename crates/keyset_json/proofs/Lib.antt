@@ -8,4 +8,5 @@ pub mod SizeLemmas
 pub mod StoredLemmas
 pub mod WritingLemmas
 pub mod PrintedLemmas
+pub mod NestingLemmas
 pub mod BackLemmas

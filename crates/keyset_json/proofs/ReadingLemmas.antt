@@ -1,5 +1,5 @@
 -- Lemmas on reading: the value of a text, and the records of items one after another.
-use Rattle.std.proofs.Common.{◌≡◌, ◌∙◌, ℕ, ◌+◌, suc, ◌<◌, get_or, take, drop, IfErr, zero-add, true, false, List, [], ◌∷◌, ◌++◌, length, map, Option, Some, None, Result, Ok, Err, IsErrAnd, if◌then◌else◌, refl, sym, ap, arith, add-zero}
+use Rattle.std.proofs.Common.{◌≡◌, ◌∙◌, ℕ, ◌+◌, suc, ◌<◌, get_or, take, drop, IfErr, zero-add, Bool, true, false, List, [], ◌∷◌, ◌++◌, length, map, Option, Some, None, Result, Ok, Err, IsErrAnd, if◌then◌else◌, ◌&&◌, refl, sym, ap, arith, add-zero}
 use Rattle.std.proofs.lemmas.List.{take_more, map-append, length-map, length-take-le, take-append-drop}
 use Rattle.std.proofs.Math.Seq.{take-length, drop-cons}
 use Rattle.std.proofs.lemmas.Str.{is_utf8-from_IsUtf8, IsUtf8-from_is_utf8}
@@ -19,21 +19,31 @@ use Rattle.keyset_json.specs.declared.reading.JsonError.{JsonError}
 use Rattle.keyset_json.specs.declared.reading.JsonError.TheVariants as errors
 use Rattle.keyset_json.specs.Names.{status_names, prefix_names, material_names}
 use Rattle.keyset_json.specs.Numbers.{uint32_of, enum_of}
+use Rattle.keyset_json.specs.Nesting.{is_shallow}
 use Rattle.keyset_json.specs.Reading.{◌>>=◌, json_value, of_key, or_at, object_of, bytes_of, field, of_keyset, record_of, records_of, records_in, keys_of, without_newline, Refusal, NotJson, Shape, Fault, without_fault, reads_json, GivesKeyset}
 use Rattle.keyset_json.specs.Members.{member_of}
 use Rattle.keyset_json.specs.Steps.{Gives, IsShape, IsNoValue}
 
-pub value_read : (text : List ℕ) (d : Data) → IsUtf8 text → read text ≡ Some d → json_value text ≡ Some d
+pub value_read : (text : List ℕ) (d : Data) → IsUtf8 text → is_shallow text ≡ true → read text ≡ Some d → json_value text ≡ Some d
 unfolding json_value
-value_read text d utf8 e = rw (is_utf8-from_IsUtf8 text utf8) e
+value_read text d utf8 shallow e = rw (is_utf8-from_IsUtf8 text utf8, shallow) e
 
 pub no_value : (text : List ℕ) → (IsUtf8 text → read text ≡ None) → json_value text ≡ None
 unfolding json_value
-no_value text none =
-    elim (is_utf8 text) as (λ b. is_utf8 text ≡ b → (if b then read text else None) ≡ None) [
-      | true ↦ λ is. none (IsUtf8-from_is_utf8 text is)
-      | false ↦ λ is. refl
-    ] refl
+no_value text none = by_tests (is_utf8 text) (is_shallow text) refl
+  where
+    by_tests : (a b : Bool) → is_utf8 text ≡ a → (if a && b then read text else None) ≡ None
+    by_tests true true is = none (IsUtf8-from_is_utf8 text is)
+    by_tests true false is = refl
+    by_tests false b is = refl
+
+pub too_deep : (text : List ℕ) → is_shallow text ≡ false → json_value text ≡ None
+unfolding json_value
+too_deep text deep = by_test (is_utf8 text)
+  where
+    by_test : (a : Bool) → (if a && is_shallow text then read text else None) ≡ None
+    by_test true = rw deep refl
+    by_test false = refl
 
 -- ---- the steps of a record
 

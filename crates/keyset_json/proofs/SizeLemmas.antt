@@ -1,7 +1,7 @@
 -- Records that are read from a JSON value whose texts are short are short.
 use Rattle.std.proofs.Common.{◌≡◌, ℕ, ◌+◌, ◌-◌, ◌≤◌, ◌^◌, Bool, true, false, List, [], ◌∷◌, length, Option, Some, None, Result, Ok, Err, refl, sym, subst, arith}
 use Rattle.std.proofs.Common.{Ordering, Less, Equal, Greater}
-use Rattle.std.specs.Prelude.{⊤}
+use Rattle.std.specs.Prelude.{⊤, ◌&&◌, if◌then◌else◌}
 use Rattle.std.specs.Str.{is_utf8}
 use Rattle.std.proofs.lemmas.List.{length-take}
 use Rattle.serde_json.specs.Read.{read}
@@ -19,6 +19,7 @@ use Rattle.keyset_json.specs.declared.member.Member.{Member}
 use Rattle.keyset_json.specs.declared.member.Member.TheVariants as members
 use Rattle.keyset_json.specs.Base64Text.{bytes_of_text}
 use Rattle.keyset_json.specs.Members.{name_of, field_name_of, unless_null, member_of}
+use Rattle.keyset_json.specs.Nesting.{is_shallow}
 use Rattle.keyset_json.specs.Reading.{◌>>=◌, of_key, of_keyset, or_at, given, field, bytes_of, object_of, record_of, records_of, records_in, json_value, ends_in_newline, without_newline}
 use Rattle.keyset_json.proofs.Base64Lemmas.{bytes_short}
 use Rattle.keyset_json.proofs.ReadingLemmas.{material_at, status_at, id_at, prefix_at}
@@ -76,8 +77,8 @@ module _ (n : ℕ) where
 
   next_short : {A B : Type 0} (P : A → Type 0) (Q : B → Type 0) (read : Result A Path) (next : A → Result B Path) → IfRead P read → ((a : A) → P a → IfRead Q (next a))
       → IfRead Q (read >>= next)
-  next_short P Q (Ok a) next h then = then a h
-  next_short P Q (Err p) next h then = tt
+  next_short P Q (Ok a) next h rest = rest a h
+  next_short P Q (Err p) next h rest = tt
 
   any_read : {A : Type 0} (read : Result A Path) → IfRead (λ _. ⊤) read
   any_read (Ok a) = tt
@@ -156,8 +157,11 @@ all_weaker P Q h (r ∷ rs) all = (h r all.0, all_weaker P Q h rs all.1)
 
 pub value_of : (text : List ℕ) (b : Bool) (d : Data) → is_utf8 text ≡ b → json_value text ≡ Some d → read text ≡ Some d
 unfolding json_value
-value_of text true d utf8 is = rw utf8 at is
-value_of text false d utf8 is = let clash : None ≡ Some d = rw utf8 at is in cc
+value_of text b d utf8 is = by_test (is_utf8 text && is_shallow text) is
+  where
+    by_test : (c : Bool) → (if c then read text else None) ≡ Some d → read text ≡ Some d
+    by_test true e = e
+    by_test false e = cc
 
 pub newline_shorter : (bytes : List ℕ) (b : Bool) → ends_in_newline bytes ≡ b → length (without_newline bytes) ≤ length bytes
 unfolding without_newline

@@ -1,6 +1,6 @@
 -- A keyset that is read of JSON is held to what the types of its records hold.
 use Rattle.std.proofs.Common.{◌≡◌, ◌∙◌, ℕ, ◌+◌, ◌-◌, ◌<◌, ◌^◌, Bool, true, false, List, [], ◌∷◌, ◌++◌, length, take, slice_index, nat_lt, Option, Some, None, Result, Ok, Err, refl, sym, ap, subst, arith}
-use Rattle.std.specs.Prelude.{⊤, if◌then◌else◌}
+use Rattle.std.specs.Prelude.{⊤, ◌&&◌, if◌then◌else◌}
 use Rattle.std.specs.List.{AllByRecursion}
 use Rattle.std.specs.Str.{IsUtf8, is_utf8}
 use Rattle.std.proofs.Math.Seq.{take-length}
@@ -20,13 +20,14 @@ use Rattle.keyset_json.specs.Members.{member_of}
 use Rattle.keyset_json.specs.Numbers.{within_32_bits, number_of_num, uint32_of}
 use Rattle.tink_base.specs.Decimal.{number_in}
 use Rattle.tink_base.proofs.DecimalLemmas.{number_passes}
+use Rattle.keyset_json.specs.Nesting.{is_shallow}
 use Rattle.keyset_json.specs.Reading.{◌>>=◌, of_key, of_keyset, or_at, given, field, bytes_of, object_of, record_of, records_of, records_in, keys_of, json_value, ends_in_newline, without_newline, without_fault, well_formed, of_value, reads_json}
 use Rattle.keyset_json.specs.Stored.{JsonIsShort, JsonIsStored}
 use Rattle.keyset_json.specs.Writing.{HasJsonBounds}
 use Rattle.keyset_json.proofs.ByteLemmas.{AreBytes, bytes_append, bytes_held, utf8_bytes}
 use Rattle.keyset_json.proofs.MemberLemmas.{IfRead, any_read, array_all, at_all, field_all, next_read, object_all, str_all}
 use Rattle.keyset_json.proofs.ReadingLemmas.{material_at, status_at, prefix_at}
-use Rattle.keyset_json.proofs.SizeLemmas.{short_of, within_source}
+use Rattle.keyset_json.proofs.SizeLemmas.{short_of, value_of, within_source}
 use Rattle.keyset_json.proofs.TextLemmas.{Holds, ItemsHold, IfThere}
 use Rattle.keyset_json.proofs.Utf8Lemmas.{utf8_value}
 
@@ -168,15 +169,14 @@ read_of bytes keys e = of_data (json_value (without_newline bytes)) refl e
 
 text_utf8 : (text : List ℕ) (d : Data) → json_value text ≡ Some d → IsUtf8 text
 unfolding json_value
-text_utf8 text d is = by_test (is_utf8 text) refl is
+text_utf8 text d is = by_tests (is_utf8 text) (is_shallow text) refl is
   where
-    by_test : (b : Bool) → is_utf8 text ≡ b → (if b then read text else None) ≡ Some d → IsUtf8 text
-    by_test true utf8 e = IsUtf8-from_is_utf8 text utf8
-    by_test false utf8 e = absurd (cc)
+    by_tests : (a b : Bool) → is_utf8 text ≡ a → (if a && b then read text else None) ≡ Some d → IsUtf8 text
+    by_tests true b utf8 e = IsUtf8-from_is_utf8 text utf8
+    by_tests false b utf8 e = absurd (cc)
 
 value_utf8 : (text : List ℕ) (d : Data) → json_value text ≡ Some d → Holds IsUtf8 d
-unfolding json_value
-value_utf8 text d is = let utf8 = text_utf8 text d is in utf8_value text d utf8 (rw (is_utf8-from_IsUtf8 text utf8) at is)
+value_utf8 text d is = utf8_value text d (text_utf8 text d is) (value_of text _ d refl is)
 
 -- the source is bytes too: a UTF-8 text, and a newline
 pub source_bytes : (bytes : List ℕ) (keys : Keys) → reads_json bytes ≡ Ok keys → AreBytes bytes

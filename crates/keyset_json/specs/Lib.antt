@@ -2,6 +2,7 @@ pub mod Base64Text
 pub mod Enums
 pub mod Members
 pub mod Names
+pub mod Nesting
 pub mod Numbers
 pub mod Reading
 pub mod Steps

@@ -2,7 +2,7 @@
 -- `read` gives its value, and of a name that stands twice the last value.
 --
 --   without_newline   the bytes, less one newline at their end
---   json_value        the value of a text
+--   json_value        the value of a text that nests no deeper than 32
 --   record_of         the record of an item of the list `key`
 --   keys_of           the primary id and the records of a value, or the first member that isn't of
 --                     its form
@@ -22,6 +22,7 @@ use Rattle.keyset_model.specs.Keyset.{Keys, built}
 use Rattle.keyset_json.specs.Base64Text.{bytes_of_text}
 use Rattle.keyset_json.specs.Members.{member_of}
 use Rattle.keyset_json.specs.Names.{status_names, prefix_names, material_names}
+use Rattle.keyset_json.specs.Nesting.{is_shallow}
 use Rattle.keyset_json.specs.Numbers.{uint32_of, enum_of}
 use Rattle.keyset_json.specs.declared.member.Path.{Path}
 use Rattle.keyset_json.specs.declared.member.Member.{Member}
@@ -43,9 +44,9 @@ ends_in_newline bytes = nat_lt 0 (length bytes) && (slice_index bytes (length by
 unfoldable pub without_newline : List ℕ → List ℕ
 without_newline bytes = if ends_in_newline bytes then take (length bytes - 1) bytes else bytes
 
--- the JSON value of bytes; those that aren't UTF-8 have none
+-- the JSON value of bytes; those that aren't UTF-8 or nest deeper than is read have none
 unfoldable pub json_value : List ℕ → Option Data
-json_value bytes = if is_utf8 bytes then read bytes else None
+json_value bytes = if is_utf8 bytes && is_shallow bytes then read bytes else None
 
 -- a member of the keyset
 abbrev pub of_keyset : Member → Path

@@ -8,6 +8,7 @@ mod fields;
 pub mod laws;
 mod member;
 mod names;
+mod nesting;
 mod numbers;
 mod reading;
 mod writing;

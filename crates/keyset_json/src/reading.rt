@@ -6,6 +6,7 @@ ghost use Rattle.std.specs.List.{AllByRecursion};
 ghost use Rattle.keyset_model.specs.Keyset.{IsWithin, IsShort};
 ghost use Rattle.serde_json.specs.View.{view, items_view};
 ghost use Rattle.keyset_json.specs.Reading.{ends_in_newline, without_newline, json_value, record_of, records_of, records_in, reads_json, GivesKeyset};
+ghost use Rattle.keyset_json.specs.Nesting.{is_shallow};
 ghost use Rattle.keyset_json.specs.Steps.{Gives, IsNoValue, IsShape};
 ghost use Rattle.keyset_json.specs.declared.reading.JsonError.TheVariants as errors;
 
@@ -13,6 +14,7 @@ use crate::fields::{
     is_object, of_key, of_keyset, read_base64, read_enum, read_number, read_object, read_text,
 };
 use crate::names::Names;
+use crate::nesting::is_shallow;
 use crate::{Member, Path};
 use keyset_model::{Keyset, KeysetFault, Record};
 use serde_json::{Category, Value};
@@ -22,7 +24,8 @@ use tink_base::{Bytes, NoMemory, Text};
 /// Why bytes give no keyset, in the order in which causes are looked for.
 #[derive(Clone, Copy, Debug, PartialEq, Eq)]
 pub enum JsonError {
-    /// The bytes, less one newline at their end, are no JSON text.
+    /// The bytes, less one newline at their end, are no JSON text, or its lists and objects nest deeper than
+    /// 32.
     NotJson,
     /// This member is the first that isn't of its form.
     Shape(Path),
@@ -64,11 +67,11 @@ impl<T: Drop> From<AllocFailed<T>> for JsonError {
 /// over. Of a name that stands twice the last value counts, as `serde_json` reads it.
 ///
 /// `NotJson` comes exactly where `serde_json` reads no value from the bytes, one newline at their
-/// end left off. `Shape` has the first member that isn't of its form, where members are looked at
-/// in this order: the whole, primaryKeyId, the list of keys; then of each key the key itself,
-/// keyData, typeUrl, value, keyMaterialType, status, keyId, outputPrefixType. `Fault` comes exactly
-/// where each member is of its form and the keyset has that fault first. URL and value of each
-/// record have at most as many bytes as the source.
+/// end left off, or lists and objects nest deeper than 32 in them. `Shape` has the first member that
+/// isn't of its form, where members are looked at in this order: the whole, primaryKeyId, the list of
+/// keys; then of each key the key itself, keyData, typeUrl, value, keyMaterialType, status, keyId,
+/// outputPrefixType. `Fault` comes exactly where each member is of its form and the keyset has that
+/// fault first. URL and value of each record have at most as many bytes as the source.
 pub fn read_json(alloc: Global, bytes: &[u8]) -> Result<Keyset, JsonError>
     requires size_bound { length bytes.now ≤ 2 ^ 30 }
     ensures keyset { GivesKeyset result (reads_json bytes.now) }
@@ -104,13 +107,18 @@ fn ends_in_newline(bytes: &[u8]) -> bool
     !bytes.is_empty() && bytes[bytes.len() - 1] == b'\n'
 }
 
-/// The JSON value of a text. `NotJson` comes exactly where `serde_json` reads none from it, and no other
-/// error but `NoMemory` comes, which comes only of bytes that are UTF-8, at least one.
+/// The JSON value of a text. `NotJson` comes exactly where `serde_json` reads none from it, or lists and objects
+/// nest deeper than 32 in it. No other error comes but `NoMemory`, which comes only of bytes that are UTF-8, at
+/// least one, and nest no deeper.
 pub fn read_value(alloc: Global, text: &[u8]) -> Result<Value, JsonError>
     ensures value { IfOk result (λ value. json_value text.now ≡ Some (view value)) }
     ensures none { IfErr result (λ error. IsNoValue error (json_value text.now)) }
-    ensures no_memory { IsErrOf result JsonError.NoMemory → IsUtf8 text.now × (0 < length text.now) }
+    ensures no_memory { IsErrOf result JsonError.NoMemory →
+        IsUtf8 text.now × IsTrue (is_shallow text.now) × (0 < length text.now) }
 {
+    if !is_shallow(text) {
+        return Err(JsonError::NotJson);
+    }
     let Ok(text) = str::from_utf8(text) else {
         return Err(JsonError::NotJson);
     };

@@ -25,8 +25,8 @@ use Rattle.keyset_model.proofs.PrimaryLemmas.{primary_same, well_formed-faultles
 use Rattle.keyset_model.proofs.WritingLemmas.{length-record}
 use Rattle.keyset_json.specs.Reading.{json_value, without_newline}
 use Rattle.keyset_json.proofs.BackLemmas.{bytes_back, newline_off, prefix_ascii, status_ascii}
-use Rattle.keyset_json.proofs.PrintedLemmas.{Good, GoodItems, read_printed, utf8_value}
-use Rattle.keyset_json.proofs.ReadingLemmas.{value_read}
+use Rattle.keyset_json.proofs.NestingLemmas.{value_printed}
+use Rattle.keyset_json.proofs.PrintedLemmas.{Good, GoodItems}
 use Rattle.managers.specs.Table.{Table}
 use Rattle.wrapped_prims.specs.Answers.{Sealed, open_answer, seal_answer}
 use Rattle.wrapped_prims.specs.Laws.{SameKeyOpens}
@@ -89,7 +89,7 @@ items_depth : (ks : List KeyInfo) → tree.items_depth (items_outline (items_of 
 items_depth [] = omega arith
 items_depth (k ∷ ks) = omega (arith, key_depth k _ refl, items_depth ks)
 
-value_depth : (sealed : List ℕ) (info : Info) → tree.depth (outline (wrapped_value sealed info)) ≤ 127
+value_depth : (sealed : List ℕ) (info : Info) → tree.depth (outline (wrapped_value sealed info)) ≤ 32
 unfolding wrapped_value info_value
 value_depth sealed info = omega (arith, items_depth info.keys)
 
@@ -116,7 +116,7 @@ unfolding wrapped_json
 text_back sealed info small all =
     let v = wrapped_value sealed info in
     let good = value_good sealed info small all in
-    ap json_value (newline_off (compact_text v)) ∙ value_read (compact_text v) v (utf8_value v good) (read_printed v good (value_back sealed info small all) (value_depth sealed info))
+    ap json_value (newline_off (compact_text v)) ∙ value_printed v good (value_back sealed info small all) (value_depth sealed info)
 
 member_back : (sealed : List ℕ) (info : Info) → IsBytes sealed → or_member (encrypted_of (wrapped_value sealed info)) ≡ Ok sealed
 unfolding wrapped_value encrypted_of

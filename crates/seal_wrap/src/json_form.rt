@@ -121,9 +121,9 @@ fn url_member(alloc: Global, url: &str) -> Result<Map<String, Value>, AllocError
 /// The encrypted bytes of a JSON text, less one newline at its end, and none where the member is missing
 /// or null.
 ///
-/// `NotJson` comes exactly where `serde_json` reads no value from it. `Member` comes exactly where the
-/// value isn't an object, or the member is there and isn't base64 in a text. Other members aren't looked
-/// at.
+/// `NotJson` comes exactly where `serde_json` reads no value from it, or lists and objects nest deeper than 32
+/// in it. `Member` comes exactly where the value isn't an object, or the member is there and isn't base64 in a
+/// text. Other members aren't looked at.
 pub fn read_wrapped_json(alloc: Global, text: &[u8]) -> Result<Bytes, UnwrapFault>
     ensures sealed { IfOk result (λ sealed. sealed_in_json text.now ≡ Ok sealed) }
     ensures refusal { IfErr result (λ fault. IsRefusal fault (sealed_in_json text.now)) }

@@ -9,6 +9,7 @@ use Rattle.keyset_model.specs.declared.record.Record.{Record}
 use Rattle.keyset_model.specs.declared.keyset.KeysetFault.TheVariants as faults
 use Rattle.keyset_model.specs.Keyset.{fault_of, first_some, first_two, first_without, when}
 use Rattle.keyset_json.specs.Members.{name_of, field_name_of, member_of}
+use Rattle.keyset_json.specs.Nesting.{is_shallow, nests_within}
 use Rattle.keyset_json.specs.Reading.{json_value, without_newline, of_keyset, of_key, record_of, records_of, keys_of, NotJson, Shape, Fault, reads_json}
 use Rattle.keyset_json.specs.Writing.{data_value, key_value, keyset_value, json_of}
 use Rattle.keyset_json.specs.declared.member.Member.TheVariants as members
@@ -18,7 +19,7 @@ use Rattle.base64.specs.GeneralPurpose.{decoded_of}
 
 -- what unfolds to compute the reading of a literal
 unfoldable pub json_examples : ⊤
-unfolding reads_json json_value without_newline keys_of records_of record_of member_of fault_of first_some first_two first_without when chars is_utf8 digits name_of field_name_of serde_json_on_literals base64_on_literals bytes_of_text number_in
+unfolding reads_json json_value is_shallow nests_within without_newline keys_of records_of record_of member_of fault_of first_some first_two first_without when chars is_utf8 digits name_of field_name_of serde_json_on_literals base64_on_literals bytes_of_text number_in
 json_examples = tt
 
 -- RFC 4648, section 10, and the same without padding
