@@ -3,6 +3,8 @@ pub mod DrawLemmas
 pub mod EditLemmas
 pub mod FewLemmas
 pub mod KeepLemmas
+pub mod KeptKeyLemmas
+pub mod KeptLineLemmas
 pub mod LineExamples
 pub mod Options
 pub mod StandardLemmas
@@ -14,6 +16,8 @@ pub mod SoundLemmas
 pub mod NewIdLemmas
 pub mod OpenLemmas
 pub mod CutLemmas
+pub mod DistinctLemmas
+pub mod EnabledLemmas
 pub mod EndLemmas
 pub mod FeedLemmas
 pub mod TalkLemmas

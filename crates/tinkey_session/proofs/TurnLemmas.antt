@@ -48,7 +48,7 @@ edited_on old mid new a b = record {
   last = after-append a.edits b.edits old mid a.last ∙ b.last;
 }
 
-served_keys : (edit : Edit) (keys : Keys) (answer : Result Keys CmdFault) (left : List ℕ) → kept keys answer ≡ (edit_served edit keys answer left).keys
+pub served_keys : (edit : Edit) (keys : Keys) (answer : Result Keys CmdFault) (left : List ℕ) → kept keys answer ≡ (edit_served edit keys answer left).keys
 served_keys edit keys (Ok edited) left = refl
 served_keys edit keys (Err fault) left = refl
 
@@ -82,10 +82,10 @@ handled p table keys random served x e same = elim (handle_cases (unfit keys p t
   | inr other ↦ inl (ap (λ y. y.keys) other.1)
 ]
 
-answer_keeps : (keys : Keys) (random : List ℕ) (reply : Reply) (x : Served) → Some (answered keys random reply) ≡ Some x → keys ≡ x.keys
+pub answer_keeps : (keys : Keys) (random : List ℕ) (reply : Reply) (x : Served) → Some (answered keys random reply) ≡ Some x → keys ≡ x.keys
 answer_keeps keys random reply x e = ap (λ y. y.keys) (same_Some _ _ e)
 
-computed_keeps : {A : Type 0} (keys : Keys) (random : List ℕ) (reply : A → Reply) (answer : Option A) (x : Served) → computed keys random reply answer ≡ Some x → keys ≡ x.keys
+pub computed_keeps : {A : Type 0} (keys : Keys) (random : List ℕ) (reply : A → Reply) (answer : Option A) (x : Served) → computed keys random reply answer ≡ Some x → keys ≡ x.keys
 computed_keeps keys random reply answer x e = ap (λ y. y.keys) (map_some (λ value. answered keys random (reply value)) answer x e).2
 
 -- ---- templates

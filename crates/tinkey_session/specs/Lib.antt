@@ -2,6 +2,8 @@ pub mod Answered
 pub mod Feeding
 pub mod HeldLaws
 pub mod Keeping
+pub mod KeptKeys
+pub mod KeptLines
 pub mod Laws
 pub mod LineLaws
 pub mod Lines

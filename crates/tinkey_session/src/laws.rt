@@ -1,6 +1,8 @@
 //! Laws of the definitions. Each is the contract of a function that does nothing else.
 
 ghost use Rattle.key_msgs.specs.declared.primitive.Primitive.TheVariants.{Aead, Daead, Mac};
+ghost use Rattle.tinkey_session.specs.KeptKeys.{AllIdsStayDistinct, DataStays, EnableGivesBack, EnabledIsAlone, FirstsHaveDistinctIds, IdsStayDistinct, KeptByAllEdits, KeptByEdits, KeptByItsId, NoOtherToEnable};
+ghost use Rattle.tinkey_session.specs.KeptLines.{KeptByLines, KeptBySession, LineIdsStayDistinct, LinesOfOthersSpare, SessionDataStays, SessionIdsStayDistinct};
 ghost use Rattle.tinkey_session.specs.HeldLaws.{EditsKeepStored, FirstsAreStored, SessionsKeepStored};
 ghost use Rattle.tinkey_session.specs.Laws.{EditedIsKeyset, EditedIsSound, EditsKeepSound, FirstsAreSound};
 ghost use Rattle.tinkey_session.specs.Laws.{KeptDopen, KeptDopenPresent, KeptOpen, KeptOpenPresent, KeptTag, SoundIsUsable};
@@ -91,6 +93,48 @@ pub fn kept_tag()
 {
     same_key_verifies();
 }
+
+/// A key with a prefix that is ENABLED and alone under it stays so, with the same id, prefix, URL and value,
+/// over any edits, accepted or refused, of which no accepted one disables, destroys or deletes its id, or
+/// enables another key under its prefix.
+pub fn kept_by_edits()
+    ensures one { KeptByEdits }
+    ensures all { KeptByAllEdits }
+{}
+
+/// A keyset whose ids are distinct has distinct ids after any edits, accepted or refused, since a new key has
+/// an id that no record has; and a new keyset has. No edit of it enables another key under the prefix of one
+/// that is ENABLED and alone under it: so only an accepted edit that disables, destroys or deletes its own id
+/// takes that key away.
+pub fn edits_keep_ids_distinct()
+    ensures one { IdsStayDistinct }
+    ensures all { AllIdsStayDistinct }
+    ensures firsts { FirstsHaveDistinctIds }
+    ensures no_other { NoOtherToEnable }
+    ensures kept { KeptByItsId }
+{}
+
+/// Where ids are distinct, each ENABLED key with a prefix is alone under it, and an edit that enables a key
+/// gives it back: all that makes it stays over any edits and lines that don't destroy or delete its id, also
+/// over those that disable it.
+pub fn enable_gives_back()
+    ensures alone { EnabledIsAlone }
+    ensures stays { DataStays }
+    ensures session { SessionDataStays }
+    ensures back { EnableGivesBack }
+{}
+
+/// A key with a prefix that is ENABLED and alone under it stays so over a session of which no accepted line
+/// disables, destroys or deletes its id, or enables another key under its prefix: before each line, and in
+/// what the session leaves. Ids that are distinct stay so; and where they are, only lines with its own id
+/// count.
+pub fn kept_by_session()
+    ensures turns { KeptByLines }
+    ensures last { KeptBySession }
+    ensures apart { LineIdsStayDistinct }
+    ensures apart_last { SessionIdsStayDistinct }
+    ensures others { LinesOfOthersSpare }
+{}
 
 /// A session's keyset is the first one after some edits: that before each line, and the last one.
 pub fn session_is_edits()
