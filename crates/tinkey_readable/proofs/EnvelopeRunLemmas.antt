@@ -78,7 +78,7 @@ scheme_done (Some scheme) next told done = (scheme, refl)
 scheme_done None next told done = absurd (cc)
 
 -- under the standard table its keys are those of an AEAD
-aead_scheme : DataKeysAreServed → (row : Row) (scheme : Scheme) → IsAead row → scheme_at standard_table Aead (url_made row) ≡ Some scheme → IsAeadScheme scheme
+pub aead_scheme : DataKeysAreServed → (row : Row) (scheme : Scheme) → IsAead row → scheme_at standard_table Aead (url_made row) ≡ Some scheme → IsAeadScheme scheme
 aead_scheme served row scheme aead is =
     let s = served row aead in
     let same : s.0 ≡ scheme = same_Some _ _ (sym s.1 ∙ is) in
@@ -141,7 +141,7 @@ used_done table name form template work next bytes keys told there e done =
       goes_on = d.goes_on ∙ l ∙ f ∙ g ∙ input_done (envelope_limit work) (λ input. envelopes table keys s.0 d.row work input next) told done4;
     }
 
-used_within : (table : Table) (name : List ℕ) (form : Format) (template : List ℕ) (work : AskedEnvelope) (next : List ℕ → Plan) (bytes : List ℕ) (told : Told) → map.get told.files name ≡ Some bytes → IsDoneAnswer (answer (envelope_output table name form template work next) told) → length bytes ≤ keyset_limit
+pub used_within : (table : Table) (name : List ℕ) (form : Format) (template : List ℕ) (work : AskedEnvelope) (next : List ℕ → Plan) (bytes : List ℕ) (told : Told) → map.get told.files name ≡ Some bytes → IsDoneAnswer (answer (envelope_output table name form template work next) told) → length bytes ≤ keyset_limit
 used_within table name form template work next bytes told there done =
     let d = dek_done template (behind_dek table name form work next) told done in
     load_within name form bytes (behind_keys table d.row work next) told there (ap (λ (a : Answer). a.status) (sym d.goes_on) ∙ done)
@@ -159,14 +159,14 @@ used_reached table name form template row scheme work next bytes keys told named
 -- ---- an envelope before and after
 
 -- the primary record of a keyset that can serve gives a key
-gives_key_for : (old : Keys) (r : Record) → unfit old Aead standard_table ≡ None → IsKeyset old → primary_of old ≡ Some r → GivesKeyFor standard_table Aead r
+pub gives_key_for : (old : Keys) (r : Record) → unfit old Aead standard_table ≡ None → IsKeyset old → primary_of old ≡ Some r → GivesKeyFor standard_table Aead r
 gives_key_for old r fit keyset primary =
     let h = has_key standard_table Aead old (record { faultless = keyset.faultless; fit = fit }) in
     let there = subst (λ x. key_of_record standard_table Aead x ≡ Some h.key) (same_Some _ _ (sym h.primary ∙ primary)) h.there in
     (h.key, there, valid_key Aead r h.key there)
 
 -- what was sealed, by the answer of its work
-sealed_by : (old : Keys) (scheme : Scheme) (row : Row) (ad : List ℕ) (told : Told) (output : List ℕ) → IsDoneAnswer (answer (envelopes standard_table old scheme row (to_eseal ad) told.input writes) (record told { input = [] }))
+pub sealed_by : (old : Keys) (scheme : Scheme) (row : Row) (ad : List ℕ) (told : Told) (output : List ℕ) → IsDoneAnswer (answer (envelopes standard_table old scheme row (to_eseal ad) told.input writes) (record told { input = [] }))
     → (answer (envelopes standard_table old scheme row (to_eseal ad) told.input writes) (record told { input = [] })).output ≡ output
     → (left : List ℕ) × (envelope_of old standard_table scheme row told.input ad told.random ≡ Some (record { answer = Ok output; left = left }))
 sealed_by old scheme row ad told output done gave = by (envelope_of old standard_table scheme row told.input ad told.random) refl done gave

@@ -1,3 +1,4 @@
+pub mod AnywhereLemmas
 pub mod DoneEnvelopeLemmas
 pub mod DoneRangeLemmas
 pub mod DoneSessionLemmas
@@ -6,6 +7,9 @@ pub mod DoneWhereLemmas
 pub mod DoneWrapLemmas
 pub mod EndedLemmas
 pub mod EnvelopeRunLemmas
+pub mod FileLemmas
+pub mod KeptRunLemmas
+pub mod KeptTextLemmas
 pub mod LineRunLemmas
 pub mod PutLemmas
 pub mod ReachLemmas

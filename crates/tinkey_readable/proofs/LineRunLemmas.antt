@@ -45,14 +45,14 @@ use Rattle.tinkey_readable.proofs.RunLemmas.{Started, done_within, dsealed_by, d
 -- ---- the replies of lines
 
 -- a line that gave bytes had a keyset that serves the primitive, and this is what it gave
-gave : (p : Primitive) (keys : Keys) (random : List ℕ) (served : Option Served) (x : Served) (bytes : List ℕ) → by_handle p standard_table keys random served ≡ Some x → x.reply ≡ Gives bytes
+pub gave : (p : Primitive) (keys : Keys) (random : List ℕ) (served : Option Served) (x : Served) (bytes : List ℕ) → by_handle p standard_table keys random served ≡ Some x → x.reply ≡ Gives bytes
     → (unfit keys p standard_table ≡ None) × (served ≡ Some x)
 gave p keys random served x bytes e reply = elim (handle_cases (unfit keys p standard_table) keys random served x e) [
   | inl is ↦ is
   | inr other ↦ let h : Refuses (cannot_serve other.0.0 other.0.1) ≡ Gives bytes = ap (λ y. y.reply) other.1 ∙ reply in absurd (cc)
 ]
 
-same_bytes : (a b : List ℕ) → Gives a ≡ Gives b → a ≡ b
+pub same_bytes : (a b : List ℕ) → Gives a ≡ Gives b → a ≡ b
 same_bytes a b e = cc
 
 -- under a keyset that serves the primitive, the reply is the answer
@@ -62,7 +62,7 @@ answer_is p keys random reply x fit e =
     sym (ap (λ y. y.reply) (same_Some _ _ (sym (ap (λ u. unless_unfit u keys random (Some (answered keys random reply))) fit) ∙ e)))
 
 -- what is computed without a draw
-computed_gave : (p : Primitive) (keys : Keys) (random : List ℕ) (answer : Option (List ℕ)) (bytes : List ℕ) (x : Served)
+pub computed_gave : (p : Primitive) (keys : Keys) (random : List ℕ) (answer : Option (List ℕ)) (bytes : List ℕ) (x : Served)
     → by_handle p standard_table keys random (computed keys random Gives answer) ≡ Some x → x.reply ≡ Gives bytes
     → (unfit keys p standard_table ≡ None) × (answer ≡ Some bytes)
 computed_gave p keys random answer bytes x e is =
@@ -217,11 +217,11 @@ record Reads (While : Record → Keys → Type 0) (work : AskedWork) (input : Li
   of_line : (told : Told) (t : Turn) → HasTurn told written t → t.line ≡ asks work input → While r t.before → (other : List ℕ) × Is other × (t.reply ≡ done_reply work other)
 
 -- what a run and a line answer over a keyset
-record Answers (work : AskedWork) (input : List ℕ) (Is : List ℕ → Type 0) (new : Keys) : Type 0 where
-  other : List ℕ
-  is : Is other
-  of_run : (told : Told) → (IsDoneAnswer (answer (works standard_table new work input writes) told)) × ((answer (works standard_table new work input writes) told).output ≡ other)
-  of_line : (random : List ℕ) (x : Served) → unfit new (primitive_for work) standard_table ≡ None → serve standard_table new (asks work input) random ≡ Some x → x.reply ≡ done_reply work other
+pub record Answers (work : AskedWork) (input : List ℕ) (Is : List ℕ → Type 0) (new : Keys) : Type 0 where
+  pub other : List ℕ
+  pub is : Is other
+  pub of_run : (told : Told) → (IsDoneAnswer (answer (works standard_table new work input writes) told)) × ((answer (works standard_table new work input writes) told).output ≡ other)
+  pub of_line : (random : List ℕ) (x : Served) → unfit new (primitive_for work) standard_table ≡ None → serve standard_table new (asks work input) random ≡ Some x → x.reply ≡ done_reply work other
 
 reads : {Makes : Keys → Type 0} {made : List ℕ} {most : ℕ} (While : Record → Keys → Type 0) (work : AskedWork) (input : List ℕ) (Is : List ℕ → Type 0) (r : Record) (after : Written) → SoundIsUsable (primitive_for work) → EditedIsSound → EditedIsKeyset → (o : Origin (primitive_for work) made most Makes r after) → length input ≤ limit_for work
     → ((new : Keys) → While r new → Answers work input Is new) → Reads While work input Is r after
@@ -253,11 +253,11 @@ is_read_somehow work input r written x = record {
 
 -- ---- seals
 
-record MakesSeal (plain ad sealed : List ℕ) (keys : Keys) : Type 0 where
-  random : List ℕ
-  made : Sealed
-  is : seal_answer keys standard_table plain ad random ≡ Some made
-  bytes : made.bytes ≡ sealed
+pub record MakesSeal (plain ad sealed : List ℕ) (keys : Keys) : Type 0 where
+  pub random : List ℕ
+  pub made : Sealed
+  pub is : seal_answer keys standard_table plain ad random ≡ Some made
+  pub bytes : made.bytes ≡ sealed
 
 seal_origin : TalkIsTurns → ReadKeysFit → RunStep → WrapStep → SessionIsEdits → EditedIsKeyset → (ad plain sealed : List ℕ) (r : Record) (after : Written) → WasMade (to_seal ad) plain sealed r after → Origin Aead plain input_limit (MakesSeal plain ad sealed) r after
 unfolding serve
@@ -269,7 +269,7 @@ seal_origin talks read_fit law wrap sessions keyset ad plain sealed r after was 
     (g.0, record { random = random; made = there.0; is = there.1; bytes = same_bytes _ _ (ap (λ y. y.reply) there.2 ∙ is) }))
     was
 
-open_answers : (Is : List ℕ → Type 0) (new : Keys) (sealed ad plain : List ℕ) → Is plain → open_answer new standard_table sealed ad ≡ Some plain → Answers (to_open ad) sealed Is new
+pub open_answers : (Is : List ℕ → Type 0) (new : Keys) (sealed ad plain : List ℕ) → Is plain → open_answer new standard_table sealed ad ≡ Some plain → Answers (to_open ad) sealed Is new
 unfolding serve
 open_answers Is new sealed ad plain is e = record {
   other = plain;
@@ -302,7 +302,7 @@ dseal_origin fits talks read_fit law wrap sessions keyset ad plain sealed r afte
     (λ keys random x e is. computed_gave Daead keys random (dseal_answer keys standard_table plain ad) sealed x e is)
     was
 
-dopen_answers : (Is : List ℕ → Type 0) (new : Keys) (sealed ad plain : List ℕ) → Is plain → dopen_answer new standard_table sealed ad ≡ Some plain → Answers (to_dopen ad) sealed Is new
+pub dopen_answers : (Is : List ℕ → Type 0) (new : Keys) (sealed ad plain : List ℕ) → Is plain → dopen_answer new standard_table sealed ad ≡ Some plain → Answers (to_dopen ad) sealed Is new
 unfolding serve
 dopen_answers Is new sealed ad plain is e = record {
   other = plain;
@@ -333,7 +333,7 @@ tag_origin fits talks read_fit law wrap sessions keyset tag body r after was = o
     (λ keys random x e is. computed_gave Mac keys random (tag_answer keys standard_table body) tag x e is)
     was
 
-verify_answers : (new : Keys) (tag body : List ℕ) → verify_answer new standard_table tag body ≡ true → Answers (to_verify tag) body (λ other. other ≡ []) new
+pub verify_answers : (new : Keys) (tag body : List ℕ) → verify_answer new standard_table tag body ≡ true → Answers (to_verify tag) body (λ other. other ≡ []) new
 unfolding serve
 verify_answers new tag body e = record {
   other = [];

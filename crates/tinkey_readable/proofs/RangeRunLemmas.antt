@@ -27,7 +27,7 @@ use Rattle.tinkey_readable.proofs.StreamRunLemmas.{keys_reached, sealed_before, 
 -- ---- a range of a stream that opens
 
 -- so many bytes from a place on, where they end within the plaintext, are that slice of it
-range_within : RangeIsSlice → (keys : Keys) (ad stream plain : List ℕ) (from size : ℕ) → OpensUnder keys ad stream plain → from + size ≤ length plain
+pub range_within : RangeIsSlice → (keys : Keys) (ad stream plain : List ℕ) (from size : ℕ) → OpensUnder keys ad stream plain → from + size ≤ length plain
     → range_of (ciphers_of ad (stream_keys keys)) stream from (from + size) ≡ Ok (take size (drop from plain))
 range_within slice keys ad stream plain from size opens within =
     let test : nat_lt (length plain) (from + size) ≡ false = grind (arith, nat_tests, within) in
@@ -37,7 +37,7 @@ range_within slice keys ad stream plain from size opens within =
     ∙ ap (λ (n : ℕ). Ok (take n (drop from plain))) count
 
 -- those that end behind it are refused
-range_past : RangeIsSlice → (keys : Keys) (ad stream plain : List ℕ) (from size : ℕ) → OpensUnder keys ad stream plain → length plain < from + size
+pub range_past : RangeIsSlice → (keys : Keys) (ad stream plain : List ℕ) (from size : ℕ) → OpensUnder keys ad stream plain → length plain < from + size
     → range_of (ciphers_of ad (stream_keys keys)) stream from (from + size) ≡ Err past_end
 range_past slice keys ad stream plain from size opens behind =
     let test : nat_lt (length plain) (from + size) ≡ true = grind (arith, nat_tests, behind) in

@@ -136,7 +136,7 @@ written_back binary json formats.Binary keys faultless stored = ap result_ok (bi
 
 -- ---- one run
 
-template_row : (name : List ℕ) (row : Row) → row_named name ≡ Some row → IsTemplate row
+pub template_row : (name : List ℕ) (row : Row) → row_named name ≡ Some row → IsTemplate row
 template_row name row e = template_there name row (ap (λ (o : Option Row). template_or o (is_asymmetric name)) e)
 
 -- the edit of a name has its template
@@ -377,7 +377,7 @@ run_step law binary json keeps keeps_stored turns sessions edited keep_sessions 
 -- ---- many runs
 
 -- what a run does is some edits
-done_edits : SessionIsEdits → (table : Table) (told : Told) (asked : Asked) (old new : Keys) → Does table told old new asked → IsEdited old new
+pub done_edits : SessionIsEdits → (table : Table) (told : Told) (asked : Asked) (old new : Keys) → Does table told old new asked → IsEdited old new
 unfolding after
 done_edits sessions table told (edit_keyset edit in' out) old new does = record {
   edits = record { edit = does.edit; random = told.random } ∷ [];
@@ -406,7 +406,7 @@ pub record Led (old : Keys) (after : Written) : Type 0 where
   pub edited : IsEdited old new
   pub within : length after.bytes ≤ keyset_limit
 
-no_edits : (old : Keys) → IsEdited old old
+pub no_edits : (old : Keys) → IsEdited old old
 unfolding after
 no_edits old = record { edits = []; asked = tt; last = refl }
 

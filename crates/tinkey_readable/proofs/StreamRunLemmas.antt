@@ -84,13 +84,13 @@ keys_loaded name form bytes keys next told there e done =
 -- ---- a stream
 
 -- what was sealed, by the answer of the plan behind the keys
-record SealedStream (key : StreamKey) (ad : List ℕ) (told : Told) (stream : List ℕ) : Type 0 where
+pub record SealedStream (key : StreamKey) (ad : List ℕ) (told : Told) (stream : List ℕ) : Type 0 where
   random : List ℕ
   whole : length random ≡ key.derived + 7
   few : seal_decides (cipher_of ad key) random told.input ≡ None
   is : sealed (cipher_of ad key) random told.input true ≡ stream
 
-sealed_by : (keys : KeysForStreams) (ad : List ℕ) (told : Told) (stream : List ℕ) → IsDoneAnswer (answer (seals_stream keys ad) told) → (answer (seals_stream keys ad) told).output ≡ stream → SealedStream keys.primary ad told stream
+pub sealed_by : (keys : KeysForStreams) (ad : List ℕ) (told : Told) (stream : List ℕ) → IsDoneAnswer (answer (seals_stream keys ad) told) → (answer (seals_stream keys ad) told).output ≡ stream → SealedStream keys.primary ad told stream
 sealed_by keys ad told stream done gave = by (nat_lt (length told.random) n) refl done gave
   where
     n : ℕ
@@ -121,13 +121,13 @@ sealed_by keys ad told stream done gave = by (nat_lt (length told.random) n) ref
         by_pass (many_plain cipher (header_of cipher random) told.input) (length-take-le n told.random enough) refl done gave
 
 -- it opens under the key that sealed it
-opens_alone : StreamBack → (key : StreamKey) (ad : List ℕ) (told : Told) (stream : List ℕ) → IsSound key → SealedStream key ad told stream → stream_answer (cipher_of ad key ∷ []) stream ≡ (told.input, None)
+pub opens_alone : StreamBack → (key : StreamKey) (ad : List ℕ) (told : Told) (stream : List ℕ) → IsSound key → SealedStream key ad told stream → stream_answer (cipher_of ad key ∷ []) stream ≡ (told.input, None)
 opens_alone back key ad told stream sound s =
     ap (stream_answer (cipher_of ad key ∷ [])) (sym s.is)
     ∙ back (cipher_of ad key) s.random told.input (cipher_of-is_cipher ad key sound) (omega (arith, s.whole)) s.few
 
 -- a pass that opens it is Done, with its plaintext
-opened_so : (keys : KeysForStreams) (ad : List ℕ) (told : Told) (stream plain : List ℕ) → told.input ≡ stream → stream_answer (ciphers_of ad keys.keys) stream ≡ (plain, None) → (IsDoneAnswer (answer (opens_stream keys ad) told)) × ((answer (opens_stream keys ad) told).output ≡ plain)
+pub opened_so : (keys : KeysForStreams) (ad : List ℕ) (told : Told) (stream plain : List ℕ) → told.input ≡ stream → stream_answer (ciphers_of ad keys.keys) stream ≡ (plain, None) → (IsDoneAnswer (answer (opens_stream keys ad) told)) × ((answer (opens_stream keys ad) told).output ≡ plain)
 opened_so keys ad told stream plain same is =
     let all : stream_answer (ciphers_of ad keys.keys) told.input ≡ (plain, None) = ap (stream_answer (ciphers_of ad keys.keys)) same ∙ is in
     let none : decides (ciphers_of ad keys.keys) told.input true ≡ None = ap (λ (x : List ℕ × Option StreamRefusal). x.1) all in
@@ -136,7 +136,7 @@ opened_so keys ad told stream plain same is =
     (ap (λ (a : Answer). a.status) e, ap (λ (a : Answer). a.output) e ∙ out)
 
 -- a pass goes as under the key chosen alone
-chosen_so : (keys : KeysForStreams) (key : StreamKey) (ad : List ℕ) (told : Told) (stream : List ℕ) → told.input ≡ stream → choose (ciphers_of ad keys.keys) stream true ≡ chosen (cipher_of ad key) → answer (opens_stream keys ad) told ≡ answer (pumps (opening_under (cipher_of ad key))) told
+pub chosen_so : (keys : KeysForStreams) (key : StreamKey) (ad : List ℕ) (told : Told) (stream : List ℕ) → told.input ≡ stream → choose (ciphers_of ad keys.keys) stream true ≡ chosen (cipher_of ad key) → answer (opens_stream keys ad) told ≡ answer (pumps (opening_under (cipher_of ad key))) told
 chosen_so keys key ad told stream same is =
     let here : choose (ciphers_of ad keys.keys) told.input true ≡ chosen (cipher_of ad key) = ap (λ (l : List ℕ). choose (ciphers_of ad keys.keys) l true) same ∙ is in
     by_refusal (decides_by (chosen (cipher_of ad key)) told.input true) (ap (λ (c : Choice). decides_by c told.input true) here) (ap (λ (c : Choice). released_by c told.input true) here)

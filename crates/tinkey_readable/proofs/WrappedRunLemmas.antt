@@ -101,15 +101,15 @@ behind_files (Some name) told = refl
 behind_files None told = refl
 
 -- what a run that is done says of its master, its keyset and its text
-record WasWrapped (out : Format) (told : Told) (master before text : Written) (old keys : Keys) : Type 0 where
-  master_within : length master.bytes ≤ keyset_limit
-  fit : unfit old Aead standard_table ≡ None
-  within : length before.bytes ≤ keyset_limit
-  binary_within : length (binary_of keys) ≤ keyset_limit
-  wrapped : Wrapped
-  is : wrap_of keys old standard_table told.random (is_json text.form) ≡ Some wrapped
-  same : wrapped.text ≡ text.bytes
-  short : length text.bytes ≤ wrapped_limit
+pub record WasWrapped (out : Format) (told : Told) (master before text : Written) (old keys : Keys) : Type 0 where
+  pub master_within : length master.bytes ≤ keyset_limit
+  pub fit : unfit old Aead standard_table ≡ None
+  pub within : length before.bytes ≤ keyset_limit
+  pub binary_within : length (binary_of keys) ≤ keyset_limit
+  pub wrapped : Wrapped
+  pub is : wrap_of keys old standard_table told.random (is_json text.form) ≡ Some wrapped
+  pub same : wrapped.text ≡ text.bytes
+  pub short : length text.bytes ≤ wrapped_limit
 
 -- the steps behind the master, and behind the keyset
 abbrev behind_master : Place → Place → Keys → Plan
@@ -149,7 +149,7 @@ wrap_done name form in' out told master before text old keys of_master lies is_m
     }
 
 -- a wrap run, by what it was asked
-wraps_done : (run : Run) (master before text : Written) (old keys : Keys) (x : Wraps standard_table run master before text) → keyset_of master ≡ Some old → keyset_of before ≡ Some keys → WasWrapped x.handing.put.form run.told master before text old keys
+pub wraps_done : (run : Run) (master before text : Written) (old keys : Keys) (x : Wraps standard_table run master before text) → keyset_of master ≡ Some old → keyset_of before ≡ Some keys → WasWrapped x.handing.put.form run.told master before text old keys
 wraps_done run master before text old keys x is_master is =
     let h = x.handing in
     let asked = x.asked in
@@ -168,7 +168,7 @@ gives_key old r plain ad random s primary e =
     (second.0, there, valid_key Aead r second.0 there)
 
 -- What was wrapped gives the keyset, under a master that still opens it.
-unwrapped : FaultlessKeysets → BinaryBack → JsonBack → ReadIsStored → WrapBackBytes → (run : Run) (master before text : Written) (old new keys : Keys) (r : Record) (prefix : List ℕ) (x : Wraps standard_table run master before text) → keyset_of master ≡ Some old → keyset_of before ≡ Some keys
+pub unwrapped : FaultlessKeysets → BinaryBack → JsonBack → ReadIsStored → WrapBackBytes → (run : Run) (master before text : Written) (old new keys : Keys) (r : Record) (prefix : List ℕ) (x : Wraps standard_table run master before text) → keyset_of master ≡ Some old → keyset_of before ≡ Some keys
     → HoldsBytes master → HoldsBytes before → DrawsBytes run → primary_of old ≡ Some r → prefix_of r ≡ Some prefix → HasSameKey r new → unwrap_of new standard_table text.bytes (is_json text.form) ≡ Ok keys
 unwrapped law binary json stored back run master before text old new keys r prefix x is_master is holds_master holds random primary prefixed same =
     let w = wraps_done run master before text old keys x is_master is in
@@ -186,10 +186,10 @@ unwrapped law binary json stored back run master before text old new keys r pref
 
 -- ---- unwrapping
 
-abbrev opens_plan : Place → Place → Keys → Plan
+abbrev pub opens_plan : Place → Place → Keys → Plan
 opens_plan in' out new = takes_wrapped in'.file (λ text. unwraps new standard_table in'.form text (puts_keyset out))
 
-given_keyset : (new : Keys) (form : Format) (text : List ℕ) (keys : Keys) (next : Keys → Plan) (told : Told) → unwrap_of new standard_table text (is_json form) ≡ Ok keys → answer (unwraps new standard_table form text next) told ≡ answer (next keys) told
+pub given_keyset : (new : Keys) (form : Format) (text : List ℕ) (keys : Keys) (next : Keys → Plan) (told : Told) → unwrap_of new standard_table text (is_json form) ≡ Ok keys → answer (unwraps new standard_table form text next) told ≡ answer (next keys) told
 given_keyset new form text keys next told is = ap (λ (o : Result Keys Refusal). answer (with_unwrapped o next) told) is
 
 pub wrap_step : FaultlessKeysets → BinaryBack → JsonBack → ReadIsStored → WrapBackBytes → WrapStep
@@ -232,7 +232,7 @@ put_reached out keys told within free =
     bytes = written_in out.form keys
 
 -- a keyset whose binary form is within the limit is so in each form in which it is said to be
-form_within : (form : Format) (keys : Keys) → length (binary_of keys) ≤ keyset_limit → IsWithinIn form keys → length (written_in form keys) ≤ keyset_limit
+pub form_within : (form : Format) (keys : Keys) → length (binary_of keys) ≤ keyset_limit → IsWithinIn form keys → length (written_in form keys) ≤ keyset_limit
 form_within formats.Json keys within is = is
 form_within formats.Binary keys within is = within
 

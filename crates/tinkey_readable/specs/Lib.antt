@@ -1,5 +1,8 @@
+pub mod Anywhere
 pub mod DoneWhere
 pub mod EnvelopeRuns
+pub mod KeptRuns
+pub mod KeptTexts
 pub mod LineRuns
 pub mod RangeRuns
 pub mod Readable

@@ -2,8 +2,11 @@
 
 ghost use Rattle.keyset_json.specs.Writing.{JsonBack};
 ghost use Rattle.keyset_model.specs.Writing.{BinaryBack};
+ghost use Rattle.tinkey_readable.specs.Anywhere.{DopensAnywhere, DopensSomehowAnywhere, OpensAnywhere, OpensEnvelopeAnywhere, OpensFirstAnywhere, OpensRangeAnywhere, OpensSomehowAnywhere, OpensStreamAnywhere, UnwrapsAnywhere, VerifiesAnywhere};
 ghost use Rattle.tinkey_readable.specs.DoneWhere.{EditsDone, EnvelopesDone, RangesDone, SessionsDone, StreamsDone, WorksDone, WrapsDone};
 ghost use Rattle.tinkey_readable.specs.EnvelopeRuns.{RunsOpenEnvelope};
+ghost use Rattle.tinkey_readable.specs.KeptRuns.{CommandIdsStayDistinct, CreatedIdsAreDistinct, DataStaysByCommands, FilesStay, GivenBackByEnable, KeptByCommands, KeptByItsIdAlone};
+ghost use Rattle.tinkey_readable.specs.KeptTexts.{ReadsAfterCommands, ReadsByItsIdAlone};
 ghost use Rattle.tinkey_readable.specs.LineRuns.{MadeDopens, MadeDopensPresent, MadeOpens, MadeOpensPresent, MadeVerifies};
 ghost use Rattle.tinkey_readable.specs.RangeRuns.{RunsOpenRange};
 ghost use Rattle.tinkey_readable.specs.Readable.{AnswersAreReadable, SessionsAreReadable};
@@ -86,6 +89,106 @@ pub fn kept_wrapped()
     forms_back();
     read_is_stored();
     wrap_back_bytes();
+    read_keysets_fit();
+    session_is_edits();
+    sound_usable();
+    edited_kept();
+}
+
+/// No run takes a file away or changes it, whatever it is asked and however it ends: a keyset that lies in
+/// one lies there after it.
+pub fn files_stay()
+    ensures { FilesStay }
+{}
+
+/// A key with a prefix that is ENABLED and alone under it stays so, with the same id, prefix, URL and value,
+/// over any list of runs with whatever outcome: edits, conversions, wrapping and unwrapping, sessions, and
+/// any others while the keyset lies in a file. No accepted edit and no accepted line of a session among them
+/// disables, destroys or deletes its id, or enables another key under its prefix.
+///
+/// The runs are those of the top call, over objects that tell; what is drawn, and the first keyset's file,
+/// are bytes.
+pub fn kept_by_commands()
+    ensures { KeptByCommands }
+{
+    run_step();
+    wrap_step();
+    read_is_stored();
+    files_stay();
+}
+
+/// A keyset whose ids are distinct has distinct ids after any such runs, and create-keyset makes one. Of such
+/// a keyset only disable-key, destroy-key and delete-key of its own id, by a command or by a line of a
+/// session, take a key with a prefix away; and enable-key gives it back after a disable, since all that makes
+/// it stays.
+pub fn ids_stay_distinct()
+    ensures apart { CommandIdsStayDistinct }
+    ensures created { CreatedIdsAreDistinct }
+    ensures kept { KeptByItsIdAlone }
+    ensures stays { DataStaysByCommands }
+    ensures back { GivenBackByEnable }
+{
+    run_step();
+    wrap_step();
+    read_is_stored();
+    faultless_keysets();
+    forms_back();
+    edits_keep_keysets();
+    stored_kept();
+    files_stay();
+}
+
+/// What a run or a line of a session made under a key opens or verifies over every keyset that is accepted for
+/// the primitive and in which that key is ENABLED and alone under its prefix: a backup, a branch, another
+/// tool's copy. Nothing is asked of the runs in between. While the key is there, ENABLED, alone or not and of
+/// whatever prefix type, what was sealed opens to some plaintext, and a tag verifies. Of a stream no other key
+/// before it may open the first segment, as nothing in a stream tells its key.
+///
+/// The session of such a line may save its keyset or not, and may end in any way behind the line.
+pub fn kept_anywhere()
+    ensures opens { OpensAnywhere }
+    ensures dopens { DopensAnywhere }
+    ensures opens_somehow { OpensSomehowAnywhere }
+    ensures dopens_somehow { DopensSomehowAnywhere }
+    ensures verifies { VerifiesAnywhere }
+    ensures opens_stream { OpensStreamAnywhere }
+    ensures opens_first_segment { OpensFirstAnywhere }
+    ensures opens_range { OpensRangeAnywhere }
+    ensures opens_envelope { OpensEnvelopeAnywhere }
+    ensures unwraps { UnwrapsAnywhere }
+{
+    read_is_stored();
+    sealings_fit();
+    read_keysets_fit();
+    fit_keysets_answer();
+    kept_open();
+    kept_dopen();
+    kept_open_present();
+    kept_dopen_present();
+    kept_tag();
+    stream_back();
+    range_is_slice();
+    envelope_back();
+    envelopes_fit();
+    standard_data_keys();
+    faultless_keysets();
+    forms_back();
+    wrap_back_bytes();
+}
+
+/// What was made under a key that is ENABLED and alone under its prefix opens or verifies after such runs to
+/// what it was made of, where the first keyset serves the primitive and the runs spare the key: what was
+/// sealed, with an IV or without, tagged, sealed as a stream or in an envelope, and a wrapped keyset. Where
+/// ids are distinct, only disable-key, destroy-key and delete-key of its own id take a key's texts away.
+pub fn texts_stay_readable()
+    ensures commands { ReadsAfterCommands }
+    ensures by_id { ReadsByItsIdAlone }
+{
+    kept_by_commands();
+    ids_stay_distinct();
+    kept_anywhere();
+    run_step();
+    wrap_step();
     read_keysets_fit();
     session_is_edits();
     sound_usable();

@@ -1,0 +1,273 @@
+-- What was made under a key, read over any keyset that has it.
+use Rattle.std.proofs.Common.{arith, ◌≡◌, ◌∙◌, sym, refl, ap, subst, false, ℕ, ◌≤◌, ◌∷◌, [], List, length, Some, None, Ok, Err, option_map}
+use Rattle.std.specs.Prelude.{take, drop}
+use Rattle.key_msgs.specs.KeyTypes.{primitive_of_type, url_of_type}
+use Rattle.key_msgs.specs.Templates.{row_named, type_made}
+use Rattle.key_msgs.specs.declared.primitive.Primitive.TheVariants.{Aead, Daead, Mac}
+use Rattle.keyset_json.specs.Writing.{JsonBack}
+use Rattle.keyset_model.specs.Keyset.{Keys, primary_of}
+use Rattle.keyset_model.specs.WellFormed.{FaultlessKeysets}
+use Rattle.keyset_model.specs.Writing.{BinaryBack, ReadKeysFit}
+use Rattle.keyset_model.specs.declared.record.Record.{Record}
+use Rattle.managers.specs.Standard.{standard_table}
+use Rattle.managers.specs.Table.{scheme_at}
+use Rattle.seal_wrap.specs.EnvelopeLaws.{DataKeysAreServed, EnvelopeBack, EnvelopesFit, IsDataKeyRow}
+use Rattle.seal_wrap.specs.Enveloped.{open_envelope_of}
+use Rattle.seal_wrap.specs.Laws.{WrapBackBytes}
+use Rattle.seal_wrap.specs.Sealings.{DsealingsFit, SealingsFit}
+use Rattle.seal_wrap.specs.Unwrapped.{unwrap_of}
+use Rattle.segment_stream.specs.Laws.{RangeIsSlice, StreamBack}
+use Rattle.segment_stream.specs.Range.{past_end}
+use Rattle.segment_stream.specs.Segments.{cipher_of}
+use Rattle.segment_stream.specs.Opening.{stream_answer}
+use Rattle.segment_stream.specs.StreamKeys.{primary_key, stream_key_of}
+use Rattle.segment_stream.specs.declared.key.StreamKey.{StreamKey}
+use Rattle.tinkey_session.proofs.Options.{map_some}
+use Rattle.tinkey_session.proofs.TurnLemmas.{reached}
+use Rattle.tinkey_session.specs.Laws.{KeptDopen, KeptDopenPresent, KeptOpen, KeptOpenPresent, KeptTag}
+use Rattle.tinkey_session.specs.Serving.{Served, sealed_reply, serve}
+use Rattle.tinkey_session.specs.Session.{asked_in}
+use Rattle.tinkey_session.specs.declared.reply.Reply.TheVariants.{Gives}
+use Rattle.wrapped_prims.specs.Answers.{dseal_answer, open_answer, seal_answer, tag_answer}
+use Rattle.wrapped_prims.specs.Fitness.{unfit}
+use Rattle.wrapped_prims.specs.Laws.{HasKey, IsKeyset}
+use Rattle.tinkey_plans.proofs.EnvelopeLemmas.{row_known}
+use Rattle.tinkey_plans.specs.Envelopes.{envelopes}
+use Rattle.tinkey_plans.specs.Laws.{FitKeysetsAnswer}
+use Rattle.tinkey_plans.specs.Plan.{Answer, Told, answer, writes}
+use Rattle.tinkey_plans.specs.Ranging.{opens_stretch}
+use Rattle.tinkey_plans.specs.Steps.{input_limit, puts, puts_keyset, sealed_limit}
+use Rattle.tinkey_plans.specs.Streaming.{opens_stream, seals_stream}
+use Rattle.tinkey_plans.specs.Using.{handles, limit_for, unless_unfit}
+use Rattle.tinkey_plans.specs.Wrapping.{is_json, unwraps}
+use Rattle.tinkey_readable.proofs.EnvelopeRunLemmas.{aead_scheme, gives_key_for, sealed_by as enveloped_by, used_done, used_reached, used_within}
+use Rattle.tinkey_readable.proofs.LineRunLemmas.{Answers, MakesSeal, computed_gave, dopen_answers, gave, open_answers, same_bytes, verify_answers}
+use Rattle.tinkey_readable.proofs.PutLemmas.{envelope_worked, made_is, made_put, made_written}
+use Rattle.tinkey_readable.proofs.RangeRunLemmas.{puts_reached, range_past, range_within, stretch_reached}
+use Rattle.tinkey_readable.proofs.ReachLemmas.{IsDoneAnswer, behind, bytes_put, load_reached, put_done}
+use Rattle.tinkey_readable.proofs.RunLemmas.{Started, done_within, dsealed_by, dsealed_fits, finished, opens_so, read_keyset, sealed_by, sealed_fits, started, tagged_by}
+use Rattle.tinkey_readable.proofs.StreamKeyLemmas.{first_under, fit_sound, opens_under, primary_gives, primary_key_there, sound_key}
+use Rattle.tinkey_readable.proofs.StreamRunLemmas.{chosen_so, keys_loaded, keys_reached, opened_so, opens_alone, sealed_by as stream_by, with_primary}
+use Rattle.tinkey_readable.proofs.WrappedRunLemmas.{behind_files, form_within, given_keyset, opens_plan, put_reached, text_reached, unwrapped, wraps_done}
+use Rattle.tinkey_readable.specs.Anywhere.{DopensAnywhere, DopensSomehowAnywhere, IsReadAnywhere, IsReadSomehowAnywhere, OpensAnywhere, OpensEnvelopeAnywhere, OpensFirstAnywhere, OpensRangeAnywhere, OpensSomehowAnywhere, OpensStreamAnywhere, ServesStreams, UnwrapsAnywhere, VerifiesAnywhere, WasMadeBy, by_line, by_run}
+use Rattle.tinkey_readable.specs.LineRuns.{asks, done_reply}
+use Rattle.tinkey_readable.specs.Runs.{IsDone, IsFree, ReadIsStored, Written, bytes_at, keyset_of}
+use Rattle.tinkey_readable.specs.StreamRuns.{WasSealed}
+use Rattle.tinkey_words.specs.Words.{AskedWork, to_dopen, to_dseal, to_eopen, to_eseal, to_open, to_seal, to_tag, to_verify}
+
+-- ---- where something was made
+
+-- the keyset that made it of an input within a limit
+record Maker (input : List ℕ) (most : ℕ) (Makes : Keys → Type 0) (r : Record) : Type 0 where
+  old : Keys
+  primary : primary_of old ≡ Some r
+  short : length input ≤ most
+  makes : Makes old
+
+maker : ReadKeysFit → (work : AskedWork) (input output : List ℕ) (r : Record) (Makes : Keys → Type 0)
+    → ((old : Keys) (told : Told) → IsKeyset old → Started work old told output → told.input ≡ input → Makes old)
+    → ((keys : Keys) (random : List ℕ) (x : Served) → serve standard_table keys (asks work input) random ≡ Some x → x.reply ≡ Gives output → Makes keys)
+    → WasMadeBy work input output r → Maker input (limit_for work) Makes r
+maker fit work input output r Makes of_run of_line (by_run before old read told was same primary) =
+    let k = read_keyset fit before.form before.bytes old (done_within work before told output was) read in
+    let b = started work before old told output read was in
+    record { old = old; primary = primary; short = subst (λ i. length i ≤ limit_for work) same b.fits; makes = of_run old told k b same }
+maker fit work input output r Makes of_run of_line (by_line before told t has short line reply primary) =
+    let at = reached standard_table (asked_in told.input) has.keys told.random has.place t has.there in
+    record {
+      old = t.before;
+      primary = primary;
+      short = short;
+      makes = of_line t.before at.random at.served (subst (λ asked. serve standard_table t.before asked at.random ≡ Some at.served) line at.is) (sym at.reply ∙ reply);
+    }
+
+-- ---- where it is read
+
+read_over : {While : Record → Keys → Type 0} (work : AskedWork) (input output : List ℕ) (r : Record) → length input ≤ limit_for work → ((keys : Keys) → While r keys → Answers work input (λ other. other ≡ output) keys) → IsReadAnywhere While work input output r
+read_over work input output r fits answers = record {
+  by_run = λ written keys serves while'.
+      let a = answers keys while' in
+      subst (λ o. IsDone work written input o) a.is (finished work written keys input a.other serves.read serves.within serves.fit fits a.of_run);
+  by_line = λ written told t has line fit while'.
+      let at = reached standard_table (asked_in told.input) has.keys told.random has.place t has.there in
+      let a = answers t.before while' in
+      at.reply ∙ a.of_line at.random at.served fit (subst (λ asked. serve standard_table t.before asked at.random ≡ Some at.served) line at.is) ∙ ap (done_reply work) a.is;
+}
+
+read_somehow_over : (work : AskedWork) (input : List ℕ) (r : Record) → length input ≤ limit_for work → ((keys : Keys) → HasKey r keys → Answers work input (λ other. Unit {0}) keys) → IsReadSomehowAnywhere work input r
+read_somehow_over work input r fits answers = record {
+  by_run = λ written keys serves has.
+      let a = answers keys has in
+      (a.other, finished work written keys input a.other serves.read serves.within serves.fit fits a.of_run);
+  by_line = λ written told t turn line fit has.
+      let at = reached standard_table (asked_in told.input) turn.keys told.random turn.place t turn.there in
+      let a = answers t.before has in
+      (a.other, at.reply ∙ a.of_line at.random at.served fit (subst (λ asked. serve standard_table t.before asked at.random ≡ Some at.served) line at.is));
+}
+
+-- ---- seals
+
+seal_maker : ReadKeysFit → (ad plain sealed : List ℕ) (r : Record) → WasMadeBy (to_seal ad) plain sealed r → Maker plain input_limit (MakesSeal plain ad sealed) r
+unfolding serve
+seal_maker fit ad plain sealed r was = maker fit (to_seal ad) plain sealed r (MakesSeal plain ad sealed)
+    (λ old told k b same. let s = sealed_by old ad told sealed b in record { random = told.random; made = s.0; is = ap (λ i. seal_answer old standard_table i ad told.random) (sym same) ∙ s.1; bytes = s.2 })
+    (λ keys random x e is.
+    let g = gave Aead keys random (option_map (sealed_reply keys) (seal_answer keys standard_table plain ad random)) x sealed e is in
+    let there = map_some (sealed_reply keys) (seal_answer keys standard_table plain ad random) x g.1 in
+    record { random = random; made = there.0; is = there.1; bytes = same_bytes _ _ (ap (λ y. y.reply) there.2 ∙ is) })
+    was
+
+pub opens_anywhere : SealingsFit → ReadKeysFit → KeptOpen → OpensAnywhere
+opens_anywhere sizes fit kept ad plain sealed prefix r is was =
+    let o = seal_maker fit ad plain sealed r was in
+    let m = o.makes in
+    read_over (to_open ad) sealed plain r (sealed_fits sizes o.old plain ad m.random m.made sealed m.is m.bytes o.short) (λ keys same.
+    open_answers (λ other. other ≡ plain) keys sealed ad plain refl (ap (λ c. open_answer keys standard_table c ad) (sym m.bytes) ∙ kept o.old keys r prefix plain ad m.random m.made same o.primary is m.is))
+
+pub opens_somehow_anywhere : SealingsFit → ReadKeysFit → KeptOpenPresent → OpensSomehowAnywhere
+opens_somehow_anywhere sizes fit kept ad plain sealed r was =
+    let o = seal_maker fit ad plain sealed r was in
+    let m = o.makes in
+    read_somehow_over (to_open ad) sealed r (sealed_fits sizes o.old plain ad m.random m.made sealed m.is m.bytes o.short) (λ keys has.
+    let opened = kept o.old keys r plain ad m.random m.made has o.primary m.is in
+    open_answers (λ other. Unit {0}) keys sealed ad opened.0 tt (ap (λ c. open_answer keys standard_table c ad) (sym m.bytes) ∙ opened.1))
+
+-- ---- seals without an IV
+
+dseal_maker : FitKeysetsAnswer → ReadKeysFit → (ad plain sealed : List ℕ) (r : Record) → WasMadeBy (to_dseal ad) plain sealed r → Maker plain input_limit (λ keys. dseal_answer keys standard_table plain ad ≡ Some sealed) r
+unfolding serve
+dseal_maker fits fit ad plain sealed r was = maker fit (to_dseal ad) plain sealed r (λ keys. dseal_answer keys standard_table plain ad ≡ Some sealed)
+    (λ old told k b same. ap (λ i. dseal_answer old standard_table i ad) (sym same) ∙ dsealed_by fits old ad told sealed k b)
+    (λ keys random x e is. (computed_gave Daead keys random (dseal_answer keys standard_table plain ad) sealed x e is).1)
+    was
+
+pub dopens_anywhere : DsealingsFit → FitKeysetsAnswer → ReadKeysFit → KeptDopen → DopensAnywhere
+dopens_anywhere sizes fits fit kept ad plain sealed prefix r is was =
+    let o = dseal_maker fits fit ad plain sealed r was in
+    read_over (to_dopen ad) sealed plain r (dsealed_fits sizes o.old plain ad sealed o.makes o.short) (λ keys same.
+    dopen_answers (λ other. other ≡ plain) keys sealed ad plain refl (kept o.old keys r prefix plain ad sealed same o.primary is o.makes))
+
+pub dopens_somehow_anywhere : DsealingsFit → FitKeysetsAnswer → ReadKeysFit → KeptDopenPresent → DopensSomehowAnywhere
+dopens_somehow_anywhere sizes fits fit kept ad plain sealed r was =
+    let o = dseal_maker fits fit ad plain sealed r was in
+    read_somehow_over (to_dopen ad) sealed r (dsealed_fits sizes o.old plain ad sealed o.makes o.short) (λ keys has.
+    let opened = kept o.old keys r plain ad sealed has o.primary o.makes in
+    dopen_answers (λ other. Unit {0}) keys sealed ad opened.0 tt opened.1)
+
+-- ---- tags
+
+tag_maker : FitKeysetsAnswer → ReadKeysFit → (tag body : List ℕ) (r : Record) → WasMadeBy to_tag body tag r → Maker body input_limit (λ keys. tag_answer keys standard_table body ≡ Some tag) r
+unfolding serve
+tag_maker fits fit tag body r was = maker fit to_tag body tag r (λ keys. tag_answer keys standard_table body ≡ Some tag)
+    (λ old told k b same. ap (λ i. tag_answer old standard_table i) (sym same) ∙ tagged_by fits old told tag k b)
+    (λ keys random x e is. (computed_gave Mac keys random (tag_answer keys standard_table body) tag x e is).1)
+    was
+
+pub verifies_anywhere : FitKeysetsAnswer → ReadKeysFit → KeptTag → VerifiesAnywhere
+verifies_anywhere fits fit kept tag body r was =
+    let o = tag_maker fits fit tag body r was in
+    read_over (to_verify tag) body [] r o.short (λ keys has.
+    verify_answers keys tag body (kept o.old keys r tag body has o.primary o.makes))
+
+-- ---- streams
+
+-- a stream that was sealed under a key of this record
+record MadeStream (r : Record) (ad stream plain : List ℕ) : Type 0 where
+  key : StreamKey
+  gives : stream_key_of r ≡ Ok key
+  alone : stream_answer (cipher_of ad key ∷ []) stream ≡ (plain, None)
+
+stream_maker : StreamBack → (before : Written) (old : Keys) (r : Record) (ad stream : List ℕ) (told : Told) → keyset_of before ≡ Some old → primary_of old ≡ Some r → WasSealed ad before told stream → MadeStream r ad stream told.input
+stream_maker back before old r ad stream told read primary was =
+    let u = keys_loaded was.name before.form before.bytes old (λ k. seals_stream k ad) told was.lies read was.done in
+    let s = stream_by (with_primary old u.primary) ad told stream (ap (λ (a : Answer). a.status) (sym u.goes_on) ∙ was.done) (ap (λ (a : Answer). a.output) (sym u.goes_on) ∙ was.gave) in
+    let gives : stream_key_of r ≡ Ok u.primary = primary_gives old r u.primary primary u.there in
+    record { key = u.primary; gives = gives; alone = opens_alone back u.primary ad told stream (sound_key r u.primary gives) s }
+
+-- a keyset that serves streams has a primary key for them
+primary_there : ReadKeysFit → (other : Written) (keys : Keys) → ServesStreams other keys → (key : StreamKey) × (primary_key keys ≡ Some key)
+primary_there fit other keys serves = primary_key_there keys (fit_sound keys (read_keyset fit other.form other.bytes keys serves.within serves.read) serves.fit)
+
+pub opens_stream_anywhere : StreamBack → ReadKeysFit → OpensStreamAnywhere
+opens_stream_anywhere back fit before other old keys r ad stream told read primary was serves has only =
+    let m = stream_maker back before old r ad stream told read primary was in
+    let p = primary_there fit other keys serves in
+    let opens = opens_under keys r m.key ad stream told.input has m.gives only m.alone in
+    λ t name lies input.
+    let reached' = keys_reached name other.form other.bytes keys p.0 (λ k. opens_stream k ad) t lies serves.read serves.within serves.fit p.1 in
+    let g = opened_so (with_primary keys p.0) ad t stream told.input input opens.answer in
+    (ap (λ (a : Answer). a.status) reached' ∙ g.0, ap (λ (a : Answer). a.output) reached' ∙ g.1)
+
+pub opens_first_anywhere : StreamBack → ReadKeysFit → OpensFirstAnywhere
+opens_first_anywhere back fit before other old keys r ad stream told read primary was serves has =
+    let m = stream_maker back before old r ad stream told read primary was in
+    let p = primary_there fit other keys serves in
+    let f = first_under keys r m.key ad stream told.input has m.gives m.alone in
+    record {
+      key = f.key;
+      place = f.place;
+      there = f.there;
+      first = f.first;
+      answers = λ t name lies input.
+          keys_reached name other.form other.bytes keys p.0 (λ k. opens_stream k ad) t lies serves.read serves.within serves.fit p.1
+          ∙ chosen_so (with_primary keys p.0) f.key ad t stream input f.choice;
+    }
+
+pub opens_range_anywhere : StreamBack → RangeIsSlice → ReadKeysFit → OpensRangeAnywhere
+opens_range_anywhere back slice fit before other old keys r ad stream told read primary was serves has only =
+    let m = stream_maker back before old r ad stream told read primary was in
+    let p = primary_there fit other keys serves in
+    let opens = opens_under keys r m.key ad stream told.input has m.gives only m.alone in
+    let with' = with_primary keys p.0 in
+    record {
+      within = λ t name range out lie free within.
+          let reached' = keys_reached name other.form other.bytes keys p.0 (λ k. opens_stretch k ad range (puts out)) t lie.keyset serves.read serves.within serves.fit p.1 in
+          let plain : List ℕ = take range.size (drop range.from told.input) in
+          let e = reached' ∙ stretch_reached with' ad stream range out t (Ok plain) lie.sealed (range_within slice keys ad stream told.input range.from range.size opens within) in
+          let done = puts_reached out plain t free in
+          (ap (λ (a : Answer). a.status) e ∙ done, ap (λ (a : Answer). bytes_at out a.files a.output) e ∙ bytes_put out plain t done);
+      past = λ t name range out lie behind'.
+          let reached' = keys_reached name other.form other.bytes keys p.0 (λ k. opens_stretch k ad range (puts out)) t lie.keyset serves.read serves.within serves.fit p.1 in
+          reached' ∙ stretch_reached with' ad stream range out t (Err past_end) lie.sealed (range_past slice keys ad stream told.input range.from range.size opens behind');
+    }
+
+-- ---- envelopes
+
+pub opens_envelope_anywhere : EnvelopeBack → EnvelopesFit → DataKeysAreServed → ReadKeysFit → OpensEnvelopeAnywhere
+opens_envelope_anywhere back sizes served fit before other old keys r prefix template again ad sealed told read primary is was one_type serves same =
+    let within = used_within standard_table was.name before.form template (to_eseal ad) (puts was.out) before.bytes told was.lies was.done in
+    let keyset = read_keyset fit before.form before.bytes old within read in
+    let u = used_done standard_table was.name before.form template (to_eseal ad) (puts was.out) before.bytes old told was.lies read was.done in
+    let sealing = envelopes standard_table old u.scheme u.row (to_eseal ad) told.input in
+    let left = record told { input = [] } in
+    let done : IsDoneAnswer (answer (envelopes standard_table old u.scheme u.row (to_eseal ad) told.input (puts was.out)) (record told { input = [] })) = ap (λ (a : Answer). a.status) (sym u.goes_on) ∙ was.done in
+    let w = envelope_worked standard_table old u.scheme u.row (to_eseal ad) told.input (puts was.out) left done in
+    let made = made_is sealing left false was.out sealed w done (ap (λ (a : Answer). bytes_at was.out a.files a.output) (sym u.goes_on) ∙ was.gave) (λ hex. absurd (cc)) in
+    let gone = made_written sealing left sealed w made in
+    let s = enveloped_by old u.scheme u.row ad told sealed gone.0 gone.1 in
+    let row : IsDataKeyRow u.row = record { known = row_known template u.row u.named; aead = u.aead } in
+    let opened = back standard_table u.scheme u.row old keys r prefix told.input ad told.random sealed s.0 row (aead_scheme served u.row u.scheme u.aead u.served) primary is (gives_key_for old r u.fit keyset primary) same s.1 in
+    let short : length sealed ≤ sealed_limit = omega (arith, sizes standard_table u.scheme u.row old told.input ad told.random sealed s.0 row s.1, u.fits) in
+    let found = map_some type_made (row_named again) (type_made u.row) (sym one_type ∙ ap (option_map type_made) u.named) in
+    λ t name out lies input free.
+    let r' = used_reached standard_table name other.form again found.0 u.scheme (to_eopen ad) (puts out) other.bytes keys t found.1 (ap primitive_of_type found.2 ∙ u.aead) (ap (λ made. scheme_at standard_table Aead (url_of_type made)) found.2 ∙ u.served) lies serves.read serves.within serves.fit (subst (λ i. length i ≤ sealed_limit) (sym input) short) in
+    let g = opens_so (open_envelope_of keys standard_table u.scheme t.input ad) told.input (record t { input = [] }) (ap (λ i. open_envelope_of keys standard_table u.scheme i ad) input ∙ opened) in
+    let opening = envelope_worked standard_table keys u.scheme found.0 (to_eopen ad) t.input writes (record t { input = [] }) g.0 in
+    let p = made_put (envelopes standard_table keys u.scheme found.0 (to_eopen ad) t.input) (record t { input = [] }) false out told.input opening g.1 free in
+    (ap (λ (a : Answer). a.status) r' ∙ p.0, ap (λ (a : Answer). bytes_at out a.files a.output) r' ∙ p.1)
+
+-- ---- wrapped keysets
+
+pub unwraps_anywhere : FaultlessKeysets → BinaryBack → JsonBack → ReadIsStored → WrapBackBytes → UnwrapsAnywhere
+unwraps_anywhere law binary json stored back master other old new r prefix holds_master is_master primary prefixed wrap before text keys x random holds is serves same told name in' out lies in_form read free short =
+    let w = wraps_done wrap master before text old keys x is_master is in
+    let gave' = unwrapped law binary json stored back wrap master before text old new keys r prefix x is_master is holds_master holds random primary prefixed same in
+    let l = load_reached name other.form other.bytes new (λ m. handles standard_table Aead m (λ fit. opens_plan in' out m)) told lies serves.read serves.within in
+    let f : answer (unless_unfit (unfit new Aead standard_table) (opens_plan in' out new)) told ≡ answer (opens_plan in' out new) told = ap (λ u. answer (unless_unfit u (opens_plan in' out new)) told) serves.fit in
+    let t = text_reached in'.file text.bytes (λ text. unwraps new standard_table in'.form text (puts_keyset out)) told read w.short in
+    let behind' = behind in'.file told in
+    let g = given_keyset new in'.form text.bytes keys (puts_keyset out) behind' (ap (λ f. unwrap_of new standard_table text.bytes (is_json f)) in_form ∙ gave') in
+    let whole = l ∙ f ∙ t ∙ g in
+    let done = put_reached out keys behind' (form_within out.form keys w.binary_within short) (subst (IsFree out.file) (sym (behind_files in'.file told)) free) in
+    let p = put_done out keys behind' done in
+    (ap (λ (a : Answer). a.status) whole ∙ done, ap (λ (a : Answer). bytes_at out.file a.files a.output) whole ∙ p.there)

@@ -1,0 +1,145 @@
+-- What was made under a key, and any keyset that has this key: a backup, a branch, another tool's copy.
+-- Nothing is said of how that keyset came to be.
+--
+--   Serves               a keyset that the command for this primitive accepts
+--   WasMadeBy            what a run or a line of a session made under a key
+--   IsReadAnywhere       what opens or verifies it, over any keyset that has the key
+--   OpensAnywhere ..     the laws
+use Rattle.std.specs.Prelude.{◌≡◌, ℕ, ◌≤◌, List, [], length, Some, None}
+use Rattle.key_msgs.specs.declared.primitive.Primitive.{Primitive}
+use Rattle.key_msgs.specs.declared.primitive.Primitive.TheVariants.{Aead}
+use Rattle.keyset_model.specs.Keyset.{Keys, primary_of}
+use Rattle.keyset_model.specs.declared.record.Record.{Record}
+use Rattle.managers.specs.Standard.{standard_table}
+use Rattle.segment_stream.specs.StreamKeys.{stream_unfit}
+use Rattle.tinkey_session.specs.Session.{Turn}
+use Rattle.tinkey_session.specs.declared.reply.Reply.TheVariants.{Gives}
+use Rattle.wrapped_prims.specs.Candidates.{prefix_of}
+use Rattle.wrapped_prims.specs.Fitness.{unfit}
+use Rattle.wrapped_prims.specs.Laws.{HasKey, HasSameKey}
+use Rattle.tinkey_plans.specs.Plan.{Told}
+use Rattle.tinkey_plans.specs.Steps.{keyset_limit}
+use Rattle.tinkey_plans.specs.Using.{limit_for}
+use Rattle.tinkey_readable.specs.EnvelopeRuns.{IsEnveloped, MakeOneType, WasEnveloped}
+use Rattle.tinkey_readable.specs.LineRuns.{HasTurn, asks, done_reply}
+use Rattle.tinkey_readable.specs.RangeRuns.{IsRanged}
+use Rattle.tinkey_readable.specs.Runs.{DrawsBytes, HoldsBytes, IsDone, IsUnwrapped, Run, WasDone, Wraps, Written, keyset_of}
+use Rattle.tinkey_readable.specs.StreamRuns.{IsOpened, NoOtherBefore, OpensFirst, WasSealed}
+use Rattle.tinkey_words.specs.Words.{AskedWork, primitive_for, to_dopen, to_dseal, to_eopen, to_eseal, to_open, to_seal, to_tag, to_verify}
+
+-- The keyset that lies here is within its limit, and its ENABLED records all serve the primitive: such a
+-- keyset is accepted by the commands that use it, and any other one is refused.
+pub record Serves (primitive : Primitive) (written : Written) (keys : Keys) : Type 0 where
+  pub read : keyset_of written ≡ Some keys
+  pub within : length written.bytes ≤ keyset_limit
+  pub fit : unfit keys primitive standard_table ≡ None
+
+-- the same of streams
+pub record ServesStreams (written : Written) (keys : Keys) : Type 0 where
+  pub read : keyset_of written ≡ Some keys
+  pub within : length written.bytes ≤ keyset_limit
+  pub fit : stream_unfit keys ≡ None
+
+-- By this work this output was made of this input, by the key of this primary record: by a run of the
+-- command that was Done, or by a line of a session, with or without a file for its keyset, and however it
+-- ended behind that line. The line's input is within the limit of the command, as those of all lines that
+-- are answered.
+pub data WasMadeBy (work : AskedWork) (input output : List ℕ) (r : Record) : Type 0 where
+  by_run : (before : Written) (old : Keys) → keyset_of before ≡ Some old → (told : Told) →
+      WasDone work before told output → told.input ≡ input → primary_of old ≡ Some r →
+      WasMadeBy work input output r
+  by_line : (before : Written) (told : Told) (t : Turn) → HasTurn told before t →
+      length input ≤ limit_for work → t.line ≡ asks work input → t.reply ≡ Gives output →
+      primary_of t.before ≡ Some r → WasMadeBy work input output r
+
+-- This work on this input is done with this output over each keyset that serves it, while that has the
+-- record's key as it is said here: by a run of the command, in whichever file the keyset lies, and by each
+-- line of a session over any keyset.
+pub record IsReadAnywhere (While : Record → Keys → Type 0) (work : AskedWork)
+    (input output : List ℕ) (r : Record) : Type 0 where
+  pub by_run : (written : Written) (keys : Keys) → Serves (primitive_for work) written keys
+      → While r keys → IsDone work written input output
+  pub by_line : (written : Written) (told : Told) (t : Turn) → HasTurn told written t
+      → t.line ≡ asks work input → unfit t.before (primitive_for work) standard_table ≡ None
+      → While r t.before → t.reply ≡ done_reply work output
+
+-- the same with some output, while the key is there, ENABLED
+pub record IsReadSomehowAnywhere (work : AskedWork) (input : List ℕ) (r : Record) : Type 0 where
+  pub by_run : (written : Written) (keys : Keys) → Serves (primitive_for work) written keys
+      → HasKey r keys → (other : List ℕ) × IsDone work written input other
+  pub by_line : (written : Written) (told : Told) (t : Turn) → HasTurn told written t
+      → t.line ≡ asks work input → unfit t.before (primitive_for work) standard_table ≡ None
+      → HasKey r t.before → (other : List ℕ) × (t.reply ≡ done_reply work other)
+
+-- What was sealed under a key with a prefix opens to its plaintext, with its associated data, under each
+-- keyset that serves AEADs and in which that key is ENABLED and alone under its prefix.
+abbrev pub OpensAnywhere : Type 0
+OpensAnywhere = (ad plain sealed prefix : List ℕ) (r : Record) → prefix_of r ≡ Some prefix
+    → WasMadeBy (to_seal ad) plain sealed r
+    → IsReadAnywhere HasSameKey (to_open ad) sealed plain r
+
+-- the same without an IV
+abbrev pub DopensAnywhere : Type 0
+DopensAnywhere = (ad plain sealed prefix : List ℕ) (r : Record) → prefix_of r ≡ Some prefix
+    → WasMadeBy (to_dseal ad) plain sealed r
+    → IsReadAnywhere HasSameKey (to_dopen ad) sealed plain r
+
+-- while the key is there, ENABLED, it opens to some plaintext, whatever the output prefix type
+abbrev pub OpensSomehowAnywhere : Type 0
+OpensSomehowAnywhere = (ad plain sealed : List ℕ) (r : Record)
+    → WasMadeBy (to_seal ad) plain sealed r → IsReadSomehowAnywhere (to_open ad) sealed r
+
+-- the same without an IV
+abbrev pub DopensSomehowAnywhere : Type 0
+DopensSomehowAnywhere = (ad plain sealed : List ℕ) (r : Record)
+    → WasMadeBy (to_dseal ad) plain sealed r → IsReadSomehowAnywhere (to_dopen ad) sealed r
+
+-- a tag verifies, while the key is there, ENABLED, whatever the output prefix type
+abbrev pub VerifiesAnywhere : Type 0
+VerifiesAnywhere = (tag body : List ℕ) (r : Record)
+    → WasMadeBy to_tag body tag r → IsReadAnywhere HasKey (to_verify tag) body [] r
+
+-- What was sealed as a stream opens to its plaintext under each keyset that serves streams and has the key,
+-- ENABLED, where no other key before it opens the stream's first segment.
+abbrev pub OpensStreamAnywhere : Type 0
+OpensStreamAnywhere = (before other : Written) (old keys : Keys) (r : Record) (ad stream : List ℕ)
+    (told : Told) → keyset_of before ≡ Some old → primary_of old ≡ Some r
+    → WasSealed ad before told stream
+    → ServesStreams other keys → (has : HasKey r keys) → NoOtherBefore r has.place ad stream keys
+    → IsOpened ad other stream told.input
+
+-- of such a stream, ranges are slices of its plaintext
+abbrev pub OpensRangeAnywhere : Type 0
+OpensRangeAnywhere = (before other : Written) (old keys : Keys) (r : Record) (ad stream : List ℕ)
+    (told : Told) → keyset_of before ≡ Some old → primary_of old ≡ Some r
+    → WasSealed ad before told stream
+    → ServesStreams other keys → (has : HasKey r keys) → NoOtherBefore r has.place ad stream keys
+    → IsRanged ad other stream told.input
+
+-- while the key is there, ENABLED, the first segment opens, under that key or another one before it
+abbrev pub OpensFirstAnywhere : Type 0
+OpensFirstAnywhere = (before other : Written) (old keys : Keys) (r : Record) (ad stream : List ℕ)
+    (told : Told) → keyset_of before ≡ Some old → primary_of old ≡ Some r
+    → WasSealed ad before told stream → ServesStreams other keys → HasKey r keys
+    → OpensFirst ad other keys stream
+
+-- What was sealed in an envelope under a key with a prefix opens to its plaintext, with its associated data
+-- and any template of its data key's type.
+abbrev pub OpensEnvelopeAnywhere : Type 0
+OpensEnvelopeAnywhere = (before other : Written) (old keys : Keys) (r : Record)
+    (prefix template again ad sealed : List ℕ) (told : Told)
+    → keyset_of before ≡ Some old → primary_of old ≡ Some r → prefix_of r ≡ Some prefix
+    → WasEnveloped (to_eseal ad) template before told sealed → MakeOneType template again
+    → Serves Aead other keys → HasSameKey r keys
+    → IsEnveloped (to_eopen ad) again other sealed told.input
+
+-- What was wrapped under a key with a prefix is unwrapped to the keyset.
+abbrev pub UnwrapsAnywhere : Type 0
+UnwrapsAnywhere = (master other : Written) (old new : Keys) (r : Record) (prefix : List ℕ)
+    → HoldsBytes master → keyset_of master ≡ Some old → primary_of old ≡ Some r
+    → prefix_of r ≡ Some prefix
+    → (wrap : Run) (before text : Written) (keys : Keys)
+    → Wraps standard_table wrap master before text → DrawsBytes wrap
+    → HoldsBytes before → keyset_of before ≡ Some keys
+    → Serves Aead other new → HasSameKey r new
+    → IsUnwrapped other text keys
