@@ -1,43 +1,35 @@
 -- Envelopes that were sealed before runs, and opened after them.
-use Rattle.std.proofs.Common.{arith, ◌≡◌, ◌∙◌, sym, refl, ap, subst, ℕ, ◌≤◌, Bool, true, false, List, [], length, Option, Some, None, Result, Ok, Err}
+use Rattle.std.proofs.Common.{◌≡◌, ◌∙◌, sym, refl, ap, subst, ℕ, ◌≤◌, Bool, true, false, List, [], length, Option, Some, None, Result, Ok, Err}
 use Rattle.std.specs.Prelude.{if◌then◌else◌, option_map}
 use Rattle.std.specs.FinMap as map
 use Rattle.std.proofs.lemmas.Option.{same_Some}
-use Rattle.key_msgs.specs.KeyTypes.{primitive_of_type, url_of_type}
+use Rattle.key_msgs.specs.KeyTypes.{primitive_of_type}
 use Rattle.key_msgs.specs.Templates.{Row, is_asymmetric, row_named, type_made}
 use Rattle.key_msgs.specs.declared.primitive.Primitive.{Primitive}
 use Rattle.key_msgs.specs.declared.primitive.Primitive.TheVariants.{Aead, Daead, Mac, Prf, Stream}
 use Rattle.key_msgs.specs.declared.rule.Rule.{Rule}
 use Rattle.keyset_model.specs.Keyset.{Keys, primary_of}
-use Rattle.keyset_model.specs.Writing.{ReadKeysFit}
 use Rattle.keyset_model.specs.declared.record.Record.{Record}
 use Rattle.managers.specs.Schemes.{Scheme}
 use Rattle.managers.specs.Standard.{standard_table}
 use Rattle.managers.specs.Table.{Table, scheme_at}
-use Rattle.seal_wrap.specs.EnvelopeLaws.{DataKeysAreServed, EnvelopeBack, EnvelopesFit, IsAeadScheme, IsDataKeyRow}
-use Rattle.seal_wrap.specs.Enveloped.{Enveloped, envelope_of, open_envelope_of}
+use Rattle.seal_wrap.specs.EnvelopeLaws.{DataKeysAreServed, IsAeadScheme}
+use Rattle.seal_wrap.specs.Enveloped.{Enveloped, envelope_of}
 use Rattle.seal_wrap.specs.Enveloping.{IsAead, url_made}
 use Rattle.tinkey_cmds.specs.Draws.{Drawn}
-use Rattle.tinkey_session.proofs.Options.{map_some}
 use Rattle.tinkey_session.proofs.UsableLemmas.{valid_key}
-use Rattle.tinkey_session.specs.Laws.{EditedIsKeyset, EditedIsSound, SoundIsUsable}
-use Rattle.tinkey_session.specs.SessionLaws.{SessionIsEdits}
 use Rattle.wrapped_prims.specs.Fitness.{key_of_record, unfit}
 use Rattle.tinkey_plans.proofs.AnswerLemmas.{has_key}
-use Rattle.tinkey_plans.proofs.EnvelopeLemmas.{row_known}
 use Rattle.wrapped_prims.specs.Laws.{GivesKeyFor, IsKeyset}
 use Rattle.tinkey_plans.specs.declared.status.Status.TheVariants as status
 use Rattle.tinkey_words.specs.declared.words.rows.Format.{Format}
-use Rattle.tinkey_words.specs.Words.{AskedEnvelope, to_eseal, to_eopen}
+use Rattle.tinkey_words.specs.Words.{AskedEnvelope, to_eseal}
 use Rattle.tinkey_plans.specs.Envelopes.{as_enveloped, envelope_limit, envelope_output, envelopes, finds_dek, finds_scheme, with_aead, with_enveloped, with_scheme}
 use Rattle.tinkey_plans.specs.Plan.{Answer, Plan, Told, answer, draw_answer, ends, refused, writes}
-use Rattle.tinkey_plans.specs.Steps.{keyset_limit, loads_keyset, puts, reads_input, sealed_limit, with_made, with_row}
+use Rattle.tinkey_plans.specs.Steps.{keyset_limit, loads_keyset, reads_input, with_made, with_row}
 use Rattle.tinkey_plans.specs.Using.{handles, unless_unfit}
-use Rattle.tinkey_readable.specs.EnvelopeRuns.{RunsOpenEnvelope}
-use Rattle.tinkey_readable.specs.Runs.{RunStep, WrapStep, bytes_at, read_in}
-use Rattle.tinkey_readable.proofs.PutLemmas.{envelope_worked, made_is, made_put, made_written}
+use Rattle.tinkey_readable.specs.Runs.{read_in}
 use Rattle.tinkey_readable.proofs.ReachLemmas.{IsDoneAnswer, load_done, load_reached, load_within, input_done, input_reached, input_within, unfit_done}
-use Rattle.tinkey_readable.proofs.RunLemmas.{lead_ends, opens_so, still_fit}
 
 -- ---- the template of data keys
 
@@ -183,25 +175,3 @@ sealed_by old scheme row ad told output done gave = by (envelope_of old standard
         → (left : List ℕ) × (envelope_of old standard_table scheme row told.input ad told.random ≡ Some (record { answer = Ok output; left = left }))
     by None is done gave = absurd (cc)
     by (Some e) is done gave = by_answer e.answer e.left is done gave
-
-pub runs_open_envelope : EnvelopeBack → EnvelopesFit → DataKeysAreServed → ReadKeysFit → RunStep → WrapStep → SessionIsEdits → SoundIsUsable Aead → EditedIsSound → EditedIsKeyset → RunsOpenEnvelope
-runs_open_envelope back sizes served read_fit law wrap sessions usable sound keyset runs before after r prefix template other ad sealed told x same is one_type was =
-    let within = used_within standard_table was.name before.form template (to_eseal ad) (puts was.out) before.bytes told was.lies was.done in
-    let e = lead_ends read_fit law wrap sessions runs before after r within x in
-    let u = used_done standard_table was.name before.form template (to_eseal ad) (puts was.out) before.bytes x.old told was.lies e.read was.done in
-    let sealing = envelopes standard_table x.old u.scheme u.row (to_eseal ad) told.input in
-    let done : IsDoneAnswer (answer (envelopes standard_table x.old u.scheme u.row (to_eseal ad) told.input (puts was.out)) (record told { input = [] })) = ap (λ (a : Answer). a.status) (sym u.goes_on) ∙ was.done in
-    let w = envelope_worked standard_table x.old u.scheme u.row (to_eseal ad) told.input (puts was.out) (record told { input = [] }) done in
-    let made = made_is sealing (record told { input = [] }) false was.out sealed w done (ap (λ (a : Answer). bytes_at was.out a.files a.output) (sym u.goes_on) ∙ was.gave) (λ hex. absurd (cc)) in
-    let gone = made_written sealing (record told { input = [] }) sealed w made in
-    let s = sealed_by x.old u.scheme u.row ad told sealed gone.0 gone.1 in
-    let row : IsDataKeyRow u.row = record { known = row_known template u.row u.named; aead = u.aead } in
-    let opened = back standard_table u.scheme u.row x.old x.new r prefix told.input ad told.random sealed s.0 row (aead_scheme served u.row u.scheme u.aead u.served) e.primary is (gives_key_for x.old r u.fit e.keyset e.primary) same s.1 in
-    let short : length sealed ≤ sealed_limit = omega (arith, sizes standard_table u.scheme u.row x.old told.input ad told.random sealed s.0 row s.1, u.fits) in
-    let again = map_some type_made (row_named other) (type_made u.row) (sym one_type ∙ ap (option_map type_made) u.named) in
-    λ t name out lies input free.
-    let r' = used_reached standard_table name after.form other again.0 u.scheme (to_eopen ad) (puts out) after.bytes x.new t again.1 (ap primitive_of_type again.2 ∙ u.aead) (ap (λ made. scheme_at standard_table Aead (url_of_type made)) again.2 ∙ u.served) lies e.read_again e.within (still_fit Aead usable sound keyset x.old x.new e.keyset e.edited u.fit) (subst (λ i. length i ≤ sealed_limit) (sym input) short) in
-    let g = opens_so (open_envelope_of x.new standard_table u.scheme t.input ad) told.input (record t { input = [] }) (ap (λ i. open_envelope_of x.new standard_table u.scheme i ad) input ∙ opened) in
-    let opening = envelope_worked standard_table x.new u.scheme again.0 (to_eopen ad) t.input writes (record t { input = [] }) g.0 in
-    let p = made_put (envelopes standard_table x.new u.scheme again.0 (to_eopen ad) t.input) (record t { input = [] }) false out told.input opening g.1 free in
-    (ap (λ (a : Answer). a.status) r' ∙ p.0, ap (λ (a : Answer). bytes_at out a.files a.output) r' ∙ p.1)

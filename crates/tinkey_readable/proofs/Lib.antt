@@ -1,4 +1,5 @@
 pub mod AnywhereLemmas
+pub mod CaseLemmas
 pub mod DoneEnvelopeLemmas
 pub mod DoneRangeLemmas
 pub mod DoneSessionLemmas
@@ -10,6 +11,7 @@ pub mod EnvelopeRunLemmas
 pub mod FileLemmas
 pub mod KeptRunLemmas
 pub mod KeptTextLemmas
+pub mod LineCaseLemmas
 pub mod LineRunLemmas
 pub mod PutLemmas
 pub mod ReachLemmas

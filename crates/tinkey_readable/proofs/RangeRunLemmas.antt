@@ -4,25 +4,20 @@ use Rattle.std.specs.Prelude.{nat_lt, if◌then◌else◌}
 use Rattle.std.proofs.lemmas.Bool.Decides.{nat_tests}
 use Rattle.std.specs.FinMap as map
 use Rattle.keyset_model.specs.Keyset.{Keys}
-use Rattle.keyset_model.specs.Writing.{ReadKeysFit}
 use Rattle.segment_stream.specs.KeysModel.{KeysForStreams}
-use Rattle.segment_stream.specs.Laws.{RangeIsSlice, StreamBack}
+use Rattle.segment_stream.specs.Laws.{RangeIsSlice}
 use Rattle.segment_stream.specs.Range.{RangeRefusal, past_end, range_of}
 use Rattle.segment_stream.specs.Segments.{ciphers_of}
 use Rattle.segment_stream.specs.StreamKeys.{stream_keys}
-use Rattle.tinkey_session.specs.Laws.{EditedIsKeyset, EditedIsSound}
-use Rattle.tinkey_session.specs.SessionLaws.{SessionIsEdits}
 use Rattle.tinkey_plans.specs.declared.status.Status.TheVariants as status
 use Rattle.tinkey_words.specs.Words.{AskedRange}
-use Rattle.tinkey_plans.specs.Plan.{Answer, Told, answer, create_answer, range_answer, refused}
+use Rattle.tinkey_plans.specs.Plan.{Told, answer, create_answer, range_answer, refused}
 use Rattle.tinkey_plans.specs.Ranging.{opens_stretch, stretch_for, with_stretch}
 use Rattle.tinkey_plans.specs.Steps.{puts}
 use Rattle.tinkey_plans.specs.Stretch.{Opened}
-use Rattle.tinkey_readable.specs.RangeRuns.{RunsOpenRange}
-use Rattle.tinkey_readable.specs.Runs.{IsFree, RunStep, WrapStep, bytes_at}
-use Rattle.tinkey_readable.proofs.ReachLemmas.{IsDoneAnswer, bytes_put}
-use Rattle.tinkey_readable.proofs.StreamKeyLemmas.{OpensUnder, opens_under}
-use Rattle.tinkey_readable.proofs.StreamRunLemmas.{keys_reached, sealed_before, with_primary}
+use Rattle.tinkey_readable.specs.Runs.{IsFree}
+use Rattle.tinkey_readable.proofs.ReachLemmas.{IsDoneAnswer}
+use Rattle.tinkey_readable.proofs.StreamKeyLemmas.{OpensUnder}
 
 -- ---- a range of a stream that opens
 
@@ -57,20 +52,3 @@ pub stretch_reached : (keys : KeysForStreams) (ad stream : List ℕ) (range : As
 stretch_reached keys ad stream range out told opened there is =
     ap (λ (found : Option (List ℕ)). range_answer found (stretch_for keys ad range) (refused told status.InMissing) (λ o. answer (with_stretch o (puts out)) told)) there
     ∙ ap (λ (o : Opened). answer (with_stretch o (puts out)) told) is
-
-pub runs_open_range : StreamBack → RangeIsSlice → ReadKeysFit → RunStep → WrapStep → SessionIsEdits → EditedIsSound → EditedIsKeyset → RunsOpenRange
-runs_open_range back slice read_fit law wrap sessions sound keyset runs before after r ad stream told x has only was =
-    let b = sealed_before back read_fit law wrap sessions sound keyset runs before after r ad stream told x was in
-    let opens = opens_under x.new r b.key ad stream told.input has b.gives only b.alone in
-    let keys = with_primary x.new b.primary in
-    record {
-      within = λ t name range out lie free within.
-          let reached = keys_reached name after.form after.bytes x.new b.primary (λ k. opens_stretch k ad range (puts out)) t lie.keyset b.read b.within b.fit b.there in
-          let plain : List ℕ = take range.size (drop range.from told.input) in
-          let e = reached ∙ stretch_reached keys ad stream range out t (Ok plain) lie.sealed (range_within slice x.new ad stream told.input range.from range.size opens within) in
-          let done = puts_reached out plain t free in
-          (ap (λ (a : Answer). a.status) e ∙ done, ap (λ (a : Answer). bytes_at out a.files a.output) e ∙ bytes_put out plain t done);
-      past = λ t name range out lie behind.
-          let reached = keys_reached name after.form after.bytes x.new b.primary (λ k. opens_stretch k ad range (puts out)) t lie.keyset b.read b.within b.fit b.there in
-          reached ∙ stretch_reached keys ad stream range out t (Err past_end) lie.sealed (range_past slice x.new ad stream told.input range.from range.size opens behind);
-    }

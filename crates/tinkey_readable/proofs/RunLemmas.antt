@@ -7,7 +7,6 @@ use Rattle.std.specs.Result.{result_ok}
 use Rattle.std.proofs.lemmas.Option.{same_Some}
 use Rattle.key_msgs.specs.Templates.{Row, is_asymmetric, row_named}
 use Rattle.key_msgs.specs.declared.primitive.Primitive.{Primitive}
-use Rattle.key_msgs.specs.declared.primitive.Primitive.TheVariants.{Aead, Daead, Mac}
 use Rattle.keyset_json.specs.Reading.{reads_json}
 use Rattle.keyset_json.specs.Reading as json
 use Rattle.keyset_json.specs.Writing.{JsonBack, json_of}
@@ -22,7 +21,7 @@ use Rattle.keyset_model.specs.declared.record.Record.{Record}
 use Rattle.managers.specs.Standard.{standard_table}
 use Rattle.managers.specs.Table.{Table}
 use Rattle.tinkey_cmds.specs.Draws.{Drawn}
-use Rattle.tinkey_cmds.specs.Edits.{Edit, Stepped, step}
+use Rattle.tinkey_cmds.specs.Edits.{Edit, step}
 use Rattle.tinkey_cmds.specs.Edits as edits
 use Rattle.tinkey_cmds.specs.Laws.{EditsKeepKeysets, HasTemplate, IsTemplate}
 use Rattle.tinkey_session.proofs.Options.{clash, no_truth, then_some}
@@ -30,13 +29,13 @@ use Rattle.tinkey_session.proofs.StoredLemmas.{byte_there}
 use Rattle.tinkey_session.proofs.TurnLemmas.{edited_on, template_there}
 use Rattle.tinkey_session.specs.Serving.{template_or}
 use Rattle.tinkey_session.specs.HeldLaws.{AreBytes, AreStored, EditsKeepStored, IsStored, SessionsKeepStored}
-use Rattle.tinkey_session.specs.Laws.{EditedIsKeyset, EditedIsSound, IsEdited, KeptDopen, KeptDopenPresent, KeptOpen, KeptOpenPresent, KeptTag, SoundIsUsable, after}
+use Rattle.tinkey_session.specs.Laws.{EditedIsKeyset, EditedIsSound, IsEdited, SoundIsUsable, after}
 use Rattle.tinkey_session.specs.Lines.{line_of}
 use Rattle.tinkey_session.specs.Session.{Remains, asked_in, lines_of, remains}
 use Rattle.tinkey_session.specs.Talking.{Stop, goes, wants, passes, line_limit, long_line, many_lines, Talk, talk}
 use Rattle.tinkey_session.specs.SessionLaws.{SessionIsEdits}
 use Rattle.tinkey_session.specs.TalkLaws.{TalkIsTurns}
-use Rattle.wrapped_prims.specs.Answers.{Sealed, dopen_answer, dseal_answer, open_answer, seal_answer, tag_answer, verify_answer}
+use Rattle.wrapped_prims.specs.Answers.{Sealed, dseal_answer, seal_answer, tag_answer}
 use Rattle.wrapped_prims.specs.Laws.{IsKeyset}
 use Rattle.wrapped_prims.specs.Making.{HasWordId}
 use Rattle.wrapped_prims.specs.Fitness.{unfit}
@@ -46,11 +45,11 @@ use Rattle.tinkey_words.specs.declared.words.rows.Format.TheVariants as formats
 use Rattle.tinkey_plans.specs.Commands.{command_plan}
 use Rattle.tinkey_plans.specs.Plan.{Told, Answer, Plan, answer, exchanges, writes, draw_answer, look_answer, refused, talk_answer}
 use Rattle.tinkey_plans.specs.Session.{finds_free, holds_session, saves, saves_as}
-use Rattle.tinkey_readable.specs.Runs.{Handing, hands_on, session_handing, AreRuns, Does, Gives, HandsOn, HoldsBytes, IsDone, Keeps, LeadOn, ReadIsStored, Passage, PassesBytes, Run, RunStep, RunsDopen, RunsDopenPresent, RunsOpen, RunsOpenPresent, RunsVerify, WasDone, WrapStep, Written, by_run, by_wrap, bytes_at, edit_of, keyset_of, read_in}
+use Rattle.tinkey_readable.specs.Runs.{Handing, hands_on, session_handing, AreRuns, Does, Gives, HandsOn, HoldsBytes, IsDone, Keeps, LeadOn, ReadIsStored, Passage, PassesBytes, Run, RunStep, WasDone, WrapStep, Written, by_run, by_wrap, bytes_at, edit_of, keyset_of, read_in}
 use Rattle.tinkey_plans.specs.Laws.{FitKeysetsAnswer}
 use Rattle.tinkey_plans.specs.Steps.{input_limit, sealed_limit, keyset_limit, takes_keyset, makes_keyset, puts_keyset, with_made, written_in}
 use Rattle.tinkey_plans.specs.Using.{as_drawn, limit_for, made_bytes, with_opened, with_verified, works, puts_output}
-use Rattle.tinkey_words.specs.Words.{Asked, AskedEdit, AskedWork, Place, create_keyset, edit_keyset, list_keyset, convert_keyset, list_key_templates, use_keyset, use_envelope, seal_stream, open_stream, open_range, self_test, session, wrap_keyset, unwrap_keyset, to_seal, to_open, to_dseal, to_dopen, to_tag, to_verify, primitive_for, help, version}
+use Rattle.tinkey_words.specs.Words.{Asked, AskedEdit, AskedWork, Place, create_keyset, edit_keyset, list_keyset, convert_keyset, list_key_templates, use_keyset, use_envelope, seal_stream, open_stream, open_range, self_test, session, wrap_keyset, unwrap_keyset, to_seal, to_dseal, to_tag, primitive_for, help, version}
 use Rattle.seal_wrap.specs.Sealings.{DsealingsFit, SealingsFit}
 use Rattle.tinkey_readable.proofs.ReachLemmas.{load_done, load_within, IsDoneAnswer, behind, found_edit, made_done, put_done, taken_done, taken_within, used_done, used_reached, used_within}
 use Rattle.tinkey_readable.proofs.PutLemmas.{made_is, made_put, made_written, worked}
@@ -519,28 +518,6 @@ sealed_fits sizes old plain ad random s sealed is same within = subst (λ bytes.
 pub dsealed_fits : DsealingsFit → (old : Keys) (plain ad sealed : List ℕ) → dseal_answer old standard_table plain ad ≡ Some sealed → length plain ≤ input_limit → length sealed ≤ sealed_limit
 dsealed_fits sizes old plain ad sealed is within = omega (arith, sizes standard_table old plain ad sealed is, within)
 
-pub runs_open : SealingsFit → ReadKeysFit → RunStep → WrapStep → SessionIsEdits → SoundIsUsable Aead → EditedIsSound → EditedIsKeyset → KeptOpen → RunsOpen
-runs_open sizes read_fit law wrap sessions usable sound keyset kept runs before after r prefix ad sealed told x same is was =
-    let e = lead_ends read_fit law wrap sessions runs before after r (done_within (to_seal ad) before told sealed was) x in
-    let b = started (to_seal ad) before x.old told sealed e.read was in
-    let s = sealed_by x.old ad told sealed b in
-    let opened = kept x.old x.new r prefix told.input ad told.random s.0 same e.primary is s.1 in
-    finished (to_open ad) after x.new sealed told.input e.read_again e.within (still_fit Aead usable sound keyset x.old x.new e.keyset e.edited b.fit)
-    (sealed_fits sizes x.old told.input ad told.random s.0 sealed s.1 s.2 b.fits)
-    (λ t. opens_so (open_answer x.new standard_table sealed ad) told.input t (ap (λ c. open_answer x.new standard_table c ad) (sym s.2) ∙ opened))
-
-pub runs_open_present : SealingsFit → ReadKeysFit → RunStep → WrapStep → SessionIsEdits → SoundIsUsable Aead → EditedIsSound → EditedIsKeyset → KeptOpenPresent → RunsOpenPresent
-runs_open_present sizes read_fit law wrap sessions usable sound keyset kept runs before after r ad sealed told x same was =
-    let e = lead_ends read_fit law wrap sessions runs before after r (done_within (to_seal ad) before told sealed was) x in
-    let b = started (to_seal ad) before x.old told sealed e.read was in
-    let s = sealed_by x.old ad told sealed b in
-    let opened = kept x.old x.new r told.input ad told.random s.0 same e.primary s.1 in (
-      opened.0,
-      finished (to_open ad) after x.new sealed opened.0 e.read_again e.within (still_fit Aead usable sound keyset x.old x.new e.keyset e.edited b.fit)
-          (sealed_fits sizes x.old told.input ad told.random s.0 sealed s.1 s.2 b.fits)
-          (λ t. opens_so (open_answer x.new standard_table sealed ad) opened.0 t (ap (λ c. open_answer x.new standard_table c ad) (sym s.2) ∙ opened.1)),
-    )
-
 -- what was made without a draw
 pub dsealed_by : FitKeysetsAnswer → (old : Keys) (ad : List ℕ) (told : Told) (output : List ℕ) → IsKeyset old → Started (to_dseal ad) old told output → dseal_answer old standard_table told.input ad ≡ Some output
 dsealed_by fit old ad told output is x =
@@ -552,34 +529,6 @@ tagged_by fit old told output is x =
     let m = made_some (tag_answer old standard_table told.input) (fit.tag standard_table old told.input (record { faultless = is.faultless; fit = x.fit })) in
     m.1 ∙ ap Some (sym (ap made_bytes m.1) ∙ x.gave)
 
-pub runs_dopen : DsealingsFit → FitKeysetsAnswer → ReadKeysFit → RunStep → WrapStep → SessionIsEdits → SoundIsUsable Daead → EditedIsSound → EditedIsKeyset → KeptDopen → RunsDopen
-runs_dopen sizes fits read_fit law wrap sessions usable sound keyset kept runs before after r prefix ad sealed told x same is was =
-    let e = lead_ends read_fit law wrap sessions runs before after r (done_within (to_dseal ad) before told sealed was) x in
-    let b = started (to_dseal ad) before x.old told sealed e.read was in
-    let opened = kept x.old x.new r prefix told.input ad sealed same e.primary is (dsealed_by fits x.old ad told sealed e.keyset b) in
-    finished (to_dopen ad) after x.new sealed told.input e.read_again e.within (still_fit Daead usable sound keyset x.old x.new e.keyset e.edited b.fit)
-    (dsealed_fits sizes x.old told.input ad sealed (dsealed_by fits x.old ad told sealed e.keyset b) b.fits)
-    (λ t. opens_so (dopen_answer x.new standard_table sealed ad) told.input t opened)
-
-pub runs_dopen_present : DsealingsFit → FitKeysetsAnswer → ReadKeysFit → RunStep → WrapStep → SessionIsEdits → SoundIsUsable Daead → EditedIsSound → EditedIsKeyset → KeptDopenPresent → RunsDopenPresent
-runs_dopen_present sizes fits read_fit law wrap sessions usable sound keyset kept runs before after r ad sealed told x same was =
-    let e = lead_ends read_fit law wrap sessions runs before after r (done_within (to_dseal ad) before told sealed was) x in
-    let b = started (to_dseal ad) before x.old told sealed e.read was in
-    let opened = kept x.old x.new r told.input ad sealed same e.primary (dsealed_by fits x.old ad told sealed e.keyset b) in (
-      opened.0,
-      finished (to_dopen ad) after x.new sealed opened.0 e.read_again e.within (still_fit Daead usable sound keyset x.old x.new e.keyset e.edited b.fit)
-          (dsealed_fits sizes x.old told.input ad sealed (dsealed_by fits x.old ad told sealed e.keyset b) b.fits)
-          (λ t. opens_so (dopen_answer x.new standard_table sealed ad) opened.0 t opened.1),
-    )
-
 -- verifying is done, with no output
 pub verifies_so : (b : Bool) (told : Told) → b ≡ true → (IsDoneAnswer (answer (with_verified b writes) told)) × ((answer (with_verified b writes) told).output ≡ [])
 verifies_so b told is = rw is (refl, refl)
-
-pub runs_verify : FitKeysetsAnswer → ReadKeysFit → RunStep → WrapStep → SessionIsEdits → SoundIsUsable Mac → EditedIsSound → EditedIsKeyset → KeptTag → RunsVerify
-runs_verify fits read_fit law wrap sessions usable sound keyset kept runs before after r tag told x same was =
-    let e = lead_ends read_fit law wrap sessions runs before after r (done_within to_tag before told tag was) x in
-    let b = started to_tag before x.old told tag e.read was in
-    let verified = kept x.old x.new r tag told.input same e.primary (tagged_by fits x.old told tag e.keyset b) in
-    finished (to_verify tag) after x.new told.input [] e.read_again e.within (still_fit Mac usable sound keyset x.old x.new e.keyset e.edited b.fit) b.fits
-    (λ t. verifies_so (verify_answer x.new standard_table tag told.input) t verified)

@@ -5,9 +5,6 @@ use Rattle.std.specs.FinMap as map
 use Rattle.std.proofs.lemmas.Bool.Decides.{nat_tests}
 use Rattle.std.proofs.lemmas.List.{length-take-le}
 use Rattle.keyset_model.specs.Keyset.{Keys}
-use Rattle.keyset_model.specs.Writing.{ReadKeysFit}
-use Rattle.keyset_model.specs.declared.record.Record.{Record}
-use Rattle.key_msgs.specs.declared.primitive.Primitive.TheVariants.{Stream}
 use Rattle.segment_stream.proofs.CipherLemmas.{cipher_of-is_cipher}
 use Rattle.segment_stream.specs.Cipher.{SegmentCipher}
 use Rattle.segment_stream.specs.KeysModel.{KeysForStreams}
@@ -16,22 +13,17 @@ use Rattle.segment_stream.specs.Opening.{Choice, StreamRefusal, choose, chosen, 
 use Rattle.segment_stream.specs.Pumping.{opening_any, opening_under, sealing}
 use Rattle.segment_stream.specs.Sealing.{header_of, many_plain, seal_decides, sealed}
 use Rattle.segment_stream.specs.Segments.{IsSound, cipher_of, ciphers_of}
-use Rattle.segment_stream.specs.StreamKeys.{StreamUnfit, bad_key, not_stream, primary_key, stream_key_of, stream_keys, stream_unfit}
+use Rattle.segment_stream.specs.StreamKeys.{StreamUnfit, bad_key, not_stream, primary_key, stream_keys, stream_unfit}
 use Rattle.segment_stream.specs.declared.key.StreamKey.{StreamKey}
 use Rattle.tinkey_cmds.specs.Draws.{Drawn}
 use Rattle.tinkey_session.proofs.Options.{map_some}
-use Rattle.tinkey_session.specs.Laws.{EditedIsKeyset, EditedIsSound}
-use Rattle.tinkey_session.specs.SessionLaws.{SessionIsEdits}
 use Rattle.tinkey_plans.specs.declared.status.Status.TheVariants as status
 use Rattle.tinkey_words.specs.declared.words.rows.Format.{Format}
 use Rattle.tinkey_plans.specs.Plan.{Answer, Plan, Told, allocates, answer, draw_answer, pump_answer, pumps, refused, stream_status}
 use Rattle.tinkey_plans.specs.Steps.{keyset_limit, with_made}
 use Rattle.tinkey_plans.specs.Streaming.{keys_for, loads_stream_keys, opens_stream, seals_stream, unless_unfit, with_keys}
-use Rattle.tinkey_readable.specs.Runs.{LeadOn, Passage, RunStep, WrapStep, Written, keyset_of, read_in}
-use Rattle.tinkey_readable.specs.StreamRuns.{RunsOpenStream, RunsOpenStreamPresent, WasSealed}
-use Rattle.tinkey_readable.proofs.ReachLemmas.{IsDoneAnswer, load_done, load_reached, load_within}
-use Rattle.tinkey_readable.proofs.RunLemmas.{lead_ends}
-use Rattle.tinkey_readable.proofs.StreamKeyLemmas.{first_under, fit_sound, opens_under, primary_gives, primary_key_there, sound_fit, sound_key}
+use Rattle.tinkey_readable.specs.Runs.{read_in}
+use Rattle.tinkey_readable.proofs.ReachLemmas.{IsDoneAnswer, load_done, load_reached}
 
 -- ---- the keys of a keyset
 
@@ -150,61 +142,3 @@ chosen_so keys key ad told stream same is =
     by_refusal (Some why) refusal out =
         ap (pump_answer (opening_any (ciphers_of ad keys.keys)) told) refusal
         ∙ ap (λ (l : List ℕ). record (refused told (stream_status why)) { input = None; output = l }) out
-
--- ---- before and after runs
-
--- A stream was sealed before runs under a key of this record, and the keyset that they led to gives keys
--- for streams.
-pub record SealedBefore (after : Written) (r : Record) (new : Keys) (ad stream plain : List ℕ) : Type 0 where
-  pub read : keyset_of after ≡ Some new
-  pub within : length after.bytes ≤ keyset_limit
-  pub fit : stream_unfit new ≡ None
-  pub primary : StreamKey
-  pub there : primary_key new ≡ Some primary
-  pub key : StreamKey
-  pub gives : stream_key_of r ≡ Ok key
-  pub alone : stream_answer (cipher_of ad key ∷ []) stream ≡ (plain, None)
-
-pub sealed_before : StreamBack → ReadKeysFit → RunStep → WrapStep → SessionIsEdits → EditedIsSound → EditedIsKeyset → (runs : List Passage) (before after : Written) (r : Record) (ad stream : List ℕ) (told : Told) (lead : LeadOn runs before after r)
-    → WasSealed ad before told stream → SealedBefore after r lead.new ad stream told.input
-sealed_before back read_fit law wrap sessions sound keyset runs before after r ad stream told x was =
-    let within = load_within was.name before.form before.bytes (behind_keyset (λ k. seals_stream k ad)) told was.lies was.done in
-    let e = lead_ends read_fit law wrap sessions runs before after r within x in
-    let u = keys_loaded was.name before.form before.bytes x.old (λ k. seals_stream k ad) told was.lies e.read was.done in
-    let s = sealed_by (with_primary x.old u.primary) ad told stream (ap (λ (a : Answer). a.status) (sym u.goes_on) ∙ was.done) (ap (λ (a : Answer). a.output) (sym u.goes_on) ∙ was.gave) in
-    let gives : stream_key_of r ≡ Ok u.primary = primary_gives x.old r u.primary e.primary u.there in
-    let sound_new = sound Stream x.old x.new e.edited (fit_sound x.old e.keyset u.fit) in
-    let primary = primary_key_there x.new sound_new in
-    record {
-      read = e.read_again;
-      within = e.within;
-      fit = sound_fit x.new sound_new;
-      primary = primary.0;
-      there = primary.1;
-      key = u.primary;
-      gives = gives;
-      alone = opens_alone back u.primary ad told stream (sound_key r u.primary gives) s;
-    }
-
-pub runs_open_stream : StreamBack → ReadKeysFit → RunStep → WrapStep → SessionIsEdits → EditedIsSound → EditedIsKeyset → RunsOpenStream
-runs_open_stream back read_fit law wrap sessions sound keyset runs before after r ad stream told x has only was =
-    let b = sealed_before back read_fit law wrap sessions sound keyset runs before after r ad stream told x was in
-    let opens = opens_under x.new r b.key ad stream told.input has b.gives only b.alone in
-    λ t name lies input.
-    let reached = keys_reached name after.form after.bytes x.new b.primary (λ k. opens_stream k ad) t lies b.read b.within b.fit b.there in
-    let g = opened_so (with_primary x.new b.primary) ad t stream told.input input opens.answer in
-    (ap (λ (a : Answer). a.status) reached ∙ g.0, ap (λ (a : Answer). a.output) reached ∙ g.1)
-
-pub runs_open_stream_present : StreamBack → ReadKeysFit → RunStep → WrapStep → SessionIsEdits → EditedIsSound → EditedIsKeyset → RunsOpenStreamPresent
-runs_open_stream_present back read_fit law wrap sessions sound keyset runs before after r ad stream told x has was =
-    let b = sealed_before back read_fit law wrap sessions sound keyset runs before after r ad stream told x was in
-    let f = first_under x.new r b.key ad stream told.input has b.gives b.alone in
-    record {
-      key = f.key;
-      place = f.place;
-      there = f.there;
-      first = f.first;
-      answers = λ t name lies input.
-          keys_reached name after.form after.bytes x.new b.primary (λ k. opens_stream k ad) t lies b.read b.within b.fit b.there
-          ∙ chosen_so (with_primary x.new b.primary) f.key ad t stream input f.choice;
-    }

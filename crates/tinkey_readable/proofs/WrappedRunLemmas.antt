@@ -8,7 +8,7 @@ use Rattle.key_msgs.specs.declared.primitive.Primitive.TheVariants.{Aead}
 use Rattle.keyset_json.specs.Writing.{JsonBack}
 use Rattle.keyset_model.specs.Keyset.{Keys, primary_of}
 use Rattle.keyset_model.specs.WellFormed.{FaultlessKeysets}
-use Rattle.keyset_model.specs.Writing.{BinaryBack, ReadKeysFit, binary_of}
+use Rattle.keyset_model.specs.Writing.{BinaryBack, binary_of}
 use Rattle.keyset_model.specs.declared.record.Record.{Record}
 use Rattle.managers.specs.Standard.{standard_table}
 use Rattle.seal_wrap.specs.Info.{info_of}
@@ -19,8 +19,6 @@ use Rattle.seal_wrap.proofs.SealedSizes.{then_some}
 use Rattle.tinkey_cmds.specs.Draws.{Drawn}
 use Rattle.tinkey_session.proofs.Options.{map_some}
 use Rattle.tinkey_session.proofs.UsableLemmas.{valid_key}
-use Rattle.tinkey_session.specs.Laws.{EditedIsKeyset, EditedIsSound, SoundIsUsable}
-use Rattle.tinkey_session.specs.SessionLaws.{SessionIsEdits}
 use Rattle.wrapped_prims.specs.Answers.{Sealed, seal_answer, seal_behind, seal_under}
 use Rattle.wrapped_prims.specs.Candidates.{prefix_bytes, prefix_of}
 use Rattle.wrapped_prims.specs.Fitness.{key_of_record, unfit}
@@ -34,9 +32,9 @@ use Rattle.tinkey_plans.specs.Wrapping.{as_wrapping, is_json, makes_wrapped, tak
 use Rattle.tinkey_words.specs.Words.{Asked, Place, unwrap_keyset, wrap_keyset}
 use Rattle.tinkey_words.specs.declared.words.rows.Format.{Format}
 use Rattle.tinkey_words.specs.declared.words.rows.Format.TheVariants as formats
-use Rattle.tinkey_readable.specs.Runs.{DrawsBytes, HoldsBytes, IsFree, IsWithinIn, LiesIn, ReadIsStored, Run, RunStep, RunsUnwrap, WrapStep, Wraps, Written, bytes_at, keyset_of, read_in}
-use Rattle.tinkey_readable.proofs.ReachLemmas.{IsDoneAnswer, behind, bytes_put, bytes_reached, load_done, load_reached, load_within, loaded, loaded_done, put_done, taken_done, taken_within, unfit_done, went_done, went_on}
-use Rattle.tinkey_readable.proofs.RunLemmas.{each_of, json_back, kept, lead_ends, primary_word, read_faultless, still_fit}
+use Rattle.tinkey_readable.specs.Runs.{DrawsBytes, HoldsBytes, IsFree, IsWithinIn, LiesIn, ReadIsStored, Run, WrapStep, Wraps, Written, bytes_at, keyset_of, read_in}
+use Rattle.tinkey_readable.proofs.ReachLemmas.{IsDoneAnswer, behind, bytes_put, bytes_reached, load_done, load_within, loaded, loaded_done, put_done, taken_done, taken_within, unfit_done, went_done, went_on}
+use Rattle.tinkey_readable.proofs.RunLemmas.{each_of, json_back, kept, primary_word, read_faultless}
 use Rattle.tinkey_readable.proofs.WrittenBytesLemmas.{written_bytes}
 
 -- ---- steps that went on
@@ -235,20 +233,3 @@ put_reached out keys told within free =
 pub form_within : (form : Format) (keys : Keys) → length (binary_of keys) ≤ keyset_limit → IsWithinIn form keys → length (written_in form keys) ≤ keyset_limit
 form_within formats.Json keys within is = is
 form_within formats.Binary keys within is = within
-
-pub kept_wrapped : FaultlessKeysets → BinaryBack → JsonBack → ReadIsStored → WrapBackBytes → ReadKeysFit → RunStep → WrapStep → SessionIsEdits → SoundIsUsable Aead → EditedIsSound → EditedIsKeyset → RunsUnwrap
-kept_wrapped law binary json stored back fit_read law_run law_wrap sessions usable sound keyset runs master later r prefix lead same prefixed wrap before text keys x random holds is told name in' out lies in_form read free short =
-    let w = wraps_done wrap master before text lead.old keys x lead.read is in
-    let gave = unwrapped law binary json stored back wrap master before text lead.old lead.new keys r prefix x lead.read is lead.holds holds random lead.primary prefixed same in
-    let e = lead_ends fit_read law_run law_wrap sessions runs master later r w.master_within lead in
-    let fit = still_fit Aead usable sound keyset lead.old lead.new e.keyset e.edited w.fit in
-    let new = lead.new in
-    let l = load_reached name later.form later.bytes new (λ m. handles standard_table Aead m (λ fit. opens_plan in' out m)) told lies lead.read_again e.within in
-    let f : answer (unless_unfit (unfit new Aead standard_table) (opens_plan in' out new)) told ≡ answer (opens_plan in' out new) told = ap (λ u. answer (unless_unfit u (opens_plan in' out new)) told) fit in
-    let t = text_reached in'.file text.bytes (λ text. unwraps new standard_table in'.form text (puts_keyset out)) told read w.short in
-    let behind' = behind in'.file told in
-    let g = given_keyset new in'.form text.bytes keys (puts_keyset out) behind' (ap (λ f. unwrap_of new standard_table text.bytes (is_json f)) in_form ∙ gave) in
-    let whole = l ∙ f ∙ t ∙ g in
-    let done = put_reached out keys behind' (form_within out.form keys w.binary_within short) (subst (IsFree out.file) (sym (behind_files in'.file told)) free) in
-    let p = put_done out keys behind' done in
-    (ap (λ (a : Answer). a.status) whole ∙ done, ap (λ (a : Answer). bytes_at out.file a.files a.output) whole ∙ p.there)

@@ -83,16 +83,13 @@ pub fn wrap_step()
 pub fn kept_wrapped()
     ensures { RunsUnwrap }
 {
+    kept_anywhere();
     run_step();
     wrap_step();
-    faultless_keysets();
-    forms_back();
-    read_is_stored();
-    wrap_back_bytes();
     read_keysets_fit();
     session_is_edits();
-    sound_usable();
     edited_kept();
+    sound_usable();
 }
 
 /// No run takes a file away or changes it, whatever it is asked and however it ends: a keyset that lies in
@@ -207,19 +204,13 @@ pub fn kept_runs()
     ensures dopen_present { RunsDopenPresent }
     ensures verify { RunsVerify }
 {
+    kept_anywhere();
     run_step();
     wrap_step();
-    sealings_fit();
     read_keysets_fit();
-    fit_keysets_answer();
     session_is_edits();
-    sound_usable();
     edited_kept();
-    kept_open();
-    kept_dopen();
-    kept_open_present();
-    kept_dopen_present();
-    kept_tag();
+    sound_usable();
 }
 
 /// What was sealed in an envelope over a keyset opens after any such runs, with its associated data and any
@@ -228,15 +219,13 @@ pub fn kept_runs()
 pub fn kept_envelopes()
     ensures { RunsOpenEnvelope }
 {
+    kept_anywhere();
     run_step();
     wrap_step();
-    envelope_back();
-    envelopes_fit();
-    standard_data_keys();
     read_keysets_fit();
     session_is_edits();
-    sound_usable();
     edited_kept();
+    sound_usable();
 }
 
 /// What was sealed as a stream over a keyset opens after any such runs, with its associated data, to its
@@ -250,9 +239,9 @@ pub fn kept_streams()
     ensures open { RunsOpenStream }
     ensures open_present { RunsOpenStreamPresent }
 {
+    kept_anywhere();
     run_step();
     wrap_step();
-    stream_back();
     read_keysets_fit();
     session_is_edits();
     edited_kept();
@@ -265,10 +254,9 @@ pub fn kept_streams()
 pub fn kept_ranges()
     ensures { RunsOpenRange }
 {
+    kept_anywhere();
     run_step();
     wrap_step();
-    stream_back();
-    range_is_slice();
     read_keysets_fit();
     session_is_edits();
     edited_kept();
@@ -284,20 +272,14 @@ pub fn kept_lines()
     ensures dopen_present { MadeDopensPresent }
     ensures verify { MadeVerifies }
 {
+    kept_anywhere();
+    talk_is_turns();
     run_step();
     wrap_step();
-    sealings_fit();
-    talk_is_turns();
     read_keysets_fit();
-    fit_keysets_answer();
     session_is_edits();
-    sound_usable();
     edited_kept();
-    kept_open();
-    kept_dopen();
-    kept_open_present();
-    kept_dopen_present();
-    kept_tag();
+    sound_usable();
 }
 
 /// What a run of a session wrote are the replies of turns, which are readable over the standard

@@ -1,5 +1,14 @@
-use Rattle.tinkey_readable.proofs.WrappedRunLemmas.{kept_wrapped}
+use Rattle.tinkey_readable.proofs.CaseLemmas.{RunLaws, runs_unwrap}
 use Rattle.tinkey_readable.proofs.laws.kept_wrapped.Goals as goal
 
 pub returns : goal.returns
-returns c = kept_wrapped c.faultless_keysets.ensures c.forms_back.ensures.binary c.forms_back.ensures.json c.read_is_stored.ensures c.wrap_back_bytes.ensures c.read_keysets_fit.ensures c.run_step.ensures c.wrap_step.ensures c.session_is_edits.ensures.last c.sound_usable.ensures.aead c.edited_kept.ensures.sound c.edited_kept.ensures.keysets
+returns c =
+    let l : RunLaws = record {
+      fit = c.read_keysets_fit.ensures;
+      run = c.run_step.ensures;
+      wrap = c.wrap_step.ensures;
+      sessions = c.session_is_edits.ensures.last;
+      sound = c.edited_kept.ensures.sound;
+      keyset = c.edited_kept.ensures.keysets;
+    } in
+    runs_unwrap c.kept_anywhere.ensures.unwraps c.sound_usable.ensures.aead l
