@@ -6,7 +6,7 @@ use Rattle.std.proofs.lemmas.List.{get_or-reverse, length-map}
 use Rattle.std.proofs.lemmas.List.Elements.{All-get_or, All-head, All-tail}
 use Rattle.std.proofs.lemmas.Nat.{xor_block, xor_lt, xor_mod, xor_shr}
 use Rattle.std.specs.Int.Bits.{xor_assoc, xor_zero_l, xor_zero_r}
-use Rattle.std.specs.Int.{w128, bit_at, from_be_bytes, from_le_bytes, to_be_bytes, to_le_bytes}
+use Rattle.std.specs.Int.{w128, bit_at, from_be_bytes, from_le_bytes, to_be_bytes}
 use Rattle.std.specs.List.{All}
 use Rattle.ghash.specs.Field as field
 use Rattle.ghash.specs.Field.{block_bit, one, prod, reduction, shifted_factor}
@@ -42,9 +42,6 @@ reversed_read t l =
       at 14 (lit< tt),
       at 15 (lit< tt),
     )
-
-pub reversed_bytes : (n : ℕ) → reverse (to_be_bytes w128 n) ≡ to_le_bytes w128 n
-reversed_bytes n = refl
 
 -- ---- the step
 

@@ -23,12 +23,6 @@ use Rattle.keyset_model.specs.declared.record.Record.{Record}
 use Rattle.keyset_model.specs.Reading.{key_of}
 use Rattle.keyset_model.specs.Steps.{IsTextOf, IsNoText, message_of, GivesRecord, of_fields_error}
 
-no_text : (kind : Kind) (source : List ℕ) (field : Field) → (kind ≡ Bytes → ⊥) → is_text (payload_of kind source field) ≡ false
-no_text Varint source field other = refl
-no_text Eight source field other = refl
-no_text Bytes source field other = absurd (other refl)
-no_text Four source field other = refl
-
 no_message : (kind : Kind) (source : List ℕ) (field : Field) → (kind ≡ Bytes → ⊥) → embedded (payload_of kind source field) ≡ Err 0
 no_message Varint source field other = refl
 no_message Eight source field other = refl
@@ -37,9 +31,6 @@ no_message Four source field other = refl
 
 within_source : (source : List ℕ) (start end : ℕ) → length (slice_range source start end) ≤ length source
 within_source source start end = omega (arith, length-take {A = ℕ}, length-drop {A = ℕ})
-
-pub other_kind : (source : List ℕ) (field : Field) → (field.kind ≡ Bytes → ⊥) → IsNoText source field field.at
-other_kind source field other = record { other = no_text field.kind source field other; at = refl }
 
 pub text_given : (source : List ℕ) (field : Field) (text : List ℕ) → field.kind ≡ Bytes → text ≡ slice_range source field.start field.end → IsUtf8 (slice_range source field.start field.end) → IsTextOf source field text
 text_given source field text kind is utf8 = record {

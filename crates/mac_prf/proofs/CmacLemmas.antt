@@ -2,10 +2,10 @@
 use Rattle.std.proofs.Common.{◌≡◌, ◌+◌, ◌-◌, ◌*◌, ◌/◌, ◌%◌, ◌<◌, ◌≤◌, ◌≢◌, ◌++◌, ◌∷◌, ◌∙◌, [], ℕ, zero, suc, List, ap, arith, drop, get_or, length, length-append, max, refl, replicate, sym, take}
 use Rattle.std.specs.Prelude.{bit_xor}
 use Rattle.std.proofs.Math.ListN.{set}
-use Rattle.std.proofs.Math.Seq.{drop-append_seam, take-append-add, take-append_seam}
+use Rattle.std.proofs.Math.Seq.{drop-append_seam}
 use Rattle.std.proofs.lemmas.Bool.Decides.{nat_tests}
 use Rattle.std.proofs.lemmas.Bool.{lt-ltb, le-ltb, cond-true, cond-false}
-use Rattle.std.proofs.lemmas.List.{length-take-le, take_at}
+use Rattle.std.proofs.lemmas.List.{take_at}
 use Rattle.aes_core.specs.Aes.{cipher}
 use Rattle.aes_core.specs.Bytes.{xor_bytes}
 use Rattle.aes_core.specs.Chain.{chained, whole_blocks}
@@ -75,15 +75,6 @@ pub masked-part : (key part : List ℕ) → length part ≢ 16
 masked-part key part short = grind (arith, nat_tests)
 
 -- ---- a part that is held
-
--- bytes behind the first of a list
-pub take-held : (held bytes rest : List ℕ) (n : ℕ) → n ≤ length held
-    → take (n + length bytes) (take n held ++ (bytes ++ rest)) ≡ take n held ++ bytes
-take-held held bytes rest n within =
-    ap (λ k. take (k + length bytes) (take n held ++ (bytes ++ rest)))
-    (sym (length-take-le n held within))
-    ∙ take-append-add (take n held) (bytes ++ rest) (length bytes)
-    ∙ ap (λ (u : List ℕ). take n held ++ u) (take-append_seam bytes rest)
 
 -- ---- the XOR of two blocks
 

@@ -10,7 +10,7 @@ use Rattle.proto_wire.specs.declared.field.Field.{Field}
 use Rattle.proto_wire.specs.declared.field.Wire.{Wire}
 use Rattle.proto_wire.specs.declared.field.FieldsError.{FieldsError}
 use Rattle.proto_wire.specs.declared.field.FieldsError.TheVariants as errors
-use Rattle.proto_wire.proofs.Cuts.{joined-nothing, cut-step, cut-stop, cut-spells, cut-fails, cut-of, cut-fails_at}
+use Rattle.proto_wire.proofs.Cuts.{cut-step, cut-stop, cut-spells, cut-fails, cut-of, cut-fails_at}
 use Rattle.proto_wire.proofs.Places.{length-slice_range}
 
 -- the state at the place `at`
@@ -29,15 +29,6 @@ joined-with_field fields field (Err place) = refl
 of_source-push : (source : List ℕ) (items : List Field) (field : Field) → AllByRecursion (IsOf source) items → IsOf source field → AllByRecursion (IsOf source) (items ++ field ∷ [])
 of_source-push source [] field all one = (one, tt)
 of_source-push source (first ∷ items) field all one = (all.0, of_source-push source items field all.1 one)
-
-pub read-init : (source : List ℕ) (start end : ℕ) → start ≤ end → IsRead source start start end []
-read-init source start end ordered = record {
-  behind = omega arith;
-  within = ordered;
-  rest = sym (joined-nothing (cut start (slice_range source start end)));
-  of_source = tt;
-  front = inl refl;
-}
 
 -- with the field that is read at the place, one stands at the front
 pub front-read : (source : List ℕ) (start at end : ℕ) (items : List Field) (read : WireField × List ℕ) → IsRead source start at end items → field_front at (slice_range source at end) ≡ Some read → IsSome (field_front start (slice_range source start end))

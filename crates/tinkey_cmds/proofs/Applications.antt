@@ -94,11 +94,6 @@ pub short-known : (keys : Keys) (edit : Edit) (result : Result Keys CmdError) (o
 short-known keys edit (Ok k) old new has short is = short-step keys edit (Ok k) old new has short is
 short-known keys edit (Err error) old new has short is = tt
 
-pub short-first : (row : Row) (result : Result Keys CmdError) (old new : EntropyState) → IsTemplate row
-    → Applied result (first row) old new → IfOk result (λ k. AllByRecursion IsShort k.records)
-short-first row (Ok k) old new is applied = yielded-drawn _ (first row) k old new (each-first IsShort kept-short row is) applied.1
-short-first row (Err error) old new is applied = tt
-
 -- ---- no room, or another primitive
 
 pub full-refused : (keys : Keys) (row : Row) → 1000 ≤ length keys.records → full_or_mixed keys row ≡ Some TooManyKeys

@@ -59,9 +59,6 @@ continues-ran_out f g old mid new one two = record {
 
 -- ---- so many bytes
 
-pub draws-fill : (old new : EntropyState) (part : List ℕ) (count : ℕ) → Drew old new part → length part ≡ count → Draws (fill count) old new (Ok part)
-draws-fill old new part count drew is = (part, drew, λ more. fill-more part more count is)
-
 few_bytes : (random : List ℕ) (count : ℕ) → length random < count → fill count random ≡ None
 few_bytes random count few = rw (lt-ltb (length random) count few) refl
 

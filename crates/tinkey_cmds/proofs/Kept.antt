@@ -7,7 +7,7 @@ use Rattle.std.proofs.lemmas.Bool.{true≢false, false_from_ne_true, and_parts, 
 use Rattle.key_msgs.specs.KeyTypes.{url_of_type}
 use Rattle.key_msgs.specs.Templates.{Row, templates, random_of, type_made}
 use Rattle.keyset_model.specs.declared.record.Record.{Record}
-use Rattle.keyset_model.specs.Keyset.{Keys, HasSizes, IsShort, has_id, has_status, has_prefix, has_material, has_key_data, is_enabled, is_destroyed, is_in, is_primary}
+use Rattle.keyset_model.specs.Keyset.{Keys, IsShort, has_id, has_status, has_prefix, has_material, has_key_data, is_enabled, is_destroyed, is_in, is_primary}
 use Rattle.keyset_model.specs.Writing.{HasWireBounds}
 use Rattle.tinkey_cmds.specs.Edits.{Edit, named, changed, with_status, destroyed, with_records, added, rotated, alone, record_of, step, first}
 use Rattle.tinkey_cmds.specs.Laws.{IsTemplate, HasTemplate, IsFree, Comes, stayed, was_destroyed, is_new, Follows, HasPrimary, EditsKeepKeysets, FirstsAreKeysets, EditsKeepBounds, FirstsHaveBounds, EditsFollow, EditsKeepThePrimary}
@@ -91,15 +91,6 @@ each-kept P k keys edit each = edit_case keys (λ x new. HasTemplate x → AllBy
 
 pub each-first : (P : Record → Type 0) → IsKept P → (row : Row) → IsTemplate row → Yields (λ new. AllByRecursion P new.records) (first row)
 each-first P k row is = first_case (λ new. AllByRecursion P new.records) row (λ r new. (k.new row [] r is new, tt))
-
-pub kept-sizes : IsKept HasSizes
-kept-sizes = record {
-  status = λ status r h. record { url = h.url; value = h.value };
-  destroyed' = λ r h. record { url = lit≤ tt; value = lit≤ tt };
-  new = λ row records r is new.
-      let small = small_made row r.id new.random is new.size in
-      subst HasSizes (sym new.made) (record { url = omega (arith, small); value = omega (arith, small) });
-}
 
 pub kept-short : IsKept IsShort
 kept-short = record {

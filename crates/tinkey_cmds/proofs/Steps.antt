@@ -208,8 +208,3 @@ pub same-test : (keys : Keys) (url text : List ℕ) (a b : Option Primitive) (sa
     → same ≡ is_same a b → same ≡ test → is_same (primitive_of url) (primary_primitive keys) ≡ test
 same-test keys url text a b same test is text_is other s t =
     sym (s ∙ ap (λ o. is_same o b) (is ∙ ap primitive_of text_is) ∙ ap (is_same (primitive_of url)) other) ∙ t
-
--- none of a list's only other case
-pub none-left : {A : Type 0} (o : Option A) → ((x : A) → o ≡ Some x → ⊥) → o ≡ None
-none-left None not' = refl
-none-left (Some x) not' = absurd (not' x refl)
