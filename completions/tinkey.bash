@@ -1,4 +1,4 @@
-# completion of tinkey for bash; made by tools/manual
+# completion of tinkey for bash; made by tools/words
 _tinkey() {
     local word=${COMP_WORDS[COMP_CWORD]} before=${COMP_WORDS[COMP_CWORD-1]} words=
     COMPREPLY=()

@@ -3,7 +3,6 @@ pub mod CountLemmas
 pub mod FaultLemmas
 pub mod RangeLemmas
 pub mod GivenLemmas
-pub mod MisfitLemmas
 pub mod PromiseLemmas
 pub mod ReportLemmas
 pub mod StepLemmas

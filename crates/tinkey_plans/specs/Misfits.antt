@@ -2,10 +2,11 @@
 use Rattle.std.specs.Prelude.{ℕ, List, [], ◌++◌, codes}
 use Rattle.tinkey_words.specs.declared.words.misuse.Misfit.{Misfit}
 use Rattle.tinkey_words.specs.declared.words.misuse.Misfit.TheVariants as misfits
-use Rattle.tinkey_words.specs.declared.words.rows.CommandName.{CommandName}
+use Rattle.tinkey_words.specs.declared.words.names.CommandName.{CommandName}
 use Rattle.tinkey_words.specs.declared.words.rows.Form.{Form}
 use Rattle.tinkey_words.specs.declared.words.rows.Form.TheVariants as forms
-use Rattle.tinkey_words.specs.Rows.{aside, form_for, option_row, row_of}
+use Rattle.tinkey_words.specs.Names.{form_for, option_row, row_of}
+use Rattle.tinkey_words.specs.Rows.{aside}
 
 -- what a value of this form is
 unfoldable pub form_text : Form → List ℕ

@@ -1,9 +1,226 @@
-//! What help and version print; made by tools/manual.
+//! What help and version print; made by tools/words of words.table.
 
 ghost use Rattle.std.specs.Prelude.{◌≡◌};
 ghost use Rattle.tinkey_plans.specs.Help.{command_text, exit_text, help_text, list_text, version_text};
 
 use tinkey_words::{CommandName, Topic};
+
+/// A text of literals and of parts that commands share, by their names. What is said so far stands in brackets.
+macro_rules! text {
+    ([$($said:literal)*]) => {
+        concat!($($said),*)
+    };
+    ([$($said:literal)*] $line:literal $($rest:tt)*) => {
+        text!([$($said)* $line] $($rest)*)
+    };
+    ([$($said:literal)*] key_template_28 $($rest:tt)*) => {
+        text!([$($said)* "  --key-template NAME       the name of the template of a new key: any text; it is looked up
+                            as the name of a template
+"] $($rest)*)
+    };
+    ([$($said:literal)*] out_28 $($rest:tt)*) => {
+        text!([$($said)* "  --out FILE                the file that is made: a file's name, of one byte or more, whose
+                            last part doesn't begin with .tinkey-new-
+"] $($rest)*)
+    };
+    ([$($said:literal)*] out_format_28 $($rest:tt)*) => {
+        text!([$($said)* "  --out-format json|binary  the form of the keyset that is written: json or binary, in ASCII
+                            letters of either case; where it isn't named, json
+"] $($rest)*)
+    };
+    ([$($said:literal)*] read_by_create_keyset $($rest:tt)*) => {
+        text!([$($said)* "
+Reads  nothing
+"] $($rest)*)
+    };
+    ([$($said:literal)*] code_0 $($rest:tt)*) => {
+        text!([$($said)* "  0  done\n"] $($rest)*)
+    };
+    ([$($said:literal)*] code_2 $($rest:tt)*) => {
+        text!([$($said)* "  2  the words aren't a command, or ask for what can't be had
+"] $($rest)*)
+    };
+    ([$($said:literal)*] code_4 $($rest:tt)*) => {
+        text!([$($said)* "  4  a file is missing or is there, or an edit is refused
+"] $($rest)*)
+    };
+    ([$($said:literal)*] code_5 $($rest:tt)*) => {
+        text!([$($said)* "  5  reading, writing, a file or the random bytes failed
+"] $($rest)*)
+    };
+    ([$($said:literal)*] code_7 $($rest:tt)*) => {
+        text!([$($said)* "  7  memory was wanting\n"] $($rest)*)
+    };
+    ([$($said:literal)*] code_8 $($rest:tt)*) => {
+        text!([$($said)* "  8  a word of the command isn't text\n"] $($rest)*)
+    };
+    ([$($said:literal)*] codes_024578 $($rest:tt)*) => {
+        text!([$($said)*] "
+Exit codes:
+" code_0 code_2 code_4 code_5 code_7 code_8 "
+Example:
+" $($rest)*)
+    };
+    ([$($said:literal)*] in_28 $($rest:tt)*) => {
+        text!([$($said)* "  --in FILE                 the file of the keyset that is read: a file's name, of one byte
+                            or more
+"] $($rest)*)
+    };
+    ([$($said:literal)*] in_format_28 $($rest:tt)*) => {
+        text!([$($said)* "  --in-format json|binary   the form of that keyset: json or binary, in ASCII letters of
+                            either case; where it isn't named, json
+"] $($rest)*)
+    };
+    ([$($said:literal)*] options_of_add_key $($rest:tt)*) => {
+        text!([$($said)*] "
+Required:
+" key_template_28 "
+Optional:
+" in_28 in_format_28 out_28 out_format_28 $($rest)*)
+    };
+    ([$($said:literal)*] read_by_add_key $($rest:tt)*) => {
+        text!([$($said)* "
+Reads  a keyset, from the file of --in, or where none is named, from standard input
+"] $($rest)*)
+    };
+    ([$($said:literal)*] given_by_add_key $($rest:tt)*) => {
+        text!([$($said)* "\
+Gives  the keyset after that edit, as a new file of --out, or where none is named, on
+       standard output
+"] $($rest)*)
+    };
+    ([$($said:literal)*] code_3 $($rest:tt)*) => {
+        text!([$($said)* "  3  the keyset isn't one, or its keys can't serve for the command
+"] $($rest)*)
+    };
+    ([$($said:literal)*] code_6 $($rest:tt)*) => {
+        text!([$($said)* "  6  a limit was passed\n"] $($rest)*)
+    };
+    ([$($said:literal)*] codes_02345678 $($rest:tt)*) => {
+        text!([$($said)*] "
+Exit codes:
+" code_0 code_2 code_3 code_4 code_5 code_6 code_7 code_8 "
+Example:
+" $($rest)*)
+    };
+    ([$($said:literal)*] options_of_promote_key $($rest:tt)*) => {
+        text!([$($said)*] "
+Required:
+  --key-id N                the key that is changed: 1 to 10 decimal digits, of a number up
+                            to 4,294,967,295
+
+Optional:
+" in_28 in_format_28 out_28 out_format_28 $($rest)*)
+    };
+    ([$($said:literal)*] out_31 $($rest:tt)*) => {
+        text!([$($said)* "  --out FILE                   the file that is made: a file's name, of one byte or more,
+                               whose last part doesn't begin with .tinkey-new-
+"] $($rest)*)
+    };
+    ([$($said:literal)*] out_format_31 $($rest:tt)*) => {
+        text!([$($said)* "  --out-format json|binary     the form of the keyset that is written: json or binary, in
+                               ASCII letters of either case; where it isn't named, json
+"] $($rest)*)
+    };
+    ([$($said:literal)*] options_of_wrap_keyset $($rest:tt)*) => {
+        text!([$($said)*] "
+Required:
+  --master FILE                the file of the keyset under which another one is sealed: a
+                               file's name, of one byte or more
+
+Optional:
+  --master-format json|binary  the form of that keyset: json or binary, in ASCII letters of
+                               either case; where it isn't named, json
+  --in FILE                    the file of the keyset that is read: a file's name, of one
+                               byte or more
+  --in-format json|binary      the form of that keyset: json or binary, in ASCII letters of
+                               either case; where it isn't named, json
+" out_31 out_format_31 $($rest)*)
+    };
+    ([$($said:literal)*] codes_012345678 $($rest:tt)*) => {
+        text!([$($said)*] "
+Exit codes:
+" code_0 "  1  what was given doesn't open, doesn't verify, or is no whole stream
+" code_2 code_3 code_4 code_5 code_6 code_7 code_8 "
+Example:
+" $($rest)*)
+    };
+    ([$($said:literal)*] keyset_31 $($rest:tt)*) => {
+        text!([$($said)* "  --keyset FILE                the file of the keyset that is used: a file's name, of one
+                               byte or more
+"] $($rest)*)
+    };
+    ([$($said:literal)*] keyset_format_31 $($rest:tt)*) => {
+        text!([$($said)* "  --keyset-format json|binary  the form of that keyset: json or binary, in ASCII letters of
+                               either case; where it isn't named, json
+"] $($rest)*)
+    };
+    ([$($said:literal)*] ad_31 $($rest:tt)*) => {
+        text!([$($said)* "  --ad TEXT                    the associated data: a text of at most 1,048,576 bytes, taken
+                               as they stand; not beside --ad-hex
+"] $($rest)*)
+    };
+    ([$($said:literal)*] ad_hex_31 $($rest:tt)*) => {
+        text!([$($said)* "  --ad-hex HEX                 the associated data in hexadecimal: an even number of
+                               hexadecimal digits of either case, at most 2,097,152, or
+                               none; not beside --ad
+"] $($rest)*)
+    };
+    ([$($said:literal)*] options_of_seal $($rest:tt)*) => {
+        text!([$($said)*] "
+Required:
+" keyset_31 "
+Optional:
+" keyset_format_31 ad_31 ad_hex_31 out_31 $($rest)*)
+    };
+    ([$($said:literal)*] read_by_seal $($rest:tt)*) => {
+        text!([$($said)* "
+Reads  the keyset in the file of --keyset, and all of standard input
+"] $($rest)*)
+    };
+    ([$($said:literal)*] options_of_eseal $($rest:tt)*) => {
+        text!([$($said)*] "
+Required:
+" keyset_31 "  --dek-template NAME          the name of the template of data keys: any text; it is looked
+                               up as the name of a template
+
+Optional:
+" keyset_format_31 ad_31 ad_hex_31 out_31 $($rest)*)
+    };
+    ([$($said:literal)*] given_by_dseal $($rest:tt)*) => {
+        text!([$($said)* "\
+Gives  as seal and open, without an IV, as a new file of --out, or where none is named, on
+       standard output
+"] $($rest)*)
+    };
+    ([$($said:literal)*] options_of_sseal $($rest:tt)*) => {
+        text!([$($said)*] "
+Required:
+" keyset_31 "
+Optional:
+" keyset_format_31 ad_31 ad_hex_31 $($rest)*)
+    };
+    ([$($said:literal)*] read_by_sseal $($rest:tt)*) => {
+        text!([$($said)* "
+Reads  the keyset, and standard input as a stream
+"] $($rest)*)
+    };
+    ([$($said:literal)*] given_by_sseal $($rest:tt)*) => {
+        text!([$($said)* "\
+Gives  as seal and open, of a stream, written as it is read
+"] $($rest)*)
+    };
+    ([$($said:literal)*] length_31 $($rest:tt)*) => {
+        text!([$($said)* "  --length N                   how many bytes are derived, or are in a range: 1 to 10
+                               decimal digits, of a number up to 4,294,967,295; a length of
+                               srange is at most 16,777,216
+"] $($rest)*)
+    };
+    ([$($said:literal)*] hex_31 $($rest:tt)*) => {
+        text!([$($said)* "  --hex                        whether what is put out is in hexadecimal
+"] $($rest)*)
+    };
+}
 
 /// What a topic has to say.
 pub fn help_text(topic: Topic) -> &'static str
@@ -294,296 +511,69 @@ fn command_text(command: CommandName) -> &'static str
     ensures { result.now ≡ command_text command }
 {
     match command {
-        CommandName::CreateKeyset => "\
+        CommandName::CreateKeyset => text!([] "\
 tinkey create-keyset: makes a keyset of one new key, the primary
 
   tinkey create-keyset --key-template NAME [--out FILE] [--out-format json|binary]
 
 Required:
-  --key-template NAME       the name of the template of a new key: any text; it is looked up
-                            as the name of a template
-
+" key_template_28 "
 Optional:
-  --out FILE                the file that is made: a file's name, of one byte or more, whose
-                            last part doesn't begin with .tinkey-new-
-  --out-format json|binary  the form of the keyset that is written: json or binary, in ASCII
-                            letters of either case; where it isn't named, json
-
-Reads  nothing
+" out_28 out_format_28 read_by_create_keyset "\
 Gives  a keyset of one new key, as a new file of --out, or where none is named, on standard
        output
-
-Exit codes:
-  0  done
-  2  the words aren't a command, or ask for what can't be had
-  4  a file is missing or is there, or an edit is refused
-  5  reading, writing, a file or the random bytes failed
-  7  memory was wanting
-  8  a word of the command isn't text
-
-Example:
-  tinkey create-keyset --key-template AES256_GCM --out first.json
-",
-        CommandName::AddKey => "\
+" codes_024578 "  tinkey create-keyset --key-template AES256_GCM --out first.json
+"),
+        CommandName::AddKey => text!([] "\
 tinkey add-key: puts a new key behind the others
 
   tinkey add-key --key-template NAME [--in FILE] [--in-format json|binary] [--out FILE]
       [--out-format json|binary]
-
-Required:
-  --key-template NAME       the name of the template of a new key: any text; it is looked up
-                            as the name of a template
-
-Optional:
-  --in FILE                 the file of the keyset that is read: a file's name, of one byte
-                            or more
-  --in-format json|binary   the form of that keyset: json or binary, in ASCII letters of
-                            either case; where it isn't named, json
-  --out FILE                the file that is made: a file's name, of one byte or more, whose
-                            last part doesn't begin with .tinkey-new-
-  --out-format json|binary  the form of the keyset that is written: json or binary, in ASCII
-                            letters of either case; where it isn't named, json
-
-Reads  a keyset, from the file of --in, or where none is named, from standard input
-Gives  the keyset after that edit, as a new file of --out, or where none is named, on
-       standard output
-
-Exit codes:
-  0  done
-  2  the words aren't a command, or ask for what can't be had
-  3  the keyset isn't one, or its keys can't serve for the command
-  4  a file is missing or is there, or an edit is refused
-  5  reading, writing, a file or the random bytes failed
-  6  a limit was passed
-  7  memory was wanting
-  8  a word of the command isn't text
-
-Example:
-  tinkey add-key --key-template AES256_GCM --in first.json --out second.json
-",
-        CommandName::RotateKeyset => "\
+" options_of_add_key read_by_add_key given_by_add_key codes_02345678 "  tinkey add-key --key-template AES256_GCM --in first.json --out second.json
+"),
+        CommandName::RotateKeyset => text!([] "\
 tinkey rotate-keyset: puts a new key behind the others, and makes it the primary
 
   tinkey rotate-keyset --key-template NAME [--in FILE] [--in-format json|binary]
       [--out FILE] [--out-format json|binary]
-
-Required:
-  --key-template NAME       the name of the template of a new key: any text; it is looked up
-                            as the name of a template
-
-Optional:
-  --in FILE                 the file of the keyset that is read: a file's name, of one byte
-                            or more
-  --in-format json|binary   the form of that keyset: json or binary, in ASCII letters of
-                            either case; where it isn't named, json
-  --out FILE                the file that is made: a file's name, of one byte or more, whose
-                            last part doesn't begin with .tinkey-new-
-  --out-format json|binary  the form of the keyset that is written: json or binary, in ASCII
-                            letters of either case; where it isn't named, json
-
-Reads  a keyset, from the file of --in, or where none is named, from standard input
-Gives  the keyset after that edit, as a new file of --out, or where none is named, on
-       standard output
-
-Exit codes:
-  0  done
-  2  the words aren't a command, or ask for what can't be had
-  3  the keyset isn't one, or its keys can't serve for the command
-  4  a file is missing or is there, or an edit is refused
-  5  reading, writing, a file or the random bytes failed
-  6  a limit was passed
-  7  memory was wanting
-  8  a word of the command isn't text
-
-Example:
-  tinkey rotate-keyset --key-template AES256_GCM --in first.json --out second.json
-",
-        CommandName::PromoteKey => "\
+" options_of_add_key read_by_add_key given_by_add_key codes_02345678 "  tinkey rotate-keyset --key-template AES256_GCM --in first.json --out second.json
+"),
+        CommandName::PromoteKey => text!([] "\
 tinkey promote-key: makes an enabled key the primary
 
   tinkey promote-key --key-id N [--in FILE] [--in-format json|binary] [--out FILE]
       [--out-format json|binary]
-
-Required:
-  --key-id N                the key that is changed: 1 to 10 decimal digits, of a number up
-                            to 4,294,967,295
-
-Optional:
-  --in FILE                 the file of the keyset that is read: a file's name, of one byte
-                            or more
-  --in-format json|binary   the form of that keyset: json or binary, in ASCII letters of
-                            either case; where it isn't named, json
-  --out FILE                the file that is made: a file's name, of one byte or more, whose
-                            last part doesn't begin with .tinkey-new-
-  --out-format json|binary  the form of the keyset that is written: json or binary, in ASCII
-                            letters of either case; where it isn't named, json
-
-Reads  a keyset, from the file of --in, or where none is named, from standard input
-Gives  the keyset after that edit, as a new file of --out, or where none is named, on
-       standard output
-
-Exit codes:
-  0  done
-  2  the words aren't a command, or ask for what can't be had
-  3  the keyset isn't one, or its keys can't serve for the command
-  4  a file is missing or is there, or an edit is refused
-  5  reading, writing, a file or the random bytes failed
-  6  a limit was passed
-  7  memory was wanting
-  8  a word of the command isn't text
-
-Example:
-  tinkey promote-key --key-id 2547982252 --in first.json --out second.json
-",
-        CommandName::EnableKey => "\
+" options_of_promote_key read_by_add_key given_by_add_key codes_02345678 "  tinkey promote-key --key-id 2547982252 --in first.json --out second.json
+"),
+        CommandName::EnableKey => text!([] "\
 tinkey enable-key: makes a key ENABLED
 
   tinkey enable-key --key-id N [--in FILE] [--in-format json|binary] [--out FILE]
       [--out-format json|binary]
-
-Required:
-  --key-id N                the key that is changed: 1 to 10 decimal digits, of a number up
-                            to 4,294,967,295
-
-Optional:
-  --in FILE                 the file of the keyset that is read: a file's name, of one byte
-                            or more
-  --in-format json|binary   the form of that keyset: json or binary, in ASCII letters of
-                            either case; where it isn't named, json
-  --out FILE                the file that is made: a file's name, of one byte or more, whose
-                            last part doesn't begin with .tinkey-new-
-  --out-format json|binary  the form of the keyset that is written: json or binary, in ASCII
-                            letters of either case; where it isn't named, json
-
-Reads  a keyset, from the file of --in, or where none is named, from standard input
-Gives  the keyset after that edit, as a new file of --out, or where none is named, on
-       standard output
-
-Exit codes:
-  0  done
-  2  the words aren't a command, or ask for what can't be had
-  3  the keyset isn't one, or its keys can't serve for the command
-  4  a file is missing or is there, or an edit is refused
-  5  reading, writing, a file or the random bytes failed
-  6  a limit was passed
-  7  memory was wanting
-  8  a word of the command isn't text
-
-Example:
-  tinkey enable-key --key-id 2547982252 --in first.json --out second.json
-",
-        CommandName::DisableKey => "\
+" options_of_promote_key read_by_add_key given_by_add_key codes_02345678 "  tinkey enable-key --key-id 2547982252 --in first.json --out second.json
+"),
+        CommandName::DisableKey => text!([] "\
 tinkey disable-key: makes a key DISABLED: it does no work, and can be enabled again
 
   tinkey disable-key --key-id N [--in FILE] [--in-format json|binary] [--out FILE]
       [--out-format json|binary]
-
-Required:
-  --key-id N                the key that is changed: 1 to 10 decimal digits, of a number up
-                            to 4,294,967,295
-
-Optional:
-  --in FILE                 the file of the keyset that is read: a file's name, of one byte
-                            or more
-  --in-format json|binary   the form of that keyset: json or binary, in ASCII letters of
-                            either case; where it isn't named, json
-  --out FILE                the file that is made: a file's name, of one byte or more, whose
-                            last part doesn't begin with .tinkey-new-
-  --out-format json|binary  the form of the keyset that is written: json or binary, in ASCII
-                            letters of either case; where it isn't named, json
-
-Reads  a keyset, from the file of --in, or where none is named, from standard input
-Gives  the keyset after that edit, as a new file of --out, or where none is named, on
-       standard output
-
-Exit codes:
-  0  done
-  2  the words aren't a command, or ask for what can't be had
-  3  the keyset isn't one, or its keys can't serve for the command
-  4  a file is missing or is there, or an edit is refused
-  5  reading, writing, a file or the random bytes failed
-  6  a limit was passed
-  7  memory was wanting
-  8  a word of the command isn't text
-
-Example:
-  tinkey disable-key --key-id 2547982252 --in first.json --out second.json
-",
-        CommandName::DestroyKey => "\
+" options_of_promote_key read_by_add_key given_by_add_key codes_02345678 "  tinkey disable-key --key-id 2547982252 --in first.json --out second.json
+"),
+        CommandName::DestroyKey => text!([] "\
 tinkey destroy-key: takes a key's material away; this can't be undone
 
   tinkey destroy-key --key-id N [--in FILE] [--in-format json|binary] [--out FILE]
       [--out-format json|binary]
-
-Required:
-  --key-id N                the key that is changed: 1 to 10 decimal digits, of a number up
-                            to 4,294,967,295
-
-Optional:
-  --in FILE                 the file of the keyset that is read: a file's name, of one byte
-                            or more
-  --in-format json|binary   the form of that keyset: json or binary, in ASCII letters of
-                            either case; where it isn't named, json
-  --out FILE                the file that is made: a file's name, of one byte or more, whose
-                            last part doesn't begin with .tinkey-new-
-  --out-format json|binary  the form of the keyset that is written: json or binary, in ASCII
-                            letters of either case; where it isn't named, json
-
-Reads  a keyset, from the file of --in, or where none is named, from standard input
-Gives  the keyset after that edit, as a new file of --out, or where none is named, on
-       standard output
-
-Exit codes:
-  0  done
-  2  the words aren't a command, or ask for what can't be had
-  3  the keyset isn't one, or its keys can't serve for the command
-  4  a file is missing or is there, or an edit is refused
-  5  reading, writing, a file or the random bytes failed
-  6  a limit was passed
-  7  memory was wanting
-  8  a word of the command isn't text
-
-Example:
-  tinkey destroy-key --key-id 2547982252 --in first.json --out second.json
-",
-        CommandName::DeleteKey => "\
+" options_of_promote_key read_by_add_key given_by_add_key codes_02345678 "  tinkey destroy-key --key-id 2547982252 --in first.json --out second.json
+"),
+        CommandName::DeleteKey => text!([] "\
 tinkey delete-key: takes a key out; this can't be undone
 
   tinkey delete-key --key-id N [--in FILE] [--in-format json|binary] [--out FILE]
       [--out-format json|binary]
-
-Required:
-  --key-id N                the key that is changed: 1 to 10 decimal digits, of a number up
-                            to 4,294,967,295
-
-Optional:
-  --in FILE                 the file of the keyset that is read: a file's name, of one byte
-                            or more
-  --in-format json|binary   the form of that keyset: json or binary, in ASCII letters of
-                            either case; where it isn't named, json
-  --out FILE                the file that is made: a file's name, of one byte or more, whose
-                            last part doesn't begin with .tinkey-new-
-  --out-format json|binary  the form of the keyset that is written: json or binary, in ASCII
-                            letters of either case; where it isn't named, json
-
-Reads  a keyset, from the file of --in, or where none is named, from standard input
-Gives  the keyset after that edit, as a new file of --out, or where none is named, on
-       standard output
-
-Exit codes:
-  0  done
-  2  the words aren't a command, or ask for what can't be had
-  3  the keyset isn't one, or its keys can't serve for the command
-  4  a file is missing or is there, or an edit is refused
-  5  reading, writing, a file or the random bytes failed
-  6  a limit was passed
-  7  memory was wanting
-  8  a word of the command isn't text
-
-Example:
-  tinkey delete-key --key-id 2547982252 --in first.json --out second.json
-",
-        CommandName::ListKeyset => "\
+" options_of_promote_key read_by_add_key given_by_add_key codes_02345678 "  tinkey delete-key --key-id 2547982252 --in first.json --out second.json
+"),
+        CommandName::ListKeyset => text!([] "\
 tinkey list-keyset: lists a keyset without key material
 
   tinkey list-keyset [--in FILE] [--in-format json|binary]
@@ -593,436 +583,196 @@ Optional:
                            or more
   --in-format json|binary  the form of that keyset: json or binary, in ASCII letters of
                            either case; where it isn't named, json
+" read_by_add_key "Gives  its listing, on standard output\n" codes_02345678 "  tinkey list-keyset --in first.json\n"),
+        CommandName::ListKeyTemplates => text!([] "\
+tinkey list-key-templates: lists the names of the templates of new keys
 
-Reads  a keyset, from the file of --in, or where none is named, from standard input
-Gives  its listing, on standard output
+  tinkey list-key-templates
+" read_by_create_keyset "\
+Gives  the names of the templates, one a line, on standard output
 
 Exit codes:
-  0  done
-  2  the words aren't a command, or ask for what can't be had
-  3  the keyset isn't one, or its keys can't serve for the command
-  4  a file is missing or is there, or an edit is refused
-  5  reading, writing, a file or the random bytes failed
-  6  a limit was passed
-  7  memory was wanting
-  8  a word of the command isn't text
-
+" code_0 code_2 code_5 code_7 code_8 "
 Example:
-  tinkey list-keyset --in first.json
-",
-        CommandName::ConvertKeyset => "\
+  tinkey list-key-templates
+"),
+        CommandName::ConvertKeyset => text!([] "\
 tinkey convert-keyset: writes a keyset in another form or place
 
   tinkey convert-keyset [--in FILE] [--in-format json|binary] [--out FILE]
       [--out-format json|binary]
 
 Optional:
-  --in FILE                 the file of the keyset that is read: a file's name, of one byte
-                            or more
-  --in-format json|binary   the form of that keyset: json or binary, in ASCII letters of
-                            either case; where it isn't named, json
-  --out FILE                the file that is made: a file's name, of one byte or more, whose
-                            last part doesn't begin with .tinkey-new-
-  --out-format json|binary  the form of the keyset that is written: json or binary, in ASCII
-                            letters of either case; where it isn't named, json
-
-Reads  a keyset, from the file of --in, or where none is named, from standard input
+" in_28 in_format_28 out_28 out_format_28 read_by_add_key "\
 Gives  the same keyset, as a new file of --out, or where none is named, on standard output
+" codes_02345678 "  tinkey convert-keyset --in first.json --out first.bin --out-format binary
+"),
+        CommandName::WrapKeyset => text!([] "\
+tinkey wrap-keyset: seals a keyset under another one, the master
 
-Exit codes:
-  0  done
-  2  the words aren't a command, or ask for what can't be had
-  3  the keyset isn't one, or its keys can't serve for the command
-  4  a file is missing or is there, or an edit is refused
-  5  reading, writing, a file or the random bytes failed
-  6  a limit was passed
-  7  memory was wanting
-  8  a word of the command isn't text
+  tinkey wrap-keyset --master FILE [--master-format json|binary] [--in FILE]
+      [--in-format json|binary] [--out FILE] [--out-format json|binary]
+" options_of_wrap_keyset "
+Reads  the master in the file of --master, and a keyset, from the file of --in, or where
+       none is named, from standard input
+Gives  the keyset as an encrypted keyset, sealed under the master's primary key, in the form
+       of --out-format, as a new file of --out, or where none is named, on standard output
+" codes_02345678 "  tinkey wrap-keyset --master master.json --in first.json --out first.wrapped
+"),
+        CommandName::UnwrapKeyset => text!([] "\
+tinkey unwrap-keyset: opens a keyset that was wrapped
 
-Example:
-  tinkey convert-keyset --in first.json --out first.bin --out-format binary
-",
-        CommandName::ListKeyTemplates => "\
-tinkey list-key-templates: lists the names of the templates of new keys
-
-  tinkey list-key-templates
-
-Reads  nothing
-Gives  the names of the templates, one a line, on standard output
-
-Exit codes:
-  0  done
-  2  the words aren't a command, or ask for what can't be had
-  5  reading, writing, a file or the random bytes failed
-  7  memory was wanting
-  8  a word of the command isn't text
-
-Example:
-  tinkey list-key-templates
-",
-        CommandName::Seal => "\
+  tinkey unwrap-keyset --master FILE [--master-format json|binary] [--in FILE]
+      [--in-format json|binary] [--out FILE] [--out-format json|binary]
+" options_of_wrap_keyset "
+Reads  the master, and an encrypted keyset in the form of --in-format, from the file of
+       --in, or where none is named, from standard input
+Gives  the keyset inside, as a new file of --out, or where none is named, on standard output
+" codes_012345678 "  tinkey unwrap-keyset --master master.json --in first.wrapped --out first.json
+"),
+        CommandName::Seal => text!([] "\
 tinkey seal: seals standard input under the primary key
 
   tinkey seal --keyset FILE [--keyset-format json|binary] [--ad TEXT] [--ad-hex HEX]
       [--out FILE]
-
-Required:
-  --keyset FILE                the file of the keyset that is used: a file's name, of one
-                               byte or more
-
-Optional:
-  --keyset-format json|binary  the form of that keyset: json or binary, in ASCII letters of
-                               either case; where it isn't named, json
-  --ad TEXT                    the associated data: a text of at most 1,048,576 bytes, taken
-                               as they stand; not beside --ad-hex
-  --ad-hex HEX                 the associated data in hexadecimal: an even number of
-                               hexadecimal digits of either case, at most 2,097,152, or
-                               none; not beside --ad
-  --out FILE                   the file that is made: a file's name, of one byte or more,
-                               whose last part doesn't begin with .tinkey-new-
-
-Reads  the keyset in the file of --keyset, and all of standard input
+" options_of_seal read_by_seal "\
 Gives  the input sealed under the primary key, as a new file of --out, or where none is
        named, on standard output
-
-Exit codes:
-  0  done
-  2  the words aren't a command, or ask for what can't be had
-  3  the keyset isn't one, or its keys can't serve for the command
-  4  a file is missing or is there, or an edit is refused
-  5  reading, writing, a file or the random bytes failed
-  6  a limit was passed
-  7  memory was wanting
-  8  a word of the command isn't text
-
-Example:
-  tinkey seal --keyset first.json --ad 'to Ada' < letter.txt > letter.sealed
-",
-        CommandName::Open => "\
+" codes_02345678 "  tinkey seal --keyset first.json --ad 'to Ada' < letter.txt > letter.sealed
+"),
+        CommandName::Open => text!([] "\
 tinkey open: opens what any enabled key sealed
 
   tinkey open --keyset FILE [--keyset-format json|binary] [--ad TEXT] [--ad-hex HEX]
       [--out FILE]
-
-Required:
-  --keyset FILE                the file of the keyset that is used: a file's name, of one
-                               byte or more
-
-Optional:
-  --keyset-format json|binary  the form of that keyset: json or binary, in ASCII letters of
-                               either case; where it isn't named, json
-  --ad TEXT                    the associated data: a text of at most 1,048,576 bytes, taken
-                               as they stand; not beside --ad-hex
-  --ad-hex HEX                 the associated data in hexadecimal: an even number of
-                               hexadecimal digits of either case, at most 2,097,152, or
-                               none; not beside --ad
-  --out FILE                   the file that is made: a file's name, of one byte or more,
-                               whose last part doesn't begin with .tinkey-new-
-
-Reads  the keyset in the file of --keyset, and all of standard input
+" options_of_seal read_by_seal "\
 Gives  what the input opens to, as a new file of --out, or where none is named, on standard
        output
+" codes_012345678 "  tinkey open --keyset first.json --ad 'to Ada' < letter.sealed
+"),
+        CommandName::Eseal => text!([] "\
+tinkey eseal: seals under a fresh data key, and that key under the keyset: an envelope
 
-Exit codes:
-  0  done
-  1  what was given doesn't open, doesn't verify, or is no whole stream
-  2  the words aren't a command, or ask for what can't be had
-  3  the keyset isn't one, or its keys can't serve for the command
-  4  a file is missing or is there, or an edit is refused
-  5  reading, writing, a file or the random bytes failed
-  6  a limit was passed
-  7  memory was wanting
-  8  a word of the command isn't text
+  tinkey eseal --keyset FILE --dek-template NAME [--keyset-format json|binary] [--ad TEXT]
+      [--ad-hex HEX] [--out FILE]
+" options_of_eseal read_by_seal "\
+Gives  an envelope of the input, under a fresh data key of the template of --dek-template,
+       as a new file of --out, or where none is named, on standard output
+" codes_02345678 "  tinkey eseal --keyset first.json --dek-template AES128_GCM < letter.txt > envelope
+"),
+        CommandName::Eopen => text!([] "\
+tinkey eopen: opens an envelope
 
-Example:
-  tinkey open --keyset first.json --ad 'to Ada' < letter.sealed
-",
-        CommandName::Dseal => "\
+  tinkey eopen --keyset FILE --dek-template NAME [--keyset-format json|binary] [--ad TEXT]
+      [--ad-hex HEX] [--out FILE]
+" options_of_eseal read_by_seal "\
+Gives  what the envelope opens to, as a new file of --out, or where none is named, on
+       standard output
+" codes_012345678 "  tinkey eopen --keyset first.json --dek-template AES128_GCM < envelope
+"),
+        CommandName::Dseal => text!([] "\
 tinkey dseal: seals deterministically: equal texts give equal bytes
 
   tinkey dseal --keyset FILE [--keyset-format json|binary] [--ad TEXT] [--ad-hex HEX]
       [--out FILE]
-
-Required:
-  --keyset FILE                the file of the keyset that is used: a file's name, of one
-                               byte or more
-
-Optional:
-  --keyset-format json|binary  the form of that keyset: json or binary, in ASCII letters of
-                               either case; where it isn't named, json
-  --ad TEXT                    the associated data: a text of at most 1,048,576 bytes, taken
-                               as they stand; not beside --ad-hex
-  --ad-hex HEX                 the associated data in hexadecimal: an even number of
-                               hexadecimal digits of either case, at most 2,097,152, or
-                               none; not beside --ad
-  --out FILE                   the file that is made: a file's name, of one byte or more,
-                               whose last part doesn't begin with .tinkey-new-
-
-Reads  the keyset in the file of --keyset, and all of standard input
-Gives  as seal and open, without an IV, as a new file of --out, or where none is named, on
-       standard output
-
-Exit codes:
-  0  done
-  2  the words aren't a command, or ask for what can't be had
-  3  the keyset isn't one, or its keys can't serve for the command
-  4  a file is missing or is there, or an edit is refused
-  5  reading, writing, a file or the random bytes failed
-  6  a limit was passed
-  7  memory was wanting
-  8  a word of the command isn't text
-
-Example:
-  tinkey dseal --keyset siv.json < letter.txt > letter.sealed
-",
-        CommandName::Dopen => "\
+" options_of_seal read_by_seal given_by_dseal codes_02345678 "  tinkey dseal --keyset siv.json < letter.txt > letter.sealed
+"),
+        CommandName::Dopen => text!([] "\
 tinkey dopen: opens what dseal sealed
 
   tinkey dopen --keyset FILE [--keyset-format json|binary] [--ad TEXT] [--ad-hex HEX]
       [--out FILE]
-
-Required:
-  --keyset FILE                the file of the keyset that is used: a file's name, of one
-                               byte or more
-
-Optional:
-  --keyset-format json|binary  the form of that keyset: json or binary, in ASCII letters of
-                               either case; where it isn't named, json
-  --ad TEXT                    the associated data: a text of at most 1,048,576 bytes, taken
-                               as they stand; not beside --ad-hex
-  --ad-hex HEX                 the associated data in hexadecimal: an even number of
-                               hexadecimal digits of either case, at most 2,097,152, or
-                               none; not beside --ad
-  --out FILE                   the file that is made: a file's name, of one byte or more,
-                               whose last part doesn't begin with .tinkey-new-
-
-Reads  the keyset in the file of --keyset, and all of standard input
-Gives  as seal and open, without an IV, as a new file of --out, or where none is named, on
-       standard output
-
-Exit codes:
-  0  done
-  1  what was given doesn't open, doesn't verify, or is no whole stream
-  2  the words aren't a command, or ask for what can't be had
-  3  the keyset isn't one, or its keys can't serve for the command
-  4  a file is missing or is there, or an edit is refused
-  5  reading, writing, a file or the random bytes failed
-  6  a limit was passed
-  7  memory was wanting
-  8  a word of the command isn't text
-
-Example:
-  tinkey dopen --keyset siv.json < letter.sealed
-",
-        CommandName::Sseal => "\
+" options_of_seal read_by_seal given_by_dseal codes_012345678 "  tinkey dopen --keyset siv.json < letter.sealed\n"),
+        CommandName::Sseal => text!([] "\
 tinkey sseal: seals a stream of any length, in one pass
 
   tinkey sseal --keyset FILE [--keyset-format json|binary] [--ad TEXT] [--ad-hex HEX]
-
-Required:
-  --keyset FILE                the file of the keyset that is used: a file's name, of one
-                               byte or more
-
-Optional:
-  --keyset-format json|binary  the form of that keyset: json or binary, in ASCII letters of
-                               either case; where it isn't named, json
-  --ad TEXT                    the associated data: a text of at most 1,048,576 bytes, taken
-                               as they stand; not beside --ad-hex
-  --ad-hex HEX                 the associated data in hexadecimal: an even number of
-                               hexadecimal digits of either case, at most 2,097,152, or
-                               none; not beside --ad
-
-Reads  the keyset, and standard input as a stream
-Gives  as seal and open, of a stream, written as it is read
-
-Exit codes:
-  0  done
-  2  the words aren't a command, or ask for what can't be had
-  3  the keyset isn't one, or its keys can't serve for the command
-  4  a file is missing or is there, or an edit is refused
-  5  reading, writing, a file or the random bytes failed
-  6  a limit was passed
-  7  memory was wanting
-  8  a word of the command isn't text
-
-Example:
-  tinkey sseal --keyset streaming.json < backup.tar > backup.sealed
-",
-        CommandName::Sopen => "\
+" options_of_sseal read_by_sseal given_by_sseal codes_02345678 "  tinkey sseal --keyset streaming.json < backup.tar > backup.sealed
+"),
+        CommandName::Sopen => text!([] "\
 tinkey sopen: opens such a stream; only at exit code 0 is it whole
 
   tinkey sopen --keyset FILE [--keyset-format json|binary] [--ad TEXT] [--ad-hex HEX]
+" options_of_sseal read_by_sseal given_by_sseal codes_012345678 "  tinkey sopen --keyset streaming.json < backup.sealed > backup.tar
+"),
+        CommandName::Srange => text!([] "\
+tinkey srange: opens a range of such a stream in a file
+
+  tinkey srange --keyset FILE --file FILE --from N --length N [--keyset-format json|binary]
+      [--ad TEXT] [--ad-hex HEX] [--out FILE]
 
 Required:
-  --keyset FILE                the file of the keyset that is used: a file's name, of one
-                               byte or more
-
+" keyset_31 "  --file FILE                  the file of a stream: a file's name, of one byte or more; the
+                               file is no folder and no pipe
+  --from N                     the offset of a range's first byte: 1 to 19 decimal digits,
+                               of a number up to 9,223,372,036,854,775,807
+" length_31 "
 Optional:
-  --keyset-format json|binary  the form of that keyset: json or binary, in ASCII letters of
-                               either case; where it isn't named, json
-  --ad TEXT                    the associated data: a text of at most 1,048,576 bytes, taken
-                               as they stand; not beside --ad-hex
-  --ad-hex HEX                 the associated data in hexadecimal: an even number of
-                               hexadecimal digits of either case, at most 2,097,152, or
-                               none; not beside --ad
-
-Reads  the keyset, and standard input as a stream
-Gives  as seal and open, of a stream, written as it is read
-
-Exit codes:
-  0  done
-  1  what was given doesn't open, doesn't verify, or is no whole stream
-  2  the words aren't a command, or ask for what can't be had
-  3  the keyset isn't one, or its keys can't serve for the command
-  4  a file is missing or is there, or an edit is refused
-  5  reading, writing, a file or the random bytes failed
-  6  a limit was passed
-  7  memory was wanting
-  8  a word of the command isn't text
-
-Example:
-  tinkey sopen --keyset streaming.json < backup.sealed > backup.tar
-",
-        CommandName::Tag => "\
+" keyset_format_31 ad_31 ad_hex_31 out_31 "
+Reads  the keyset, and the stream in the file of --file
+Gives  so many bytes of the stream's plaintext, as --length says, from the offset of --from
+       on, counted from 0; as a new file of --out, or on standard output
+" codes_012345678 "  tinkey srange --keyset streaming.json --file backup.sealed --from 1000000 --length 100
+"),
+        CommandName::Tag => text!([] "\
 tinkey tag: tags standard input under the primary key
 
   tinkey tag --keyset FILE [--keyset-format json|binary] [--out FILE] [--hex]
 
 Required:
-  --keyset FILE                the file of the keyset that is used: a file's name, of one
-                               byte or more
-
+" keyset_31 "
 Optional:
-  --keyset-format json|binary  the form of that keyset: json or binary, in ASCII letters of
-                               either case; where it isn't named, json
-  --out FILE                   the file that is made: a file's name, of one byte or more,
-                               whose last part doesn't begin with .tinkey-new-
-  --hex                        whether what is put out is in hexadecimal
-
-Reads  the keyset in the file of --keyset, and all of standard input
+" keyset_format_31 out_31 hex_31 read_by_seal "\
 Gives  the tag of the input under the primary key, as a new file of --out, or where none is
        named, on standard output
-
-Exit codes:
-  0  done
-  2  the words aren't a command, or ask for what can't be had
-  3  the keyset isn't one, or its keys can't serve for the command
-  4  a file is missing or is there, or an edit is refused
-  5  reading, writing, a file or the random bytes failed
-  6  a limit was passed
-  7  memory was wanting
-  8  a word of the command isn't text
-
-Example:
-  tinkey tag --keyset mac.json --hex < letter.txt > letter.tag
-",
-        CommandName::Verify => "\
+" codes_02345678 "  tinkey tag --keyset mac.json --hex < letter.txt > letter.tag
+"),
+        CommandName::Verify => text!([] "\
 tinkey verify: says whether a tag is that of any enabled key
 
   tinkey verify --keyset FILE --tag-hex HEX [--keyset-format json|binary]
 
 Required:
-  --keyset FILE                the file of the keyset that is used: a file's name, of one
-                               byte or more
-  --tag-hex HEX                the tag that is verified, in hexadecimal: an even number of
+" keyset_31 "  --tag-hex HEX                the tag that is verified, in hexadecimal: an even number of
                                hexadecimal digits of either case, at most 2,097,152, or none
 
 Optional:
-  --keyset-format json|binary  the form of that keyset: json or binary, in ASCII letters of
-                               either case; where it isn't named, json
-
-Reads  the keyset in the file of --keyset, and all of standard input
+" keyset_format_31 read_by_seal "\
 Gives  nothing; the status says whether the tag is one of the keyset's
-
-Exit codes:
-  0  done
-  1  what was given doesn't open, doesn't verify, or is no whole stream
-  2  the words aren't a command, or ask for what can't be had
-  3  the keyset isn't one, or its keys can't serve for the command
-  4  a file is missing or is there, or an edit is refused
-  5  reading, writing, a file or the random bytes failed
-  6  a limit was passed
-  7  memory was wanting
-  8  a word of the command isn't text
-
-Example:
-  tinkey verify --keyset mac.json --tag-hex 01a62510fbf4892efd34083c < letter.txt
-",
-        CommandName::Derive => "\
+" codes_012345678 "  tinkey verify --keyset mac.json --tag-hex 01a62510fbf4892efd34083c < letter.txt
+"),
+        CommandName::Derive => text!([] "\
 tinkey derive: derives bytes from standard input
 
   tinkey derive --keyset FILE --length N [--keyset-format json|binary] [--out FILE] [--hex]
 
 Required:
-  --keyset FILE                the file of the keyset that is used: a file's name, of one
-                               byte or more
-  --length N                   how many bytes are derived, or are in a range: 1 to 10
-                               decimal digits, of a number up to 4,294,967,295; a length of
-                               srange is at most 16,777,216
-
+" keyset_31 length_31 "
 Optional:
-  --keyset-format json|binary  the form of that keyset: json or binary, in ASCII letters of
-                               either case; where it isn't named, json
-  --out FILE                   the file that is made: a file's name, of one byte or more,
-                               whose last part doesn't begin with .tinkey-new-
-  --hex                        whether what is put out is in hexadecimal
-
-Reads  the keyset in the file of --keyset, and all of standard input
+" keyset_format_31 out_31 hex_31 read_by_seal "\
 Gives  so many bytes derived from the input by the primary key, as a new file of --out, or
        where none is named, on standard output
-
-Exit codes:
-  0  done
-  2  the words aren't a command, or ask for what can't be had
-  3  the keyset isn't one, or its keys can't serve for the command
-  4  a file is missing or is there, or an edit is refused
-  5  reading, writing, a file or the random bytes failed
-  6  a limit was passed
-  7  memory was wanting
-  8  a word of the command isn't text
-
-Example:
-  tinkey derive --keyset prf.json --length 32 < letter.txt > derived
-",
-        CommandName::Session => "\
+" codes_02345678 "  tinkey derive --keyset prf.json --length 32 < letter.txt > derived
+"),
+        CommandName::Session => text!([] "\
 tinkey session: answers lines that seal, open, tag, verify, derive and edit
 
   tinkey session --keyset FILE [--keyset-format json|binary] [--out FILE]
       [--out-format json|binary]
 
 Required:
-  --keyset FILE                the file of the keyset that is used: a file's name, of one
-                               byte or more
-
+" keyset_31 "
 Optional:
-  --keyset-format json|binary  the form of that keyset: json or binary, in ASCII letters of
-                               either case; where it isn't named, json
-  --out FILE                   the file that is made: a file's name, of one byte or more,
-                               whose last part doesn't begin with .tinkey-new-
-  --out-format json|binary     the form of the keyset that is written: json or binary, in
-                               ASCII letters of either case; where it isn't named, json
-
+" keyset_format_31 out_31 out_format_31 "
 Reads  the keyset, and lines on standard input: seal HEX HEX and dseal HEX HEX (a text, its
        associated data), open HEX HEX and dopen HEX HEX, tag HEX, verify HEX HEX (a tag, its
        text), derive N HEX, add NAME and rotate NAME (a template), promote N, enable N,
        disable N, destroy N, delete N (a key id); - stands for no bytes
 Gives  one reply a line, on standard output; and then the last keyset to the new file of
        --out, where one is named
-
-Exit codes:
-  0  done
-  2  the words aren't a command, or ask for what can't be had
-  3  the keyset isn't one, or its keys can't serve for the command
-  4  a file is missing or is there, or an edit is refused
-  5  reading, writing, a file or the random bytes failed
-  6  a limit was passed
-  7  memory was wanting
-  8  a word of the command isn't text
-
-Example:
-  tinkey session --keyset first.json --out second.json < lines
-",
-        CommandName::Selftest => "\
+" codes_02345678 "  tinkey session --keyset first.json --out second.json < lines
+"),
+        CommandName::Selftest => text!([] "\
 tinkey selftest: seals, opens and edits many times, and counts what came of it
 
   tinkey selftest --seed N [--lines N]
@@ -1034,227 +784,6 @@ Required:
 Optional:
   --lines N  how many lines it has: 1 to 10 decimal digits, of a number from 1 to 100,000;
              where it isn't named, 1,000
-
-Reads  nothing
-Gives  one line of counts, on standard output
-
-Exit codes:
-  0  done
-  2  the words aren't a command, or ask for what can't be had
-  4  a file is missing or is there, or an edit is refused
-  5  reading, writing, a file or the random bytes failed
-  7  memory was wanting
-  8  a word of the command isn't text
-
-Example:
-  tinkey selftest --seed 1 --lines 1000
-",
-        CommandName::WrapKeyset => "\
-tinkey wrap-keyset: seals a keyset under another one, the master
-
-  tinkey wrap-keyset --master FILE [--master-format json|binary] [--in FILE]
-      [--in-format json|binary] [--out FILE] [--out-format json|binary]
-
-Required:
-  --master FILE                the file of the keyset under which another one is sealed: a
-                               file's name, of one byte or more
-
-Optional:
-  --master-format json|binary  the form of that keyset: json or binary, in ASCII letters of
-                               either case; where it isn't named, json
-  --in FILE                    the file of the keyset that is read: a file's name, of one
-                               byte or more
-  --in-format json|binary      the form of that keyset: json or binary, in ASCII letters of
-                               either case; where it isn't named, json
-  --out FILE                   the file that is made: a file's name, of one byte or more,
-                               whose last part doesn't begin with .tinkey-new-
-  --out-format json|binary     the form of the keyset that is written: json or binary, in
-                               ASCII letters of either case; where it isn't named, json
-
-Reads  the master in the file of --master, and a keyset, from the file of --in, or where
-       none is named, from standard input
-Gives  the keyset as an encrypted keyset, sealed under the master's primary key, in the form
-       of --out-format, as a new file of --out, or where none is named, on standard output
-
-Exit codes:
-  0  done
-  2  the words aren't a command, or ask for what can't be had
-  3  the keyset isn't one, or its keys can't serve for the command
-  4  a file is missing or is there, or an edit is refused
-  5  reading, writing, a file or the random bytes failed
-  6  a limit was passed
-  7  memory was wanting
-  8  a word of the command isn't text
-
-Example:
-  tinkey wrap-keyset --master master.json --in first.json --out first.wrapped
-",
-        CommandName::UnwrapKeyset => "\
-tinkey unwrap-keyset: opens a keyset that was wrapped
-
-  tinkey unwrap-keyset --master FILE [--master-format json|binary] [--in FILE]
-      [--in-format json|binary] [--out FILE] [--out-format json|binary]
-
-Required:
-  --master FILE                the file of the keyset under which another one is sealed: a
-                               file's name, of one byte or more
-
-Optional:
-  --master-format json|binary  the form of that keyset: json or binary, in ASCII letters of
-                               either case; where it isn't named, json
-  --in FILE                    the file of the keyset that is read: a file's name, of one
-                               byte or more
-  --in-format json|binary      the form of that keyset: json or binary, in ASCII letters of
-                               either case; where it isn't named, json
-  --out FILE                   the file that is made: a file's name, of one byte or more,
-                               whose last part doesn't begin with .tinkey-new-
-  --out-format json|binary     the form of the keyset that is written: json or binary, in
-                               ASCII letters of either case; where it isn't named, json
-
-Reads  the master, and an encrypted keyset in the form of --in-format, from the file of
-       --in, or where none is named, from standard input
-Gives  the keyset inside, as a new file of --out, or where none is named, on standard output
-
-Exit codes:
-  0  done
-  1  what was given doesn't open, doesn't verify, or is no whole stream
-  2  the words aren't a command, or ask for what can't be had
-  3  the keyset isn't one, or its keys can't serve for the command
-  4  a file is missing or is there, or an edit is refused
-  5  reading, writing, a file or the random bytes failed
-  6  a limit was passed
-  7  memory was wanting
-  8  a word of the command isn't text
-
-Example:
-  tinkey unwrap-keyset --master master.json --in first.wrapped --out first.json
-",
-        CommandName::Eseal => "\
-tinkey eseal: seals under a fresh data key, and that key under the keyset: an envelope
-
-  tinkey eseal --keyset FILE --dek-template NAME [--keyset-format json|binary] [--ad TEXT]
-      [--ad-hex HEX] [--out FILE]
-
-Required:
-  --keyset FILE                the file of the keyset that is used: a file's name, of one
-                               byte or more
-  --dek-template NAME          the name of the template of data keys: any text; it is looked
-                               up as the name of a template
-
-Optional:
-  --keyset-format json|binary  the form of that keyset: json or binary, in ASCII letters of
-                               either case; where it isn't named, json
-  --ad TEXT                    the associated data: a text of at most 1,048,576 bytes, taken
-                               as they stand; not beside --ad-hex
-  --ad-hex HEX                 the associated data in hexadecimal: an even number of
-                               hexadecimal digits of either case, at most 2,097,152, or
-                               none; not beside --ad
-  --out FILE                   the file that is made: a file's name, of one byte or more,
-                               whose last part doesn't begin with .tinkey-new-
-
-Reads  the keyset in the file of --keyset, and all of standard input
-Gives  an envelope of the input, under a fresh data key of the template of --dek-template,
-       as a new file of --out, or where none is named, on standard output
-
-Exit codes:
-  0  done
-  2  the words aren't a command, or ask for what can't be had
-  3  the keyset isn't one, or its keys can't serve for the command
-  4  a file is missing or is there, or an edit is refused
-  5  reading, writing, a file or the random bytes failed
-  6  a limit was passed
-  7  memory was wanting
-  8  a word of the command isn't text
-
-Example:
-  tinkey eseal --keyset first.json --dek-template AES128_GCM < letter.txt > envelope
-",
-        CommandName::Eopen => "\
-tinkey eopen: opens an envelope
-
-  tinkey eopen --keyset FILE --dek-template NAME [--keyset-format json|binary] [--ad TEXT]
-      [--ad-hex HEX] [--out FILE]
-
-Required:
-  --keyset FILE                the file of the keyset that is used: a file's name, of one
-                               byte or more
-  --dek-template NAME          the name of the template of data keys: any text; it is looked
-                               up as the name of a template
-
-Optional:
-  --keyset-format json|binary  the form of that keyset: json or binary, in ASCII letters of
-                               either case; where it isn't named, json
-  --ad TEXT                    the associated data: a text of at most 1,048,576 bytes, taken
-                               as they stand; not beside --ad-hex
-  --ad-hex HEX                 the associated data in hexadecimal: an even number of
-                               hexadecimal digits of either case, at most 2,097,152, or
-                               none; not beside --ad
-  --out FILE                   the file that is made: a file's name, of one byte or more,
-                               whose last part doesn't begin with .tinkey-new-
-
-Reads  the keyset in the file of --keyset, and all of standard input
-Gives  what the envelope opens to, as a new file of --out, or where none is named, on
-       standard output
-
-Exit codes:
-  0  done
-  1  what was given doesn't open, doesn't verify, or is no whole stream
-  2  the words aren't a command, or ask for what can't be had
-  3  the keyset isn't one, or its keys can't serve for the command
-  4  a file is missing or is there, or an edit is refused
-  5  reading, writing, a file or the random bytes failed
-  6  a limit was passed
-  7  memory was wanting
-  8  a word of the command isn't text
-
-Example:
-  tinkey eopen --keyset first.json --dek-template AES128_GCM < envelope
-",
-        CommandName::Srange => "\
-tinkey srange: opens a range of such a stream in a file
-
-  tinkey srange --keyset FILE --file FILE --from N --length N [--keyset-format json|binary]
-      [--ad TEXT] [--ad-hex HEX] [--out FILE]
-
-Required:
-  --keyset FILE                the file of the keyset that is used: a file's name, of one
-                               byte or more
-  --file FILE                  the file of a stream: a file's name, of one byte or more; the
-                               file is no folder and no pipe
-  --from N                     the offset of a range's first byte: 1 to 19 decimal digits,
-                               of a number up to 9,223,372,036,854,775,807
-  --length N                   how many bytes are derived, or are in a range: 1 to 10
-                               decimal digits, of a number up to 4,294,967,295; a length of
-                               srange is at most 16,777,216
-
-Optional:
-  --keyset-format json|binary  the form of that keyset: json or binary, in ASCII letters of
-                               either case; where it isn't named, json
-  --ad TEXT                    the associated data: a text of at most 1,048,576 bytes, taken
-                               as they stand; not beside --ad-hex
-  --ad-hex HEX                 the associated data in hexadecimal: an even number of
-                               hexadecimal digits of either case, at most 2,097,152, or
-                               none; not beside --ad
-  --out FILE                   the file that is made: a file's name, of one byte or more,
-                               whose last part doesn't begin with .tinkey-new-
-
-Reads  the keyset, and the stream in the file of --file
-Gives  so many bytes of the stream's plaintext, as --length says, from the offset of --from
-       on, counted from 0; as a new file of --out, or on standard output
-
-Exit codes:
-  0  done
-  1  what was given doesn't open, doesn't verify, or is no whole stream
-  2  the words aren't a command, or ask for what can't be had
-  3  the keyset isn't one, or its keys can't serve for the command
-  4  a file is missing or is there, or an edit is refused
-  5  reading, writing, a file or the random bytes failed
-  6  a limit was passed
-  7  memory was wanting
-  8  a word of the command isn't text
-
-Example:
-  tinkey srange --keyset streaming.json --file backup.sealed --from 1000000 --length 100
-",
+" read_by_create_keyset "Gives  one line of counts, on standard output\n" codes_024578 "  tinkey selftest --seed 1 --lines 1000\n"),
     }
 }

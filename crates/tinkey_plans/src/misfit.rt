@@ -1,7 +1,7 @@
 //! The second line of words that are refused, told without memory.
 
 ghost use Rattle.std.specs.Prelude.{◌≡◌, ◌+◌, ◌≤◌, ◌++◌, length};
-ghost use Rattle.tinkey_words.specs.Rows.{form_for, option_row, row_of};
+ghost use Rattle.tinkey_words.specs.Names.{form_for, option_row, row_of};
 ghost use Rattle.tinkey_plans.specs.Misfits.{form_text, misfit_line, misfit_text, told_of};
 
 use tink_base::ASIDE;

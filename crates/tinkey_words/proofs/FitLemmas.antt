@@ -9,13 +9,15 @@ use Rattle.tinkey_words.specs.declared.words.help.First.TheVariants as firsts
 use Rattle.tinkey_words.specs.declared.words.help.Topic.TheVariants as topics
 use Rattle.tinkey_words.specs.declared.words.misuse.Misfit.TheVariants as misfits
 use Rattle.tinkey_words.specs.declared.words.misuse.Misuse.{Misuse}
-use Rattle.tinkey_words.specs.declared.words.rows.CommandName.{CommandName}
-use Rattle.tinkey_words.specs.declared.words.rows.OptionName.{OptionName}
-use Rattle.tinkey_words.specs.Rows.{row_of, form_for, rival, same, is_one_of}
+use Rattle.tinkey_words.specs.declared.words.names.CommandName.{CommandName}
+use Rattle.tinkey_words.specs.declared.words.names.OptionName.{OptionName}
+use Rattle.tinkey_words.specs.Names.{row_of, form_for, rival}
+use Rattle.tinkey_words.specs.Rows.{same, is_one_of}
 use Rattle.tinkey_words.specs.Words.{◌>>=◌, Asked, Values, asked_with, Options, is_given, is_excluded, is_barred, put, options_of, no_options, given_in, lacking, lacking_none, misuse_at, complete, with_options, is_help_flag, help, version, first_of, by_itself, command_words, asked_of, words_of}
 use Rattle.tinkey_words.specs.Grammar.{IsValue, Spelling, spelled, IsGiven, IsOnce, AreApart, IsOneOf, Fits, values_of, Spells, Helps, the_list, its_help, the_version, WordsAreSpelled}
 use Rattle.tinkey_words.proofs.HelpLemmas.{first_found, first_is, flag_is, options_behind, alone_accepted, help_asked, helps_accepted}
-use Rattle.tinkey_words.proofs.RowLemmas.{same_self, same_is, are_rivals}
+use Rattle.tinkey_words.proofs.NameLemmas.{are_rivals}
+use Rattle.tinkey_words.proofs.RowLemmas.{same_self, same_is}
 use Rattle.tinkey_words.proofs.SpellingLemmas.{Runs, all_put, run_taken, run_read}
 
 -- One option more.

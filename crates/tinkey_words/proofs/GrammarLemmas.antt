@@ -7,9 +7,10 @@ use Rattle.tinkey_words.specs.declared.words.help.Topic.{Topic}
 use Rattle.tinkey_words.specs.declared.words.help.Topic.TheVariants as topics
 use Rattle.tinkey_words.specs.declared.words.misuse.Misfit.TheVariants as misfits
 use Rattle.tinkey_words.specs.declared.words.misuse.Misuse.{Misuse}
-use Rattle.tinkey_words.specs.declared.words.rows.CommandName.{CommandName}
-use Rattle.tinkey_words.specs.declared.words.rows.OptionName.{OptionName}
-use Rattle.tinkey_words.specs.Rows.{row_of, option_of, form_for, rival, takes, is_value}
+use Rattle.tinkey_words.specs.declared.words.names.CommandName.{CommandName}
+use Rattle.tinkey_words.specs.declared.words.names.OptionName.{OptionName}
+use Rattle.tinkey_words.specs.Names.{row_of, form_for, rival}
+use Rattle.tinkey_words.specs.Rows.{option_of, takes, is_value}
 use Rattle.tinkey_words.specs.Words.{◌>>=◌, Asked, Options, misuse_at, is_barred, bar, unbarred, new_option, put, misvalued, with_value, own_value, option_word, word_after, next_word, ended, options_of, no_options, given_in, lacking, lacking_none, asked_with, complete, with_options, is_help_flag, help, version, topic_of, first_of, by_itself, topic_words, help_words, command_words, asked_of, words_of}
 use Rattle.tinkey_words.specs.Grammar.{PlacesAreDecided}
 

@@ -8,12 +8,14 @@ use Rattle.tinkey_words.specs.declared.words.help.First.TheVariants as firsts
 use Rattle.tinkey_words.specs.declared.words.help.Topic.{Topic}
 use Rattle.tinkey_words.specs.declared.words.help.Topic.TheVariants as topics
 use Rattle.tinkey_words.specs.declared.words.misuse.Misfit.TheVariants as misfits
-use Rattle.tinkey_words.specs.declared.words.rows.CommandName.{CommandName}
-use Rattle.tinkey_words.specs.declared.words.rows.OptionName.{OptionName}
-use Rattle.tinkey_words.specs.Rows.{row_of, command_of, option_row, option_of, is_flag}
+use Rattle.tinkey_words.specs.declared.words.names.CommandName.{CommandName}
+use Rattle.tinkey_words.specs.declared.words.names.OptionName.{OptionName}
+use Rattle.tinkey_words.specs.Names.{row_of, option_row}
+use Rattle.tinkey_words.specs.Rows.{command_of, option_of, is_flag}
 use Rattle.tinkey_words.specs.Words.{Asked, help, version, own_value, with_options, is_help_flag, is_version_word, misuse_at, topic_of, first_of, by_itself, topic_words, help_words, command_words, asked_of, words_of}
 use Rattle.tinkey_words.specs.Grammar.{Spelling, spelled_as, spelled, IsHelpFlag, IsHelpWord, IsVersionWord, IsNameOf, Helps, the_list, a_topic, its_help, the_version}
-use Rattle.tinkey_words.proofs.RowLemmas.{same_text, command_found, command_named, option_found, own_joined}
+use Rattle.tinkey_words.proofs.NameLemmas.{command_found}
+use Rattle.tinkey_words.proofs.RowLemmas.{same_text, command_named, option_found, own_joined}
 
 -- The tests of a word.
 

@@ -1,8 +1,8 @@
 pub mod FitLemmas
-pub mod FlagLemmas
 pub mod GrammarLemmas
 pub mod HelpLemmas
 pub mod MisuseLemmas
+pub mod NameLemmas
 pub mod RowLemmas
 pub mod SpellingLemmas
 pub mod WordLemmas

@@ -1,5 +1,4 @@
 -- The tables of the words: an entry is found by its word and by its place, and a value is of its form.
--- A further command or option is a line of `command_found` or of `is_found`.
 use Rattle.std.proofs.Common.{◌≡◌, ◌≢◌, ◌⊎◌, inl, inr, ◌∙◌, sym, refl, ap, subst, ℕ, ◌+◌, ◌*◌, ◌^◌, ◌%◌, ◌≤◌, Bool, true, false, List, [], ◌∷◌, ◌++◌, length, drop, get_or, cond, arith, length-append, Option, Some, None}
 use Rattle.std.specs.Prelude.{◌==◌, ◌&&◌, nat_lt, nat_le, is_some, not, option_map, if◌then◌else◌, codes}
 use Rattle.std.specs.List.{find, list_all, position_or_len, before_first, after_first}
@@ -14,16 +13,17 @@ use Rattle.std.proofs.lemmas.List.{get_or_append_left}
 use Rattle.std.proofs.lemmas.List.Sums.{position_or_len_is, fails_before_first}
 use Rattle.std.proofs.lemmas.Slice.Eq.{bytes_eq-Decides, starts_is}
 use Rattle.std.proofs.lemmas.Bool.Decides.{Decides-eqb}
-use Rattle.tinkey_words.specs.declared.words.rows.CommandName.{CommandName}
-use Rattle.tinkey_words.specs.declared.words.rows.CommandName.TheVariants as commands
+use Rattle.tinkey_words.specs.declared.words.names.CommandName.{CommandName}
 use Rattle.tinkey_words.specs.declared.words.rows.Format.TheVariants as formats
 use Rattle.tinkey_words.specs.declared.words.rows.Form.{Form}
 use Rattle.tinkey_words.specs.declared.words.rows.Form.TheVariants as forms
-use Rattle.tinkey_words.specs.declared.words.rows.OptionName.{OptionName}
-use Rattle.tinkey_words.specs.declared.words.rows.OptionName.TheVariants as options
+use Rattle.tinkey_words.specs.declared.words.names.OptionName.{OptionName}
+use Rattle.tinkey_words.specs.declared.words.names.OptionName.TheVariants as options
 use Rattle.hex.specs.Hex.{is_hex_digit}
-use Rattle.tinkey_words.specs.Rows.{row_of, all_commands, command_of, option_row, all_options, option_of, rival, same, datum_limit, is_line_count, most_lines, is_range_length, most_range, offset_in, format_of, is_hex, is_value, is_flag, aside, begins_aside, is_aside}
+use Rattle.tinkey_words.specs.Names.{row_of, all_commands, option_row, all_options}
+use Rattle.tinkey_words.specs.Rows.{command_of, option_of, same, datum_limit, is_line_count, most_lines, is_range_length, most_range, offset_in, format_of, is_hex, is_value, is_flag, aside, begins_aside, is_aside}
 use Rattle.tinkey_words.specs.Words.{is_equals, own_value}
+use Rattle.tinkey_words.proofs.NameLemmas.{is_found}
 use Rattle.tinkey_words.specs.Grammar.{IsAside, IsHex, IsLineCount, IsNumber, IsOffset, IsRangeLength, IsValue}
 
 pub same_option : {A : Type 0} (o : Option A) → option_map (λ x. x) o ≡ o
@@ -44,68 +44,9 @@ found_passes : {X : Type 0} (test : X → Bool) (xs : List X) (x : X) → find t
 found_passes test [] x found = absurd (cc)
 found_passes test (y ∷ ys) x found = find_step test y x ys (test y) refl found (found_passes test ys x)
 
-pub command_found : (command : CommandName) → command_of (row_of command).word ≡ Some command
-unfolding command_of
-command_found commands.CreateKeyset = refl
-command_found commands.AddKey = refl
-command_found commands.RotateKeyset = refl
-command_found commands.PromoteKey = refl
-command_found commands.EnableKey = refl
-command_found commands.DisableKey = refl
-command_found commands.DestroyKey = refl
-command_found commands.DeleteKey = refl
-command_found commands.ListKeyset = refl
-command_found commands.ConvertKeyset = refl
-command_found commands.ListKeyTemplates = refl
-command_found commands.Seal = refl
-command_found commands.Open = refl
-command_found commands.Dseal = refl
-command_found commands.Dopen = refl
-command_found commands.Sseal = refl
-command_found commands.Sopen = refl
-command_found commands.Tag = refl
-command_found commands.Verify = refl
-command_found commands.Derive = refl
-command_found commands.Session = refl
-command_found commands.Selftest = refl
-command_found commands.WrapKeyset = refl
-command_found commands.UnwrapKeyset = refl
-command_found commands.Eseal = refl
-command_found commands.Eopen = refl
-command_found commands.Srange = refl
-
 pub command_named : (text : List ℕ) (command : CommandName) → command_of text ≡ Some command → text ≡ (row_of command).word
 unfolding command_of
 command_named text command is = sym (same_text (row_of command).word text (found_passes (λ (c : CommandName). bytes_eq (row_of c).word text) all_commands command is))
-
--- an option is found by its word, which has no equals sign, and by its place
-record IsFound (name : OptionName) : Type 0 where
-  word : option_of (option_row name).word ≡ Some name
-  plain : position_or_len is_equals (option_row name).word ≡ length (option_row name).word
-  place : get_or all_options (option_row name).place options.In ≡ name
-
-is_found : (name : OptionName) → IsFound name
-unfolding option_of
-is_found options.KeyTemplate = record { word = refl; plain = refl; place = refl }
-is_found options.KeyId = record { word = refl; plain = refl; place = refl }
-is_found options.In = record { word = refl; plain = refl; place = refl }
-is_found options.InFormat = record { word = refl; plain = refl; place = refl }
-is_found options.Out = record { word = refl; plain = refl; place = refl }
-is_found options.OutFormat = record { word = refl; plain = refl; place = refl }
-is_found options.Keyset = record { word = refl; plain = refl; place = refl }
-is_found options.KeysetFormat = record { word = refl; plain = refl; place = refl }
-is_found options.Ad = record { word = refl; plain = refl; place = refl }
-is_found options.AdHex = record { word = refl; plain = refl; place = refl }
-is_found options.TagHex = record { word = refl; plain = refl; place = refl }
-is_found options.Length = record { word = refl; plain = refl; place = refl }
-is_found options.Seed = record { word = refl; plain = refl; place = refl }
-is_found options.Lines = record { word = refl; plain = refl; place = refl }
-is_found options.Master = record { word = refl; plain = refl; place = refl }
-is_found options.MasterFormat = record { word = refl; plain = refl; place = refl }
-is_found options.DekTemplate = record { word = refl; plain = refl; place = refl }
-is_found options.File = record { word = refl; plain = refl; place = refl }
-is_found options.From = record { word = refl; plain = refl; place = refl }
-is_found options.Hex = record { word = refl; plain = refl; place = refl }
 
 pub option_found : (name : OptionName) → option_of (option_row name).word ≡ Some name
 option_found name = (is_found name).word
@@ -123,33 +64,7 @@ same_places : (a b : OptionName) → same a b ≡ true → (option_row a).place 
 same_places a b is = grind (arith, nat_tests)
 
 pub same_is : (a b : OptionName) → same a b ≡ true → a ≡ b
-same_is a b is = sym (is_found a).place ∙ ap (λ (i : ℕ). get_or all_options i options.In) (same_places a b is) ∙ (is_found b).place
-
--- options that exclude each other do so both ways, and are two
-abbrev AreRivals : OptionName → OptionName → Type 0
-AreRivals a b = (rival b ≡ Some a) × (a ≡ b → ⊥)
-
-pub are_rivals : (a b : OptionName) → rival a ≡ Some b → AreRivals a b
-are_rivals options.KeyTemplate b is = absurd (cc)
-are_rivals options.KeyId b is = absurd (cc)
-are_rivals options.In b is = absurd (cc)
-are_rivals options.InFormat b is = absurd (cc)
-are_rivals options.Out b is = absurd (cc)
-are_rivals options.OutFormat b is = absurd (cc)
-are_rivals options.Keyset b is = absurd (cc)
-are_rivals options.KeysetFormat b is = absurd (cc)
-are_rivals options.Ad b is = subst (λ (x : OptionName). AreRivals options.Ad x) (let other : options.AdHex ≡ b = cc in other) (refl, λ same. cc)
-are_rivals options.AdHex b is = subst (λ (x : OptionName). AreRivals options.AdHex x) (let other : options.Ad ≡ b = cc in other) (refl, λ same. cc)
-are_rivals options.TagHex b is = absurd (cc)
-are_rivals options.Length b is = absurd (cc)
-are_rivals options.Seed b is = absurd (cc)
-are_rivals options.Lines b is = absurd (cc)
-are_rivals options.Master b is = absurd (cc)
-are_rivals options.MasterFormat b is = absurd (cc)
-are_rivals options.DekTemplate b is = absurd (cc)
-are_rivals options.File b is = absurd (cc)
-are_rivals options.From b is = absurd (cc)
-are_rivals options.Hex b is = absurd (cc)
+same_is a b is = sym (is_found a).place ∙ ap (λ (i : ℕ). get_or all_options i options.KeyTemplate) (same_places a b is) ∙ (is_found b).place
 
 -- Words that are cut at their equals sign.
 

@@ -7,12 +7,13 @@ use Rattle.std.proofs.lemmas.List.{take-append-drop}
 use Rattle.std.proofs.lemmas.List.Sums.{passes_at_first}
 use Rattle.tinkey_words.specs.declared.words.misuse.Misfit.TheVariants as misfits
 use Rattle.tinkey_words.specs.declared.words.misuse.Misuse.{Misuse}
-use Rattle.tinkey_words.specs.declared.words.rows.CommandName.{CommandName}
-use Rattle.tinkey_words.specs.declared.words.rows.OptionName.{OptionName}
-use Rattle.tinkey_words.specs.Rows.{option_row, option_of, form_for, rival, takes, is_value, is_flag}
+use Rattle.tinkey_words.specs.declared.words.names.CommandName.{CommandName}
+use Rattle.tinkey_words.specs.declared.words.names.OptionName.{OptionName}
+use Rattle.tinkey_words.specs.Names.{option_row, form_for, rival}
+use Rattle.tinkey_words.specs.Rows.{option_of, takes, is_value, is_flag}
 use Rattle.tinkey_words.specs.Words.{◌>>=◌, Options, is_equals, own_value, misvalued, misuse_at, is_barred, bar, new_option, put, with_value, option_word, word_after, next_word, ended, options_of, alone}
 use Rattle.tinkey_words.specs.Grammar.{IsValue, Spelling, spelled_as, spelled}
-use Rattle.tinkey_words.proofs.FlagLemmas.{flag_form}
+use Rattle.tinkey_words.proofs.NameLemmas.{flag_form}
 use Rattle.tinkey_words.proofs.RowLemmas.{flag_empty, flag_formed, option_found, option_named, own_plain, own_joined, value_taken, value_formed, value_other}
 
 -- a word that is cut at its equals sign
@@ -48,10 +49,6 @@ form_test command name value false misuse given more formed is = let clash : Err
 
 pub with_formed : (command : CommandName) (name : OptionName) (value : List ℕ) (place : ℕ) (given more : Options) → with_value command name value place given ≡ Ok more → IsValue (form_for name command) value × (more ≡ put name value given) × (is_flag (option_row name).form ≡ false)
 with_formed command name value place given more is = form_test command name value _ (misuse_at place (misvalued (form_for name command) command name value)) given more refl is
-
--- an option that is new and the command's is taken, and no other
-option_taken : (command : CommandName) (name : OptionName) (place : ℕ) (given : Options) → takes command name ≡ true → is_barred name given ≡ false → new_option command (Some name) place given ≡ Ok name
-option_taken command name place given taken new = rw (taken, new) refl
 
 option_test : (a b : Bool) (found name : OptionName) (untaken barred : Misuse) → (if a then (if b then Err barred else Ok found) else Err untaken) ≡ Ok name → (a ≡ true) × (b ≡ false) × (found ≡ name)
 option_test true true found name untaken barred is = let clash : Err barred ≡ Ok name = is in absurd (cc)

@@ -8,9 +8,10 @@ use Rattle.std.proofs.lemmas.Bool.Decides.{nat_tests}
 use Rattle.std.proofs.lemmas.Grind.{get_or-set_at}
 use Rattle.std.proofs.lemmas.List.{get_or-set_other}
 use Rattle.tinkey_words.specs.declared.words.misuse.Misuse.{Misuse}
-use Rattle.tinkey_words.specs.declared.words.rows.CommandName.{CommandName}
-use Rattle.tinkey_words.specs.declared.words.rows.OptionName.{OptionName}
-use Rattle.tinkey_words.specs.Rows.{option_row, form_for, same, is_value}
+use Rattle.tinkey_words.specs.declared.words.names.CommandName.{CommandName}
+use Rattle.tinkey_words.specs.declared.words.names.OptionName.{OptionName}
+use Rattle.tinkey_words.specs.Names.{option_row, form_for}
+use Rattle.tinkey_words.specs.Rows.{same, is_value}
 use Rattle.tinkey_words.specs.Words.{Values, Options, is_equals, own_value, with_value, next_word, options_of, seen_values}
 
 -- a word, and those behind it

@@ -1,6 +1,6 @@
 -- The grammar of the command's words: a command, and then options in any order, each at most once,
 -- as `--name value` in two words or `--name=value` in one, and a flag as `--name` alone; or a few words that
--- ask for help or for the version. Rows has the tables of commands and options.
+-- ask for help or for the version. Names has the rows of commands and options.
 --
 -- The answer is a command, or the first word at fault, by its place and by why it is so: an unknown
 -- command or option, one that the command doesn't have, a repeat, the second of two that exclude each
@@ -40,12 +40,13 @@ use Rattle.tinkey_words.specs.declared.words.misuse.Misuse.{Misuse}
 use Rattle.tinkey_words.specs.declared.words.rows.Form.{Form}
 use Rattle.tinkey_words.specs.declared.words.rows.Format.{Format}
 use Rattle.tinkey_words.specs.declared.words.rows.Format.TheVariants as formats
-use Rattle.tinkey_words.specs.declared.words.rows.CommandName.{CommandName}
-use Rattle.tinkey_words.specs.declared.words.rows.CommandName.TheVariants as commands
-use Rattle.tinkey_words.specs.declared.words.rows.OptionName.{OptionName}
-use Rattle.tinkey_words.specs.declared.words.rows.OptionName.TheVariants as options
+use Rattle.tinkey_words.specs.declared.words.names.CommandName.{CommandName}
+use Rattle.tinkey_words.specs.declared.words.names.CommandName.TheVariants as commands
+use Rattle.tinkey_words.specs.declared.words.names.OptionName.{OptionName}
+use Rattle.tinkey_words.specs.declared.words.names.OptionName.TheVariants as options
 use Rattle.tink_base.specs.Decimal.{number_in}
-use Rattle.tinkey_words.specs.Rows.{row_of, command_of, option_row, option_of, form_for, rival, same, takes, datum_limit, most_range, format_of, is_aside, is_new_file, is_value, offset_in, is_flag}
+use Rattle.tinkey_words.specs.Names.{row_of, option_row, form_for, rival}
+use Rattle.tinkey_words.specs.Rows.{command_of, option_of, same, takes, datum_limit, most_range, format_of, is_aside, is_new_file, is_value, offset_in, is_flag}
 
 -- What is asked.
 

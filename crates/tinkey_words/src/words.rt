@@ -1,12 +1,14 @@
 //! The command's words, read by the grammar of `specs/Words.antt`. No memory is taken.
 
 ghost use Rattle.std.specs.Prelude.{◌≡◌, ◌<◌, ◌≤◌, ◌^◌, Some, length, map, option_map, slice_set, string_bytes};
-ghost use Rattle.tinkey_words.specs.Rows.{option_of, is_flag, option_row};
-ghost use Rattle.tinkey_words.specs.declared.words.rows.OptionName.TheVariants.{Lines};
+ghost use Rattle.tinkey_words.specs.Names.{option_row};
+ghost use Rattle.tinkey_words.specs.Rows.{option_of, is_flag};
+ghost use Rattle.tinkey_words.specs.declared.words.names.OptionName.TheVariants.{Lines};
 ghost use Rattle.tinkey_words.specs.Words.{words_of, by_itself, command_words, help_words, topic_words, with_options, topic_of, given_in, lines_in, next_word, option_word, own_value, misvalued, is_barred, bar, unbarred, new_option, with_value, no_options, lacking, complete, asked_with, text, number, id, template, ad, edited, enveloped, worked, seen_command, seen_datum, seen_edit, seen_envelope, seen_name, seen_options, seen_range, seen_work, offset, range, range_length, Reads, form_in, taken_from, put_to, seen_place, alone, output_in, seen_output};
 
 mod help;
 mod misuse;
+mod names;
 mod range;
 mod rows;
 
@@ -14,12 +16,11 @@ pub use help::Topic;
 use help::{First, first_named, is_help_flag, topic_named};
 use misuse::misuse_at;
 pub use misuse::{Misfit, Misuse};
+use names::OPTION_COUNT;
+pub use names::{CommandName, OptionName};
 pub use range::Range;
-pub use rows::{CommandName, DATUM_LIMIT, Form, Format, OptionName};
-use rows::{
-    MOST_RANGE, OPTION_COUNT, format_named, is_aside, is_flag, is_value, offset_in, option_named,
-    takes,
-};
+pub use rows::{DATUM_LIMIT, Form, Format};
+use rows::{MOST_RANGE, format_named, is_aside, is_flag, is_value, offset_in, option_named, takes};
 use tink_base::number_in;
 use tinkey_cmds::Command as Edit;
 

@@ -3,7 +3,8 @@
 ghost use Rattle.std.specs.Prelude.{◌≡◌};
 ghost use Rattle.tinkey_words.specs.Words.{first_of, is_help_flag, is_version_word, topic_of};
 
-use super::rows::{CommandName, command_named};
+use super::names::CommandName;
+use super::rows::command_named;
 
 /// What help is asked for.
 #[derive(Clone, Copy)]

@@ -3,7 +3,7 @@
 ghost use Rattle.std.specs.Prelude.{◌≡◌};
 ghost use Rattle.tinkey_words.specs.Words.{misuse_at};
 
-use super::rows::{CommandName, OptionName};
+use super::names::{CommandName, OptionName};
 
 /// The first word at fault, and why it is so.
 #[derive(Clone, Copy, Debug, PartialEq, Eq)]

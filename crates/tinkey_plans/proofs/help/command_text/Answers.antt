@@ -38,13 +38,21 @@ pub returns-in-ListKeyset : goal.returns-in-ListKeyset
 unfolding command_text
 returns-in-ListKeyset c = rw c.in-ListKeyset.is refl
 
+pub returns-in-ListKeyTemplates : goal.returns-in-ListKeyTemplates
+unfolding command_text
+returns-in-ListKeyTemplates c = rw c.in-ListKeyTemplates.is refl
+
 pub returns-in-ConvertKeyset : goal.returns-in-ConvertKeyset
 unfolding command_text
 returns-in-ConvertKeyset c = rw c.in-ConvertKeyset.is refl
 
-pub returns-in-ListKeyTemplates : goal.returns-in-ListKeyTemplates
+pub returns-in-WrapKeyset : goal.returns-in-WrapKeyset
 unfolding command_text
-returns-in-ListKeyTemplates c = rw c.in-ListKeyTemplates.is refl
+returns-in-WrapKeyset c = rw c.in-WrapKeyset.is refl
+
+pub returns-in-UnwrapKeyset : goal.returns-in-UnwrapKeyset
+unfolding command_text
+returns-in-UnwrapKeyset c = rw c.in-UnwrapKeyset.is refl
 
 pub returns-in-Seal : goal.returns-in-Seal
 unfolding command_text
@@ -53,6 +61,14 @@ returns-in-Seal c = rw c.in-Seal.is refl
 pub returns-in-Open : goal.returns-in-Open
 unfolding command_text
 returns-in-Open c = rw c.in-Open.is refl
+
+pub returns-in-Eseal : goal.returns-in-Eseal
+unfolding command_text
+returns-in-Eseal c = rw c.in-Eseal.is refl
+
+pub returns-in-Eopen : goal.returns-in-Eopen
+unfolding command_text
+returns-in-Eopen c = rw c.in-Eopen.is refl
 
 pub returns-in-Dseal : goal.returns-in-Dseal
 unfolding command_text
@@ -69,6 +85,10 @@ returns-in-Sseal c = rw c.in-Sseal.is refl
 pub returns-in-Sopen : goal.returns-in-Sopen
 unfolding command_text
 returns-in-Sopen c = rw c.in-Sopen.is refl
+
+pub returns-in-Srange : goal.returns-in-Srange
+unfolding command_text
+returns-in-Srange c = rw c.in-Srange.is refl
 
 pub returns-in-Tag : goal.returns-in-Tag
 unfolding command_text
@@ -89,23 +109,3 @@ returns-in-Session c = rw c.in-Session.is refl
 pub returns-in-Selftest : goal.returns-in-Selftest
 unfolding command_text
 returns-in-Selftest c = rw c.in-Selftest.is refl
-
-pub returns-in-WrapKeyset : goal.returns-in-WrapKeyset
-unfolding command_text
-returns-in-WrapKeyset c = rw c.in-WrapKeyset.is refl
-
-pub returns-in-UnwrapKeyset : goal.returns-in-UnwrapKeyset
-unfolding command_text
-returns-in-UnwrapKeyset c = rw c.in-UnwrapKeyset.is refl
-
-pub returns-in-Eseal : goal.returns-in-Eseal
-unfolding command_text
-returns-in-Eseal c = rw c.in-Eseal.is refl
-
-pub returns-in-Eopen : goal.returns-in-Eopen
-unfolding command_text
-returns-in-Eopen c = rw c.in-Eopen.is refl
-
-pub returns-in-Srange : goal.returns-in-Srange
-unfolding command_text
-returns-in-Srange c = rw c.in-Srange.is refl

@@ -1,5 +1,5 @@
 use Rattle.std.proofs.Common.{◌≤◌, List, ℕ, length, subst, sym}
-use Rattle.tinkey_plans.proofs.MisfitLemmas.{command_short}
+use Rattle.tinkey_words.proofs.NameLemmas.{command_short}
 use Rattle.tinkey_plans.proofs.misfit.command_word.Goals as goal
 
 pub returns-clause-short : goal.returns-clause-short

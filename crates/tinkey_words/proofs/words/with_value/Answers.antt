@@ -1,6 +1,7 @@
 use Rattle.std.proofs.Common.{◌≡◌, ◌∙◌, sym, ap, true, arith}
 use Rattle.tinkey_words.specs.declared.words.rows.Form.{Form}
-use Rattle.tinkey_words.specs.Rows.{form_for, is_value}
+use Rattle.tinkey_words.specs.Names.{form_for}
+use Rattle.tinkey_words.specs.Rows.{is_value}
 use Rattle.tinkey_words.proofs.WordLemmas.{value_put}
 use Rattle.tinkey_words.proofs.words.with_value.Goals as goal
 

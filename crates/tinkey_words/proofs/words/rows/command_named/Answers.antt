@@ -3,8 +3,9 @@ use Rattle.std.specs.Str.{bytes_eq}
 use Rattle.std.proofs.lemmas.Iterator.{YieldsList-from_slice}
 use Rattle.std.proofs.lemmas.Iterator.Consumers.{YieldsList-from_copied}
 use Rattle.std.proofs.lemmas.Iterator.Search.{find_from_yields_List}
-use Rattle.tinkey_words.specs.declared.words.rows.CommandName.{CommandName}
-use Rattle.tinkey_words.specs.Rows.{row_of, all_commands, command_of}
+use Rattle.tinkey_words.specs.declared.words.names.CommandName.{CommandName}
+use Rattle.tinkey_words.specs.Names.{row_of, all_commands}
+use Rattle.tinkey_words.specs.Rows.{command_of}
 use Rattle.tinkey_words.proofs.RowLemmas.{same_option}
 use Rattle.tinkey_words.proofs.words.rows.command_named.Goals as goal
 

@@ -3,8 +3,9 @@ use Rattle.std.specs.Str.{bytes_eq}
 use Rattle.std.proofs.lemmas.Iterator.{YieldsList-from_slice}
 use Rattle.std.proofs.lemmas.Iterator.Consumers.{YieldsList-from_copied}
 use Rattle.std.proofs.lemmas.Iterator.Search.{find_from_yields_List}
-use Rattle.tinkey_words.specs.declared.words.rows.OptionName.{OptionName}
-use Rattle.tinkey_words.specs.Rows.{option_row, all_options, option_of}
+use Rattle.tinkey_words.specs.declared.words.names.OptionName.{OptionName}
+use Rattle.tinkey_words.specs.Names.{option_row, all_options}
+use Rattle.tinkey_words.specs.Rows.{option_of}
 use Rattle.tinkey_words.proofs.RowLemmas.{same_option}
 use Rattle.tinkey_words.proofs.words.rows.option_named.Goals as goal
 

@@ -1,0 +1,184 @@
+-- The rows of the command's words: the commands with the options that each requires and may have, and
+-- the options with the form of the value of each; made by tools/words of words.table.
+use Rattle.std.specs.Prelude.{ℕ, List, [], ◌∷◌, Option, Some, None, codes}
+use Rattle.tinkey_words.specs.declared.words.names.CommandRow.{CommandRow as CodeRow}
+use Rattle.tinkey_words.specs.declared.words.names.CommandName.{CommandName}
+use Rattle.tinkey_words.specs.declared.words.names.CommandName.TheVariants as commands
+use Rattle.tinkey_words.specs.declared.words.names.OptionName.{OptionName}
+use Rattle.tinkey_words.specs.declared.words.names.OptionName.TheVariants as options
+use Rattle.tinkey_words.specs.declared.words.rows.Form.{Form}
+use Rattle.tinkey_words.specs.declared.words.rows.Form.TheVariants as forms
+
+-- The commands.
+
+-- a command's word, the options that it requires, and those that it may have
+pub record Row : Type 0 where
+  pub word : List ℕ
+  pub required : List OptionName
+  pub optional : List OptionName
+
+-- a row of these three
+abbrev pub row : List ℕ → List OptionName → List OptionName → Row
+row word required optional = record { word = word; required = required; optional = optional }
+
+-- a command's row of the code, with its word as bytes
+abbrev pub seen_row : CodeRow → Row
+seen_row r = row r.word.now r.required.now r.optional.now
+
+-- what commands require or may have, named after the first one that it is so of
+abbrev pub create_keyset_requires : List OptionName
+create_keyset_requires = options.KeyTemplate ∷ []
+
+abbrev pub create_keyset_may : List OptionName
+create_keyset_may = options.Out ∷ options.OutFormat ∷ []
+
+abbrev pub add_key_may : List OptionName
+add_key_may = options.In ∷ options.InFormat ∷ options.Out ∷ options.OutFormat ∷ []
+
+abbrev pub promote_key_requires : List OptionName
+promote_key_requires = options.KeyId ∷ []
+
+abbrev pub list_keyset_may : List OptionName
+list_keyset_may = options.In ∷ options.InFormat ∷ []
+
+abbrev pub seal_requires : List OptionName
+seal_requires = options.Keyset ∷ []
+
+abbrev pub seal_may : List OptionName
+seal_may = options.KeysetFormat ∷ options.Ad ∷ options.AdHex ∷ options.Out ∷ []
+
+abbrev pub sseal_may : List OptionName
+sseal_may = options.KeysetFormat ∷ options.Ad ∷ options.AdHex ∷ []
+
+abbrev pub tag_may : List OptionName
+tag_may = options.KeysetFormat ∷ options.Out ∷ options.Hex ∷ []
+
+abbrev pub verify_requires : List OptionName
+verify_requires = options.Keyset ∷ options.TagHex ∷ []
+
+abbrev pub verify_may : List OptionName
+verify_may = options.KeysetFormat ∷ []
+
+abbrev pub derive_requires : List OptionName
+derive_requires = options.Keyset ∷ options.Length ∷ []
+
+abbrev pub session_may : List OptionName
+session_may = options.KeysetFormat ∷ options.Out ∷ options.OutFormat ∷ []
+
+abbrev pub selftest_requires : List OptionName
+selftest_requires = options.Seed ∷ []
+
+abbrev pub selftest_may : List OptionName
+selftest_may = options.Lines ∷ []
+
+abbrev pub wrap_keyset_requires : List OptionName
+wrap_keyset_requires = options.Master ∷ []
+
+abbrev pub wrap_keyset_may : List OptionName
+wrap_keyset_may = options.MasterFormat ∷ options.In ∷ options.InFormat ∷ options.Out ∷ options.OutFormat ∷ []
+
+abbrev pub eseal_requires : List OptionName
+eseal_requires = options.Keyset ∷ options.DekTemplate ∷ []
+
+abbrev pub srange_requires : List OptionName
+srange_requires = options.Keyset ∷ options.File ∷ options.From ∷ options.Length ∷ []
+
+-- the row of each command
+abbrev pub row_of : CommandName → Row
+row_of commands.CreateKeyset = row (codes "create-keyset") create_keyset_requires create_keyset_may
+row_of commands.AddKey = row (codes "add-key") create_keyset_requires add_key_may
+row_of commands.RotateKeyset = row (codes "rotate-keyset") create_keyset_requires add_key_may
+row_of commands.PromoteKey = row (codes "promote-key") promote_key_requires add_key_may
+row_of commands.EnableKey = row (codes "enable-key") promote_key_requires add_key_may
+row_of commands.DisableKey = row (codes "disable-key") promote_key_requires add_key_may
+row_of commands.DestroyKey = row (codes "destroy-key") promote_key_requires add_key_may
+row_of commands.DeleteKey = row (codes "delete-key") promote_key_requires add_key_may
+row_of commands.ListKeyset = row (codes "list-keyset") [] list_keyset_may
+row_of commands.ConvertKeyset = row (codes "convert-keyset") [] add_key_may
+row_of commands.ListKeyTemplates = row (codes "list-key-templates") [] []
+row_of commands.Seal = row (codes "seal") seal_requires seal_may
+row_of commands.Open = row (codes "open") seal_requires seal_may
+row_of commands.Dseal = row (codes "dseal") seal_requires seal_may
+row_of commands.Dopen = row (codes "dopen") seal_requires seal_may
+row_of commands.Sseal = row (codes "sseal") seal_requires sseal_may
+row_of commands.Sopen = row (codes "sopen") seal_requires sseal_may
+row_of commands.Tag = row (codes "tag") seal_requires tag_may
+row_of commands.Verify = row (codes "verify") verify_requires verify_may
+row_of commands.Derive = row (codes "derive") derive_requires tag_may
+row_of commands.Session = row (codes "session") seal_requires session_may
+row_of commands.Selftest = row (codes "selftest") selftest_requires selftest_may
+row_of commands.WrapKeyset = row (codes "wrap-keyset") wrap_keyset_requires wrap_keyset_may
+row_of commands.UnwrapKeyset = row (codes "unwrap-keyset") wrap_keyset_requires wrap_keyset_may
+row_of commands.Eseal = row (codes "eseal") eseal_requires seal_may
+row_of commands.Eopen = row (codes "eopen") eseal_requires seal_may
+row_of commands.Srange = row (codes "srange") srange_requires seal_may
+
+-- all commands
+abbrev pub all_commands : List CommandName
+all_commands =
+    commands.CreateKeyset ∷ commands.AddKey ∷ commands.RotateKeyset ∷ commands.PromoteKey
+    ∷ commands.EnableKey ∷ commands.DisableKey ∷ commands.DestroyKey ∷ commands.DeleteKey
+    ∷ commands.ListKeyset ∷ commands.ConvertKeyset ∷ commands.ListKeyTemplates ∷ commands.Seal
+    ∷ commands.Open ∷ commands.Dseal ∷ commands.Dopen ∷ commands.Sseal ∷ commands.Sopen
+    ∷ commands.Tag ∷ commands.Verify ∷ commands.Derive ∷ commands.Session ∷ commands.Selftest
+    ∷ commands.WrapKeyset ∷ commands.UnwrapKeyset ∷ commands.Eseal ∷ commands.Eopen
+    ∷ commands.Srange ∷ []
+
+-- The options.
+
+-- an option's place among them, its word, and the form of its value
+pub record OptionRow : Type 0 where
+  pub place : ℕ
+  pub word : List ℕ
+  pub form : Form
+
+-- a row of these three
+abbrev pub option : ℕ → List ℕ → Form → OptionRow
+option place word form = record { place = place; word = word; form = form }
+
+-- the row of each option
+abbrev pub option_row : OptionName → OptionRow
+option_row options.KeyTemplate = option 0 (codes "--key-template") forms.Text
+option_row options.KeyId = option 1 (codes "--key-id") forms.Number
+option_row options.In = option 2 (codes "--in") forms.FileName
+option_row options.InFormat = option 3 (codes "--in-format") forms.Format
+option_row options.Out = option 4 (codes "--out") forms.NewFile
+option_row options.OutFormat = option 5 (codes "--out-format") forms.Format
+option_row options.Keyset = option 6 (codes "--keyset") forms.FileName
+option_row options.KeysetFormat = option 7 (codes "--keyset-format") forms.Format
+option_row options.Ad = option 8 (codes "--ad") forms.Datum
+option_row options.AdHex = option 9 (codes "--ad-hex") forms.Hex
+option_row options.TagHex = option 10 (codes "--tag-hex") forms.Hex
+option_row options.Length = option 11 (codes "--length") forms.Number
+option_row options.Seed = option 12 (codes "--seed") forms.Number
+option_row options.Lines = option 13 (codes "--lines") forms.LineCount
+option_row options.Master = option 14 (codes "--master") forms.FileName
+option_row options.MasterFormat = option 15 (codes "--master-format") forms.Format
+option_row options.DekTemplate = option 16 (codes "--dek-template") forms.Text
+option_row options.File = option 17 (codes "--file") forms.FileName
+option_row options.From = option 18 (codes "--from") forms.Offset
+option_row options.Hex = option 19 (codes "--hex") forms.Flag
+
+-- all options, in the order of their places
+abbrev pub all_options : List OptionName
+all_options =
+    options.KeyTemplate ∷ options.KeyId ∷ options.In ∷ options.InFormat ∷ options.Out
+    ∷ options.OutFormat ∷ options.Keyset ∷ options.KeysetFormat ∷ options.Ad ∷ options.AdHex
+    ∷ options.TagHex ∷ options.Length ∷ options.Seed ∷ options.Lines ∷ options.Master
+    ∷ options.MasterFormat ∷ options.DekTemplate ∷ options.File ∷ options.From ∷ options.Hex ∷ []
+
+-- the option that must not stand beside this one, which gives the same thing
+abbrev pub rival : OptionName → Option OptionName
+rival options.Ad = Some options.AdHex
+rival options.AdHex = Some options.Ad
+rival _ = None
+
+-- the form of the value of --length
+abbrev pub length_form : CommandName → Form
+length_form commands.Srange = forms.RangeLength
+length_form _ = forms.Number
+
+-- the form of the option's value, for the command
+abbrev pub form_for : OptionName → CommandName → Form
+form_for options.Length command = length_form command
+form_for name command = (option_row name).form

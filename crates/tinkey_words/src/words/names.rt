@@ -1,0 +1,404 @@
+//! The names of commands and options, and their rows; made by tools/words of words.table.
+
+ghost use Rattle.std.specs.Prelude.{◌≡◌, ◌<◌};
+ghost use Rattle.tinkey_words.specs.Names.{form_for, length_form, option_row, rival, row, row_of, seen_row};
+
+use super::rows::Form;
+
+/// A command by its name.
+#[derive(Clone, Copy, Debug, PartialEq, Eq)]
+pub enum CommandName {
+    /// `create-keyset`
+    CreateKeyset,
+    /// `add-key`
+    AddKey,
+    /// `rotate-keyset`
+    RotateKeyset,
+    /// `promote-key`
+    PromoteKey,
+    /// `enable-key`
+    EnableKey,
+    /// `disable-key`
+    DisableKey,
+    /// `destroy-key`
+    DestroyKey,
+    /// `delete-key`
+    DeleteKey,
+    /// `list-keyset`
+    ListKeyset,
+    /// `convert-keyset`
+    ConvertKeyset,
+    /// `list-key-templates`
+    ListKeyTemplates,
+    /// `seal`
+    Seal,
+    /// `open`
+    Open,
+    /// `dseal`
+    Dseal,
+    /// `dopen`
+    Dopen,
+    /// `sseal`
+    Sseal,
+    /// `sopen`
+    Sopen,
+    /// `tag`
+    Tag,
+    /// `verify`
+    Verify,
+    /// `derive`
+    Derive,
+    /// `session`
+    Session,
+    /// `selftest`
+    Selftest,
+    /// `wrap-keyset`
+    WrapKeyset,
+    /// `unwrap-keyset`
+    UnwrapKeyset,
+    /// `eseal`
+    Eseal,
+    /// `eopen`
+    Eopen,
+    /// `srange`
+    Srange,
+}
+
+/// An option by its name.
+#[derive(Clone, Copy, Debug, PartialEq, Eq)]
+pub enum OptionName {
+    /// `--key-template`, the name of the template of a new key.
+    KeyTemplate,
+    /// `--key-id`, the key that is changed.
+    KeyId,
+    /// `--in`, the file of the keyset that is read.
+    In,
+    /// `--in-format`, the form of that keyset.
+    InFormat,
+    /// `--out`, the file that is made.
+    Out,
+    /// `--out-format`, the form of the keyset that is written.
+    OutFormat,
+    /// `--keyset`, the file of the keyset that is used.
+    Keyset,
+    /// `--keyset-format`, the form of that keyset.
+    KeysetFormat,
+    /// `--ad`, the associated data.
+    Ad,
+    /// `--ad-hex`, the associated data in hexadecimal.
+    AdHex,
+    /// `--tag-hex`, the tag that is verified, in hexadecimal.
+    TagHex,
+    /// `--length`, how many bytes are derived, or are in a range.
+    Length,
+    /// `--seed`, the number that a self-test is made from.
+    Seed,
+    /// `--lines`, how many lines it has.
+    Lines,
+    /// `--master`, the file of the keyset under which another one is sealed.
+    Master,
+    /// `--master-format`, the form of that keyset.
+    MasterFormat,
+    /// `--dek-template`, the name of the template of data keys.
+    DekTemplate,
+    /// `--file`, the file of a stream.
+    File,
+    /// `--from`, the offset of a range's first byte.
+    From,
+    /// `--hex`, whether what is put out is in hexadecimal.
+    Hex,
+}
+
+/// How many commands there are.
+const COMMAND_COUNT: usize = 27;
+
+/// How many options there are.
+pub const OPTION_COUNT: usize = 20;
+
+/// A command's word, the options that it requires, and those that it may have.
+#[derive(Clone, Copy)]
+pub struct CommandRow {
+    pub word: &'static str,
+    pub required: &'static [OptionName],
+    pub optional: &'static [OptionName],
+}
+
+/// An option's word, and the form of its value.
+#[derive(Clone, Copy)]
+pub struct OptionRow {
+    pub word: &'static str,
+    pub form: Form,
+}
+
+impl CommandName {
+    /// The command's word.
+    pub fn word(self) -> &'static str
+        ensures { result.now ≡ (row_of self).word }
+    {
+        self.row().word
+    }
+
+    /// The row of the command.
+    pub fn row(self) -> CommandRow
+        ensures { seen_row result ≡ row_of self }
+    {
+        match self {
+            CommandName::CreateKeyset => row(
+                "create-keyset",
+                &CREATE_KEYSET_REQUIRES,
+                &CREATE_KEYSET_MAY,
+            ),
+            CommandName::AddKey => row("add-key", &CREATE_KEYSET_REQUIRES, &ADD_KEY_MAY),
+            CommandName::RotateKeyset => row(
+                "rotate-keyset",
+                &CREATE_KEYSET_REQUIRES,
+                &ADD_KEY_MAY,
+            ),
+            CommandName::PromoteKey => row("promote-key", &PROMOTE_KEY_REQUIRES, &ADD_KEY_MAY),
+            CommandName::EnableKey => row("enable-key", &PROMOTE_KEY_REQUIRES, &ADD_KEY_MAY),
+            CommandName::DisableKey => row("disable-key", &PROMOTE_KEY_REQUIRES, &ADD_KEY_MAY),
+            CommandName::DestroyKey => row("destroy-key", &PROMOTE_KEY_REQUIRES, &ADD_KEY_MAY),
+            CommandName::DeleteKey => row("delete-key", &PROMOTE_KEY_REQUIRES, &ADD_KEY_MAY),
+            CommandName::ListKeyset => row("list-keyset", &[], &LIST_KEYSET_MAY),
+            CommandName::ConvertKeyset => row("convert-keyset", &[], &ADD_KEY_MAY),
+            CommandName::ListKeyTemplates => row("list-key-templates", &[], &[]),
+            CommandName::Seal => row("seal", &SEAL_REQUIRES, &SEAL_MAY),
+            CommandName::Open => row("open", &SEAL_REQUIRES, &SEAL_MAY),
+            CommandName::Dseal => row("dseal", &SEAL_REQUIRES, &SEAL_MAY),
+            CommandName::Dopen => row("dopen", &SEAL_REQUIRES, &SEAL_MAY),
+            CommandName::Sseal => row("sseal", &SEAL_REQUIRES, &SSEAL_MAY),
+            CommandName::Sopen => row("sopen", &SEAL_REQUIRES, &SSEAL_MAY),
+            CommandName::Tag => row("tag", &SEAL_REQUIRES, &TAG_MAY),
+            CommandName::Verify => row("verify", &VERIFY_REQUIRES, &VERIFY_MAY),
+            CommandName::Derive => row("derive", &DERIVE_REQUIRES, &TAG_MAY),
+            CommandName::Session => row("session", &SEAL_REQUIRES, &SESSION_MAY),
+            CommandName::Selftest => row("selftest", &SELFTEST_REQUIRES, &SELFTEST_MAY),
+            CommandName::WrapKeyset => row("wrap-keyset", &WRAP_KEYSET_REQUIRES, &WRAP_KEYSET_MAY),
+            CommandName::UnwrapKeyset => row(
+                "unwrap-keyset",
+                &WRAP_KEYSET_REQUIRES,
+                &WRAP_KEYSET_MAY,
+            ),
+            CommandName::Eseal => row("eseal", &ESEAL_REQUIRES, &SEAL_MAY),
+            CommandName::Eopen => row("eopen", &ESEAL_REQUIRES, &SEAL_MAY),
+            CommandName::Srange => row("srange", &SRANGE_REQUIRES, &SEAL_MAY),
+        }
+    }
+}
+
+// What commands require or may have, named after the first one that it is so of.
+const CREATE_KEYSET_REQUIRES: [OptionName; 1] = [OptionName::KeyTemplate];
+
+const CREATE_KEYSET_MAY: [OptionName; 2] = [OptionName::Out, OptionName::OutFormat];
+
+const ADD_KEY_MAY: [OptionName; 4] = [
+    OptionName::In,
+    OptionName::InFormat,
+    OptionName::Out,
+    OptionName::OutFormat,
+];
+
+const PROMOTE_KEY_REQUIRES: [OptionName; 1] = [OptionName::KeyId];
+
+const LIST_KEYSET_MAY: [OptionName; 2] = [OptionName::In, OptionName::InFormat];
+
+const SEAL_REQUIRES: [OptionName; 1] = [OptionName::Keyset];
+
+const SEAL_MAY: [OptionName; 4] = [
+    OptionName::KeysetFormat,
+    OptionName::Ad,
+    OptionName::AdHex,
+    OptionName::Out,
+];
+
+const SSEAL_MAY: [OptionName; 3] = [OptionName::KeysetFormat, OptionName::Ad, OptionName::AdHex];
+
+const TAG_MAY: [OptionName; 3] = [OptionName::KeysetFormat, OptionName::Out, OptionName::Hex];
+
+const VERIFY_REQUIRES: [OptionName; 2] = [OptionName::Keyset, OptionName::TagHex];
+
+const VERIFY_MAY: [OptionName; 1] = [OptionName::KeysetFormat];
+
+const DERIVE_REQUIRES: [OptionName; 2] = [OptionName::Keyset, OptionName::Length];
+
+const SESSION_MAY: [OptionName; 3] = [
+    OptionName::KeysetFormat,
+    OptionName::Out,
+    OptionName::OutFormat,
+];
+
+const SELFTEST_REQUIRES: [OptionName; 1] = [OptionName::Seed];
+
+const SELFTEST_MAY: [OptionName; 1] = [OptionName::Lines];
+
+const WRAP_KEYSET_REQUIRES: [OptionName; 1] = [OptionName::Master];
+
+const WRAP_KEYSET_MAY: [OptionName; 5] = [
+    OptionName::MasterFormat,
+    OptionName::In,
+    OptionName::InFormat,
+    OptionName::Out,
+    OptionName::OutFormat,
+];
+
+const ESEAL_REQUIRES: [OptionName; 2] = [OptionName::Keyset, OptionName::DekTemplate];
+
+const SRANGE_REQUIRES: [OptionName; 4] = [
+    OptionName::Keyset,
+    OptionName::File,
+    OptionName::From,
+    OptionName::Length,
+];
+
+fn row(
+    word: &'static str,
+    required: &'static [OptionName],
+    optional: &'static [OptionName],
+) -> CommandRow
+    ensures { seen_row result ≡ row word.now required.now optional.now }
+{
+    CommandRow {
+        word,
+        required,
+        optional,
+    }
+}
+
+impl OptionName {
+    /// The option's word, with its two hyphens.
+    pub fn word(self) -> &'static str
+        ensures { result.now ≡ (option_row self).word }
+    {
+        self.row().word
+    }
+
+    /// The row of the option.
+    pub fn row(self) -> OptionRow
+        ensures word { result.word.now ≡ (option_row self).word }
+        ensures form { result.form ≡ (option_row self).form }
+    {
+        match self {
+            OptionName::KeyTemplate => option("--key-template", Form::Text),
+            OptionName::KeyId => option("--key-id", Form::Number),
+            OptionName::In => option("--in", Form::FileName),
+            OptionName::InFormat => option("--in-format", Form::Format),
+            OptionName::Out => option("--out", Form::NewFile),
+            OptionName::OutFormat => option("--out-format", Form::Format),
+            OptionName::Keyset => option("--keyset", Form::FileName),
+            OptionName::KeysetFormat => option("--keyset-format", Form::Format),
+            OptionName::Ad => option("--ad", Form::Datum),
+            OptionName::AdHex => option("--ad-hex", Form::Hex),
+            OptionName::TagHex => option("--tag-hex", Form::Hex),
+            OptionName::Length => option("--length", Form::Number),
+            OptionName::Seed => option("--seed", Form::Number),
+            OptionName::Lines => option("--lines", Form::LineCount),
+            OptionName::Master => option("--master", Form::FileName),
+            OptionName::MasterFormat => option("--master-format", Form::Format),
+            OptionName::DekTemplate => option("--dek-template", Form::Text),
+            OptionName::File => option("--file", Form::FileName),
+            OptionName::From => option("--from", Form::Offset),
+            OptionName::Hex => option("--hex", Form::Flag),
+        }
+    }
+
+    /// The form of the option's value, for the command.
+    pub fn form_for(self, command: CommandName) -> Form
+        ensures { result ≡ form_for self command }
+    {
+        match self {
+            OptionName::Length => length_form(command),
+            _ => self.row().form,
+        }
+    }
+
+    /// The place of the option among them all.
+    pub fn place(self) -> usize
+        ensures place { result ≡ (option_row self).place }
+        ensures within { result < OPTION_COUNT }
+    {
+        self as usize
+    }
+
+    /// The option that must not stand beside this one.
+    pub fn rival(self) -> Option<OptionName>
+        ensures { result ≡ rival self }
+    {
+        match self {
+            OptionName::Ad => Some(OptionName::AdHex),
+            OptionName::AdHex => Some(OptionName::Ad),
+            _ => None,
+        }
+    }
+}
+
+/// The form of the value of `--length`.
+fn length_form(command: CommandName) -> Form
+    ensures { result ≡ length_form command }
+{
+    match command {
+        CommandName::Srange => Form::RangeLength,
+        _ => Form::Number,
+    }
+}
+
+fn option(word: &'static str, form: Form) -> OptionRow
+    ensures word { result.word.now ≡ word.now }
+    ensures form { result.form ≡ form }
+{
+    OptionRow { word, form }
+}
+
+/// All commands.
+pub const COMMANDS: [CommandName; COMMAND_COUNT] = [
+    CommandName::CreateKeyset,
+    CommandName::AddKey,
+    CommandName::RotateKeyset,
+    CommandName::PromoteKey,
+    CommandName::EnableKey,
+    CommandName::DisableKey,
+    CommandName::DestroyKey,
+    CommandName::DeleteKey,
+    CommandName::ListKeyset,
+    CommandName::ConvertKeyset,
+    CommandName::ListKeyTemplates,
+    CommandName::Seal,
+    CommandName::Open,
+    CommandName::Dseal,
+    CommandName::Dopen,
+    CommandName::Sseal,
+    CommandName::Sopen,
+    CommandName::Tag,
+    CommandName::Verify,
+    CommandName::Derive,
+    CommandName::Session,
+    CommandName::Selftest,
+    CommandName::WrapKeyset,
+    CommandName::UnwrapKeyset,
+    CommandName::Eseal,
+    CommandName::Eopen,
+    CommandName::Srange,
+];
+
+/// All options, in the order of their places.
+pub const OPTIONS: [OptionName; OPTION_COUNT] = [
+    OptionName::KeyTemplate,
+    OptionName::KeyId,
+    OptionName::In,
+    OptionName::InFormat,
+    OptionName::Out,
+    OptionName::OutFormat,
+    OptionName::Keyset,
+    OptionName::KeysetFormat,
+    OptionName::Ad,
+    OptionName::AdHex,
+    OptionName::TagHex,
+    OptionName::Length,
+    OptionName::Seed,
+    OptionName::Lines,
+    OptionName::Master,
+    OptionName::MasterFormat,
+    OptionName::DekTemplate,
+    OptionName::File,
+    OptionName::From,
+    OptionName::Hex,
+];
