@@ -38,13 +38,6 @@ impl Bytes {
         }
     }
 
-    /// The bytes as a `Vec`. No memory is taken.
-    pub fn into_vec(self) -> Vec<u8>
-        ensures { result.items ≡ self }
-    {
-        self.items
-    }
-
     /// Lends the bytes.
     pub fn as_slice(&self) -> &[u8]
         ensures { result.now ≡ self.now }
