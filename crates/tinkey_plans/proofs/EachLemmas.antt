@@ -17,11 +17,11 @@ use Rattle.tinkey_words.specs.declared.words.rows.Format.{Format}
 use Rattle.tinkey_words.specs.declared.words.rows.Format.TheVariants as formats
 use Rattle.tinkey_plans.specs.Plan.{Plan, ends}
 use Rattle.tinkey_plans.specs.Steps.{with_keyset, with_json, keyset_in, with_row, finds_edit, with_made, keyset_limit, writes_keyset, written_in}
-use Rattle.tinkey_plans.specs.Using.{unless_unfit, with_opened, with_verified, with_derived, works}
-use Rattle.tinkey_plans.specs.Wrapping.{makes_wrapped, with_unwrapped, wrapped_limit}
+use Rattle.tinkey_plans.specs.Using.{seals, unless_unfit, with_opened, with_verified, with_derived, works}
+use Rattle.tinkey_plans.specs.Wrapping.{makes_wrapped, with_unwrapped, wrapped_limit, wraps}
 use Rattle.seal_wrap.specs.Unwrapped as unwrapped
 use Rattle.tinkey_words.specs.Words.{AskedEdit, AskedEnvelope, AskedWork, to_eseal, to_eopen, to_seal, to_open, to_dseal, to_dopen, to_tag, to_verify, to_derive}
-use Rattle.tinkey_plans.specs.Plan.{IsStated, Made, Of, allocates, draws}
+use Rattle.tinkey_plans.specs.Plan.{IsStated, Made, Of, allocates, draws, envelopings, sealings}
 use Rattle.tinkey_plans.specs.declared.status.Status.{Status}
 use Rattle.key_msgs.specs.KeyTypes.{primitive_of_type}
 use Rattle.key_msgs.specs.declared.primitive.Primitive.{Primitive}
@@ -32,18 +32,21 @@ use Rattle.seal_wrap.specs.Enveloped.{open_envelope_of}
 use Rattle.segment_stream.specs.Range.{stream_failed, past_end}
 use Rattle.tinkey_plans.specs.Ranging.{with_stretch}
 use Rattle.tinkey_plans.specs.Stretch.{Opened}
-use Rattle.tinkey_plans.specs.Envelopes.{envelopes, finds_dek, with_aead, with_enveloped, with_scheme}
+use Rattle.tinkey_plans.specs.Envelopes.{envelopes, finds_dek, seals_envelope, with_aead, with_enveloped, with_scheme}
 
 -- the rest of a plan is so, whatever it takes
 abbrev pub AreAll : {A : Type 0} → (Plan → Type 0) → (A → Plan) → Type 0
 AreAll {A} P next = (value : A) → P (next value)
 
--- every end is so, and a plan that allocates or draws is so where all that follows is
+-- every end is so, and a plan that allocates is so where all that follows is
 pub record IsClosed (P : Plan → Type 0) : Type 0 where
   pub ended : (s : Status) (stated : IsStated s) → P (ends s stated)
   pub allocated : (next : Plan) → P next → P (allocates next)
-  pub drawn : (kind : Made) (give : Draw (Of kind)) (next : Result (Of kind) CmdFault → Plan)
-      → AreAll P next → P (draws kind give next)
+
+-- a plan that draws this is so where all that follows is
+abbrev pub IsClosedAt : (P : Plan → Type 0) (kind : Made) → Draw (Of kind) → Type 0
+IsClosedAt P kind give =
+    (next : Result (Of kind) CmdFault → Plan) → AreAll P next → P (draws kind give next)
 
 pub with_keyset_each : (P : Plan → Type 0) → IsClosed P → (r : Result Keys Refusal) (next : Keys → Plan) → AreAll P next → P (with_keyset r next)
 with_keyset_each P c (Err (Wire at)) next all = c.ended _ _
@@ -102,8 +105,8 @@ pub verified_each : (P : Plan → Type 0) → IsClosed P → (b : Bool) (next : 
 verified_each P c true next all = all []
 verified_each P c false next all = c.ended _ _
 
-pub wrapped_each : (P : Plan → Type 0) → IsClosed P → (keys master : Keys) (table : Table) (form : Format) (next : List ℕ → Plan) → AreAll P next → P (makes_wrapped keys master table form next)
-wrapped_each P c keys master table form next all = c.allocated _ (c.drawn _ _ _ (λ made. c.allocated _ (made_each P c made _ (λ text. within_each P c (nat_le (length text) wrapped_limit) (next text) (all text)))))
+pub wrapped_each : (P : Plan → Type 0) → IsClosed P → (keys master : Keys) (table : Table) (form : Format) → IsClosedAt P sealings (wraps keys master table form) → (next : List ℕ → Plan) → AreAll P next → P (makes_wrapped keys master table form next)
+wrapped_each P c keys master table form drawn next all = c.allocated _ (drawn _ (λ made. c.allocated _ (made_each P c made _ (λ text. within_each P c (nat_le (length text) wrapped_limit) (next text) (all text)))))
 
 pub unwrapped_each : (P : Plan → Type 0) → IsClosed P → (r : Result Keys unwrapped.Refusal) (next : Keys → Plan) → AreAll P next → P (with_unwrapped r next)
 unwrapped_each P c (Ok keys) next all = all keys
@@ -124,14 +127,14 @@ derived_each P c asked None next all = all []
 derived_each P c asked (Some (Ok bytes)) next all = all bytes
 derived_each P c asked (Some (Err greatest)) next all = c.ended _ _
 
-pub work_each : (P : Plan → Type 0) → IsClosed P → (table : Table) (keys : Keys) (work : AskedWork) (input : List ℕ) (next : List ℕ → Plan) → AreAll P next → P (works table keys work input next)
-work_each P c table keys (to_seal ad) input next all = c.allocated _ (c.drawn _ _ _ (λ made. c.allocated _ (made_each P c made next all)))
-work_each P c table keys (to_open ad) input next all = c.allocated _ (opened_each P c (open_answer keys table input ad) next all)
-work_each P c table keys (to_dseal ad) input next all = c.allocated _ (all _)
-work_each P c table keys (to_dopen ad) input next all = c.allocated _ (opened_each P c (dopen_answer keys table input ad) next all)
-work_each P c table keys to_tag input next all = c.allocated _ (all _)
-work_each P c table keys (to_verify tag) input next all = c.allocated _ (verified_each P c (verify_answer keys table tag input) next all)
-work_each P c table keys (to_derive size) input next all = c.allocated _ (derived_each P c size (derive_answer keys table input size) next all)
+pub work_each : (P : Plan → Type 0) → IsClosed P → (table : Table) (keys : Keys) (work : AskedWork) (input : List ℕ) → ((ad : List ℕ) → IsClosedAt P sealings (seals keys table input ad)) → (next : List ℕ → Plan) → AreAll P next → P (works table keys work input next)
+work_each P c table keys (to_seal ad) input drawn next all = c.allocated _ (drawn ad _ (λ made. c.allocated _ (made_each P c made next all)))
+work_each P c table keys (to_open ad) input drawn next all = c.allocated _ (opened_each P c (open_answer keys table input ad) next all)
+work_each P c table keys (to_dseal ad) input drawn next all = c.allocated _ (all _)
+work_each P c table keys (to_dopen ad) input drawn next all = c.allocated _ (opened_each P c (dopen_answer keys table input ad) next all)
+work_each P c table keys to_tag input drawn next all = c.allocated _ (all _)
+work_each P c table keys (to_verify tag) input drawn next all = c.allocated _ (verified_each P c (verify_answer keys table tag input) next all)
+work_each P c table keys (to_derive size) input drawn next all = c.allocated _ (derived_each P c size (derive_answer keys table input size) next all)
 
 pub aead_each : (P : Plan → Type 0) → IsClosed P → (primitive : Primitive) (next : Plan) → P next → P (with_aead primitive next)
 aead_each P c Aead next all = all
@@ -151,6 +154,6 @@ pub enveloped_each : (P : Plan → Type 0) → IsClosed P → (r : Result (List 
 enveloped_each P c (Ok bytes) next all = all bytes
 enveloped_each P c (Err rule) next all = c.ended _ _
 
-pub envelope_each : (P : Plan → Type 0) → IsClosed P → (table : Table) (keys : Keys) (scheme : Scheme) (row : Row) (work : AskedEnvelope) (input : List ℕ) (next : List ℕ → Plan) → AreAll P next → P (envelopes table keys scheme row work input next)
-envelope_each P c table keys scheme row (to_eseal ad) input next all = c.allocated _ (c.drawn _ _ _ (λ made. c.allocated _ (made_each P c made _ (λ enveloped. enveloped_each P c enveloped next all))))
-envelope_each P c table keys scheme row (to_eopen ad) input next all = c.allocated _ (opened_each P c (open_envelope_of keys table scheme input ad) next all)
+pub envelope_each : (P : Plan → Type 0) → IsClosed P → (table : Table) (keys : Keys) (scheme : Scheme) (row : Row) (work : AskedEnvelope) (input : List ℕ) → ((ad : List ℕ) → IsClosedAt P envelopings (seals_envelope keys table scheme row input ad)) → (next : List ℕ → Plan) → AreAll P next → P (envelopes table keys scheme row work input next)
+envelope_each P c table keys scheme row (to_eseal ad) input drawn next all = c.allocated _ (drawn ad _ (λ made. c.allocated _ (made_each P c made _ (λ enveloped. enveloped_each P c enveloped next all))))
+envelope_each P c table keys scheme row (to_eopen ad) input drawn next all = c.allocated _ (opened_each P c (open_envelope_of keys table scheme input ad) next all)

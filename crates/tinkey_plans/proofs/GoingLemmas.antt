@@ -148,7 +148,7 @@ done_exactly (exchanges exchange next) told proper =
 -- ---- the commands
 
 closed : IsClosed IsProper
-closed = record { ended = λ s stated. tt; allocated = λ next all. all; drawn = λ kind give next all. all }
+closed = record { ended = λ s stated. tt; allocated = λ next all. all }
 
 taken_proper : (file : Option (List ℕ)) (form : Format) (next : Keys → Plan) → AreAll IsProper next → IsProper (takes_keyset (record { file = file; form = form }) next)
 taken_proper (Some name) form next proper = (λ e. cc, λ e. cc, λ bytes. keyset_each IsProper closed form bytes next proper)
@@ -203,13 +203,13 @@ commands_are_proper table (edit_keyset edit in' out) = edit_each IsProper closed
 commands_are_proper table (list_keyset in') = taken_proper in'.file in'.form _ (λ keys. tt)
 commands_are_proper table (convert_keyset in' out) = taken_proper in'.file in'.form _ (out_proper out)
 commands_are_proper table list_key_templates = tt
-commands_are_proper table (use_keyset name form work out) = (λ e. cc, λ e. cc, λ bytes. keyset_each IsProper closed form bytes _ (λ keys. fit_each IsProper closed (unfit keys (primitive_for work) table) _ (λ e. cc, λ input. work_each IsProper closed table keys work input (puts_output out) (shown_proper out.hex out.file))))
-commands_are_proper table (use_envelope name form template work out) = dek_each IsProper closed template _ (λ row. (λ e. cc, λ e. cc, λ bytes. keyset_each IsProper closed form bytes _ (λ keys. fit_each IsProper closed (unfit keys Aead table) _ (scheme_each IsProper closed (scheme_at table Aead (url_made row)) _ (λ scheme. (λ e. cc, λ input. envelope_each IsProper closed table keys scheme row work input (puts out) (put_proper out)))))))
+commands_are_proper table (use_keyset name form work out) = (λ e. cc, λ e. cc, λ bytes. keyset_each IsProper closed form bytes _ (λ keys. fit_each IsProper closed (unfit keys (primitive_for work) table) _ (λ e. cc, λ input. work_each IsProper closed table keys work input (λ ad next all. all) (puts_output out) (shown_proper out.hex out.file))))
+commands_are_proper table (use_envelope name form template work out) = dek_each IsProper closed template _ (λ row. (λ e. cc, λ e. cc, λ bytes. keyset_each IsProper closed form bytes _ (λ keys. fit_each IsProper closed (unfit keys Aead table) _ (scheme_each IsProper closed (scheme_at table Aead (url_made row)) _ (λ scheme. (λ e. cc, λ input. envelope_each IsProper closed table keys scheme row work input (λ ad next all. all) (puts out) (put_proper out)))))))
 commands_are_proper table (seal_stream name form ad) = (λ e. cc, λ e. cc, λ bytes. keyset_each IsProper closed form bytes _ (λ keys. stream_fit_proper (streams.stream_unfit keys) _ (stream_keys_proper (keys_for keys) _ (seals_proper ad))))
 commands_are_proper table (open_stream name form ad) = (λ e. cc, λ e. cc, λ bytes. keyset_each IsProper closed form bytes _ (λ keys. stream_fit_proper (streams.stream_unfit keys) _ (stream_keys_proper (keys_for keys) _ (λ k. tt))))
 commands_are_proper table (open_range name form ad range out) = (λ e. cc, λ e. cc, λ bytes. keyset_each IsProper closed form bytes _ (λ keys. stream_fit_proper (streams.stream_unfit keys) _ (stream_keys_proper (keys_for keys) _ (λ k. (λ e. cc, λ opened. stretch_each IsProper closed opened _ (put_proper out))))))
 commands_are_proper table (self_test seed lines) = counts_proper (trial.self_test table seed lines) lines
-commands_are_proper table (wrap_keyset name form in' out) = (λ e. cc, λ e. cc, λ bytes. keyset_each IsProper closed form bytes _ (λ master. fit_each IsProper closed (unfit master Aead table) _ (taken_proper in'.file in'.form _ (λ keys. written_each IsProper closed formats.Binary keys (λ plain. makes_wrapped keys master table out.form (puts out.file)) (λ plain. wrapped_each IsProper closed keys master table out.form (puts out.file) (put_proper out.file))))))
+commands_are_proper table (wrap_keyset name form in' out) = (λ e. cc, λ e. cc, λ bytes. keyset_each IsProper closed form bytes _ (λ master. fit_each IsProper closed (unfit master Aead table) _ (taken_proper in'.file in'.form _ (λ keys. written_each IsProper closed formats.Binary keys (λ plain. makes_wrapped keys master table out.form (puts out.file)) (λ plain. wrapped_each IsProper closed keys master table out.form (λ next all. all) (puts out.file) (put_proper out.file))))))
 commands_are_proper table (unwrap_keyset name form in' out) = (λ e. cc, λ e. cc, λ bytes. keyset_each IsProper closed form bytes _ (λ master. fit_each IsProper closed (unfit master Aead table) _ (text_proper in'.file _ (λ text. unwrapped_each IsProper closed (unwrap_of master table text (is_json in'.form)) _ (out_proper out)))))
 commands_are_proper table (session name form out) = (λ e. cc, λ e. cc, λ bytes. keyset_each IsProper closed form bytes _ (λ keys. free_proper out.file _ (λ last. saves_proper out.file out.form last)))
 commands_are_proper table (help topic) = tt

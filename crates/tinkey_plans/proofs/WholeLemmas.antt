@@ -28,7 +28,7 @@ use Rattle.tinkey_plans.specs.SelfTesting.{tells_counts}
 use Rattle.tinkey_words.specs.Words.{self_test, Place, primitive_for, create_keyset, edit_keyset, list_keyset, convert_keyset, list_key_templates, use_keyset, use_envelope, seal_stream, open_stream, open_range, session, wrap_keyset, unwrap_keyset, help, version}
 
 closed : IsClosed IsWhole
-closed = record { ended = λ s stated. tt; allocated = λ next all. all; drawn = λ kind give next all. all }
+closed = record { ended = λ s stated. tt; allocated = λ next all. all }
 
 taken_whole : (file : Option (List ℕ)) (form : Format) (next : Keys → Plan) → AreAll IsWhole next → IsWhole (takes_keyset (record { file = file; form = form }) next)
 taken_whole (Some name) form next whole = λ bytes. keyset_each IsWhole closed form bytes next whole
@@ -71,14 +71,14 @@ commands_are_whole table (edit_keyset edit in' out) = inl (edit_each IsWhole clo
 commands_are_whole table (list_keyset in') = inl (taken_whole in'.file in'.form _ (λ keys. tt))
 commands_are_whole table (convert_keyset in' out) = inl (taken_whole in'.file in'.form _ (out_whole out))
 commands_are_whole table list_key_templates = inl tt
-commands_are_whole table (use_keyset name form work out) = inl (λ bytes. keyset_each IsWhole closed form bytes _ (λ keys. fit_each IsWhole closed (unfit keys (primitive_for work) table) _ (λ input. work_each IsWhole closed table keys work input (puts_output out) (shown_whole out.hex out.file))))
-commands_are_whole table (use_envelope name form template work out) = inl (dek_each IsWhole closed template _ (λ row bytes. keyset_each IsWhole closed form bytes _ (λ keys. fit_each IsWhole closed (unfit keys Aead table) _ (scheme_each IsWhole closed (scheme_at table Aead (url_made row)) _ (λ scheme input. envelope_each IsWhole closed table keys scheme row work input (puts out) (put_whole out))))))
+commands_are_whole table (use_keyset name form work out) = inl (λ bytes. keyset_each IsWhole closed form bytes _ (λ keys. fit_each IsWhole closed (unfit keys (primitive_for work) table) _ (λ input. work_each IsWhole closed table keys work input (λ ad next all. all) (puts_output out) (shown_whole out.hex out.file))))
+commands_are_whole table (use_envelope name form template work out) = inl (dek_each IsWhole closed template _ (λ row bytes. keyset_each IsWhole closed form bytes _ (λ keys. fit_each IsWhole closed (unfit keys Aead table) _ (scheme_each IsWhole closed (scheme_at table Aead (url_made row)) _ (λ scheme input. envelope_each IsWhole closed table keys scheme row work input (λ ad next all. all) (puts out) (put_whole out))))))
 commands_are_whole table (seal_stream name form ad) = inr (inl tt)
 commands_are_whole table (open_stream name form ad) = inr (inl tt)
 commands_are_whole table (open_range name form ad range out) = inl (λ bytes. keyset_each IsWhole closed form bytes _ (λ keys. stream_fit_whole (streams.stream_unfit keys) _ (stream_keys_whole (streaming.keys_for keys) _ (λ k opened. stretch_each IsWhole closed opened _ (put_whole out)))))
 commands_are_whole table (self_test seed lines) = inl (counts_whole (trial.self_test table seed lines) lines)
 commands_are_whole table (session name form out) = inr (inr tt)
-commands_are_whole table (wrap_keyset name form in' out) = inl (λ bytes. keyset_each IsWhole closed form bytes _ (λ master. fit_each IsWhole closed (unfit master Aead table) _ (taken_whole in'.file in'.form _ (λ keys. written_each IsWhole closed formats.Binary keys (λ plain. makes_wrapped keys master table out.form (puts out.file)) (λ plain. wrapped_each IsWhole closed keys master table out.form (puts out.file) (put_whole out.file))))))
+commands_are_whole table (wrap_keyset name form in' out) = inl (λ bytes. keyset_each IsWhole closed form bytes _ (λ master. fit_each IsWhole closed (unfit master Aead table) _ (taken_whole in'.file in'.form _ (λ keys. written_each IsWhole closed formats.Binary keys (λ plain. makes_wrapped keys master table out.form (puts out.file)) (λ plain. wrapped_each IsWhole closed keys master table out.form (λ next all. all) (puts out.file) (put_whole out.file))))))
 commands_are_whole table (unwrap_keyset name form in' out) = inl (λ bytes. keyset_each IsWhole closed form bytes _ (λ master. fit_each IsWhole closed (unfit master Aead table) _ (text_whole in'.file _ (λ text. unwrapped_each IsWhole closed (unwrap_of master table text (is_json in'.form)) _ (out_whole out)))))
 commands_are_whole table (help topic) = inl tt
 commands_are_whole table version = inl tt
