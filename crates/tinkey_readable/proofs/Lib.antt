@@ -9,6 +9,7 @@ pub mod DoneWrapLemmas
 pub mod EndedLemmas
 pub mod EnvelopeRunLemmas
 pub mod FileLemmas
+pub mod HidingLemmas
 pub mod KeptRunLemmas
 pub mod KeptTextLemmas
 pub mod LineCaseLemmas

@@ -1,6 +1,7 @@
 pub mod Anywhere
 pub mod DoneWhere
 pub mod EnvelopeRuns
+pub mod Hiding
 pub mod KeptRuns
 pub mod KeptTexts
 pub mod LineRuns

@@ -5,6 +5,7 @@ ghost use Rattle.keyset_model.specs.Writing.{BinaryBack};
 ghost use Rattle.tinkey_readable.specs.Anywhere.{DopensAnywhere, DopensSomehowAnywhere, OpensAnywhere, OpensEnvelopeAnywhere, OpensFirstAnywhere, OpensRangeAnywhere, OpensSomehowAnywhere, OpensStreamAnywhere, UnwrapsAnywhere, VerifiesAnywhere};
 ghost use Rattle.tinkey_readable.specs.DoneWhere.{EditsDone, EnvelopesDone, RangesDone, SessionsDone, StreamsDone, WorksDone, WrapsDone};
 ghost use Rattle.tinkey_readable.specs.EnvelopeRuns.{RunsOpenEnvelope};
+ghost use Rattle.tinkey_readable.specs.Hiding.{ListedAlike, ListingHidesKeys, ReportsGoByStatus};
 ghost use Rattle.tinkey_readable.specs.KeptRuns.{CommandIdsStayDistinct, CreatedIdsAreDistinct, DataStaysByCommands, FilesStay, GivenBackByEnable, KeptByCommands, KeptByItsIdAlone};
 ghost use Rattle.tinkey_readable.specs.KeptTexts.{ReadsAfterCommands, ReadsByItsIdAlone};
 ghost use Rattle.tinkey_readable.specs.LineRuns.{MadeDopens, MadeDopensPresent, MadeOpens, MadeOpensPresent, MadeVerifies};
@@ -353,4 +354,14 @@ pub fn envelopes_done()
 /// keyset that is within the limit of one, and the name of a new file is free.
 pub fn wraps_done()
     ensures { WrapsDone }
+{}
+
+/// A listing goes by a keyset less its key messages and key material types: list-keyset puts out the same of
+/// two keysets that differ in these alone. What is told on standard error goes by the status alone, which
+/// has places, counts, numbers and names of our own, and no byte of a key or a plaintext. So both may be
+/// shown to others.
+pub fn listing_hides_keys()
+    ensures listing { ListingHidesKeys }
+    ensures listed { ListedAlike }
+    ensures reports { ReportsGoByStatus }
 {}

@@ -73,6 +73,7 @@ pub use tinkey_readable::laws::kept_ranges;
 pub use tinkey_readable::laws::kept_runs;
 pub use tinkey_readable::laws::kept_streams;
 pub use tinkey_readable::laws::kept_wrapped;
+pub use tinkey_readable::laws::listing_hides_keys;
 pub use tinkey_readable::laws::ranges_done;
 pub use tinkey_readable::laws::read_is_stored;
 pub use tinkey_readable::laws::run_step;
