@@ -1,0 +1,14 @@
+pub mod FillLemmas
+pub mod IvLemmas
+pub mod KeyLemmas
+pub mod MakeLemmas
+pub mod OrderLemmas
+pub mod PlaceLemmas
+pub mod PlanLemmas
+pub mod RunLemmas
+pub mod SessionLemmas
+pub mod SettledLemmas
+pub mod SliceExamples
+pub mod StepFacts
+pub mod StepLemmas
+pub mod TalkLemmas

@@ -1,0 +1,4 @@
+pub mod Runs
+pub mod Sessions
+pub mod Slices
+pub mod Steps
