@@ -64,8 +64,10 @@ install:
 	install -D -m 644 docs/tinkey.1 $(SHARE)/man/man1/tinkey.1
 	install -D -m 644 completions/tinkey.bash $(SHARE)/bash-completion/completions/tinkey
 	install -D -m 644 completions/_tinkey $(SHARE)/zsh/site-functions/_tinkey
+	install -D -m 644 completions/tinkey.fish $(SHARE)/fish/vendor_completions.d/tinkey.fish
 
 # Removes the same files again.
 uninstall:
 	rm -f $(BIN)/tinkey $(SHARE)/man/man1/tinkey.1 \
-	    $(SHARE)/bash-completion/completions/tinkey $(SHARE)/zsh/site-functions/_tinkey
+	    $(SHARE)/bash-completion/completions/tinkey $(SHARE)/zsh/site-functions/_tinkey \
+	    $(SHARE)/fish/vendor_completions.d/tinkey.fish
