@@ -1,7 +1,7 @@
 -- Lemmas on reading: the value of a text, and the records of items one after another.
 use Rattle.std.proofs.Common.{◌≡◌, ◌∙◌, ℕ, ◌+◌, suc, ◌<◌, get_or, take, drop, IfErr, zero-add, Bool, true, false, List, [], ◌∷◌, ◌++◌, length, map, Option, Some, None, Result, Ok, Err, IsErrAnd, if◌then◌else◌, ◌&&◌, refl, sym, ap, arith, add-zero}
 use Rattle.std.proofs.lemmas.List.{take_more, map-append, length-map, length-take-le, take-append-drop}
-use Rattle.std.proofs.Math.Seq.{take-length, drop-cons}
+use Rattle.std.proofs.Math.Seq.{drop-cons}
 use Rattle.std.proofs.lemmas.Str.{is_utf8-from_IsUtf8, IsUtf8-from_is_utf8}
 use Rattle.std.specs.Str.{IsUtf8, is_utf8}
 use Rattle.serde_json.specs.Data.{Data, null, Items}
@@ -184,10 +184,6 @@ pub no_records : (d : Data) → member_of members.Key d ≡ None → records_in 
 unfolding records_of
 no_records d missing = rw missing refl
 
--- where it is no list
-pub no_list : (d list : Data) → member_of members.Key d ≡ Some list → as_array list ≡ None → records_in d ≡ Err (of_keyset members.Key)
-no_list d list there none = rw (there, none) refl
-
 -- where it is one
 pub list_of : (d list : Data) (items : Items) → member_of members.Key d ≡ Some list → as_array list ≡ Some items → records_in d ≡ records_of 0 items
 list_of d list items there is = rw (there, is) refl
@@ -214,10 +210,6 @@ items_stop vs i v rs path in_list is before here =
     ap (map view) (sym (take-append-drop i vs)) ∙ map-append view (take i vs) (drop i vs) ∙ ap (λ xs. map view (take i vs) ++ map view xs) (drop-cons vs i v in_list)
     ∙ ap (λ x. map view (take i vs) ++ view x ∷ map view (drop (suc i) vs)) (sym is) in
     ap (λ ds. records_of 0 (items_of ds)) parts ∙ records_stop 0 (map view (take i vs)) (map view (drop (suc i) vs)) (view v) rs path before (ap (λ k. record_of k (view v)) place ∙ here)
-
--- all of a list
-pub items_all : (vs : List Value) (rs : List Record) → records_of 0 (items_view (take (length vs) vs)) ≡ Ok rs → records_of 0 (items_view vs) ≡ Ok rs
-items_all vs rs all = ap (λ xs. records_of 0 (items_view xs)) (sym (take-length vs)) ∙ all
 
 pub items_handed_on : {T : Type 0} (r : Result T JsonError) (error : JsonError) (step : Result Record Path) (whole : Result (List Record) Path) → IsErrAnd r (λ e. e ≡ error)
     → Gives (Err error) step → ((p : Path) → step ≡ Err p → whole ≡ Err p) → IfErr r (λ e. IsShape e whole)

@@ -1,15 +1,8 @@
-use Rattle.std.proofs.Common.{◌≡◌, ℕ, ◌<◌, List, length, map, slice_get, slice_index_or, Some, refl, Bool, true, false, ◌||◌, ◌++◌, [], ◌∷◌, position}
+use Rattle.std.proofs.Common.{◌≡◌, ℕ, List, map, refl, Bool, true, false, ◌||◌, ◌++◌, [], ◌∷◌, position}
 use Rattle.std.specs.Str.{bytes_eq}
 use Rattle.managers.specs.Table.{Entry, has_url, has_repeat, shares_url}
 use Rattle.std.specs.List.{position_or_len}
-use Rattle.std.proofs.lemmas.Option.{slice_get-map, slice_get_read}
 use Rattle.std.proofs.lemmas.List.{length-map}
-
--- what stands at a place of a mapped list is the image of what stands at that place
-pub slice_get-map_read : {A B : Type 0} (f : A → B) (xs : List A) (i : ℕ) (x : A) → i < length (map f xs) → x ≡ slice_index_or xs i x → slice_get (map f xs) i ≡ Some (f x)
-slice_get-map_read f xs i x within read =
-    let shorter : i < length xs = simp length-map at within in
-    rw (slice_get-map f xs i, slice_get_read xs (length xs) i x refl shorter read) refl
 
 -- the first place in a mapped list at which a test passes
 pub position_or_len-map : {A B : Type 0} (p : B → Bool) (f : A → B) (xs : List A) → position_or_len p (map f xs) ≡ position_or_len (λ x. p (f x)) xs

@@ -112,9 +112,6 @@ sealed_of stream drawn rest place table keys plain ad made is e =
 same_given : {A : Type 0} (x y : A) → ◌≡◌ {A = Result A CmdFault} (Ok x) (Ok y) → x ≡ y
 same_given x y e = cc
 
-not_given : {A P : Type 0} (fault : CmdFault) (x : A) → ◌≡◌ {A = Result A CmdFault} (Err fault) (Ok x) → P
-not_given fault x e = absurd cc
-
 same_envelope : (x y : Result (List ℕ) Rule) → ◌≡◌ {A = Result (Result (List ℕ) Rule) CmdFault} (Ok x) (Ok y) → x ≡ y
 same_envelope x y e = cc
 

@@ -64,9 +64,6 @@ record UnderData (keys : Keys) (table : Table) (value plain ad random : List ℕ
   took : Took (iv_size key) sealed.left e.left
   made : e.answer ≡ Ok (envelope sealed.bytes (seal_of key (take (iv_size key) sealed.left) plain ad))
 
-no_bytes : (xs : List ℕ) → [] ++ xs ≡ xs
-no_bytes xs = refl
-
 under_data : (keys : Keys) (table : Table) (value plain ad random : List ℕ) (key : KeyKind) (e : Enveloped) → under_data_key keys table value plain ad random (Ok key) ≡ Some e → UnderData keys table value plain ad random key e
 under_data keys table value plain ad random key e k =
     let one = then_some (behind_data_key plain ad key) (seal_answer keys table value [] random) e k in

@@ -2,38 +2,19 @@
 use Rattle.std.proofs.Common.{◌≡◌, ◌∙◌, ℕ, zero, suc, ◌+◌, ◌≤◌, false, List, [], ◌∷◌, length, drop, refl, ap, subst, arith, eq-eqb, Some, Ok, Err, Result}
 use Rattle.std.specs.List.{AllByRecursion}
 use Rattle.std.proofs.lemmas.Option.{same_Some}
-use Rattle.std.specs.Prelude.{filter, fold, slice_get, slice_range}
+use Rattle.std.specs.Prelude.{filter, fold, slice_get}
 use Rattle.std.specs.Result.{IfErr, IsErrAnd}
-use Rattle.std.proofs.Math.ListN.{drop_of_length-le}
 use Rattle.std.proofs.lemmas.Bool.{ne_eqb}
-use Rattle.std.proofs.lemmas.List.{length-drop, length-take}
 use Rattle.tink_spec.specs.Wire.{bytes, WireField, cut}
 use Rattle.tink_spec.specs.Messages.{first_other, is_bytes, later_bytes, of_number, unless_at}
-use Rattle.proto_wire.specs.Fields.{IsOf, payload_of, seen, seen_all}
+use Rattle.proto_wire.specs.Fields.{IsOf, seen, seen_all}
 use Rattle.proto_wire.specs.declared.field.Field.{Field}
-use Rattle.proto_wire.specs.declared.field.Kind.{Kind}
-use Rattle.proto_wire.specs.declared.field.Kind.TheVariants.{Varint, Eight, Bytes, Four}
 use Rattle.proto_wire.specs.declared.field.Wire.{Wire}
 use Rattle.keyset_model.proofs.KeyLemmas.{seen_from}
 use Rattle.seal_wrap.specs.Steps.{IsBytesOf, IsNoBytes}
 use Rattle.seal_wrap.specs.Unwrapped.{encrypted_in, is_known, sealed_in_binary, OuterWire}
 
 -- ---- the bytes of one field
-
-no_bytes : (kind : Kind) (source : List ℕ) (field : Field) → (kind ≡ Bytes → ⊥) → is_bytes (payload_of kind source field) ≡ false
-no_bytes Varint source field other = refl
-no_bytes Eight source field other = refl
-no_bytes Bytes source field other = absurd (other refl)
-no_bytes Four source field other = refl
-
-pub none_given : (source : List ℕ) (field : Field) → (field.kind ≡ Bytes → ⊥) → IsNoBytes source field field.at
-none_given source field other = record { other = no_bytes field.kind source field other; at = refl }
-
-pub some_given : (source : List ℕ) (field : Field) (content : List ℕ) → field.kind ≡ Bytes → content ≡ slice_range source field.start field.end → IsBytesOf source field content
-some_given source field content kind is = record {
-  payload = rw (kind, is) refl;
-  within = rw is (omega (arith, length-take {A = ℕ}, length-drop {A = ℕ}));
-}
 
 -- ---- the fields one after the other
 
@@ -104,9 +85,6 @@ module _ (source : List ℕ) (message : List Field) (i : ℕ) (sealed : List ℕ
 
   pub so_far_stops_three : (place : ℕ) → field.number ≡ 3 → IsNoBytes source field place → encrypted_in (seen_all source message) ≡ Err place
   so_far_stops_three place same is = from ∙ stops_three (before.read.0, sealed) (seen source field) rest same is.other ∙ ap Err is.at
-
-pub so_far_end : (source : List ℕ) (message : List Field) (i : ℕ) (sealed : List ℕ) → EncryptedSoFar source message i sealed → length message ≤ i → encrypted_in (seen_all source message) ≡ Ok sealed
-so_far_end source message i sealed before past = before.read.1 ∙ rw (drop_of_length-le message past) refl
 
 pub fault_handed_on : {T : Type 0} (r : Result T Wire) (wire : Wire) (read : Result (List ℕ) ℕ) → IsErrAnd r (λ e. e ≡ wire) → read ≡ Err wire.at → IfErr r (λ e. read ≡ Err e.at)
 fault_handed_on (Ok content) wire read is at = absurd is

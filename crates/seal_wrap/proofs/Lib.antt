@@ -8,7 +8,6 @@ pub mod OpenedInPlace
 pub mod OpenedSizes
 pub mod SealedBytes
 pub mod SealedSizes
-pub mod UnwrapLemmas
 pub mod WrapLemmas
 pub mod WrittenSizes
 pub mod WritingLemmas

@@ -1,7 +1,6 @@
 -- A key tried on the first bytes of a stream.
-use Rattle.std.proofs.Common.{◌≡◌, ℕ, ◌+◌, ◌-◌, ◌*◌, ◌/◌, ◌<◌, ◌≤◌, min, List, [], ◌∷◌, length, take, drop, get_or, sym, ◌∙◌, ap, subst, arith, inl, inr}
+use Rattle.std.proofs.Common.{◌≡◌, ℕ, ◌+◌, ◌-◌, ◌*◌, ◌/◌, ◌<◌, ◌≤◌, min, List, ◌∷◌, length, take, drop, get_or, sym, ◌∙◌, ap, subst, arith, inl, inr}
 use Rattle.std.specs.Prelude.{Bool, true, false, ◌==◌, ◌&&◌, nat_le, Some, None, if◌then◌else◌}
-use Rattle.std.specs.List.{AllByRecursion}
 use Rattle.std.specs.Option.{is_some}
 use Rattle.std.proofs.lemmas.Bool.{cases_lt}
 use Rattle.std.proofs.lemmas.Bool.Decides.{nat_tests}
@@ -134,7 +133,3 @@ pub chooses : (keys : List StreamKey) (ad front bytes : List ℕ) (size index : 
     → drop index (ciphers_of ad keys) ≡ cipher_of ad key ∷ drop (index + 1) (ciphers_of ad keys) → StartsWith bytes front size → fits (cipher_of ad key) bytes ≡ true → choose (ciphers_of ad keys) bytes true ≡ chosen (cipher_of ad key)
 chooses keys ad front bytes size index key p here s fit =
     p bytes s ∙ ap (λ (k : List SegmentCipher). choose k bytes true) here ∙ by_fit (cipher_of ad key) (drop (index + 1) (ciphers_of ad keys)) bytes true fit
-
-pub all_means : {X : Type 0} (P Q : X → Type 0) (xs : List X) → ((x : X) → P x → Q x) → AllByRecursion P xs → AllByRecursion Q xs
-all_means P Q [] f all = tt
-all_means P Q (x ∷ xs) f all = (f x all.0, all_means P Q xs f all.1)

@@ -13,12 +13,11 @@ use Rattle.keyset_model.specs.Keyset.{Keys}
 use Rattle.keyset_model.specs.Reading.{reads_binary}
 use Rattle.managers.specs.Table.{Table}
 use Rattle.tinkey_cmds.specs.Draws.{Draw, Drawn}
-use Rattle.tinkey_cmds.specs.Edits.{Edit, Stepped}
+use Rattle.tinkey_cmds.specs.Edits.{Edit}
 use Rattle.tinkey_cmds.specs.Edits as edits
 use Rattle.tinkey_cmds.specs.declared.command.CmdFault.{CmdFault}
 use Rattle.tinkey_session.proofs.Options.{clash}
 use Rattle.wrapped_prims.specs.Fitness.{Unfit, NoManager, BadKey, NotRaw, unfit}
-use Rattle.tinkey_plans.specs.declared.status.Status.{Status}
 use Rattle.tinkey_plans.specs.declared.status.Status.TheVariants as status
 use Rattle.tinkey_words.specs.declared.words.rows.Format.{Format}
 use Rattle.tinkey_words.specs.declared.words.rows.Format.TheVariants as formats
@@ -28,16 +27,8 @@ use Rattle.tinkey_plans.specs.Steps.{keyset_limit, keyset_in, with_keyset, with_
 use Rattle.tinkey_plans.specs.Using.{handles, limit_for, unless_unfit, use_output, works}
 use Rattle.tinkey_words.specs.Words.{AskedEdit, AskedWork, Place, primitive_for}
 
--- what was told, with these bytes left of the input and of the random ones
-abbrev pub left_of : Told → (input random : List ℕ) → Told
-left_of told input random = record { input = input; files = told.files; random = random }
-
 abbrev pub IsDoneAnswer : Answer → Type 0
 IsDoneAnswer a = a.status ≡ status.Done
-
--- an answer that is Done is no refusal
-not_done : {P : Type 0} (s : Status) → (s ≡ status.Done → ⊥) → s ≡ status.Done → P
-not_done s other is = absurd (other is)
 
 -- where the other answer isn't Done, it went on
 pub went_done : (b : Bool) (went long : Answer) → (long.status ≡ status.Done → ⊥) → (if b then went else long).status ≡ status.Done → (if b then went else long) ≡ went

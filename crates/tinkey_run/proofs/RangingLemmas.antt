@@ -1,24 +1,23 @@
 -- A stretch of a stream in a file, opened, as a step.
-use Rattle.std.proofs.Common.{arith, ◌≡◌, ◌∙◌, refl, sym, ap, subst, inl, inr, ℕ, ◌+◌, ◌-◌, ◌*◌, ◌≤◌, List, length, true, Option, Some, None, Result, Ok, Err}
+use Rattle.std.proofs.Common.{arith, ◌≡◌, ◌∙◌, refl, sym, subst, inl, ℕ, ◌+◌, ◌-◌, ◌*◌, ◌≤◌, List, length, true, Option, Some, None, Result, Ok, Err}
 use Rattle.std.specs.Global.{Vec}
 use Rattle.std.specs.Prelude.{IfSome, IsErrOf}
 use Rattle.std.specs.FinMap as map
 use Rattle.segment_stream.specs.Opening.{choose}
-use Rattle.segment_stream.specs.Range.{RangeRefusal, stream_failed, past_end}
+use Rattle.segment_stream.specs.Range.{stream_failed, past_end}
 use Rattle.stream_range.specs.Answers.{CoversUnder, IsRange, covering_by}
 use Rattle.stream_range.specs.Stored.{bytes_in}
 use Rattle.stream_range.specs.declared.range.RangeFault.{RangeFault}
 use Rattle.stream_range.specs.declared.range.RangeFault.TheVariants as faults
 use Rattle.tink_base.specs.Store.{HasSize}
-use Rattle.tink_spec.specs.Files.{Files, Holds, HoldsSize, KeptFiles, StoreState}
+use Rattle.tink_spec.specs.Files.{Files, HoldsSize, KeptFiles, StoreState}
 use Rattle.tink_spec.specs.Outside.{Rose, Stood}
-use Rattle.tinkey_plans.specs.declared.status.Status.{Status}
 use Rattle.tinkey_plans.specs.declared.status.Status.TheVariants as status
-use Rattle.tinkey_plans.specs.Ends.{World, Ends, GaveWithin, OnlyStore, ranged, range_absent, range_failed, range_starved}
+use Rattle.tinkey_plans.specs.Ends.{World, Ends, GaveWithin, OnlyStore, ranged, range_failed, range_starved}
 use Rattle.tinkey_plans.specs.Plan.{Plan, allocates, ranges}
 use Rattle.tinkey_plans.specs.Ranging.{opened_or, range_status, with_stretch}
 use Rattle.tinkey_plans.specs.Steps.{Passes}
-use Rattle.tinkey_plans.specs.Stretch.{Opened, Stretch, GivesAtMost, HoldsStretch, IsShortPast, stretch_in}
+use Rattle.tinkey_plans.specs.Stretch.{Opened, Stretch, GivesAtMost, HoldsStretch, stretch_in}
 
 -- the step
 abbrev pub stretches : Stretch → (List ℕ → Plan) → Plan
@@ -128,10 +127,6 @@ past_rise old new largest within = rise_within old new (2 * largest) within
 
 pub gave_rise : (old new : StoreState) → GaveWithin old new (new.given - old.given)
 gave_rise old new = omega arith
-
--- the file is missing, or the store failed in looking at it
-pub missing_ends : (x : Stretch) (w : World) (first last : StoreState) → KeptFiles first last → Stood first.faults last.faults → last.given ≡ first.given → Holds first x.name None → (next : List ℕ → Plan) → Ends (stretches x next) (record w { store = first }) status.InMissing (record w { store = last })
-missing_ends x w first last kept stood given none next = inl (range_absent refl (only_store w first last) kept stood (omega (arith, given)) none)
 
 pub look_ends : (x : Stretch) (w : World) (first last : StoreState) → KeptFiles first last → Rose first.faults last.faults → last.given ≡ first.given → (next : List ℕ → Plan) → Ends (stretches x next) (record w { store = first }) status.StoreFault (record w { store = last })
 look_ends x w first last kept rose given next = inl (range_failed 0 refl (only_store w first last) kept rose (omega (arith, given)) (gives_none first x))

@@ -21,7 +21,7 @@ use Rattle.tinkey_cmds.specs.declared.command.CmdFault.{CmdFault}
 use Rattle.tinkey_selftest.proofs.EntropyLemmas.{first_is_template}
 use Rattle.tinkey_selftest.proofs.ShortLemmas.{sealed_small}
 use Rattle.tinkey_selftest.specs.Ready.{IsSmall, kept_of, trial_of}
-use Rattle.tinkey_selftest.specs.Trial.{Task, Edits, Opens, Seals, Trial, after_line, counted, first_row, line_of_task, open_or_seal, open_task, seal_task, sealed_by, sealed_now, task_done}
+use Rattle.tinkey_selftest.specs.Trial.{Task, Edits, Seals, Trial, after_line, counted, first_row, line_of_task, seal_task, sealed_by, sealed_now, task_done}
 use Rattle.tinkey_selftest.specs.declared.numbers.Words.{Words}
 use Rattle.tinkey_selftest.specs.declared.counts.Counts.{Counts}
 use Rattle.tinkey_selftest.specs.declared.trial.Sealing.{Sealing}
@@ -30,7 +30,7 @@ use Rattle.tinkey_session.proofs.Options.{clash}
 use Rattle.tinkey_session.proofs.SoundLemmas.{edited_keyset}
 use Rattle.tinkey_session.proofs.TurnLemmas.{serve_edits}
 use Rattle.tinkey_session.specs.Answered.{IsAnswered, IsUnanswered}
-use Rattle.tinkey_session.specs.Lines.{Line, Open, Seal}
+use Rattle.tinkey_session.specs.Lines.{Line, Seal}
 use Rattle.tinkey_session.specs.Serving.{serve}
 use Rattle.tinkey_session.specs.declared.reply.Reply.{Reply}
 use Rattle.tinkey_session.specs.declared.reply.Reply.TheVariants.{Done, Gives, NewId, Refuses}
@@ -114,23 +114,6 @@ pub edited_now : (table : Table) (trial : Trial) (line : Line) (reply : Reply) (
     → sealings ≡ trial.sealings → counts ≡ counted trial.keys (Edits line) reply trial.counts
     → trial_of keys sealings left counts ≡ task_done table trial (Edits line)
 edited_now table trial line reply keys left sealings counts e s n = done_now table trial (Edits line) reply keys left sealings counts e (s ∙ sym (append-nil trial.sealings)) n
-
--- an open
-pub opened_now : (table : Table) (trial : Trial) (w : Words) (s : Sealing) (bytes ad : List ℕ) (reply : Reply) (keys : Keys) (left : List ℕ) (sealings : List Sealing) (counts : Counts)
-    → Some s ≡ slice_get trial.sealings (w.b % length trial.sealings) → bytes ≡ s.bytes → ad ≡ s.ad
-    → serve table trial.keys (Open bytes ad) trial.left ≡ Some (record { reply = reply; keys = keys; left = left })
-    → sealings ≡ trial.sealings → counts ≡ counted trial.keys (Opens s) reply trial.counts
-    → trial_of keys sealings left counts ≡ task_done table trial (open_task w trial.sealings)
-opened_now table trial w s bytes ad reply keys left sealings counts at b a e same n =
-    done_now table trial (Opens s) reply keys left sealings counts
-    (ap (λ x. serve table trial.keys (Open x s.ad) trial.left) (sym b) ∙ ap (λ x. serve table trial.keys (Open bytes x) trial.left) (sym a) ∙ e)
-    (same ∙ sym (append-nil trial.sealings)) n
-    ∙ ap (λ o. task_done table trial (open_or_seal w o)) at
-
--- where there is nothing to open
-pub unopened_now : (table : Table) (trial new : Trial) (w : Words) → None ≡ slice_get trial.sealings (w.b % length trial.sealings) → new ≡ task_done table trial (seal_task w)
-    → new ≡ task_done table trial (open_task w trial.sealings)
-unopened_now table trial new w at is = is ∙ ap (λ o. task_done table trial (open_or_seal w o)) at
 
 -- a seal
 sealed_kept : (keys : Keys) (plain a ad : List ℕ) (reply : Reply) (sealer : Record) → primary_of keys ≡ Some sealer → a ≡ ad → kept_of reply a sealer ≡ sealed_now keys (Seals plain ad) reply

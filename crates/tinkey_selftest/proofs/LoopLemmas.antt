@@ -6,10 +6,6 @@ use Rattle.tinkey_selftest.specs.Numbers.{seed_bytes, words_at, words_of}
 use Rattle.tinkey_selftest.specs.Trial.{Trial, after_lines, tried}
 use Rattle.tinkey_selftest.specs.declared.numbers.Words.{Words}
 
--- the generator of the lines, behind the words of so many lines
-abbrev behind : (seed i : ℕ) → ChaCha
-behind seed i = record { key = key_of (seed_bytes seed 0); stream = 0; word_pos = 4 * i }
-
 pub line_done : (own table : Table) (seed i : ℕ) (first : Trial) (words : Words) (generator : ChaCha) (old new : Trial) → own ≡ table
     → words ≡ words_at generator.key generator.word_pos
     → generator ≡ record { key = key_of (seed_bytes seed 0); stream = 0; word_pos = 4 * i }

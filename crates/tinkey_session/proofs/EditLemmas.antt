@@ -1,24 +1,19 @@
 -- What edits answer, and which edit a line asks for.
-use Rattle.std.proofs.Common.{◌≡◌, ◌∙◌, refl, sym, ap, subst, ℕ, ◌+◌, ◌-◌, suc, List, [], ◌∷◌, length, Option, Some, None, Result, Ok, Err, option_map, arith}
+use Rattle.std.proofs.Common.{◌≡◌, refl, sym, ap, subst, ℕ, ◌+◌, ◌-◌, suc, List, [], ◌∷◌, length, Some, None, Result, Ok, Err, arith}
 use Rattle.std.specs.Borrow.{Bor}
-use Rattle.std.specs.Prelude.{IfSome, slice_get}
+use Rattle.std.specs.Prelude.{slice_get}
 use Rattle.std.specs.Result.{IsErrAnd}
 use Rattle.std.proofs.lemmas.Option.{same_Some}
 use Rattle.key_msgs.specs.declared.template.Template.{Template}
 use Rattle.keyset_model.specs.Keyset.{Keys}
 use Rattle.keyset_model.specs.declared.record.Record.{Record}
-use Rattle.tink_spec.specs.Outside.{EntropyState}
-use Rattle.tinkey_cmds.specs.Applying.{Applied}
-use Rattle.tinkey_cmds.specs.Edits.{Edit, Add, Rotate, Promote, Enable, Disable, Destroy, Delete, step}
+use Rattle.tinkey_cmds.specs.Edits.{Edit, Add, Rotate, Promote, Enable, Disable, Destroy, Delete}
 use Rattle.tinkey_cmds.specs.declared.command.Command.{Command}
-use Rattle.tinkey_cmds.specs.declared.command.CmdError.{CmdError}
-use Rattle.tinkey_cmds.specs.declared.command.CmdError.TheVariants as errors
 use Rattle.tinkey_session.proofs.Options.{clash}
-use Rattle.tinkey_session.specs.Answered.{Serves}
-use Rattle.tinkey_session.specs.Keeping.{Asks, IsUnedited, needs, unedited}
+use Rattle.tinkey_session.specs.Keeping.{Asks, IsUnedited, needs}
 use Rattle.tinkey_session.specs.Lines.{Line}
 use Rattle.tinkey_session.specs.Reading.{seen_line}
-use Rattle.tinkey_session.specs.Serving.{answered, edit_line, edited_reply, last_id, serve, stepped}
+use Rattle.tinkey_session.specs.Serving.{edited_reply, last_id, serve}
 use Rattle.tinkey_session.specs.declared.reply.Reply.TheVariants.{NewId}
 use Rattle.tinkey_session.specs.declared.line.Line.{Line as CodeLine}
 use Rattle.tinkey_session.specs.declared.line.Line.TheVariants as lines
@@ -45,35 +40,6 @@ accepted reply edit keys is none = by edit (subst (λ (r : Reply). IsUnedited (O
     by (Disable id) none = none
     by (Destroy id) none = none
     by (Delete id) none = none
-
-pub applied_serves : (keys edited : Keys) (edit : Edit) (reply : Reply) (old new : EntropyState) → Applied (Ok edited) (step keys edit) old new → reply ≡ edited_reply edit edited → Serves (λ random. edit_line keys random edit) (Ok reply) edited old new
-applied_serves keys edited edit reply old new (stood, (drawn, drew, is)) same = record {
-  drawn = drawn;
-  drew = drew;
-  stood = stood;
-  is = λ more. ap (option_map (stepped edit keys)) (is more) ∙ ap (λ r. Some (answered edited more r)) (sym same);
-}
-
--- what isn't decided gives nothing
-undecided_left : (keys : Keys) (edit : Edit) (left : Option (List ℕ)) → IfSome left (λ random. step keys edit random ≡ None) → IfSome left (λ random. edit_line keys random edit ≡ None)
-undecided_left keys edit None short = tt
-undecided_left keys edit (Some random) short = ap (option_map (stepped edit keys)) short
-
-pub unapplied_serves : (keys : Keys) (edit : Edit) (error : CmdError) (old new : EntropyState) → Applied {A = Keys} (Err error) (step keys edit) old new → Serves (λ random. edit_line keys random edit) (unedited error) keys old new
-unapplied_serves keys edit (errors.Refused fault) old new (stood, (drawn, drew, is)) = record {
-  drawn = drawn;
-  drew = drew;
-  stood = stood;
-  is = λ more. ap (option_map (stepped edit keys)) (is more);
-}
-unapplied_serves keys edit errors.EntropyFault old new out = record {
-  rose = out.rose;
-  drawn = out.drawn;
-  gone = out.gone;
-  undecided = ap (option_map (stepped edit keys)) out.undecided;
-  short = λ steady. undecided_left keys edit old.left (out.short steady);
-}
-unapplied_serves keys edit errors.NoMemory old new (stood, (answer, (drawn, drew, is))) = record { drawn = drawn; drew = drew; stood = stood }
 
 -- ---- the id of the last record
 

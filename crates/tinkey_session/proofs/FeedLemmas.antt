@@ -25,9 +25,6 @@ wants≢goes e = cc
 pub passes≢goes : (limit : Limit) → passes limit ≢ goes
 passes≢goes limit e = cc
 
-pub stood_then : (a b c : ℕ) → Stood a b → Stood b c → Stood a c
-stood_then a b c first second = second ∙ first
-
 pub rose_later : (a b c : ℕ) → a ≤ b → Rose b c → Rose a c
 rose_later a b c le (inl less) = inl (omega (arith, le, less))
 rose_later a b c le (inr last) = inr last

@@ -1,7 +1,7 @@
 use Rattle.std.proofs.Common.{◌≡◌, ◌∙◌, arith, Some}
 use Rattle.tinkey_plans.specs.Ranging.{stretch_for}
 use Rattle.tinkey_words.specs.Words.{seen_datum, seen_range}
-use Rattle.tinkey_run.proofs.RangingLemmas.{held_of, look_ends, missing_ends, stretch_passes}
+use Rattle.tinkey_run.proofs.RangingLemmas.{held_of, look_ends, stretch_passes}
 use Rattle.tinkey_run.proofs.ranging.open_under.Goals as goal
 
 pub returns-in-Ok-Some : goal.returns-in-Ok-Some
