@@ -1,6 +1,7 @@
 //! Random bytes that are drawn ahead, over a device in memory that counts its reads.
 
 ghost use Rattle.std.specs.Prelude.{Some};
+ghost use Rattle.host_tests.specs.Told.{goes_on};
 
 use crate::metered::{Metered, WHOLE, are_those_from, counts};
 use real_objects::{FileEntropy, Opens};
@@ -41,6 +42,8 @@ impl<'a> Opens for OpensMetered<'a> {
     type Device = Metered<'a>;
 
     ghost given = { λ s. Some s.bytes.now };
+
+    ghost untold = { λ s t none. goes_on s.bytes.now t.bytes.now none };
 
     fn open(&self) -> io::Result<Metered<'a>> {
         let before = self.calls.opens.get();

@@ -3,7 +3,7 @@
 ghost use Rattle.std.specs.Prelude.{Some};
 ghost use Rattle.host_tests.specs.Told.{goes_on};
 
-use real_objects::{ReadStream, WriteStream};
+use real_objects::{Device, ReadStream, WriteStream};
 use std::alloc::Global;
 use std::cell::Cell;
 use std::io::{self, ErrorKind, Read, Write};
@@ -35,6 +35,10 @@ impl Read for Metered<'_> {
         let room = out.len().min(self.piece.max(1));
         self.left.read(&mut out[..room])
     }
+}
+
+impl Device for Metered<'_> {
+    ghost untold = { λ s t none. goes_on s.left.now t.left.now none };
 }
 
 impl ReadStream for Metered<'_> {

@@ -3,3 +3,4 @@ pub mod ListedWords
 pub mod FillingSlices
 pub mod DrawnAhead
 pub mod KeptNames
+pub mod DeviceLemmas

@@ -1,8 +1,8 @@
--- What real streams, files and random bytes tell: how often they have failed, whether a stream has
--- ended, and the bytes that the stream beneath tells. Files and random bytes tell none.
-use Rattle.std.specs.Prelude.{◌≡◌, ℕ, List, [], Option, None, Bool, true, false}
+-- What real streams and files tell: how often they have failed, whether a stream has ended, and the bytes
+-- that the stream beneath tells. Files tell none.
+use Rattle.std.specs.Prelude.{◌≡◌, ℕ, List, [], Option, None, Bool, true}
 use Rattle.std.specs.Io.KnownBytes.{prepend_known}
-use Rattle.tink_spec.specs.Outside.{SourceState, SinkState, EntropyState}
+use Rattle.tink_spec.specs.Outside.{SourceState, SinkState}
 use Rattle.tink_spec.specs.Files.{StoreState}
 use Rattle.real_objects.specs.declared.streams.StdSource.{StdSource}
 use Rattle.real_objects.specs.declared.streams.StdSink.{StdSink}
@@ -51,7 +51,3 @@ has_written sink = sink.wrote
 -- the files, with so many faults and bytes given
 abbrev pub untold_store : (faults given : ℕ) → StoreState
 untold_store faults given = record { files = None; faults = faults; given = given }
-
--- the random bytes of the system, with so many faults, which may fail whatever is asked
-abbrev pub untold_entropy : ℕ → EntropyState
-untold_entropy faults = record { left = None; faults = faults; steady = false }

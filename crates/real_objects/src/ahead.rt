@@ -1,10 +1,11 @@
 //! A device whose bytes are drawn ahead, so that many small draws cost one read of it.
 
-ghost use Rattle.std.specs.Prelude.{◌≡◌, ◌<◌, ◌≤◌, [], ◌++◌, length, take, drop, min, true, false, IsOk, OnOk, OnErr};
+ghost use Rattle.std.specs.Prelude.{◌≡◌, ◌<◌, ◌≤◌, None, [], ◌++◌, length, take, drop, min, true, false, IsOk, OnOk, OnErr};
 ghost use Rattle.std.specs.Io.KnownBytes.{Consumes, IsAtEnd, Keeps};
 ghost use Rattle.real_objects.specs.Device.{ahead_left, Skips};
 
 use crate::streams::read_through_signals;
+use std::fs::File;
 use std::io::{self, ErrorKind, Read};
 use std::marker::Model;
 
@@ -105,6 +106,16 @@ impl Held {
     }
 }
 
+/// A device of bytes.
+pub trait Device: Read {
+    /// It tells its bytes at each moment, or at none.
+    ghost untold: { (s t : Self) → Self.remaining s ≡ None → Self.remaining t ≡ None };
+}
+
+impl Device for File {
+    ghost untold = { λ s t none. none };
+}
+
 /// A device and the bytes that were drawn ahead of it.
 #[derive(Drop)]
 pub struct Ahead<R> {
@@ -112,10 +123,11 @@ pub struct Ahead<R> {
     held: Held,
 }
 
-impl<R: Read> Ahead<R> {
+impl<R: Device> Ahead<R> {
     /// The device, of which nothing is drawn ahead yet.
     pub(crate) fn new(device: R) -> Ahead<R>
-        ensures { Keeps (R.remaining device) (ahead_left R.remaining result) }
+        ensures kept { Keeps (R.remaining device) (ahead_left R.remaining result) }
+        ensures untold { R.remaining device ≡ None → ahead_left R.remaining result ≡ None }
     {
         Ahead {
             device,
@@ -130,6 +142,8 @@ impl<R: Read> Ahead<R> {
             (ahead_left R.remaining self.new) out.new) }
         ensures goes_on { OnErr result (Skips (ahead_left R.remaining self.old)
             (ahead_left R.remaining self.new) (length out.old)) }
+        ensures untold { ahead_left R.remaining self.old ≡ None →
+            ahead_left R.remaining self.new ≡ None }
         ensures enough { length out.old ≤ length self.old.held → IsOk result }
     {
         let n = self.held.hand_out(out);
@@ -146,8 +160,10 @@ impl<R: Read> Ahead<R> {
     /// Lets so many go of the bytes that were drawn ahead. The device isn't called.
     pub(crate) fn skip(&mut self, count: usize)
         requires within { count ≤ length self.old.held }
-        ensures { Consumes (ahead_left R.remaining self.old)
+        ensures gone { Consumes (ahead_left R.remaining self.old)
             (ahead_left R.remaining self.new) (take count self.old.held) }
+        ensures untold { ahead_left R.remaining self.old ≡ None →
+            ahead_left R.remaining self.new ≡ None }
     {
         self.held.skip(count);
     }

@@ -1,19 +1,18 @@
 //! The random bytes of a device, which is opened at the first fill and kept. Small draws are served from
 //! bytes that were drawn ahead (`ahead`).
 //!
-//! The entropy tells no bytes of its own and isn't steady; the clauses of `fill` and `skip` speak of the
-//! bytes of the device, where it knows them.
+//! The entropy tells the bytes of the device, where it knows them: the system's tells none. It isn't steady,
+//! since a device may fail whatever is asked, and a fill that failed may have used bytes up.
 
-ghost use Rattle.std.specs.Prelude.{◌≡◌, ◌≤◌, ℕ, List, [], Option, None, length, take, IfOk, IfSome, IsOk, OnOk, OnErr};
+ghost use Rattle.std.specs.Prelude.{◌≡◌, ◌≤◌, ℕ, List, Option, None, length, take, IfOk, IfSome, IsOk, OnOk, OnErr};
 ghost use Rattle.std.specs.Io.KnownBytes.{Consumes, Keeps};
 ghost use Rattle.tink_spec.specs.Outside.{Drew, RanShort, RoseOnce, Stood};
-ghost use Rattle.real_objects.specs.Streams.{untold_entropy};
-ghost use Rattle.real_objects.specs.Device.{device_left, drawn_ahead, held_ahead, Skips};
+ghost use Rattle.real_objects.specs.Device.{device_left, drawn_ahead, held_ahead, told_device, Skips};
 
-use crate::ahead::Ahead;
+use crate::ahead::{Ahead, Device};
 use lookahead::Lookahead;
 use std::fs::{self, File, Metadata};
-use std::io::{self, ErrorKind, Read};
+use std::io::{self, ErrorKind};
 use std::os::unix::fs::{FileTypeExt, MetadataExt};
 use tink_base::{Entropy, Failed};
 
@@ -26,15 +25,20 @@ const NUMBER: u64 = 0x109;
 /// What opens a device.
 pub trait Opens {
     /// The device, once it is opened.
-    type Device: Read + Drop;
+    type Device: Device + Drop;
 
     /// The bytes that the device gives which is opened now, where they are known.
     ghost given: { Self → Option (List ℕ) };
 
+    /// They are known at each moment, or at none.
+    ghost untold: { (s t : Self) → given s ≡ None → given t ≡ None };
+
     /// Opens the device.
     fn open(&self) -> io::Result<Self::Device>
-        ensures { IfOk result (λ device.
-            Keeps (given self.now) (Self.Device.remaining device)) };
+        ensures kept { IfOk result (λ device.
+            Keeps (given self.now) (Self.Device.remaining device)) }
+        ensures untold { IfOk result (λ device.
+            given self.now ≡ None → Self.Device.remaining device ≡ None) };
 }
 
 /// The system's device of random bytes.
@@ -60,6 +64,8 @@ impl Opens for RandomDevice<'_> {
     type Device = File;
 
     ghost given = { λ _. None };
+
+    ghost untold = { λ s t none. none };
 
     /// Opens the device. A file of another kind or number is refused: it is looked at before it is opened, since
     /// the opening of a pipe would wait for its other end, and once more when it is open.
@@ -117,6 +123,8 @@ impl<O: Opens> FileEntropy<O> {
             (device_left O.given O.Device.remaining self.new) (length out.old)) }
         ensures enough { IfSome (drawn_ahead self.old)
             (λ held. length out.old ≤ length held → IsOk result) }
+        ensures untold { device_left O.given O.Device.remaining self.old ≡ None →
+            device_left O.given O.Device.remaining self.new ≡ None }
         ensures faults { self.new.faults ≡ self.old.faults }
     {
         match &mut self.device {
@@ -127,26 +135,15 @@ impl<O: Opens> FileEntropy<O> {
 }
 
 impl<O: Opens> Entropy for FileEntropy<O> {
-    ghost state = { λ s. untold_entropy s.faults };
+    ghost state = { λ s. told_device O.given O.Device.remaining s };
 
     fn fill(&mut self, out: &mut [u8]) -> Result<(), Failed>
-        ensures fills { OnOk result
-            (Drew (untold_entropy self.old.faults) (untold_entropy self.new.faults) out.new) }
+        ensures fills { OnOk result (Drew (told_device O.given O.Device.remaining self.old)
+            (told_device O.given O.Device.remaining self.new) out.new) }
         ensures no_fault { OnOk result (Stood self.old.faults self.new.faults) }
-        ensures failed { OnErr result
-            (RanShort (untold_entropy self.old.faults) (untold_entropy self.new.faults)
-            (length out.old)) }
+        ensures failed { OnErr result (RanShort (told_device O.given O.Device.remaining self.old)
+            (told_device O.given O.Device.remaining self.new) (length out.old)) }
         ensures once { OnErr result (RoseOnce self.old.faults self.new.faults) }
-        ensures kept { OnErr result
-            (Drew (untold_entropy self.old.faults) (untold_entropy self.new.faults) []) }
-
-        // What goes out of the device.
-        ensures filled { OnOk result
-            (Consumes (device_left O.given O.Device.remaining self.old)
-            (device_left O.given O.Device.remaining self.new) out.new) }
-        ensures goes_on { OnErr result
-            (Skips (device_left O.given O.Device.remaining self.old)
-            (device_left O.given O.Device.remaining self.new) (length out.old)) }
 
         // What was drawn ahead is given, whatever becomes of the device.
         ensures enough { IfSome (drawn_ahead self.old)
@@ -166,7 +163,11 @@ impl<O: Opens> Lookahead for FileEntropy<O> {
     ghost held = { λ s. held_ahead s };
 
     /// The bytes that were drawn ahead. Before the first draw there are none.
-    fn held(&self) -> &[u8] {
+    fn held(&self) -> &[u8]
+        ensures bytes { result.now ≡ held_ahead self.now }
+        ensures front { IfSome (device_left O.given O.Device.remaining self.now)
+            (λ left. take (length (held_ahead self.now)) left ≡ held_ahead self.now) }
+    {
         match &self.device {
             Some(device) => device.held(),
             None => &[],
@@ -176,13 +177,9 @@ impl<O: Opens> Lookahead for FileEntropy<O> {
     /// Uses up so many of them, which are overwritten with zeros. The device isn't called.
     fn skip(&mut self, count: usize)
         requires within { count ≤ length (held_ahead self.old) }
-        ensures drew { Drew (untold_entropy self.old.faults) (untold_entropy self.new.faults)
-            (take count (held_ahead self.old)) }
+        ensures drew { Drew (told_device O.given O.Device.remaining self.old)
+            (told_device O.given O.Device.remaining self.new) (take count (held_ahead self.old)) }
         ensures stood { Stood self.old.faults self.new.faults }
-
-        // What goes out of the device.
-        ensures skipped { Consumes (device_left O.given O.Device.remaining self.old)
-            (device_left O.given O.Device.remaining self.new) (take count (held_ahead self.old)) }
     {
         match &mut self.device {
             Some(device) => device.skip(count),

@@ -5,7 +5,7 @@
 ghost use Rattle.std.specs.Prelude.{◌≡◌, ◌≢◌, ◌^◌, ◌≤◌, Bool, Option, true, false, None, [], min, IfOk, IfErr, IsOk, IsErr, IsOkAnd, IsErrOf, IfSome, OnOk};
 ghost use Rattle.std.specs.Io.KnownBytes.{Appends, Keeps};
 ghost use Rattle.std.specs.IoError.{error_kind};
-ghost use Rattle.tink_base.specs.Store.{Loads, given_by_load, given_by_read};
+ghost use Rattle.tink_base.specs.Store.{GivenByLoad, Loads};
 ghost use Rattle.real_objects.specs.Folder.{IsLoaded, IsMissing};
 ghost use Rattle.real_objects.specs.Naming.{Lasts};
 ghost use Rattle.real_objects.specs.Streams.{untold_store};
@@ -58,13 +58,8 @@ impl Store for DirStore<'_> {
     ghost state = { λ s. untold_store s.faults s.given };
 
     fn load(&mut self, alloc: Global, name: &str, limit: usize) -> Result<Loaded, StoreError> {
-        match load_opened(alloc, fs::open(self.rt, name), limit) {
-            Ok(found) => {
-                if let Loaded::Bytes(bytes) = &found {
-                    self.given = self.given.saturating_add(bytes.as_slice().len() as u64);
-                }
-                Ok(found)
-            }
+        match load_opened(alloc, fs::open(self.rt, name), limit, &mut self.given) {
+            Ok(found) => Ok(found),
             Err(error) => {
                 if error == StoreError::Failed {
                     self.faults = self.faults.saturating_add(1);
@@ -144,11 +139,13 @@ fn taken_of(place: io::Result<()>) -> Result<bool, Failed>
 }
 
 /// What is found where this file was to be opened: all its bytes, where there are at most `limit`. A
-/// path that leads through a file, or through a folder that isn't there, has no file.
+/// path that leads through a file, or through a folder that isn't there, has no file. How many bytes were
+/// read is added to `given`, which stands still at its type's end.
 pub fn load_opened<R: Read + Drop>(
     alloc: Global,
     opened: io::Result<R>,
     limit: usize,
+    given: &mut u64,
 ) -> Result<Loaded, StoreError>
     ensures whole { IfOk opened (λ file. IfSome (R.remaining file)
         (λ bytes. IfOk result (λ found. IsLoaded bytes (min limit (2 ^ 30)) found))) }
@@ -159,9 +156,10 @@ pub fn load_opened<R: Read + Drop>(
     ensures no_memory { IfErr opened (λ error. IsErrOf result StoreError.NoMemory →
         error_kind error ≡ ErrorKind.OutOfMemory) }
     ensures loads { IfOk result (λ found. Loads (untold_store 0 0) [] limit found) }
+    ensures given { GivenByLoad limit result given.old given.new }
 {
     match opened {
-        Ok(file) => read_file(alloc, file, limit.min(MOST)),
+        Ok(file) => read_file(alloc, file, limit.min(MOST), given),
         Err(error) => match error.kind() {
             ErrorKind::NotFound | ErrorKind::NotADirectory => Ok(Loaded::Absent),
             kind => Err(fault_of(kind)),
@@ -169,16 +167,25 @@ pub fn load_opened<R: Read + Drop>(
     }
 }
 
-/// All bytes of a file, where there are at most `limit`.
-fn read_file<R: Read + Drop>(alloc: Global, file: R, limit: usize) -> Result<Loaded, StoreError>
+/// All bytes of a file, where there are at most `limit`. How many were read is added to `given`: never more
+/// than one above the limit.
+fn read_file<R: Read + Drop>(
+    alloc: Global,
+    file: R,
+    limit: usize,
+    given: &mut u64,
+) -> Result<Loaded, StoreError>
     requires limit_bound { limit ≤ 2 ^ 30 }
     ensures whole { IfSome (R.remaining file)
         (λ bytes. IfOk result (λ found. IsLoaded bytes limit found)) }
     ensures loads { IfOk result (λ found. Loads (untold_store 0 0) [] limit found) }
+    ensures given { GivenByLoad limit result given.old given.new }
 {
     let mut bytes = Vec::new(alloc);
     let mut front = file.take(limit as u64 + 1);
-    match as_told(front.read_to_end(&mut bytes)) {
+    let read = as_told(front.read_to_end(&mut bytes));
+    *given = given.saturating_add(bytes.len().min(limit + 1) as u64);
+    match read {
         Ok(_) if bytes.len() > limit => Ok(Loaded::TooLong),
         Ok(_) => Ok(Loaded::Bytes(Bytes::own(bytes))),
         Err(error) => Err(error),

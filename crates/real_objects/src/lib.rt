@@ -16,6 +16,7 @@ mod placed;
 mod streams;
 mod unread;
 
+pub use ahead::Device;
 pub use args::{Arguments, NoWords, words};
 pub use beneath::{ReadStream, StandardOutput, WriteStream};
 pub use entropy::{FileEntropy, Opens, RandomDevice};

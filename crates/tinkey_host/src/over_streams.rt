@@ -1,40 +1,41 @@
-//! Runs over real streams that tell their bytes.
+//! Runs over real streams and a device of random bytes that tell their bytes.
 
 ghost use Rattle.std.specs.Prelude.{◌≡◌, ℕ, List, Some, map, string_bytes};
+ghost use Rattle.real_objects.specs.Device.{device_left};
 ghost use Rattle.real_objects.specs.Streams.{source_left, stream_written};
 ghost use Rattle.tinkey_plans.specs.Plan.{Told, IsStated, answer};
 ghost use Rattle.tinkey_host.specs.Program.{start_plan, IsAnsweredInBytes};
 
 use crate::standard::start;
-use lookahead::Lookahead;
-use real_objects::{ReadStream, StdSink, StdSource, WriteStream};
+use real_objects::{FileEntropy, Opens, ReadStream, StdSink, StdSource, WriteStream};
 use std::alloc::Global;
 use tink_base::{Sink, Store};
 use tinkey_run::Status;
 
-/// Runs the words as `start` does, over a stream that is read ahead and one that is written.
+/// Runs the words as `start` does, over a stream that is read ahead, one that is written, and a device of
+/// random bytes of which some are drawn ahead.
 ///
-/// Where the streams beneath, the store and the entropy tell their bytes, the stated answer is one over these:
-/// the bytes read ahead and those that the stream has left are the input, and the output is appended to what
-/// the written stream has got.
-pub fn start_over_streams<R: ReadStream, W: WriteStream, G: Sink, E: Lookahead, D: Store>(
+/// Where the streams beneath, the device and the store tell their bytes, the stated answer is one over these:
+/// the bytes read ahead and those that the stream has left are the input, the output is appended to what the
+/// written stream has got, and the random bytes are those drawn ahead and those that the device has left.
+pub fn start_over_streams<R: ReadStream, W: WriteStream, G: Sink, O: Opens, D: Store>(
     alloc: Global,
     words: &[String],
     source: &mut StdSource<R>,
     sink: &mut StdSink<W>,
     diag: &mut G,
-    entropy: &mut E,
+    entropy: &mut FileEntropy<O>,
     store: &mut D,
 ) -> Status
     ensures answered { (told : Told) (written : List ℕ) →
         source_left R.remaining source.old ≡ Some told.input →
         W.contents (stream_written sink.old) ≡ Some written →
         (D.state store.old).files ≡ Some told.files →
-        (E.state entropy.old).left ≡ Some told.random →
+        device_left O.given O.Device.remaining entropy.old ≡ Some told.random →
         IsStated result →
         IsAnsweredInBytes (answer (start_plan (map string_bytes words.now)) told) written result
         (source_left R.remaining source.new) (W.contents (stream_written sink.new))
-        (D.state store.new).files (E.state entropy.new).left }
+        (D.state store.new).files (device_left O.given O.Device.remaining entropy.new) }
 {
     start(alloc, words, source, sink, diag, entropy, store)
 }

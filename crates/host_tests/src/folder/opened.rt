@@ -134,24 +134,44 @@ fn tells_a_file_as_made_once_all_of_it_lasts(rt: HostRuntime) -> Result<(), Fail
     assert_unmade(rt.alloc(), 0, 0, b"x")
 }
 
-/// Loads a page of ten bytes of which this call fails.
-fn assert_loaded(alloc: Global, fails: u32, want: &str) -> Result<(), Fail> {
+/// Loads a page of ten bytes under this limit, of which this call fails. So many bytes are counted, behind a
+/// hundred that were read before.
+fn assert_loaded(
+    alloc: Global,
+    limit: usize,
+    fails: u32,
+    want: &str,
+    read: u64,
+) -> Result<(), Fail> {
     let page = Page::new(b"ten bytes.".to_vec(alloc)?, 4, fails);
-    let answer = load_opened(alloc, Ok(page), 10);
+    let mut given = 100;
+    let answer = load_opened(alloc, Ok(page), limit, &mut given);
     let found = load_word(&answer, b"ten bytes.");
-    if found != want {
-        return Err(Fail::new(format_args!("call {fails} fails: {found}, and not {want}")));
+    let counted = given.wrapping_sub(100);
+    if found != want || counted != read {
+        return Err(Fail::new(format_args!(
+            "limit {limit}, call {fails} fails: {found} and {counted}, not {want} and {read}"
+        )));
     }
     Ok(())
 }
 
-// Ten bytes in pieces of four are four reads, the last of which finds the end.
+// Ten bytes in pieces of four are four reads, the last of which finds the end. What was read before a
+// failure is counted too.
 #[test]
 fn a_failed_read_is_no_end(rt: HostRuntime) -> Result<(), Fail> {
-    for fails in 1..5 {
-        assert_loaded(rt.alloc(), fails, "failed")?;
-    }
-    assert_loaded(rt.alloc(), 5, "bytes")
+    assert_loaded(rt.alloc(), 10, 1, "failed", 0)?;
+    assert_loaded(rt.alloc(), 10, 2, "failed", 4)?;
+    assert_loaded(rt.alloc(), 10, 3, "failed", 8)?;
+    assert_loaded(rt.alloc(), 10, 4, "failed", 10)?;
+    assert_loaded(rt.alloc(), 10, 5, "bytes", 10)
+}
+
+// One byte more than the limit is read.
+#[test]
+fn counts_what_was_read_of_a_file_that_is_too_long(rt: HostRuntime) -> Result<(), Fail> {
+    assert_loaded(rt.alloc(), 9, 0, "too long", 10)?;
+    assert_loaded(rt.alloc(), 5, 0, "too long", 6)
 }
 
 // A file that may not be read or made is a fault, and not a missing one. A row has the kind of the
@@ -172,9 +192,10 @@ fn unlike_kind(kind: ErrorKind, call: &str, want: &str, found: &str) -> Fail {
 
 fn assert_not_loaded(alloc: Global, kind: ErrorKind, want: &str) -> Result<(), Fail> {
     let opened: io::Result<Page> = Err(io::Error::from(kind));
-    let answer = load_opened(alloc, opened, 10);
+    let mut given = 0;
+    let answer = load_opened(alloc, opened, 10, &mut given);
     let found = load_word(&answer, b"");
-    if found != want {
+    if found != want || given != 0 {
         return Err(unlike_kind(kind, "a load", want, found));
     }
     Ok(())

@@ -15,6 +15,6 @@ returns-in-Ok-2-clause-whole g c =
     read_whole (g.R.Read.remaining c.args.file) _ _ _ c.own.result c.args.limit
     (rw (c.take-front.ensures.limit, c.take-front.ensures.inner) refl)
     c.new-bytes.ensures.items
-    (was_done c.read_to_end.result c.as_told.result c.in-Ok-2.field-0 _ c.as_told.ensures.failed c.in-Ok-2.is c.read_to_end.ensures.bytes)
+    (was_done c.read_to_end.result c.as_told-read.result c.in-Ok-2.field-0 _ c.as_told-read.ensures.failed c.in-Ok-2.is c.read_to_end.ensures.bytes)
     c.own.ensures
     (omega (arith, c.if-len-limit.false, c.len.ensures))
