@@ -4,6 +4,7 @@
 
 mod handle;
 mod held;
+mod keys;
 pub mod laws;
 mod making;
 mod opening;
@@ -13,6 +14,7 @@ mod sealing;
 mod trying;
 
 pub use handle::{Handle, HandleFault};
+pub use keys::HeldKeys;
 pub use making::DeriveFault;
 pub use places::Places;
 pub use sealing::SealFault;

@@ -1,0 +1,65 @@
+//! What a handle keeps, without the managers that it was made under.
+
+ghost use Rattle.std.specs.Prelude.{◌≡◌};
+
+use crate::Handle;
+use crate::held::Held;
+use key_msgs::Primitive;
+use managers::{KeyTable, Managers};
+use std::alloc::Global;
+
+/// The checked and prepared keys of a handle. A program that can't lend managers for as long as it keeps
+/// the keys keeps these, and makes a handle of them again under managers of the same table.
+#[derive(Drop)]
+pub struct HeldKeys {
+    pub(crate) primitive: Primitive,
+    pub(crate) held: Held,
+}
+
+impl HeldKeys {
+    /// No keys, for what stands in a place while its keys are elsewhere. No memory is taken.
+    pub fn none(alloc: Global) -> HeldKeys {
+        HeldKeys {
+            primitive: Primitive::Aead,
+            held: Held::new(alloc, 0),
+        }
+    }
+
+    /// The primitive for which the keys are held. No memory is taken.
+    pub fn primitive(&self) -> Primitive
+        ensures { result ≡ self.now.primitive }
+    {
+        self.primitive
+    }
+}
+
+impl<'m> Handle<'m> {
+    /// The keys of the handle. No memory is taken.
+    pub fn into_keys(self) -> HeldKeys
+        ensures primitive { result.primitive ≡ self.entry.primitive }
+        ensures held { result.held ≡ self.entry.held }
+    {
+        let Handle {
+            managers: _,
+            primitive,
+            held,
+        } = self;
+        HeldKeys { primitive, held }
+    }
+
+    /// The handle of these keys under managers. It is over the keyset that the handle was over which
+    /// held the keys before, where the managers are of the same table. No memory is taken.
+    pub fn of_keys(keys: HeldKeys, managers: &'m Managers) -> Handle<'m>
+        ensures primitive { result.primitive ≡ keys.primitive }
+        ensures held { result.held ≡ keys.held }
+        ensures table { ⟦<Managers as KeyTable>⟧.table result.managers.now
+            ≡ ⟦<Managers as KeyTable>⟧.table managers.now }
+    {
+        let HeldKeys { primitive, held } = keys;
+        Handle {
+            managers,
+            primitive,
+            held,
+        }
+    }
+}
