@@ -1,0 +1,11 @@
+use Rattle.managers.specs.Standard.{standard_table}
+use Rattle.wrapped_prims.specs.Answers.{dseal_answer}
+use Rattle.ready_keysets.proofs.DrawnLemmas.{answered_some}
+use Rattle.ready_keysets.specs.declared.refusal.Refusal.TheVariants as refusals
+use Rattle.ready_keysets.proofs.perform.dseal.Goals as goal
+
+pub returns-clause-answered : goal.returns-clause-answered
+returns-clause-answered g c = λ keys over.
+    answered_some refusals.Refused (dseal_answer keys standard_table c.args.plain.now c.args.ad.now) c.deref.result.now c.args.out.now c.put.new.out c.put.result
+    (rw c.deref.ensures.value (rw c.requires.table at (c.in_ok-sealed.ensures keys (rw c.requires.table over))))
+    c.put.ensures.answered

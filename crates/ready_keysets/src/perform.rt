@@ -1,0 +1,255 @@
+//! Work under managers, whatever the primitive.
+
+ghost use Rattle.std.specs.Prelude.{◌≡◌, ◌≢◌, ◌≤◌, ◌^◌, length, Some, IfOk, IfErr, OnErr};
+ghost use Rattle.std.specs.Option.{option_map};
+ghost use Rattle.key_msgs.specs.declared.primitive.Primitive.TheVariants.{Aead, Daead, Mac, Prf, Stream};
+ghost use Rattle.keyset_model.specs.Keyset.{Keys};
+ghost use Rattle.managers.specs.Standard.{standard_table};
+ghost use Rattle.wrapped_prims.specs.Answers.{Sealed, derive_answer, dopen_answer, dseal_answer, open_answer, seal_answer, tag_answer, verify_answer};
+ghost use Rattle.wrapped_prims.specs.Making.{IsOver};
+ghost use Rattle.ready_keysets.specs.Tables.{table_of};
+ghost use Rattle.ready_keysets.specs.Working.{IsAnswered, IsUnfit, IsWithin, answer, derived, lack_of, primitive_of, verified};
+ghost use Rattle.ready_keysets.specs.declared.refusal.Refusal.{Refusal as RefusalValue};
+ghost use Rattle.ready_keysets.specs.declared.refusal.Refusal.TheVariants as refusals;
+
+use crate::{Refusal, Work};
+use key_msgs::Primitive;
+use keyset_model::Keyset;
+use lookahead::Drawn;
+use managers::{KeyTable, Managers};
+use std::alloc::Global;
+use std::mem::replace;
+use tink_base::Trials;
+use wrapped_prims::{DeriveFault, Handle, HandleFault, HeldKeys, SealFault};
+
+/// The keys of a keyset, checked and prepared under the standard managers of the primitive.
+pub(crate) fn hold_under(
+    alloc: Global,
+    keyset: &Keyset,
+    managers: &Managers,
+    primitive: Primitive,
+) -> Result<HeldKeys, Refusal>
+    requires no_stream { primitive ≢ Stream }
+    requires table { ⟦<Managers as KeyTable>⟧.table managers.now ≡ table_of primitive }
+    ensures primitive { IfOk result (λ keys. keys.primitive ≡ primitive) }
+    ensures over { IfOk result (λ keys. IsOver (table_of primitive) primitive keyset.now keys.held) }
+    ensures unfit { IfErr result (IsUnfit primitive keyset.now) }
+{
+    match Handle::new(alloc, keyset, managers, primitive) {
+        Ok(handle) => Ok(handle.into_keys()),
+        Err(HandleFault::NoMemory) => Err(Refusal::NoMemory),
+        Err(_) => Err(Refusal::UnfitKey),
+    }
+}
+
+/// Does work with the held keys, under the standard managers of its primitive.
+pub(crate) fn perform_under(
+    alloc: Global,
+    keys: &mut HeldKeys,
+    managers: &Managers,
+    work: Work<'_>,
+    out: &mut [u8],
+) -> Result<usize, Refusal>
+    requires table { ⟦<Managers as KeyTable>⟧.table managers.now ≡ table_of (primitive_of work) }
+    requires over { (of : Keys)
+        × IsOver (table_of (primitive_of work)) (primitive_of work) of keys.old.held }
+    requires within { IsWithin work }
+    ensures held { keys.new.held ≡ keys.old.held }
+    ensures primitive { keys.new.primitive ≡ keys.old.primitive }
+    ensures answered { (of : Keys)
+        → IsOver (table_of (primitive_of work.entry)) (primitive_of work.entry) of keys.old.held
+        → IsAnswered (lack_of work.entry) (answer of work.entry) out.old out.new result }
+    ensures kept { OnErr result (out.new ≡ out.old) }
+{
+    let handle = Handle::of_keys(replace(keys, HeldKeys::none(alloc)), managers);
+    let done = perform_by(alloc, &handle, work, out);
+    *keys = handle.into_keys();
+    done
+}
+
+/// Does work by a handle.
+fn perform_by(
+    alloc: Global,
+    handle: &Handle<'_>,
+    work: Work<'_>,
+    out: &mut [u8],
+) -> Result<usize, Refusal>
+    requires table { ⟦<Managers as KeyTable>⟧.table handle.now.managers.now
+        ≡ table_of (primitive_of work) }
+    requires over { (of : Keys)
+        × IsOver (table_of (primitive_of work)) (primitive_of work) of handle.now.held }
+    requires within { IsWithin work }
+    ensures answered { (of : Keys)
+        → IsOver (table_of (primitive_of work.entry)) (primitive_of work.entry) of handle.now.held
+        → IsAnswered (lack_of work.entry) (answer of work.entry) out.old out.new result }
+    ensures kept { OnErr result (out.new ≡ out.old) }
+{
+    match work {
+        Work::Seal(plain, ad, random) => seal(alloc, handle, plain, ad, random, out),
+        Work::Open(sealed, ad) => open(alloc, handle, sealed, ad, out),
+        Work::Dseal(plain, ad) => dseal(alloc, handle, plain, ad, out),
+        Work::Dopen(sealed, ad) => dopen(alloc, handle, sealed, ad, out),
+        Work::Tag(body) => tag(alloc, handle, body, out),
+        Work::Verify(tag, body) => verify(handle, tag, body, out),
+        Work::Derive(input, size) => derive(alloc, handle, input, size, out),
+    }
+}
+
+/// Writes an answer at the front of the output, where there is room.
+fn put(bytes: &[u8], out: &mut [u8]) -> Result<usize, Refusal>
+    ensures answered { (lack : RefusalValue) → IsAnswered lack (Some bytes.now) out.old out.new result }
+    ensures kept { OnErr result (out.new ≡ out.old) }
+{
+    if out.len() < bytes.len() {
+        return Err(Refusal::NoRoom);
+    }
+    out[..bytes.len()].copy_from_slice(bytes);
+    Ok(bytes.len())
+}
+
+/// Writes a plaintext at the front of the output, if one was found.
+fn put_found(found: Option<Vec<u8>>, out: &mut [u8]) -> Result<usize, Refusal>
+    ensures answered { IsAnswered refusals.Refused (option_map (λ plain. plain.items) found)
+        out.old out.new result }
+    ensures kept { OnErr result (out.new ≡ out.old) }
+{
+    match found {
+        Some(plain) => put(&plain, out),
+        None => Err(Refusal::Refused),
+    }
+}
+
+fn seal(
+    alloc: Global,
+    handle: &Handle<'_>,
+    plain: &[u8],
+    ad: &[u8],
+    random: &[u8],
+    out: &mut [u8],
+) -> Result<usize, Refusal>
+    requires table { ⟦<Managers as KeyTable>⟧.table handle.now.managers.now ≡ table_of Aead }
+    requires over { (of : Keys) × IsOver (table_of Aead) Aead of handle.now.held }
+    requires plain_bound { length plain.now ≤ 2 ^ 30 }
+    requires ad_bound { length ad.now ≤ 2 ^ 30 }
+    ensures answered { (of : Keys) → IsOver (table_of Aead) Aead of handle.now.held
+        → IsAnswered refusals.FewRandomBytes (option_map (λ (s : Sealed). s.bytes)
+        (seal_answer of standard_table plain.now ad.now random.now)) out.old out.new result }
+    ensures kept { OnErr result (out.new ≡ out.old) }
+{
+    match handle.seal(alloc, plain, ad, &mut Drawn::new(random)) {
+        Ok(sealed) => put(&sealed, out),
+        Err(SealFault::EntropyFault) => Err(Refusal::FewRandomBytes),
+        Err(SealFault::NoMemory) => Err(Refusal::NoMemory),
+    }
+}
+
+fn open(
+    alloc: Global,
+    handle: &Handle<'_>,
+    sealed: &[u8],
+    ad: &[u8],
+    out: &mut [u8],
+) -> Result<usize, Refusal>
+    requires table { ⟦<Managers as KeyTable>⟧.table handle.now.managers.now ≡ table_of Aead }
+    requires over { (of : Keys) × IsOver (table_of Aead) Aead of handle.now.held }
+    requires sealed_bound { length sealed.now ≤ 2 ^ 30 }
+    requires ad_bound { length ad.now ≤ 2 ^ 30 }
+    ensures answered { (of : Keys) → IsOver (table_of Aead) Aead of handle.now.held
+        → IsAnswered refusals.Refused (open_answer of standard_table sealed.now ad.now) out.old
+        out.new result }
+    ensures kept { OnErr result (out.new ≡ out.old) }
+{
+    let plain = handle.open(alloc, sealed, ad, &mut Trials::new())?;
+    put_found(plain, out)
+}
+
+fn dseal(
+    alloc: Global,
+    handle: &Handle<'_>,
+    plain: &[u8],
+    ad: &[u8],
+    out: &mut [u8],
+) -> Result<usize, Refusal>
+    requires table { ⟦<Managers as KeyTable>⟧.table handle.now.managers.now ≡ table_of Daead }
+    requires over { (of : Keys) × IsOver (table_of Daead) Daead of handle.now.held }
+    requires plain_bound { length plain.now ≤ 2 ^ 30 }
+    requires ad_bound { length ad.now ≤ 2 ^ 30 }
+    ensures answered { (of : Keys) → IsOver (table_of Daead) Daead of handle.now.held
+        → IsAnswered refusals.Refused (dseal_answer of standard_table plain.now ad.now) out.old
+        out.new result }
+    ensures kept { OnErr result (out.new ≡ out.old) }
+{
+    let sealed = handle.dseal(alloc, plain, ad)?;
+    put(&sealed, out)
+}
+
+fn dopen(
+    alloc: Global,
+    handle: &Handle<'_>,
+    sealed: &[u8],
+    ad: &[u8],
+    out: &mut [u8],
+) -> Result<usize, Refusal>
+    requires table { ⟦<Managers as KeyTable>⟧.table handle.now.managers.now ≡ table_of Daead }
+    requires over { (of : Keys) × IsOver (table_of Daead) Daead of handle.now.held }
+    requires sealed_bound { length sealed.now ≤ 2 ^ 30 }
+    requires ad_bound { length ad.now ≤ 2 ^ 30 }
+    ensures answered { (of : Keys) → IsOver (table_of Daead) Daead of handle.now.held
+        → IsAnswered refusals.Refused (dopen_answer of standard_table sealed.now ad.now) out.old
+        out.new result }
+    ensures kept { OnErr result (out.new ≡ out.old) }
+{
+    let plain = handle.dopen(alloc, sealed, ad, &mut Trials::new())?;
+    put_found(plain, out)
+}
+
+fn tag(alloc: Global, handle: &Handle<'_>, body: &[u8], out: &mut [u8]) -> Result<usize, Refusal>
+    requires table { ⟦<Managers as KeyTable>⟧.table handle.now.managers.now ≡ table_of Mac }
+    requires over { (of : Keys) × IsOver (table_of Mac) Mac of handle.now.held }
+    requires body_bound { length body.now ≤ 2 ^ 30 }
+    ensures answered { (of : Keys) → IsOver (table_of Mac) Mac of handle.now.held
+        → IsAnswered refusals.Refused (tag_answer of standard_table body.now) out.old out.new
+        result }
+    ensures kept { OnErr result (out.new ≡ out.old) }
+{
+    let tag = handle.tag(alloc, body)?;
+    put(&tag, out)
+}
+
+fn verify(handle: &Handle<'_>, tag: &[u8], body: &[u8], out: &mut [u8]) -> Result<usize, Refusal>
+    requires table { ⟦<Managers as KeyTable>⟧.table handle.now.managers.now ≡ table_of Mac }
+    requires over { (of : Keys) × IsOver (table_of Mac) Mac of handle.now.held }
+    requires body_bound { length body.now ≤ 2 ^ 30 }
+    ensures answered { (of : Keys) → IsOver (table_of Mac) Mac of handle.now.held
+        → IsAnswered refusals.Refused (verified (verify_answer of standard_table tag.now body.now))
+        out.old out.new result }
+    ensures kept { OnErr result (out.new ≡ out.old) }
+{
+    if handle.verify(tag, body, &mut Trials::new()) {
+        put(&[], out)
+    } else {
+        Err(Refusal::Refused)
+    }
+}
+
+fn derive(
+    alloc: Global,
+    handle: &Handle<'_>,
+    input: &[u8],
+    size: usize,
+    out: &mut [u8],
+) -> Result<usize, Refusal>
+    requires table { ⟦<Managers as KeyTable>⟧.table handle.now.managers.now ≡ table_of Prf }
+    requires over { (of : Keys) × IsOver (table_of Prf) Prf of handle.now.held }
+    requires input_bound { length input.now ≤ 2 ^ 30 }
+    ensures answered { (of : Keys) → IsOver (table_of Prf) Prf of handle.now.held
+        → IsAnswered refusals.TooLong (derived (derive_answer of standard_table input.now size))
+        out.old out.new result }
+    ensures kept { OnErr result (out.new ≡ out.old) }
+{
+    match handle.derive(alloc, input, size) {
+        Ok(bytes) => put(&bytes, out),
+        Err(DeriveFault::OutputTooLong(_)) => Err(Refusal::TooLong),
+        Err(DeriveFault::NoMemory) => Err(Refusal::NoMemory),
+    }
+}

@@ -1,0 +1,119 @@
+//! A keyset with its keys.
+
+ghost use Rattle.std.specs.Prelude.{◌≡◌, ◌≢◌, IfOk, IfErr, OnErr};
+ghost use Rattle.key_msgs.specs.declared.primitive.Primitive.TheVariants.{Stream};
+ghost use Rattle.keyset_model.specs.Keyset.{Keys};
+ghost use Rattle.wrapped_prims.specs.Making.{IsOver};
+ghost use Rattle.ready_keysets.specs.Tables.{table_of};
+ghost use Rattle.ready_keysets.specs.Working.{IsAnswered, IsOutcome, IsReady, IsUnfit, IsWithin, answer, lack_of, primitive_of};
+
+use crate::{Refusal, Work, aead, daead, mac, prf};
+use key_msgs::Primitive;
+use keyset_model::Keyset;
+use std::alloc::Global;
+use wrapped_prims::HeldKeys;
+
+/// A keyset and its keys for one primitive, each checked and prepared once.
+#[derive(Drop)]
+pub struct ReadyKeyset {
+    pub(crate) keyset: Keyset,
+    pub(crate) keys: HeldKeys,
+}
+
+/// The keys of a keyset, checked and prepared for a primitive.
+fn hold(alloc: Global, keyset: &Keyset, primitive: Primitive) -> Result<HeldKeys, Refusal>
+    requires no_stream { primitive ≢ Stream }
+    ensures primitive { IfOk result (λ keys. keys.primitive ≡ primitive) }
+    ensures over { IfOk result (λ keys. IsOver (table_of primitive) primitive keyset.now keys.held) }
+    ensures unfit { IfErr result (IsUnfit primitive keyset.now) }
+{
+    match primitive {
+        Primitive::Aead => aead::hold(alloc, keyset),
+        Primitive::Daead => daead::hold(alloc, keyset),
+        Primitive::Mac => mac::hold(alloc, keyset),
+        Primitive::Prf => prf::hold(alloc, keyset),
+        Primitive::Stream => unreachable!(),
+    }
+}
+
+/// Does work of the keys' primitive, within the bounds.
+fn perform(
+    alloc: Global,
+    keys: &mut HeldKeys,
+    work: Work<'_>,
+    out: &mut [u8],
+) -> Result<usize, Refusal>
+    requires over { (of : Keys)
+        × IsOver (table_of (primitive_of work)) (primitive_of work) of keys.old.held }
+    requires within { IsWithin work }
+    ensures held { keys.new.held ≡ keys.old.held }
+    ensures primitive { keys.new.primitive ≡ keys.old.primitive }
+    ensures answered { (of : Keys)
+        → IsOver (table_of (primitive_of work.entry)) (primitive_of work.entry) of keys.old.held
+        → IsAnswered (lack_of work.entry) (answer of work.entry) out.old out.new result }
+    ensures kept { OnErr result (out.new ≡ out.old) }
+{
+    match work {
+        Work::Seal(..) | Work::Open(..) => aead::perform(alloc, keys, work, out),
+        Work::Dseal(..) | Work::Dopen(..) => daead::perform(alloc, keys, work, out),
+        Work::Tag(_) | Work::Verify(..) => mac::perform(alloc, keys, work, out),
+        Work::Derive(..) => prf::perform(alloc, keys, work, out),
+    }
+}
+
+impl ReadyKeyset {
+    /// Makes a keyset's keys ready for a primitive, which isn't Stream.
+    ///
+    /// `UnfitKey` comes exactly where an ENABLED key can't serve for the primitive. No other
+    /// refusal comes but `NoMemory`.
+    #[tactic(auto, using(crate::proofs::ReadyLemmas::over_at))]
+    pub fn new(alloc: Global, keyset: Keyset, primitive: Primitive) -> Result<ReadyKeyset, Refusal>
+        requires no_stream { primitive ≢ Stream }
+        ensures ready { IfOk result (λ made. IsReady made) }
+        ensures keyset { IfOk result (λ made. made.keyset ≡ keyset) }
+        ensures primitive { IfOk result (λ made. made.keys.primitive ≡ primitive) }
+        ensures unfit { IfErr result (IsUnfit primitive keyset) }
+    {
+        let keys = hold(alloc, &keyset, primitive)?;
+        Ok(ReadyKeyset { keyset, keys })
+    }
+
+    /// The primitive that the keys are ready for. No memory is taken.
+    pub fn primitive(&self) -> Primitive
+        ensures { result ≡ self.now.keys.primitive }
+    {
+        self.keys.primitive()
+    }
+
+    /// Does a piece of work, writes the answer at the front of `out`, and says how many bytes it
+    /// has. Behind these, and wherever no answer is given, `out` stays as it was.
+    ///
+    /// `OtherPrimitive` comes only where the work isn't the keys' own, and then there is no answer.
+    /// `TooLong` comes where an input has more than 2^30 bytes or more bytes are to be derived than
+    /// the primary key gives, `FewRandomBytes` where they are fewer than its IV, `Refused` where
+    /// nothing opens the bytes or the tag isn't one of the body, `NoRoom` where `out` is shorter
+    /// than the answer: never otherwise. Else only `NoMemory` is left.
+    #[tactic(auto, using(crate::proofs::ReadyLemmas::over_at, crate::proofs::ReadyLemmas::outcome_of))]
+    pub fn perform(
+        &mut self,
+        alloc: Global,
+        work: Work<'_>,
+        out: &mut [u8],
+    ) -> Result<usize, Refusal>
+        requires ready { IsReady self.old }
+        ensures ready { IsReady self.new }
+        ensures keyset { self.new.keyset ≡ self.old.keyset }
+        ensures primitive { self.new.keys.primitive ≡ self.old.keys.primitive }
+        ensures outcome { IsOutcome self.old.keys.primitive self.old.keyset work.entry out.old out.new
+            result }
+        ensures kept { OnErr result (out.new ≡ out.old) }
+    {
+        if work.primitive() != self.keys.primitive() {
+            return Err(Refusal::OtherPrimitive);
+        }
+        if work.is_too_long() {
+            return Err(Refusal::TooLong);
+        }
+        perform(alloc, &mut self.keys, work, out)
+    }
+}

@@ -1,0 +1,45 @@
+//! Why a keyset isn't ready, or a piece of work isn't done.
+
+ghost use Rattle.std.specs.Prelude.{◌≡◌};
+ghost use Rattle.ready_keysets.specs.declared.refusal.Refusal.TheVariants as refusals;
+
+use std::alloc::AllocFailed;
+use tink_base::NoMemory;
+
+/// Why there is no answer. Nothing was written then.
+#[derive(Clone, Copy, Debug, PartialEq, Eq)]
+pub enum Refusal {
+    /// The text is no keyset.
+    NoKeyset,
+    /// An ENABLED key of the keyset can't serve for the primitive.
+    UnfitKey,
+    /// The keys are for another primitive than the work.
+    OtherPrimitive,
+    /// A text or an input has more than 2^30 bytes, or more bytes were to be derived than the
+    /// primary key gives.
+    TooLong,
+    /// There are fewer random bytes than the primary key takes for an IV.
+    FewRandomBytes,
+    /// No key opens the bytes with this associated data, or the tag isn't one of the body.
+    Refused,
+    /// The answer has more bytes than the output.
+    NoRoom,
+    /// Memory was refused.
+    NoMemory,
+}
+
+impl From<NoMemory> for Refusal {
+    ghost from_gives = { λ _ refusal. refusal ≡ refusals.NoMemory };
+
+    fn from(_error: NoMemory) -> Refusal {
+        Refusal::NoMemory
+    }
+}
+
+impl<T: Drop> From<AllocFailed<T>> for Refusal {
+    ghost from_gives = { λ _ refusal. refusal ≡ refusals.NoMemory };
+
+    fn from(_error: AllocFailed<T>) -> Refusal {
+        Refusal::NoMemory
+    }
+}
