@@ -1,0 +1,284 @@
+//! The functions that C calls. A slice is a pointer that isn't null, and its length.
+
+ghost use Rattle.std.specs.Prelude.{◌≡◌, ◌≢◌, pos, length, [], None};
+ghost use Rattle.key_msgs.specs.declared.primitive.Primitive.TheVariants.{Aead, Daead, Mac, Prf};
+ghost use Rattle.keyset_json.specs.Reading.{reads_json};
+ghost use Rattle.keyset_model.specs.Reading.{reads_binary};
+ghost use Rattle.ready_keysets.specs.Texts.{IsNoKeyset};
+ghost use Rattle.ready_keysets.specs.declared.work.Work.TheVariants as works;
+ghost use Rattle.tinkey_c.specs.Shared.{DoesBy, IsLive, IsMade, IsOpen, Refuses, SameKeys, Verifies};
+
+use crate::calls::{binary_keys, json_keys, perform};
+use crate::shared::{SharedKeys, no_keys, taken};
+use key_msgs::Primitive;
+use ready_keysets::Work;
+use std::alloc::Global;
+use std::mem::replace;
+
+/// Makes the keys ready of a keyset in JSON, for AEADs.
+#[unsafe(no_mangle)]
+pub extern "C" fn tinkey_core_aead_of_json(alloc: Global, text: &[u8], keys: &mut SharedKeys) -> i32
+    requires closed { keys.old.held ≡ None }
+    ensures made { result ≡ pos 0 → IsMade Aead (reads_json text.now) keys.new.held }
+    ensures refused { result ≢ pos 0 → Refuses
+        (IsNoKeyset Aead (length text.now) (reads_json text.now)) result }
+    ensures none { result ≢ pos 0 → keys.new.held ≡ None }
+{
+    json_keys(alloc, text, Primitive::Aead, keys)
+}
+
+/// Makes the keys ready of a keyset in its binary form, for AEADs.
+#[unsafe(no_mangle)]
+pub extern "C" fn tinkey_core_aead_of_binary(
+    alloc: Global,
+    bytes: &[u8],
+    keys: &mut SharedKeys,
+) -> i32
+    requires closed { keys.old.held ≡ None }
+    ensures made { result ≡ pos 0 → IsMade Aead (reads_binary bytes.now) keys.new.held }
+    ensures refused { result ≢ pos 0 → Refuses
+        (IsNoKeyset Aead (length bytes.now) (reads_binary bytes.now)) result }
+    ensures none { result ≢ pos 0 → keys.new.held ≡ None }
+{
+    binary_keys(alloc, bytes, Primitive::Aead, keys)
+}
+
+/// Makes the keys ready of a keyset in JSON, for deterministic AEADs.
+#[unsafe(no_mangle)]
+pub extern "C" fn tinkey_core_daead_of_json(
+    alloc: Global,
+    text: &[u8],
+    keys: &mut SharedKeys,
+) -> i32
+    requires closed { keys.old.held ≡ None }
+    ensures made { result ≡ pos 0 → IsMade Daead (reads_json text.now) keys.new.held }
+    ensures refused { result ≢ pos 0 → Refuses
+        (IsNoKeyset Daead (length text.now) (reads_json text.now)) result }
+    ensures none { result ≢ pos 0 → keys.new.held ≡ None }
+{
+    json_keys(alloc, text, Primitive::Daead, keys)
+}
+
+/// Makes the keys ready of a keyset in its binary form, for deterministic AEADs.
+#[unsafe(no_mangle)]
+pub extern "C" fn tinkey_core_daead_of_binary(
+    alloc: Global,
+    bytes: &[u8],
+    keys: &mut SharedKeys,
+) -> i32
+    requires closed { keys.old.held ≡ None }
+    ensures made { result ≡ pos 0 → IsMade Daead (reads_binary bytes.now) keys.new.held }
+    ensures refused { result ≢ pos 0 → Refuses
+        (IsNoKeyset Daead (length bytes.now) (reads_binary bytes.now)) result }
+    ensures none { result ≢ pos 0 → keys.new.held ≡ None }
+{
+    binary_keys(alloc, bytes, Primitive::Daead, keys)
+}
+
+/// Makes the keys ready of a keyset in JSON, for MACs.
+#[unsafe(no_mangle)]
+pub extern "C" fn tinkey_core_mac_of_json(alloc: Global, text: &[u8], keys: &mut SharedKeys) -> i32
+    requires closed { keys.old.held ≡ None }
+    ensures made { result ≡ pos 0 → IsMade Mac (reads_json text.now) keys.new.held }
+    ensures refused { result ≢ pos 0 → Refuses
+        (IsNoKeyset Mac (length text.now) (reads_json text.now)) result }
+    ensures none { result ≢ pos 0 → keys.new.held ≡ None }
+{
+    json_keys(alloc, text, Primitive::Mac, keys)
+}
+
+/// Makes the keys ready of a keyset in its binary form, for MACs.
+#[unsafe(no_mangle)]
+pub extern "C" fn tinkey_core_mac_of_binary(
+    alloc: Global,
+    bytes: &[u8],
+    keys: &mut SharedKeys,
+) -> i32
+    requires closed { keys.old.held ≡ None }
+    ensures made { result ≡ pos 0 → IsMade Mac (reads_binary bytes.now) keys.new.held }
+    ensures refused { result ≢ pos 0 → Refuses
+        (IsNoKeyset Mac (length bytes.now) (reads_binary bytes.now)) result }
+    ensures none { result ≢ pos 0 → keys.new.held ≡ None }
+{
+    binary_keys(alloc, bytes, Primitive::Mac, keys)
+}
+
+/// Makes the keys ready of a keyset in JSON, for pseudo-random functions.
+#[unsafe(no_mangle)]
+pub extern "C" fn tinkey_core_prf_of_json(alloc: Global, text: &[u8], keys: &mut SharedKeys) -> i32
+    requires closed { keys.old.held ≡ None }
+    ensures made { result ≡ pos 0 → IsMade Prf (reads_json text.now) keys.new.held }
+    ensures refused { result ≢ pos 0 → Refuses
+        (IsNoKeyset Prf (length text.now) (reads_json text.now)) result }
+    ensures none { result ≢ pos 0 → keys.new.held ≡ None }
+{
+    json_keys(alloc, text, Primitive::Prf, keys)
+}
+
+/// Makes the keys ready of a keyset in its binary form, for pseudo-random functions.
+#[unsafe(no_mangle)]
+pub extern "C" fn tinkey_core_prf_of_binary(
+    alloc: Global,
+    bytes: &[u8],
+    keys: &mut SharedKeys,
+) -> i32
+    requires closed { keys.old.held ≡ None }
+    ensures made { result ≡ pos 0 → IsMade Prf (reads_binary bytes.now) keys.new.held }
+    ensures refused { result ≢ pos 0 → Refuses
+        (IsNoKeyset Prf (length bytes.now) (reads_binary bytes.now)) result }
+    ensures none { result ≢ pos 0 → keys.new.held ≡ None }
+{
+    binary_keys(alloc, bytes, Primitive::Prf, keys)
+}
+
+/// Seals the plaintext with the first of these random bytes as IV, at the front of `out`.
+#[unsafe(no_mangle)]
+pub extern "C" fn tinkey_core_seal(
+    alloc: Global,
+    keys: &mut SharedKeys,
+    random: &[u8],
+    plain: &[u8],
+    ad: &[u8],
+    out: &mut [u8],
+    size: &mut usize,
+) -> i32
+    requires live { IsLive keys.old.held }
+    ensures live { IsLive keys.new.held }
+    ensures same { SameKeys keys.old.held keys.new.held }
+    ensures done { DoesBy keys.old.held (works.Seal plain.entry ad.entry random.entry)
+        out.old out.new size.old size.new
+        result }
+    ensures kept { result ≢ pos 0 → out.new ≡ out.old }
+{
+    perform(alloc, keys, Work::Seal(plain, ad, random), out, size)
+}
+
+/// Opens sealed bytes at the front of `out`.
+#[unsafe(no_mangle)]
+pub extern "C" fn tinkey_core_open(
+    alloc: Global,
+    keys: &mut SharedKeys,
+    sealed: &[u8],
+    ad: &[u8],
+    out: &mut [u8],
+    size: &mut usize,
+) -> i32
+    requires live { IsLive keys.old.held }
+    ensures live { IsLive keys.new.held }
+    ensures same { SameKeys keys.old.held keys.new.held }
+    ensures done { DoesBy keys.old.held (works.Open sealed.entry ad.entry)
+        out.old out.new size.old size.new
+        result }
+    ensures kept { result ≢ pos 0 → out.new ≡ out.old }
+{
+    perform(alloc, keys, Work::Open(sealed, ad), out, size)
+}
+
+/// Seals the plaintext without an IV, at the front of `out`.
+#[unsafe(no_mangle)]
+pub extern "C" fn tinkey_core_dseal(
+    alloc: Global,
+    keys: &mut SharedKeys,
+    plain: &[u8],
+    ad: &[u8],
+    out: &mut [u8],
+    size: &mut usize,
+) -> i32
+    requires live { IsLive keys.old.held }
+    ensures live { IsLive keys.new.held }
+    ensures same { SameKeys keys.old.held keys.new.held }
+    ensures done { DoesBy keys.old.held (works.Dseal plain.entry ad.entry)
+        out.old out.new size.old size.new
+        result }
+    ensures kept { result ≢ pos 0 → out.new ≡ out.old }
+{
+    perform(alloc, keys, Work::Dseal(plain, ad), out, size)
+}
+
+/// Opens what was sealed without an IV, at the front of `out`.
+#[unsafe(no_mangle)]
+pub extern "C" fn tinkey_core_dopen(
+    alloc: Global,
+    keys: &mut SharedKeys,
+    sealed: &[u8],
+    ad: &[u8],
+    out: &mut [u8],
+    size: &mut usize,
+) -> i32
+    requires live { IsLive keys.old.held }
+    ensures live { IsLive keys.new.held }
+    ensures same { SameKeys keys.old.held keys.new.held }
+    ensures done { DoesBy keys.old.held (works.Dopen sealed.entry ad.entry)
+        out.old out.new size.old size.new
+        result }
+    ensures kept { result ≢ pos 0 → out.new ≡ out.old }
+{
+    perform(alloc, keys, Work::Dopen(sealed, ad), out, size)
+}
+
+/// Writes the tag of the body at the front of `out`.
+#[unsafe(no_mangle)]
+pub extern "C" fn tinkey_core_tag(
+    alloc: Global,
+    keys: &mut SharedKeys,
+    body: &[u8],
+    out: &mut [u8],
+    size: &mut usize,
+) -> i32
+    requires live { IsLive keys.old.held }
+    ensures live { IsLive keys.new.held }
+    ensures same { SameKeys keys.old.held keys.new.held }
+    ensures done { DoesBy keys.old.held (works.Tag body.entry)
+        out.old out.new size.old size.new
+        result }
+    ensures kept { result ≢ pos 0 → out.new ≡ out.old }
+{
+    perform(alloc, keys, Work::Tag(body), out, size)
+}
+
+/// Derives so many bytes from the input, at the front of `out`.
+#[unsafe(no_mangle)]
+pub extern "C" fn tinkey_core_derive(
+    alloc: Global,
+    keys: &mut SharedKeys,
+    input: &[u8],
+    count: usize,
+    out: &mut [u8],
+    size: &mut usize,
+) -> i32
+    requires live { IsLive keys.old.held }
+    ensures live { IsLive keys.new.held }
+    ensures same { SameKeys keys.old.held keys.new.held }
+    ensures done { DoesBy keys.old.held (works.Derive input.entry count)
+        out.old out.new size.old size.new
+        result }
+    ensures kept { result ≢ pos 0 → out.new ≡ out.old }
+{
+    perform(alloc, keys, Work::Derive(input, count), out, size)
+}
+
+/// Whether the tag is one of the body: 0 where it is.
+#[unsafe(no_mangle)]
+pub extern "C" fn tinkey_core_verify(
+    alloc: Global,
+    keys: &mut SharedKeys,
+    tag: &[u8],
+    body: &[u8],
+) -> i32
+    requires live { IsLive keys.old.held }
+    ensures live { IsLive keys.new.held }
+    ensures same { SameKeys keys.old.held keys.new.held }
+    ensures verified { Verifies keys.old.held (works.Verify tag.entry body.entry) result }
+{
+    let mut size = 0;
+    perform(alloc, keys, Work::Verify(tag, body), &mut [], &mut size)
+}
+
+/// Lets the keys go.
+#[unsafe(no_mangle)]
+pub extern "C" fn tinkey_core_free(alloc: Global, keys: &mut SharedKeys)
+    requires live { IsOpen keys.old.held }
+    ensures closed { keys.new.held ≡ None }
+{
+    drop(taken(replace(keys, no_keys()), alloc).into_box());
+}
