@@ -1,0 +1,291 @@
+/* Between a C program and the proved exports of libtinkey_c.a: random bytes are drawn here, calls of one handle are
+ * kept one at a time, and what the exports take for granted is tested. No proof covers this file. */
+#define _GNU_SOURCE
+#include "tinkey.h"
+
+#include <errno.h>
+#include <pthread.h>
+#include <stdint.h>
+#include <stdlib.h>
+#include <sys/random.h>
+
+/* ---- The exports. A slice is a pointer, which isn't NULL, and its length, which is at most PTRDIFF_MAX. */
+
+struct shared_keys {
+    void *at; /* NULL where there are none */
+};
+
+#define MAKERS(primitive)                                                                             \
+    int32_t tinkey_core_##primitive##_of_json(const uint8_t *, size_t, struct shared_keys *);         \
+    int32_t tinkey_core_##primitive##_of_binary(const uint8_t *, size_t, struct shared_keys *);
+MAKERS(aead)
+MAKERS(daead)
+MAKERS(mac)
+MAKERS(prf)
+
+int32_t tinkey_core_seal(struct shared_keys *, const uint8_t *random, size_t, const uint8_t *plain, size_t,
+                         const uint8_t *ad, size_t, uint8_t *out, size_t, size_t *size);
+int32_t tinkey_core_open(struct shared_keys *, const uint8_t *sealed, size_t, const uint8_t *ad, size_t,
+                         uint8_t *out, size_t, size_t *size);
+int32_t tinkey_core_dseal(struct shared_keys *, const uint8_t *plain, size_t, const uint8_t *ad, size_t,
+                          uint8_t *out, size_t, size_t *size);
+int32_t tinkey_core_dopen(struct shared_keys *, const uint8_t *sealed, size_t, const uint8_t *ad, size_t,
+                          uint8_t *out, size_t, size_t *size);
+int32_t tinkey_core_tag(struct shared_keys *, const uint8_t *body, size_t, uint8_t *out, size_t, size_t *size);
+int32_t tinkey_core_verify(struct shared_keys *, const uint8_t *tag, size_t, const uint8_t *body, size_t);
+int32_t tinkey_core_derive(struct shared_keys *, const uint8_t *input, size_t, size_t count,
+                           uint8_t *out, size_t, size_t *size);
+void tinkey_core_free(struct shared_keys *);
+
+/* ---- What is passed on. */
+
+/* As many random bytes as the longest IV takes, which is EAX's, and as many again. */
+enum { RANDOM = 32 };
+
+/* More bytes than any AEAD adds: 5 of prefix, 16 of IV and 64 of tag. AES-SIV adds 5 and 16. The longest tag has 64
+ * bytes behind 5. */
+enum { AEAD_MORE = 96, DAEAD_MORE = 21, TAG_MOST = 69 };
+
+static uint8_t nothing[1];
+
+static uint8_t *at(const void *bytes, size_t len) { return len ? (uint8_t *)bytes : nothing; }
+
+static int is_missing(const void *bytes, size_t len) { return !bytes && len; }
+
+static int is_huge(size_t len) { return len > PTRDIFF_MAX; }
+
+static int overlap(const void *a, size_t a_len, const void *b, size_t b_len) {
+    uintptr_t x = (uintptr_t)a, y = (uintptr_t)b;
+    return a_len && b_len && (x < y ? y - x < a_len : x - y < b_len);
+}
+
+static size_t sum(size_t a, size_t b) { return a > SIZE_MAX - b ? SIZE_MAX : a + b; }
+
+static size_t least(size_t a, size_t b) { return a < b ? a : b; }
+
+/* Draws bytes from the system. None is kept for a later call, which a fork would repeat. */
+static int draw(uint8_t *out, size_t len) {
+    while (len) {
+        ssize_t got = getrandom(out, len, 0);
+        if (got < 0 && errno == EINTR) continue;
+        if (got <= 0) return 0;
+        out += got;
+        len -= (size_t)got;
+    }
+    return 1;
+}
+
+/* Whether the processor has what the archive is compiled for. */
+static int is_new_enough(void) {
+#if defined(__x86_64__) && defined(TINKEY_X86_64_V3)
+    return __builtin_cpu_supports("avx2") && __builtin_cpu_supports("bmi") && __builtin_cpu_supports("bmi2")
+        && __builtin_cpu_supports("fma");
+#elif defined(__x86_64__)
+    return __builtin_cpu_supports("sse4.2") && __builtin_cpu_supports("ssse3") && __builtin_cpu_supports("popcnt");
+#else
+    return 1;
+#endif
+}
+
+/* ---- Handles: the same behind each of the four types. */
+
+struct handle {
+    struct shared_keys keys;
+    pthread_mutex_t one_call;
+};
+
+typedef int32_t maker(const uint8_t *, size_t, struct shared_keys *);
+
+static tinkey_status make(maker *core, const void *text, size_t len, void **out) {
+    if (!out || is_missing(text, len)) return TINKEY_BAD_CALL;
+    if (is_huge(len)) return TINKEY_TOO_LONG;
+    if (!is_new_enough()) return TINKEY_OLD_PROCESSOR;
+    int before = errno;
+    struct handle *made = calloc(1, sizeof *made);
+    int32_t status = TINKEY_NO_MEMORY;
+    if (made && pthread_mutex_init(&made->one_call, NULL) == 0) {
+        status = core(at(text, len), len, &made->keys);
+        if (status) pthread_mutex_destroy(&made->one_call);
+    }
+    if (status) {
+        free(made);
+    } else {
+        *out = made;
+    }
+    errno = before;
+    return (tinkey_status)status;
+}
+
+static void let_go(struct handle *handle) {
+    if (!handle) return;
+    int before = errno;
+    if (handle->keys.at) tinkey_core_free(&handle->keys);
+    pthread_mutex_destroy(&handle->one_call);
+    free(handle);
+    errno = before;
+}
+
+/* ---- Calls. */
+
+/* Two inputs, and an output in which at most `most` bytes are written. */
+struct call {
+    const void *first, *second;
+    size_t first_len, second_len;
+    void *out;
+    size_t room;
+    size_t *len;
+};
+
+static tinkey_status fault(const void *handle, const struct call *call) {
+    if (!handle || !call->len || is_missing(call->first, call->first_len)
+        || is_missing(call->second, call->second_len) || is_missing(call->out, call->room))
+        return TINKEY_BAD_CALL;
+    if (is_huge(call->first_len) || is_huge(call->second_len)) return TINKEY_TOO_LONG;
+    if (overlap(call->out, call->room, call->first, call->first_len)
+        || overlap(call->out, call->room, call->second, call->second_len)
+        || overlap(call->len, sizeof *call->len, call->out, call->room)
+        || overlap(call->len, sizeof *call->len, call->first, call->first_len)
+        || overlap(call->len, sizeof *call->len, call->second, call->second_len))
+        return TINKEY_BAD_CALL;
+    return TINKEY_OK;
+}
+
+typedef int32_t worker(struct shared_keys *, const uint8_t *, size_t, const uint8_t *, size_t,
+                       uint8_t *, size_t, size_t *);
+
+static tinkey_status run(void *which, worker *core, const struct call *call) {
+    tinkey_status bad = fault(which, call);
+    if (bad) return bad;
+    int before = errno;
+    struct handle *handle = which;
+    pthread_mutex_lock(&handle->one_call);
+    int32_t status = core(&handle->keys, at(call->first, call->first_len), call->first_len,
+                          at(call->second, call->second_len), call->second_len,
+                          at(call->out, call->room), call->room, call->len);
+    pthread_mutex_unlock(&handle->one_call);
+    errno = before;
+    return (tinkey_status)status;
+}
+
+static int32_t seal_freshly(struct shared_keys *keys, const uint8_t *plain, size_t plain_len,
+                            const uint8_t *ad, size_t ad_len, uint8_t *out, size_t room, size_t *len) {
+    uint8_t random[RANDOM];
+    if (!draw(random, sizeof random)) return TINKEY_NO_RANDOM;
+    return tinkey_core_seal(keys, random, sizeof random, plain, plain_len, ad, ad_len, out, room, len);
+}
+
+static int32_t tag_alone(struct shared_keys *keys, const uint8_t *body, size_t body_len,
+                         const uint8_t *none, size_t no_len, uint8_t *out, size_t room, size_t *len) {
+    (void)none;
+    (void)no_len;
+    return tinkey_core_tag(keys, body, body_len, out, room, len);
+}
+
+static int32_t verify_both(struct shared_keys *keys, const uint8_t *tag, size_t tag_len,
+                           const uint8_t *body, size_t body_len, uint8_t *out, size_t room, size_t *len) {
+    (void)out;
+    (void)room;
+    (void)len;
+    return tinkey_core_verify(keys, tag, tag_len, body, body_len);
+}
+
+static int32_t derive_all(struct shared_keys *keys, const uint8_t *input, size_t input_len,
+                          const uint8_t *none, size_t no_len, uint8_t *out, size_t room, size_t *len) {
+    (void)none;
+    (void)no_len;
+    return tinkey_core_derive(keys, input, input_len, room, out, room, len);
+}
+
+/* ---- What the header names. */
+
+#define HANDLES(primitive)                                                                                    \
+    tinkey_status tinkey_##primitive##_new(const void *json, size_t json_len, tinkey_##primitive **handle) {  \
+        void *made = NULL;                                                                                    \
+        tinkey_status status = handle ? make(tinkey_core_##primitive##_of_json, json, json_len, &made)        \
+                                      : TINKEY_BAD_CALL;                                                      \
+        if (!status) *handle = made;                                                                          \
+        return status;                                                                                        \
+    }                                                                                                         \
+    tinkey_status tinkey_##primitive##_new_binary(const void *bytes, size_t bytes_len,                        \
+                                                  tinkey_##primitive **handle) {                              \
+        void *made = NULL;                                                                                    \
+        tinkey_status status = handle ? make(tinkey_core_##primitive##_of_binary, bytes, bytes_len, &made)    \
+                                      : TINKEY_BAD_CALL;                                                      \
+        if (!status) *handle = made;                                                                          \
+        return status;                                                                                        \
+    }                                                                                                         \
+    void tinkey_##primitive##_free(tinkey_##primitive *handle) { let_go((struct handle *)handle); }
+
+HANDLES(aead)
+HANDLES(daead)
+HANDLES(mac)
+HANDLES(prf)
+
+size_t tinkey_aead_seal_room(size_t plain_len) { return sum(plain_len, AEAD_MORE); }
+size_t tinkey_aead_open_room(size_t sealed_len) { return sealed_len; }
+size_t tinkey_daead_seal_room(size_t plain_len) { return sum(plain_len, DAEAD_MORE); }
+size_t tinkey_daead_open_room(size_t sealed_len) { return sealed_len; }
+size_t tinkey_mac_tag_room(void) { return TAG_MOST; }
+
+/* No call is lent more room than its answer can need, so that a length which is too long names no other memory. */
+
+tinkey_status tinkey_aead_seal(tinkey_aead *handle, const void *plain, size_t plain_len, const void *ad,
+                               size_t ad_len, void *out, size_t out_room, size_t *out_len) {
+    struct call call = {plain, ad, plain_len, ad_len, out, least(out_room, tinkey_aead_seal_room(plain_len)), out_len};
+    return run(handle, seal_freshly, &call);
+}
+
+tinkey_status tinkey_aead_open(tinkey_aead *handle, const void *sealed, size_t sealed_len, const void *ad,
+                               size_t ad_len, void *out, size_t out_room, size_t *out_len) {
+    struct call call = {sealed, ad, sealed_len, ad_len, out, least(out_room, sealed_len), out_len};
+    return run(handle, tinkey_core_open, &call);
+}
+
+tinkey_status tinkey_daead_seal(tinkey_daead *handle, const void *plain, size_t plain_len, const void *ad,
+                                size_t ad_len, void *out, size_t out_room, size_t *out_len) {
+    struct call call = {plain, ad, plain_len, ad_len, out, least(out_room, tinkey_daead_seal_room(plain_len)), out_len};
+    return run(handle, tinkey_core_dseal, &call);
+}
+
+tinkey_status tinkey_daead_open(tinkey_daead *handle, const void *sealed, size_t sealed_len, const void *ad,
+                                size_t ad_len, void *out, size_t out_room, size_t *out_len) {
+    struct call call = {sealed, ad, sealed_len, ad_len, out, least(out_room, sealed_len), out_len};
+    return run(handle, tinkey_core_dopen, &call);
+}
+
+tinkey_status tinkey_mac_tag(tinkey_mac *handle, const void *body, size_t body_len, void *out, size_t out_room,
+                             size_t *out_len) {
+    struct call call = {body, NULL, body_len, 0, out, least(out_room, TAG_MOST), out_len};
+    return run(handle, tag_alone, &call);
+}
+
+tinkey_status tinkey_mac_verify(tinkey_mac *handle, const void *tag, size_t tag_len, const void *body,
+                                size_t body_len) {
+    size_t unused = 0;
+    struct call call = {tag, body, tag_len, body_len, NULL, 0, &unused};
+    return run(handle, verify_both, &call);
+}
+
+tinkey_status tinkey_prf_derive(tinkey_prf *handle, const void *input, size_t input_len, void *out, size_t count) {
+    size_t made = 0;
+    if (is_huge(count)) return handle ? TINKEY_TOO_LONG : TINKEY_BAD_CALL;
+    struct call call = {input, NULL, input_len, 0, out, count, &made};
+    return run(handle, derive_all, &call);
+}
+
+const char *tinkey_status_text(tinkey_status status) {
+    switch (status) {
+    case TINKEY_OK: return "done";
+    case TINKEY_REFUSED: return "nothing opens these bytes, or the tag isn't the body's";
+    case TINKEY_NO_KEYSET: return "the text is no keyset";
+    case TINKEY_UNFIT_KEY: return "a key of the keyset can't serve for the primitive";
+    case TINKEY_OTHER_PRIMITIVE: return "the handle is one of another primitive";
+    case TINKEY_NO_ROOM: return "the output is shorter than the answer";
+    case TINKEY_TOO_LONG: return "too many bytes";
+    case TINKEY_NO_RANDOM: return "the system gives no random bytes";
+    case TINKEY_NO_MEMORY: return "out of memory";
+    case TINKEY_BAD_CALL: return "a null pointer, or an output that overlaps something else";
+    case TINKEY_OLD_PROCESSOR: return "the processor lacks what the library is built for";
+    }
+    return "no such status";
+}

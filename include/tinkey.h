@@ -1,0 +1,127 @@
+/* libtinkey: Tink's primitives over the keysets of Tink and of tinkey, for programs in C and in what calls C.
+ *
+ * What is proved. Each call comes to a function of the archive libtinkey_c.a, which is proved against its contract
+ * in Rattle. The contract says what the call answers over the keyset in the text that the handle was made of, as for a
+ * call that is given the keyset each time; which status comes when; and that nothing is written where the status
+ * isn't TINKEY_OK.
+ *
+ * What isn't. The layer between, c/tinkey.c, draws the random bytes, tests pointers and overlap, and has calls of one
+ * handle run one at a time. It is read and tested, and no proof covers it; neither does one cover the compilers and
+ * the C library. What a caller owes is said below, and can't be tested here.
+ *
+ * What a caller owes. A handle is one that a `new` call gave and that `free` wasn't called with, and no other call runs
+ * on it while `free` does. A pointer and a length name memory that is the caller's for the length of the call.
+ *
+ * Handles. Calls on one handle may come from any thread; they run one at a time, so give each busy thread a handle of
+ * its own. Random bytes are drawn from the system for each call and never kept, so that a process and its forked child
+ * don't use the same ones. The forked child of a process with threads makes its own handles.
+ *
+ * Outputs. `out` has room for `out_room` bytes, and `*out_len` says how many were written. If the status isn't
+ * TINKEY_OK, `out`, `*out_len` and `*handle` are as they were. An output may not overlap an input. A pointer may be NULL
+ * where its length is 0. `errno` is kept. */
+#ifndef TINKEY_H
+#define TINKEY_H
+
+#include <stddef.h>
+
+#ifdef __cplusplus
+extern "C" {
+#endif
+
+#if defined(__GNUC__)
+#define TINKEY_CHECKED __attribute__((warn_unused_result))
+#else
+#define TINKEY_CHECKED
+#endif
+
+typedef enum tinkey_status {
+    TINKEY_OK = 0,
+    TINKEY_REFUSED = 1,         /* nothing opens the bytes with this associated data, or the tag isn't the body's */
+    TINKEY_NO_KEYSET = 2,       /* the text is no keyset of that form */
+    TINKEY_UNFIT_KEY = 3,       /* an ENABLED key of the keyset can't serve for the primitive */
+    TINKEY_OTHER_PRIMITIVE = 4, /* the handle is one of another primitive */
+    TINKEY_NO_ROOM = 5,         /* `out` is shorter than the answer */
+    TINKEY_TOO_LONG = 6,        /* an input has more than 2^30 bytes, or the key derives fewer bytes */
+    TINKEY_NO_RANDOM = 7,       /* the system gives no random bytes */
+    TINKEY_NO_MEMORY = 8,
+    TINKEY_BAD_CALL = 9,        /* a null pointer, or an output that overlaps something else */
+    TINKEY_OLD_PROCESSOR = 10   /* the processor lacks what the library is built for */
+} tinkey_status;
+
+/* A line of English for a status. */
+const char *tinkey_status_text(tinkey_status status);
+
+/* The keys of a keyset, each checked and prepared once, for one primitive. */
+typedef struct tinkey_aead tinkey_aead;
+typedef struct tinkey_daead tinkey_daead;
+typedef struct tinkey_mac tinkey_mac;
+typedef struct tinkey_prf tinkey_prf;
+
+/* ---- A handle of a keyset in Tink's JSON, and one of a keyset in the binary form.
+ *
+ * TINKEY_TOO_LONG, TINKEY_NO_KEYSET, TINKEY_UNFIT_KEY, in this order. The text isn't read afterwards. */
+
+TINKEY_CHECKED tinkey_status tinkey_aead_new(const void *json, size_t json_len, tinkey_aead **handle);
+TINKEY_CHECKED tinkey_status tinkey_aead_new_binary(const void *bytes, size_t bytes_len, tinkey_aead **handle);
+TINKEY_CHECKED tinkey_status tinkey_daead_new(const void *json, size_t json_len, tinkey_daead **handle);
+TINKEY_CHECKED tinkey_status tinkey_daead_new_binary(const void *bytes, size_t bytes_len, tinkey_daead **handle);
+TINKEY_CHECKED tinkey_status tinkey_mac_new(const void *json, size_t json_len, tinkey_mac **handle);
+TINKEY_CHECKED tinkey_status tinkey_mac_new_binary(const void *bytes, size_t bytes_len, tinkey_mac **handle);
+TINKEY_CHECKED tinkey_status tinkey_prf_new(const void *json, size_t json_len, tinkey_prf **handle);
+TINKEY_CHECKED tinkey_status tinkey_prf_new_binary(const void *bytes, size_t bytes_len, tinkey_prf **handle);
+
+/* Lets a handle go. NULL is let be. */
+void tinkey_aead_free(tinkey_aead *handle);
+void tinkey_daead_free(tinkey_daead *handle);
+void tinkey_mac_free(tinkey_mac *handle);
+void tinkey_prf_free(tinkey_prf *handle);
+
+/* ---- The room that an output needs at the most; SIZE_MAX where that is more than a size_t holds. */
+
+size_t tinkey_aead_seal_room(size_t plain_len);
+size_t tinkey_aead_open_room(size_t sealed_len);
+size_t tinkey_daead_seal_room(size_t plain_len);
+size_t tinkey_daead_open_room(size_t sealed_len);
+size_t tinkey_mac_tag_room(void);
+
+/* ---- Authenticated encryption with associated data. */
+
+/* Seals under the primary key with a fresh IV: the key's output prefix, IV, ciphertext and tag. */
+TINKEY_CHECKED tinkey_status tinkey_aead_seal(tinkey_aead *handle, const void *plain, size_t plain_len,
+                                              const void *ad, size_t ad_len,
+                                              void *out, size_t out_room, size_t *out_len);
+
+/* Opens what an ENABLED key of the keyset sealed. TINKEY_REFUSED comes exactly where none opens it. */
+TINKEY_CHECKED tinkey_status tinkey_aead_open(tinkey_aead *handle, const void *sealed, size_t sealed_len,
+                                              const void *ad, size_t ad_len,
+                                              void *out, size_t out_room, size_t *out_len);
+
+/* ---- The same without an IV: equal plaintexts with equal associated data have equal sealed bytes. */
+
+TINKEY_CHECKED tinkey_status tinkey_daead_seal(tinkey_daead *handle, const void *plain, size_t plain_len,
+                                               const void *ad, size_t ad_len,
+                                               void *out, size_t out_room, size_t *out_len);
+TINKEY_CHECKED tinkey_status tinkey_daead_open(tinkey_daead *handle, const void *sealed, size_t sealed_len,
+                                               const void *ad, size_t ad_len,
+                                               void *out, size_t out_room, size_t *out_len);
+
+/* ---- Message authentication. */
+
+/* The tag under the primary key, behind its output prefix. */
+TINKEY_CHECKED tinkey_status tinkey_mac_tag(tinkey_mac *handle, const void *body, size_t body_len,
+                                            void *out, size_t out_room, size_t *out_len);
+
+/* TINKEY_OK where the whole tag is the body's under an ENABLED key, and TINKEY_REFUSED where it isn't. */
+TINKEY_CHECKED tinkey_status tinkey_mac_verify(tinkey_mac *handle, const void *tag, size_t tag_len,
+                                               const void *body, size_t body_len);
+
+/* ---- Pseudo-random functions. */
+
+/* Derives `count` bytes from the input under the primary key. TINKEY_TOO_LONG where it gives fewer. */
+TINKEY_CHECKED tinkey_status tinkey_prf_derive(tinkey_prf *handle, const void *input, size_t input_len,
+                                               void *out, size_t count);
+
+#ifdef __cplusplus
+}
+#endif
+#endif
