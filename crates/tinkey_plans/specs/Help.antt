@@ -13,16 +13,16 @@ list_text =
     ++ codes "An option is given once, as --option VALUE or --option=VALUE.\n\n"
     ++ codes "Make and change a keyset:\n"
     ++ codes "  create-keyset       makes a keyset of one new key, the primary\n"
-    ++ codes "  add-key             puts a new key behind the others\n"
-    ++ codes "  rotate-keyset       puts a new key behind the others, and makes it the primary\n"
+    ++ codes "  add-key             adds a new key\n"
+    ++ codes "  rotate-keyset       adds a new key, and makes it the primary\n"
     ++ codes "  promote-key         makes an enabled key the primary\n"
     ++ codes "  enable-key          makes a key ENABLED\n"
-    ++ codes "  disable-key         makes a key DISABLED: it does no work, and can be enabled again\n"
-    ++ codes "  destroy-key         takes a key's material away; this can't be undone\n"
-    ++ codes "  delete-key          takes a key out; this can't be undone\n\n"
+    ++ codes "  disable-key         makes a key DISABLED: it isn't used, and can be enabled again\n"
+    ++ codes "  destroy-key         destroys a key's material; this can't be undone\n"
+    ++ codes "  delete-key          removes a key; this can't be undone\n\n"
     ++ codes "Look at a keyset, and keep it:\n"
     ++ codes "  list-keyset         lists a keyset without key material\n"
-    ++ codes "  list-key-templates  lists the names of the templates of new keys\n"
+    ++ codes "  list-key-templates  lists the names of the templates for new keys\n"
     ++ codes "  convert-keyset      writes a keyset in another form or place\n"
     ++ codes "  wrap-keyset         seals a keyset under another one, the master\n"
     ++ codes "  unwrap-keyset       opens a keyset that was wrapped\n\n"
@@ -35,15 +35,15 @@ list_text =
     ++ codes "  dseal               seals deterministically: equal texts give equal bytes\n"
     ++ codes "  dopen               opens what dseal sealed\n"
     ++ codes "  sseal               seals a stream of any length, in one pass\n"
-    ++ codes "  sopen               opens such a stream; only at exit code 0 is it whole\n"
+    ++ codes "  sopen               opens such a stream; it is complete only if the exit code is 0\n"
     ++ codes "  srange              opens a range of such a stream in a file\n\n"
     ++ codes "Tag, verify and derive:\n"
     ++ codes "  tag                 tags standard input under the primary key\n"
-    ++ codes "  verify              says whether a tag is that of any enabled key\n"
+    ++ codes "  verify              says whether a tag is valid under any enabled key\n"
     ++ codes "  derive              derives bytes from standard input\n\n"
     ++ codes "Many lines in one run:\n"
     ++ codes "  session             answers lines that seal, open, tag, verify, derive and edit\n"
-    ++ codes "  selftest            seals, opens and edits many times, and counts what came of it\n\n"
+    ++ codes "  selftest            seals, opens and edits many times, and counts the results\n\n"
     ++ codes "More:\n"
     ++ codes "  tinkey help COMMAND   its options, what it reads and gives, its exit codes, an example\n"
     ++ codes "  tinkey help exit      the diagnostic lines: what each means, and what to do next\n"
@@ -52,72 +52,72 @@ list_text =
 -- the diagnostic lines
 unfoldable pub exit_text : List ℕ
 exit_text =
-    codes "A command that can't be done tells so by a line on standard error, and by its exit code. The\n"
-    ++ codes "line is \"tinkey: \" and one of these; the code stands in front.\n\n"
+    codes "A command that fails prints a line on standard error and ends with an exit code. The line is\n"
+    ++ codes "\"tinkey: \" and one of these, listed after their exit codes.\n\n"
     ++ codes "0  done, and no line\n\n"
     ++ codes "1  open failed\n"
     ++ codes "     No ENABLED key of the keyset opens these bytes with these associated data: another key\n"
-    ++ codes "     sealed them, the data are others, or the bytes are cut or altered. Give the same --ad;\n"
-    ++ codes "     look whether the key is still there and ENABLED (list-keyset); what seal, dseal, sseal\n"
-    ++ codes "     or eseal made is for open, dopen, sopen or eopen, and an envelope needs a template of\n"
-    ++ codes "     its data key's kind. For an encrypted keyset: the master is another one or lacks the\n"
-    ++ codes "     key that sealed, or the input is a keyset in clear.\n\n"
+    ++ codes "     sealed them, the associated data differ, or the bytes are cut or altered. Give the same\n"
+    ++ codes "     --ad; check that the key is still there and ENABLED (list-keyset). Open what seal,\n"
+    ++ codes "     dseal, sseal or eseal made with open, dopen, sopen or eopen; an envelope needs a\n"
+    ++ codes "     template of its data key's kind. For an encrypted keyset: the master is another one or\n"
+    ++ codes "     lacks the key that sealed, or the input is a keyset in clear.\n\n"
     ++ codes "1  verify failed\n"
-    ++ codes "     The tag is that of no ENABLED key for this input. Give the whole tag, its prefix too,\n"
-    ++ codes "     in hexadecimal, as tag --hex does.\n\n"
+    ++ codes "     No ENABLED key makes this tag of this input. Give the whole tag with its prefix, in\n"
+    ++ codes "     hexadecimal, as tag --hex prints it.\n\n"
     ++ codes "1  stream failed at segment {segment}\n"
-    ++ codes "     From this segment on the stream is damaged, cut, or of another key or other associated\n"
-    ++ codes "     data; at segment 0 it may be no stream at all. What was written before it is authentic;\n"
-    ++ codes "     the rest has to come from a copy.\n\n"
+    ++ codes "     From this segment on the stream is damaged or cut, or the key or the associated data\n"
+    ++ codes "     are not the ones it was sealed with; at segment 0 it may be no stream at all. What was\n"
+    ++ codes "     written before is authentic; the rest has to come from a copy.\n\n"
     ++ codes "2  usage: word {word}\n"
-    ++ codes "     This word is at fault: no command, no option of this command, one that was given before\n"
-    ++ codes "     or can't stand beside another, or a value that isn't of its form. Words count from 0,\n"
-    ++ codes "     which is the command. Where the number is that of the words, one is missing behind\n"
-    ++ codes "     them: a value, or an option that the command requires. A second line tells which of\n"
-    ++ codes "     these it is. Look at the word before, too: where its value was left out, the next word\n"
-    ++ codes "     was taken for it. tinkey help lists the commands, and tinkey help COMMAND tells a\n"
-    ++ codes "     command's options.\n\n"
+    ++ codes "     This word is wrong: it is no command, no option of this command, an option that was\n"
+    ++ codes "     given before or excludes another one, or a value of the wrong form. Words count from 0,\n"
+    ++ codes "     which is the command. If the number equals the word count, a word is missing at the\n"
+    ++ codes "     end: a value, or an option that the command requires. A second line says which of these\n"
+    ++ codes "     it is. Check the word before, too: if its value was left out, the next word was taken\n"
+    ++ codes "     as the value. tinkey help lists the commands, and tinkey help COMMAND a command's\n"
+    ++ codes "     options.\n\n"
     ++ codes "2  unknown key template\n"
-    ++ codes "     list-key-templates lists the names. The AEADs over Poly1305 are left out.\n\n"
+    ++ codes "     list-key-templates lists the names. AEADs with Poly1305 aren't supported.\n\n"
     ++ codes "2  asymmetric key template\n"
-    ++ codes "     Keys of this template are left out: Tinkey makes them.\n\n"
+    ++ codes "     Asymmetric keys aren't supported: Tinkey makes them.\n\n"
     ++ codes "2  template is not an AEAD\n"
-    ++ codes "     --dek-template names the data keys of envelopes, which are those of an AEAD, as\n"
-    ++ codes "     AES128_GCM makes them.\n\n"
+    ++ codes "     --dek-template is for the data keys of envelopes, which must be AEAD keys, such as\n"
+    ++ codes "     those of AES128_GCM.\n\n"
     ++ codes "2  output too long: {asked} over {greatest}\n"
     ++ codes "     The key can derive at most the second number of bytes.\n\n"
     ++ codes "2  range past the end\n"
     ++ codes "     The stream's plaintext is shorter than offset and length together. Ask for less; sopen,\n"
-    ++ codes "     piped to wc -c, tells how long it is.\n\n"
+    ++ codes "     piped to wc -c, shows how long it is.\n\n"
     ++ codes "3  bad protobuf at byte {at}\n"
-    ++ codes "     The keyset isn't one in the binary form. If it is JSON, name no form, or json. An\n"
-    ++ codes "     encrypted keyset may be told so too: unwrap-keyset opens it. Else it is damaged from\n"
-    ++ codes "     about that byte on.\n\n"
+    ++ codes "     The keyset isn't one in the binary form. If it is JSON, give no form, or json. If it is\n"
+    ++ codes "     an encrypted keyset, unwrap-keyset opens it. Otherwise it is damaged from about that\n"
+    ++ codes "     byte on.\n\n"
     ++ codes "3  not JSON\n"
     ++ codes "     The keyset isn't JSON: it is empty, cut or damaged, or in the binary form. If it is in\n"
     ++ codes "     that form, say so: --in-format binary, --keyset-format binary or --master-format\n"
-    ++ codes "     binary. Where no --in is given, standard input was read.\n\n"
+    ++ codes "     binary. Without --in, standard input was read.\n\n"
     ++ codes "3  bad JSON member {member}\n"
-    ++ codes "     The JSON isn't a keyset's: this member isn't of its form.\n\n"
+    ++ codes "     The JSON isn't a keyset: this member has the wrong form.\n\n"
     ++ codes "3  bad JSON member {member} of key {key}\n"
-    ++ codes "     The same, of a key. Keys count from 0.\n\n"
+    ++ codes "     The same, for a key. Keys count from 0.\n\n"
     ++ codes "3  bad JSON member encryptedKeyset\n"
     ++ codes "     The JSON isn't an encrypted keyset, as wrap-keyset writes one.\n\n"
     ++ codes "3  keyset has no key\n"
-    ++ codes "     An empty input in the binary form is such a keyset: look whether the file has bytes. An\n"
-    ++ codes "     encrypted keyset in JSON is told so too: unwrap-keyset opens it.\n\n"
+    ++ codes "     An empty input in the binary form is such a keyset: check that the file isn't empty. An\n"
+    ++ codes "     encrypted keyset in JSON also gives this line: unwrap-keyset opens it.\n\n"
     ++ codes "3  keyset has too many keys\n"
     ++ codes "     A keyset has at most 1,000 keys. Delete some with the tool that made it.\n\n"
     ++ codes "3  key {key} has an unknown status\n"
     ++ codes "     The key's status isn't one of Tink's: the file is damaged, or of a later Tink.\n\n"
     ++ codes "3  key {key} has an unknown output prefix type\n"
-    ++ codes "     The same, of its output prefix type.\n\n"
+    ++ codes "     The same, for its output prefix type.\n\n"
     ++ codes "3  key {key} has an unknown key material type\n"
-    ++ codes "     The same, of its key material type.\n\n"
+    ++ codes "     The same, for its key material type.\n\n"
     ++ codes "3  key {key} has no key data\n"
     ++ codes "     Only a DESTROYED key may have none.\n\n"
     ++ codes "3  no key has the primary id\n"
-    ++ codes "     The keyset is not whole. Another copy of it may have the key.\n\n"
+    ++ codes "     The keyset is incomplete. Another copy of it may have the key.\n\n"
     ++ codes "3  the primary key is not enabled\n"
     ++ codes "     No key with the primary id is ENABLED. Enable it, or make another one the primary, with\n"
     ++ codes "     the tool that made the keyset.\n\n"
@@ -128,21 +128,20 @@ exit_text =
     ++ codes "     The key is of a kind that this command doesn't use: keys for AEAD are for seal, open,\n"
     ++ codes "     eseal and eopen, AES-SIV for dseal and dopen, HMAC and CMAC for tag and verify, PRFs\n"
     ++ codes "     for derive, streaming keys for sseal, sopen and srange. The keys of a master are for\n"
-    ++ codes "     AEAD. One ENABLED key of another kind is enough: disable it (behind another primary,\n"
-    ++ codes "     where it is that), or keep it in a keyset of its own.\n\n"
+    ++ codes "     AEAD. One ENABLED key of another kind is enough for this: disable it (if it is the\n"
+    ++ codes "     primary, make another key the primary first), or keep it in a keyset of its own.\n\n"
     ++ codes "3  key {key} is not valid: {rule}\n"
-    ++ codes "     The key's message breaks this rule, as a size that its kind doesn't have. It was made\n"
-    ++ codes "     by another tool: disable it (behind another primary, where it is that).\n\n"
+    ++ codes "     The key breaks this rule, for example with a size that its kind doesn't have. Another\n"
+    ++ codes "     tool made it: disable it (if it is the primary, make another key the primary first).\n\n"
     ++ codes "3  key {key} is not RAW\n"
-    ++ codes "     A key that derives has to be RAW, as there is no place for a prefix.\n\n"
+    ++ codes "     A key that derives has to be RAW, because there is no place for a prefix.\n\n"
     ++ codes "3  no manager for the data key\n"
-    ++ codes "     Another program's managers don't have this kind of key. Those of tinkey have each\n"
-    ++ codes "     AEAD's.\n\n"
+    ++ codes "     Another program's managers lack this kind of key. tinkey itself has one for each AEAD.\n\n"
     ++ codes "3  data key refused: {rule}\n"
-    ++ codes "     Another program's manager doesn't take the keys of this template. Those of tinkey take\n"
+    ++ codes "     Another program's manager refuses the keys of this template. Those of tinkey accept\n"
     ++ codes "     each.\n\n"
     ++ codes "4  input file missing\n"
-    ++ codes "     No file has the name behind --in, --keyset, --master or --file.\n\n"
+    ++ codes "     There is no file with the name given by --in, --keyset, --master or --file.\n\n"
     ++ codes "4  key not found\n"
     ++ codes "     No key of the keyset has this id: list-keyset shows the ids.\n\n"
     ++ codes "4  key is primary\n"
@@ -154,48 +153,48 @@ exit_text =
     ++ codes "4  key refused: {rule}\n"
     ++ codes "     The key's message breaks this rule, so it isn't enabled.\n\n"
     ++ codes "4  key of another primitive\n"
-    ++ codes "     A keyset's keys do one kind of work. Make a keyset of its own for this template or key.\n\n"
+    ++ codes "     All keys of a keyset do one kind of work. Make a separate keyset for this template or\n"
+    ++ codes "     key.\n\n"
     ++ codes "4  no free key id\n"
-    ++ codes "     64 random ids in a row were 0 or in use: look at the random device.\n\n"
+    ++ codes "     64 random ids in a row were 0 or in use: check the random device.\n\n"
     ++ codes "4  too many keys\n"
-    ++ codes "     The keyset has 1,000 keys. Delete those under which nothing is kept any more.\n\n"
+    ++ codes "     The keyset has 1,000 keys. Delete those that nothing is sealed under any more.\n\n"
     ++ codes "4  primary would be ambiguous\n"
-    ++ codes "     Another key has this id, and both would be ENABLED under the primary id. Where a key is\n"
-    ++ codes "     to be enabled, make one of another id the primary first. Else rotate-keyset makes a\n"
-    ++ codes "     primary whose id is its own.\n\n"
+    ++ codes "     Another key has this id, and both would be ENABLED under the primary id. To enable a\n"
+    ++ codes "     key, first make a key with another id the primary. Otherwise use rotate-keyset, which\n"
+    ++ codes "     makes a primary with an id of its own.\n\n"
     ++ codes "4  output file exists\n"
-    ++ codes "     No file is ever replaced: name a new one. A session looks before its first line.\n\n"
+    ++ codes "     No file is ever replaced: give a new name. A session checks this before its first line.\n\n"
     ++ codes "5  read fault\n"
     ++ codes "     Standard input couldn't be read.\n\n"
     ++ codes "5  write fault\n"
-    ++ codes "     Standard output took no more bytes, as a closed pipe or a full disk does. What it took\n"
-    ++ codes "     is the front of the output.\n\n"
+    ++ codes "     Standard output accepted no more bytes, for example because a pipe was closed or a disk\n"
+    ++ codes "     is full. What it accepted is the first part of the output.\n\n"
     ++ codes "5  entropy fault\n"
     ++ codes "     The system's random device couldn't be read, or isn't the system's.\n\n"
     ++ codes "5  store fault\n"
-    ++ codes "     A file couldn't be read or made: it is a folder, or behind --file a pipe; the folder of\n"
-    ++ codes "     the new file isn't there; a name without permission; a full disk. The new file isn't\n"
-    ++ codes "     there, or is there whole; on a file system without hard links it may have its first\n"
-    ++ codes "     bytes alone. Remove it before the next try.\n\n"
+    ++ codes "     A file couldn't be read or made: it is a folder, or for --file a pipe; the folder of\n"
+    ++ codes "     the new file isn't there; permission is missing; the disk is full. The new file isn't\n"
+    ++ codes "     there, or is there whole; on a file system without hard links it may have only its\n"
+    ++ codes "     first bytes. Remove it before the next try.\n\n"
     ++ codes "6  keyset too long\n"
-    ++ codes "     A keyset has at most 1,048,576 bytes, as it is read and as it is written; in JSON it is\n"
-    ++ codes "     longer than in the binary form. An encrypted one has at most 4,194,304.\n\n"
+    ++ codes "     A keyset has at most 1,048,576 bytes when it is read and when it is written; JSON is\n"
+    ++ codes "     longer than the binary form. An encrypted keyset has at most 4,194,304.\n\n"
     ++ codes "6  input too long\n"
-    ++ codes "     The command takes 16,777,216 bytes, and open, dopen and eopen take all that was sealed\n"
-    ++ codes "     of so many. What is longer is sealed with sseal, under a streaming key.\n\n"
+    ++ codes "     The command takes 16,777,216 bytes, and open, dopen and eopen take everything that was\n"
+    ++ codes "     sealed from that many. Seal longer inputs with sseal, under a streaming key.\n\n"
     ++ codes "6  too many segments\n"
-    ++ codes "     The input of a stream is too long for its segments: use a template of larger ones.\n\n"
+    ++ codes "     The input of a stream is too long for its segments: use a template with larger ones.\n\n"
     ++ codes "6  line too long\n"
-    ++ codes "     A line of a session has at most 65,536 bytes. The replies before it stand; the keyset\n"
-    ++ codes "     that the session had then is gone, and --out makes no file.\n\n"
+    ++ codes "     A line of a session has at most 65,536 bytes. The replies before it are valid; the\n"
+    ++ codes "     session's keyset is lost, and --out makes no file.\n\n"
     ++ codes "6  too many lines\n"
-    ++ codes "     A session has at most 100,000 lines. Its replies stand; the keyset that it had then is\n"
-    ++ codes "     gone, and --out makes no file. Count the lines before, and split them over several\n"
-    ++ codes "     sessions.\n\n"
+    ++ codes "     A session has at most 100,000 lines. Its replies are valid; its keyset is lost, and\n"
+    ++ codes "     --out makes no file. Count the lines first, and split them over several sessions.\n\n"
     ++ codes "7  out of memory\n"
-    ++ codes "     Memory was refused. No new file was made; what a stream or a session had written\n"
-    ++ codes "     stands.\n\n"
-    ++ codes "8  a word of the command isn't text, and no line\n\n"
+    ++ codes "     Memory was refused. No new file was made; what a stream or a session had written before\n"
+    ++ codes "     is valid.\n\n"
+    ++ codes "8  a word of the command isn't text (UTF-8), and no line\n\n"
     ++ codes "127  the processor lacks what the program was built for, as x86-64-v3: make run\n"
     ++ codes "     CPU=x86-64-v2 makes one for nearly every processor. The line is the toolchain's; the\n"
     ++ codes "     build for plain x86-64 that it may advise is refused here.\n"
@@ -206,18 +205,18 @@ exit_text =
 
 abbrev pub key_template_28 : List ℕ
 key_template_28 =
-    codes "  --key-template NAME       the name of the template of a new key: any text; it is looked up\n"
-    ++ codes "                            as the name of a template\n"
+    codes "  --key-template NAME       the template of the new key: any text; it is looked up as the\n"
+    ++ codes "                            name of a template\n"
 
 abbrev pub out_28 : List ℕ
 out_28 =
-    codes "  --out FILE                the file that is made: a file's name, of one byte or more, whose\n"
-    ++ codes "                            last part doesn't begin with .tinkey-new-\n"
+    codes "  --out FILE                the file to make: a file's name, of one byte or more, whose last\n"
+    ++ codes "                            part doesn't begin with .tinkey-new-\n"
 
 abbrev pub out_format_28 : List ℕ
 out_format_28 =
-    codes "  --out-format json|binary  the form of the keyset that is written: json or binary, in ASCII\n"
-    ++ codes "                            letters of either case; where it isn't named, json\n"
+    codes "  --out-format json|binary  the form of the keyset to write: json or binary, in upper or\n"
+    ++ codes "                            lower case; json if it isn't given\n"
 
 abbrev pub read_by_create_keyset : List ℕ
 read_by_create_keyset =
@@ -229,23 +228,23 @@ code_0 =
 
 abbrev pub code_2 : List ℕ
 code_2 =
-    codes "  2  the words aren't a command, or ask for what can't be had\n"
+    codes "  2  the words aren't a command, or ask for something that can't be had\n"
 
 abbrev pub code_4 : List ℕ
 code_4 =
-    codes "  4  a file is missing or is there, or an edit is refused\n"
+    codes "  4  a file is missing or already there, or an edit is refused\n"
 
 abbrev pub code_5 : List ℕ
 code_5 =
-    codes "  5  reading, writing, a file or the random bytes failed\n"
+    codes "  5  reading, writing, a file or the random device failed\n"
 
 abbrev pub code_7 : List ℕ
 code_7 =
-    codes "  7  memory was wanting\n"
+    codes "  7  out of memory\n"
 
 abbrev pub code_8 : List ℕ
 code_8 =
-    codes "  8  a word of the command isn't text\n"
+    codes "  8  a word of the command isn't text (UTF-8)\n"
 
 abbrev pub codes_024578 : List ℕ
 codes_024578 =
@@ -255,13 +254,13 @@ codes_024578 =
 
 abbrev pub in_28 : List ℕ
 in_28 =
-    codes "  --in FILE                 the file of the keyset that is read: a file's name, of one byte\n"
-    ++ codes "                            or more\n"
+    codes "  --in FILE                 the file of the keyset to read: a file's name, of one byte or\n"
+    ++ codes "                            more\n"
 
 abbrev pub in_format_28 : List ℕ
 in_format_28 =
-    codes "  --in-format json|binary   the form of that keyset: json or binary, in ASCII letters of\n"
-    ++ codes "                            either case; where it isn't named, json\n"
+    codes "  --in-format json|binary   the form of that keyset: json or binary, in upper or lower case;\n"
+    ++ codes "                            json if it isn't given\n"
 
 abbrev pub options_of_add_key : List ℕ
 options_of_add_key =
@@ -272,12 +271,12 @@ options_of_add_key =
 
 abbrev pub read_by_add_key : List ℕ
 read_by_add_key =
-    codes "\nReads  a keyset, from the file of --in, or where none is named, from standard input\n"
+    codes "\nReads  a keyset, from the file of --in, or from standard input if there is no --in\n"
 
 abbrev pub given_by_add_key : List ℕ
 given_by_add_key =
-    codes "Gives  the keyset after that edit, as a new file of --out, or where none is named, on\n"
-    ++ codes "       standard output\n"
+    codes "Gives  the keyset after that edit, in a new file of --out, or on standard output if there is\n"
+    ++ codes "       no --out\n"
 
 abbrev pub code_3 : List ℕ
 code_3 =
@@ -296,20 +295,20 @@ codes_02345678 =
 abbrev pub options_of_promote_key : List ℕ
 options_of_promote_key =
     codes "\nRequired:\n"
-    ++ codes "  --key-id N                the key that is changed: 1 to 10 decimal digits, of a number up\n"
-    ++ codes "                            to 4,294,967,295\n\n"
+    ++ codes "  --key-id N                the id of the key to change: 1 to 10 decimal digits, of a number\n"
+    ++ codes "                            up to 4,294,967,295\n\n"
     ++ codes "Optional:\n"
     ++ in_28 ++ in_format_28 ++ out_28 ++ out_format_28
 
 abbrev pub out_31 : List ℕ
 out_31 =
-    codes "  --out FILE                   the file that is made: a file's name, of one byte or more,\n"
-    ++ codes "                               whose last part doesn't begin with .tinkey-new-\n"
+    codes "  --out FILE                   the file to make: a file's name, of one byte or more, whose\n"
+    ++ codes "                               last part doesn't begin with .tinkey-new-\n"
 
 abbrev pub out_format_31 : List ℕ
 out_format_31 =
-    codes "  --out-format json|binary     the form of the keyset that is written: json or binary, in\n"
-    ++ codes "                               ASCII letters of either case; where it isn't named, json\n"
+    codes "  --out-format json|binary     the form of the keyset to write: json or binary, in upper or\n"
+    ++ codes "                               lower case; json if it isn't given\n"
 
 abbrev pub options_of_wrap_keyset : List ℕ
 options_of_wrap_keyset =
@@ -317,12 +316,12 @@ options_of_wrap_keyset =
     ++ codes "  --master FILE                the file of the keyset under which another one is sealed: a\n"
     ++ codes "                               file's name, of one byte or more\n\n"
     ++ codes "Optional:\n"
-    ++ codes "  --master-format json|binary  the form of that keyset: json or binary, in ASCII letters of\n"
-    ++ codes "                               either case; where it isn't named, json\n"
-    ++ codes "  --in FILE                    the file of the keyset that is read: a file's name, of one\n"
-    ++ codes "                               byte or more\n"
-    ++ codes "  --in-format json|binary      the form of that keyset: json or binary, in ASCII letters of\n"
-    ++ codes "                               either case; where it isn't named, json\n"
+    ++ codes "  --master-format json|binary  the form of that keyset: json or binary, in upper or lower\n"
+    ++ codes "                               case; json if it isn't given\n"
+    ++ codes "  --in FILE                    the file of the keyset to read: a file's name, of one byte or\n"
+    ++ codes "                               more\n"
+    ++ codes "  --in-format json|binary      the form of that keyset: json or binary, in upper or lower\n"
+    ++ codes "                               case; json if it isn't given\n"
     ++ out_31 ++ out_format_31
 
 abbrev pub codes_012345678 : List ℕ
@@ -335,13 +334,13 @@ codes_012345678 =
 
 abbrev pub keyset_31 : List ℕ
 keyset_31 =
-    codes "  --keyset FILE                the file of the keyset that is used: a file's name, of one\n"
-    ++ codes "                               byte or more\n"
+    codes "  --keyset FILE                the file of the keyset to use: a file's name, of one byte or\n"
+    ++ codes "                               more\n"
 
 abbrev pub keyset_format_31 : List ℕ
 keyset_format_31 =
-    codes "  --keyset-format json|binary  the form of that keyset: json or binary, in ASCII letters of\n"
-    ++ codes "                               either case; where it isn't named, json\n"
+    codes "  --keyset-format json|binary  the form of that keyset: json or binary, in upper or lower\n"
+    ++ codes "                               case; json if it isn't given\n"
 
 abbrev pub ad_31 : List ℕ
 ad_31 =
@@ -369,15 +368,15 @@ abbrev pub options_of_eseal : List ℕ
 options_of_eseal =
     codes "\nRequired:\n"
     ++ keyset_31
-    ++ codes "  --dek-template NAME          the name of the template of data keys: any text; it is looked\n"
-    ++ codes "                               up as the name of a template\n\n"
+    ++ codes "  --dek-template NAME          the template of the data key: any text; it is looked up as\n"
+    ++ codes "                               the name of a template\n\n"
     ++ codes "Optional:\n"
     ++ keyset_format_31 ++ ad_31 ++ ad_hex_31 ++ out_31
 
 abbrev pub given_by_dseal : List ℕ
 given_by_dseal =
-    codes "Gives  as seal and open, without an IV, as a new file of --out, or where none is named, on\n"
-    ++ codes "       standard output\n"
+    codes "Gives  as seal and open, without an IV, in a new file of --out, or on standard output if\n"
+    ++ codes "       there is no --out\n"
 
 abbrev pub options_of_sseal : List ℕ
 options_of_sseal =
@@ -392,17 +391,16 @@ read_by_sseal =
 
 abbrev pub given_by_sseal : List ℕ
 given_by_sseal =
-    codes "Gives  as seal and open, of a stream, written as it is read\n"
+    codes "Gives  as seal and open, of a stream, written while it is read\n"
 
 abbrev pub length_31 : List ℕ
 length_31 =
-    codes "  --length N                   how many bytes are derived, or are in a range: 1 to 10\n"
-    ++ codes "                               decimal digits, of a number up to 4,294,967,295; a length of\n"
-    ++ codes "                               srange is at most 16,777,216\n"
+    codes "  --length N                   how many bytes to derive, or to open: 1 to 10 decimal digits,\n"
+    ++ codes "                               of a number up to 4,294,967,295; for srange, up to 16,777,216\n"
 
 abbrev pub hex_31 : List ℕ
 hex_31 =
-    codes "  --hex                        whether what is put out is in hexadecimal\n"
+    codes "  --hex                        writes the output in hexadecimal\n"
 
 -- each command
 unfoldable pub command_text : CommandName → List ℕ
@@ -413,73 +411,92 @@ command_text commands.CreateKeyset =
     ++ key_template_28
     ++ codes "\nOptional:\n"
     ++ out_28 ++ out_format_28 ++ read_by_create_keyset
-    ++ codes "Gives  a keyset of one new key, as a new file of --out, or where none is named, on standard\n"
-    ++ codes "       output\n"
+    ++ codes "Gives  a keyset of one new key, in a new file of --out, or on standard output if there is no\n"
+    ++ codes "       --out\n"
     ++ codes_024578
     ++ codes "  tinkey create-keyset --key-template AES256_GCM --out first.json\n"
 command_text commands.AddKey =
-    codes "tinkey add-key: puts a new key behind the others\n\n"
+    codes "tinkey add-key: adds a new key\n\n"
     ++ codes "  tinkey add-key --key-template NAME [--in FILE] [--in-format json|binary] [--out FILE]\n"
     ++ codes "      [--out-format json|binary]\n"
     ++ options_of_add_key ++ read_by_add_key ++ given_by_add_key
     ++ codes_02345678
-    ++ codes "  tinkey add-key --key-template AES256_GCM --in first.json --out second.json\n"
+    ++ codes "  tinkey create-keyset --key-template AES256_GCM --out one.json\n"
+    ++ codes "  tinkey add-key --key-template AES256_GCM --in one.json --out two.json\n"
 command_text commands.RotateKeyset =
-    codes "tinkey rotate-keyset: puts a new key behind the others, and makes it the primary\n\n"
+    codes "tinkey rotate-keyset: adds a new key, and makes it the primary\n\n"
     ++ codes "  tinkey rotate-keyset --key-template NAME [--in FILE] [--in-format json|binary]\n"
     ++ codes "      [--out FILE] [--out-format json|binary]\n"
     ++ options_of_add_key ++ read_by_add_key ++ given_by_add_key
     ++ codes_02345678
-    ++ codes "  tinkey rotate-keyset --key-template AES256_GCM --in first.json --out second.json\n"
+    ++ codes "  tinkey create-keyset --key-template AES256_GCM --out old.json\n"
+    ++ codes "  tinkey rotate-keyset --key-template AES256_GCM --in old.json --out rotated.json\n"
 command_text commands.PromoteKey =
     codes "tinkey promote-key: makes an enabled key the primary\n\n"
     ++ codes "  tinkey promote-key --key-id N [--in FILE] [--in-format json|binary] [--out FILE]\n"
     ++ codes "      [--out-format json|binary]\n"
     ++ options_of_promote_key ++ read_by_add_key ++ given_by_add_key
     ++ codes_02345678
-    ++ codes "  tinkey promote-key --key-id 2547982252 --in first.json --out second.json\n"
+    ++ codes "  tinkey create-keyset --key-template AES256_GCM |\n"
+    ++ codes "      tinkey rotate-keyset --key-template AES256_GCM --out both.json\n"
+    ++ codes "  id=$(tinkey list-keyset --in both.json | sed -n 's/^  key_id: //p' | head -n 1)\n"
+    ++ codes "  tinkey promote-key --key-id $id --in both.json --out promoted.json\n"
 command_text commands.EnableKey =
     codes "tinkey enable-key: makes a key ENABLED\n\n"
     ++ codes "  tinkey enable-key --key-id N [--in FILE] [--in-format json|binary] [--out FILE]\n"
     ++ codes "      [--out-format json|binary]\n"
     ++ options_of_promote_key ++ read_by_add_key ++ given_by_add_key
     ++ codes_02345678
-    ++ codes "  tinkey enable-key --key-id 2547982252 --in first.json --out second.json\n"
+    ++ codes "  tinkey create-keyset --key-template AES256_GCM |\n"
+    ++ codes "      tinkey rotate-keyset --key-template AES256_GCM --out ready.json\n"
+    ++ codes "  id=$(tinkey list-keyset --in ready.json | sed -n 's/^  key_id: //p' | head -n 1)\n"
+    ++ codes "  tinkey disable-key --key-id $id --in ready.json --out off.json\n"
+    ++ codes "  tinkey enable-key --key-id $id --in off.json --out on.json\n"
 command_text commands.DisableKey =
-    codes "tinkey disable-key: makes a key DISABLED: it does no work, and can be enabled again\n\n"
+    codes "tinkey disable-key: makes a key DISABLED: it isn't used, and can be enabled again\n\n"
     ++ codes "  tinkey disable-key --key-id N [--in FILE] [--in-format json|binary] [--out FILE]\n"
     ++ codes "      [--out-format json|binary]\n"
     ++ options_of_promote_key ++ read_by_add_key ++ given_by_add_key
     ++ codes_02345678
-    ++ codes "  tinkey disable-key --key-id 2547982252 --in first.json --out second.json\n"
+    ++ codes "  tinkey create-keyset --key-template AES256_GCM |\n"
+    ++ codes "      tinkey rotate-keyset --key-template AES256_GCM --out busy.json\n"
+    ++ codes "  id=$(tinkey list-keyset --in busy.json | sed -n 's/^  key_id: //p' | head -n 1)\n"
+    ++ codes "  tinkey disable-key --key-id $id --in busy.json --out disabled.json\n"
 command_text commands.DestroyKey =
-    codes "tinkey destroy-key: takes a key's material away; this can't be undone\n\n"
+    codes "tinkey destroy-key: destroys a key's material; this can't be undone\n\n"
     ++ codes "  tinkey destroy-key --key-id N [--in FILE] [--in-format json|binary] [--out FILE]\n"
     ++ codes "      [--out-format json|binary]\n"
     ++ options_of_promote_key ++ read_by_add_key ++ given_by_add_key
     ++ codes_02345678
-    ++ codes "  tinkey destroy-key --key-id 2547982252 --in first.json --out second.json\n"
+    ++ codes "  tinkey create-keyset --key-template AES256_GCM |\n"
+    ++ codes "      tinkey rotate-keyset --key-template AES256_GCM --out full.json\n"
+    ++ codes "  id=$(tinkey list-keyset --in full.json | sed -n 's/^  key_id: //p' | head -n 1)\n"
+    ++ codes "  tinkey destroy-key --key-id $id --in full.json --out destroyed.json\n"
 command_text commands.DeleteKey =
-    codes "tinkey delete-key: takes a key out; this can't be undone\n\n"
+    codes "tinkey delete-key: removes a key; this can't be undone\n\n"
     ++ codes "  tinkey delete-key --key-id N [--in FILE] [--in-format json|binary] [--out FILE]\n"
     ++ codes "      [--out-format json|binary]\n"
     ++ options_of_promote_key ++ read_by_add_key ++ given_by_add_key
     ++ codes_02345678
-    ++ codes "  tinkey delete-key --key-id 2547982252 --in first.json --out second.json\n"
+    ++ codes "  tinkey create-keyset --key-template AES256_GCM |\n"
+    ++ codes "      tinkey rotate-keyset --key-template AES256_GCM --out many.json\n"
+    ++ codes "  id=$(tinkey list-keyset --in many.json | sed -n 's/^  key_id: //p' | head -n 1)\n"
+    ++ codes "  tinkey delete-key --key-id $id --in many.json --out fewer.json\n"
 command_text commands.ListKeyset =
     codes "tinkey list-keyset: lists a keyset without key material\n\n"
     ++ codes "  tinkey list-keyset [--in FILE] [--in-format json|binary]\n\n"
     ++ codes "Optional:\n"
-    ++ codes "  --in FILE                the file of the keyset that is read: a file's name, of one byte\n"
-    ++ codes "                           or more\n"
-    ++ codes "  --in-format json|binary  the form of that keyset: json or binary, in ASCII letters of\n"
-    ++ codes "                           either case; where it isn't named, json\n"
+    ++ codes "  --in FILE                the file of the keyset to read: a file's name, of one byte or\n"
+    ++ codes "                           more\n"
+    ++ codes "  --in-format json|binary  the form of that keyset: json or binary, in upper or lower case;\n"
+    ++ codes "                           json if it isn't given\n"
     ++ read_by_add_key
     ++ codes "Gives  its listing, on standard output\n"
     ++ codes_02345678
-    ++ codes "  tinkey list-keyset --in first.json\n"
+    ++ codes "  tinkey create-keyset --key-template AES256_GCM --out listed.json\n"
+    ++ codes "  tinkey list-keyset --in listed.json\n"
 command_text commands.ListKeyTemplates =
-    codes "tinkey list-key-templates: lists the names of the templates of new keys\n\n"
+    codes "tinkey list-key-templates: lists the names of the templates for new keys\n\n"
     ++ codes "  tinkey list-key-templates\n"
     ++ read_by_create_keyset
     ++ codes "Gives  the names of the templates, one a line, on standard output\n\n"
@@ -493,110 +510,130 @@ command_text commands.ConvertKeyset =
     ++ codes "      [--out-format json|binary]\n\n"
     ++ codes "Optional:\n"
     ++ in_28 ++ in_format_28 ++ out_28 ++ out_format_28 ++ read_by_add_key
-    ++ codes "Gives  the same keyset, as a new file of --out, or where none is named, on standard output\n"
+    ++ codes "Gives  the same keyset, in a new file of --out, or on standard output if there is no --out\n"
     ++ codes_02345678
-    ++ codes "  tinkey convert-keyset --in first.json --out first.bin --out-format binary\n"
+    ++ codes "  tinkey create-keyset --key-template AES256_GCM --out text.json\n"
+    ++ codes "  tinkey convert-keyset --in text.json --out keyset.bin --out-format binary\n"
 command_text commands.WrapKeyset =
     codes "tinkey wrap-keyset: seals a keyset under another one, the master\n\n"
     ++ codes "  tinkey wrap-keyset --master FILE [--master-format json|binary] [--in FILE]\n"
     ++ codes "      [--in-format json|binary] [--out FILE] [--out-format json|binary]\n"
     ++ options_of_wrap_keyset
-    ++ codes "\nReads  the master in the file of --master, and a keyset, from the file of --in, or where\n"
-    ++ codes "       none is named, from standard input\n"
+    ++ codes "\nReads  the master in the file of --master, and a keyset, from the file of --in, or from\n"
+    ++ codes "       standard input if there is no --in\n"
     ++ codes "Gives  the keyset as an encrypted keyset, sealed under the master's primary key, in the form\n"
-    ++ codes "       of --out-format, as a new file of --out, or where none is named, on standard output\n"
+    ++ codes "       of --out-format, in a new file of --out, or on standard output if there is no --out\n"
     ++ codes_02345678
-    ++ codes "  tinkey wrap-keyset --master master.json --in first.json --out first.wrapped\n"
+    ++ codes "  tinkey create-keyset --key-template AES256_GCM --out master.json\n"
+    ++ codes "  tinkey create-keyset --key-template AES256_GCM |\n"
+    ++ codes "      tinkey wrap-keyset --master master.json --out wrapped.json\n"
 command_text commands.UnwrapKeyset =
     codes "tinkey unwrap-keyset: opens a keyset that was wrapped\n\n"
     ++ codes "  tinkey unwrap-keyset --master FILE [--master-format json|binary] [--in FILE]\n"
     ++ codes "      [--in-format json|binary] [--out FILE] [--out-format json|binary]\n"
     ++ options_of_wrap_keyset
     ++ codes "\nReads  the master, and an encrypted keyset in the form of --in-format, from the file of\n"
-    ++ codes "       --in, or where none is named, from standard input\n"
-    ++ codes "Gives  the keyset inside, as a new file of --out, or where none is named, on standard output\n"
+    ++ codes "       --in, or from standard input if there is no --in\n"
+    ++ codes "Gives  the keyset inside, in a new file of --out, or on standard output if there is no --out\n"
     ++ codes_012345678
-    ++ codes "  tinkey unwrap-keyset --master master.json --in first.wrapped --out first.json\n"
+    ++ codes "  tinkey create-keyset --key-template AES256_GCM --out lock.json\n"
+    ++ codes "  tinkey create-keyset --key-template AES256_GCM |\n"
+    ++ codes "      tinkey wrap-keyset --master lock.json --out locked.json\n"
+    ++ codes "  tinkey unwrap-keyset --master lock.json --in locked.json --out unlocked.json\n"
 command_text commands.Seal =
     codes "tinkey seal: seals standard input under the primary key\n\n"
     ++ codes "  tinkey seal --keyset FILE [--keyset-format json|binary] [--ad TEXT] [--ad-hex HEX]\n"
     ++ codes "      [--out FILE]\n"
     ++ options_of_seal ++ read_by_seal
-    ++ codes "Gives  the input sealed under the primary key, as a new file of --out, or where none is\n"
-    ++ codes "       named, on standard output\n"
+    ++ codes "Gives  the input sealed under the primary key, in a new file of --out, or on standard output\n"
+    ++ codes "       if there is no --out\n"
     ++ codes_02345678
-    ++ codes "  tinkey seal --keyset first.json --ad 'to Ada' < letter.txt > letter.sealed\n"
+    ++ codes "  tinkey create-keyset --key-template AES256_GCM --out seal.json\n"
+    ++ codes "  echo 'Dear Ada' | tinkey seal --keyset seal.json --ad 'to Ada' --out letter.sealed\n"
 command_text commands.Open =
     codes "tinkey open: opens what any enabled key sealed\n\n"
     ++ codes "  tinkey open --keyset FILE [--keyset-format json|binary] [--ad TEXT] [--ad-hex HEX]\n"
     ++ codes "      [--out FILE]\n"
     ++ options_of_seal ++ read_by_seal
-    ++ codes "Gives  what the input opens to, as a new file of --out, or where none is named, on standard\n"
-    ++ codes "       output\n"
+    ++ codes "Gives  what the input opens to, in a new file of --out, or on standard output if there is no\n"
+    ++ codes "       --out\n"
     ++ codes_012345678
-    ++ codes "  tinkey open --keyset first.json --ad 'to Ada' < letter.sealed\n"
+    ++ codes "  tinkey create-keyset --key-template AES256_GCM --out open.json\n"
+    ++ codes "  echo 'Dear Ada' | tinkey seal --keyset open.json --ad 'to Ada' --out open.sealed\n"
+    ++ codes "  tinkey open --keyset open.json --ad 'to Ada' < open.sealed\n"
 command_text commands.Eseal =
     codes "tinkey eseal: seals under a fresh data key, and that key under the keyset: an envelope\n\n"
     ++ codes "  tinkey eseal --keyset FILE --dek-template NAME [--keyset-format json|binary] [--ad TEXT]\n"
     ++ codes "      [--ad-hex HEX] [--out FILE]\n"
     ++ options_of_eseal ++ read_by_seal
     ++ codes "Gives  an envelope of the input, under a fresh data key of the template of --dek-template,\n"
-    ++ codes "       as a new file of --out, or where none is named, on standard output\n"
+    ++ codes "       in a new file of --out, or on standard output if there is no --out\n"
     ++ codes_02345678
-    ++ codes "  tinkey eseal --keyset first.json --dek-template AES128_GCM < letter.txt > envelope\n"
+    ++ codes "  tinkey create-keyset --key-template AES256_GCM --out eseal.json\n"
+    ++ codes "  echo 'Dear Ada' | tinkey eseal --keyset eseal.json --dek-template AES128_GCM --out envelope\n"
 command_text commands.Eopen =
     codes "tinkey eopen: opens an envelope\n\n"
     ++ codes "  tinkey eopen --keyset FILE --dek-template NAME [--keyset-format json|binary] [--ad TEXT]\n"
     ++ codes "      [--ad-hex HEX] [--out FILE]\n"
     ++ options_of_eseal ++ read_by_seal
-    ++ codes "Gives  what the envelope opens to, as a new file of --out, or where none is named, on\n"
-    ++ codes "       standard output\n"
+    ++ codes "Gives  what the envelope opens to, in a new file of --out, or on standard output if there is\n"
+    ++ codes "       no --out\n"
     ++ codes_012345678
-    ++ codes "  tinkey eopen --keyset first.json --dek-template AES128_GCM < envelope\n"
+    ++ codes "  tinkey create-keyset --key-template AES256_GCM --out eopen.json\n"
+    ++ codes "  echo 'Dear Ada' | tinkey eseal --keyset eopen.json --dek-template AES128_GCM --out eopen.sealed\n"
+    ++ codes "  tinkey eopen --keyset eopen.json --dek-template AES128_GCM < eopen.sealed\n"
 command_text commands.Dseal =
     codes "tinkey dseal: seals deterministically: equal texts give equal bytes\n\n"
     ++ codes "  tinkey dseal --keyset FILE [--keyset-format json|binary] [--ad TEXT] [--ad-hex HEX]\n"
     ++ codes "      [--out FILE]\n"
     ++ options_of_seal ++ read_by_seal ++ given_by_dseal
     ++ codes_02345678
-    ++ codes "  tinkey dseal --keyset siv.json < letter.txt > letter.sealed\n"
+    ++ codes "  tinkey create-keyset --key-template AES256_SIV --out dseal.json\n"
+    ++ codes "  echo 'Dear Ada' | tinkey dseal --keyset dseal.json --out same.sealed\n"
 command_text commands.Dopen =
     codes "tinkey dopen: opens what dseal sealed\n\n"
     ++ codes "  tinkey dopen --keyset FILE [--keyset-format json|binary] [--ad TEXT] [--ad-hex HEX]\n"
     ++ codes "      [--out FILE]\n"
     ++ options_of_seal ++ read_by_seal ++ given_by_dseal
     ++ codes_012345678
-    ++ codes "  tinkey dopen --keyset siv.json < letter.sealed\n"
+    ++ codes "  tinkey create-keyset --key-template AES256_SIV --out dopen.json\n"
+    ++ codes "  echo 'Dear Ada' | tinkey dseal --keyset dopen.json --out dopen.sealed\n"
+    ++ codes "  tinkey dopen --keyset dopen.json < dopen.sealed\n"
 command_text commands.Sseal =
     codes "tinkey sseal: seals a stream of any length, in one pass\n\n"
     ++ codes "  tinkey sseal --keyset FILE [--keyset-format json|binary] [--ad TEXT] [--ad-hex HEX]\n"
     ++ options_of_sseal ++ read_by_sseal ++ given_by_sseal
     ++ codes_02345678
-    ++ codes "  tinkey sseal --keyset streaming.json < backup.tar > backup.sealed\n"
+    ++ codes "  tinkey create-keyset --key-template AES256_GCM_HKDF_1MB --out sseal.json\n"
+    ++ codes "  echo 'Dear Ada' | tinkey sseal --keyset sseal.json > letter.stream\n"
 command_text commands.Sopen =
-    codes "tinkey sopen: opens such a stream; only at exit code 0 is it whole\n\n"
+    codes "tinkey sopen: opens such a stream; it is complete only if the exit code is 0\n\n"
     ++ codes "  tinkey sopen --keyset FILE [--keyset-format json|binary] [--ad TEXT] [--ad-hex HEX]\n"
     ++ options_of_sseal ++ read_by_sseal ++ given_by_sseal
     ++ codes_012345678
-    ++ codes "  tinkey sopen --keyset streaming.json < backup.sealed > backup.tar\n"
+    ++ codes "  tinkey create-keyset --key-template AES256_GCM_HKDF_1MB --out sopen.json\n"
+    ++ codes "  echo 'Dear Ada' | tinkey sseal --keyset sopen.json > sopen.stream\n"
+    ++ codes "  tinkey sopen --keyset sopen.json < sopen.stream > opened.txt && echo whole\n"
 command_text commands.Srange =
     codes "tinkey srange: opens a range of such a stream in a file\n\n"
     ++ codes "  tinkey srange --keyset FILE --file FILE --from N --length N [--keyset-format json|binary]\n"
     ++ codes "      [--ad TEXT] [--ad-hex HEX] [--out FILE]\n\n"
     ++ codes "Required:\n"
     ++ keyset_31
-    ++ codes "  --file FILE                  the file of a stream: a file's name, of one byte or more; the\n"
-    ++ codes "                               file is no folder and no pipe\n"
-    ++ codes "  --from N                     the offset of a range's first byte: 1 to 19 decimal digits,\n"
+    ++ codes "  --file FILE                  the file of the stream: a file's name, of one byte or more;\n"
+    ++ codes "                               the file is no folder and no pipe\n"
+    ++ codes "  --from N                     the offset of the first byte to open: 1 to 19 decimal digits,\n"
     ++ codes "                               of a number up to 9,223,372,036,854,775,807\n"
     ++ length_31
     ++ codes "\nOptional:\n"
     ++ keyset_format_31 ++ ad_31 ++ ad_hex_31 ++ out_31
     ++ codes "\nReads  the keyset, and the stream in the file of --file\n"
-    ++ codes "Gives  so many bytes of the stream's plaintext, as --length says, from the offset of --from\n"
-    ++ codes "       on, counted from 0; as a new file of --out, or on standard output\n"
+    ++ codes "Gives  as many bytes of the stream's plaintext as --length says, from the offset of --from\n"
+    ++ codes "       on, counted from 0; in a new file of --out, or on standard output\n"
     ++ codes_012345678
-    ++ codes "  tinkey srange --keyset streaming.json --file backup.sealed --from 1000000 --length 100\n"
+    ++ codes "  tinkey create-keyset --key-template AES256_GCM_HKDF_1MB --out srange.json\n"
+    ++ codes "  echo 'Dear Ada' | tinkey sseal --keyset srange.json > srange.stream\n"
+    ++ codes "  tinkey srange --keyset srange.json --file srange.stream --from 5 --length 3\n"
 command_text commands.Tag =
     codes "tinkey tag: tags standard input under the primary key\n\n"
     ++ codes "  tinkey tag --keyset FILE [--keyset-format json|binary] [--out FILE] [--hex]\n\n"
@@ -604,22 +641,25 @@ command_text commands.Tag =
     ++ keyset_31
     ++ codes "\nOptional:\n"
     ++ keyset_format_31 ++ out_31 ++ hex_31 ++ read_by_seal
-    ++ codes "Gives  the tag of the input under the primary key, as a new file of --out, or where none is\n"
-    ++ codes "       named, on standard output\n"
+    ++ codes "Gives  the tag of the input under the primary key, in a new file of --out, or on standard\n"
+    ++ codes "       output if there is no --out\n"
     ++ codes_02345678
-    ++ codes "  tinkey tag --keyset mac.json --hex < letter.txt > letter.tag\n"
+    ++ codes "  tinkey create-keyset --key-template HMAC_SHA256_128BITTAG --out tag.json\n"
+    ++ codes "  echo 'Dear Ada' | tinkey tag --keyset tag.json --hex --out letter.tag\n"
 command_text commands.Verify =
-    codes "tinkey verify: says whether a tag is that of any enabled key\n\n"
+    codes "tinkey verify: says whether a tag is valid under any enabled key\n\n"
     ++ codes "  tinkey verify --keyset FILE --tag-hex HEX [--keyset-format json|binary]\n\n"
     ++ codes "Required:\n"
     ++ keyset_31
-    ++ codes "  --tag-hex HEX                the tag that is verified, in hexadecimal: an even number of\n"
+    ++ codes "  --tag-hex HEX                the tag to verify, in hexadecimal: an even number of\n"
     ++ codes "                               hexadecimal digits of either case, at most 2,097,152, or none\n\n"
     ++ codes "Optional:\n"
     ++ keyset_format_31 ++ read_by_seal
     ++ codes "Gives  nothing; the status says whether the tag is one of the keyset's\n"
     ++ codes_012345678
-    ++ codes "  tinkey verify --keyset mac.json --tag-hex 01a62510fbf4892efd34083c < letter.txt\n"
+    ++ codes "  tinkey create-keyset --key-template HMAC_SHA256_128BITTAG --out verify.json\n"
+    ++ codes "  tag=$(echo 'Dear Ada' | tinkey tag --keyset verify.json --hex)\n"
+    ++ codes "  echo 'Dear Ada' | tinkey verify --keyset verify.json --tag-hex $tag && echo verified\n"
 command_text commands.Derive =
     codes "tinkey derive: derives bytes from standard input\n\n"
     ++ codes "  tinkey derive --keyset FILE --length N [--keyset-format json|binary] [--out FILE] [--hex]\n\n"
@@ -627,10 +667,11 @@ command_text commands.Derive =
     ++ keyset_31 ++ length_31
     ++ codes "\nOptional:\n"
     ++ keyset_format_31 ++ out_31 ++ hex_31 ++ read_by_seal
-    ++ codes "Gives  so many bytes derived from the input by the primary key, as a new file of --out, or\n"
-    ++ codes "       where none is named, on standard output\n"
+    ++ codes "Gives  as many bytes as --length says, derived from the input by the primary key, in a new\n"
+    ++ codes "       file of --out, or on standard output if there is no --out\n"
     ++ codes_02345678
-    ++ codes "  tinkey derive --keyset prf.json --length 32 < letter.txt > derived\n"
+    ++ codes "  tinkey create-keyset --key-template HKDF_SHA256 --out derive.json\n"
+    ++ codes "  echo 'Dear Ada' | tinkey derive --keyset derive.json --length 32 --hex\n"
 command_text commands.Session =
     codes "tinkey session: answers lines that seal, open, tag, verify, derive and edit\n\n"
     ++ codes "  tinkey session --keyset FILE [--keyset-format json|binary] [--out FILE]\n"
@@ -643,19 +684,21 @@ command_text commands.Session =
     ++ codes "       associated data), open HEX HEX and dopen HEX HEX, tag HEX, verify HEX HEX (a tag, its\n"
     ++ codes "       text), derive N HEX, add NAME and rotate NAME (a template), promote N, enable N,\n"
     ++ codes "       disable N, destroy N, delete N (a key id); - stands for no bytes\n"
-    ++ codes "Gives  one reply a line, on standard output; and then the last keyset to the new file of\n"
-    ++ codes "       --out, where one is named\n"
+    ++ codes "Gives  one reply for each line, on standard output; and then the last keyset in the new file\n"
+    ++ codes "       of --out, if one is given\n"
     ++ codes_02345678
-    ++ codes "  tinkey session --keyset first.json --out second.json < lines\n"
+    ++ codes "  tinkey create-keyset --key-template AES256_GCM --out session.json\n"
+    ++ codes "  (echo seal 00 -; echo rotate AES256_GCM) |\n"
+    ++ codes "      tinkey session --keyset session.json --out after.json\n"
 command_text commands.Selftest =
-    codes "tinkey selftest: seals, opens and edits many times, and counts what came of it\n\n"
+    codes "tinkey selftest: seals, opens and edits many times, and counts the results\n\n"
     ++ codes "  tinkey selftest --seed N [--lines N]\n\n"
     ++ codes "Required:\n"
-    ++ codes "  --seed N   the number that a self-test is made from: 1 to 10 decimal digits, of a number\n"
-    ++ codes "             up to 4,294,967,295; a length of srange is at most 16,777,216\n\n"
+    ++ codes "  --seed N   the number that the self-test is made from: 1 to 10 decimal digits, of a number\n"
+    ++ codes "             up to 4,294,967,295\n\n"
     ++ codes "Optional:\n"
     ++ codes "  --lines N  how many lines it has: 1 to 10 decimal digits, of a number from 1 to 100,000;\n"
-    ++ codes "             where it isn't named, 1,000\n"
+    ++ codes "             1,000 if it isn't given\n"
     ++ read_by_create_keyset
     ++ codes "Gives  one line of counts, on standard output\n"
     ++ codes_024578

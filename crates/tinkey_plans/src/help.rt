@@ -14,18 +14,18 @@ macro_rules! text {
         text!([$($said)* $line] $($rest)*)
     };
     ([$($said:literal)*] key_template_28 $($rest:tt)*) => {
-        text!([$($said)* "  --key-template NAME       the name of the template of a new key: any text; it is looked up
-                            as the name of a template
+        text!([$($said)* "  --key-template NAME       the template of the new key: any text; it is looked up as the
+                            name of a template
 "] $($rest)*)
     };
     ([$($said:literal)*] out_28 $($rest:tt)*) => {
-        text!([$($said)* "  --out FILE                the file that is made: a file's name, of one byte or more, whose
-                            last part doesn't begin with .tinkey-new-
+        text!([$($said)* "  --out FILE                the file to make: a file's name, of one byte or more, whose last
+                            part doesn't begin with .tinkey-new-
 "] $($rest)*)
     };
     ([$($said:literal)*] out_format_28 $($rest:tt)*) => {
-        text!([$($said)* "  --out-format json|binary  the form of the keyset that is written: json or binary, in ASCII
-                            letters of either case; where it isn't named, json
+        text!([$($said)* "  --out-format json|binary  the form of the keyset to write: json or binary, in upper or
+                            lower case; json if it isn't given
 "] $($rest)*)
     };
     ([$($said:literal)*] read_by_create_keyset $($rest:tt)*) => {
@@ -37,22 +37,22 @@ Reads  nothing
         text!([$($said)* "  0  done\n"] $($rest)*)
     };
     ([$($said:literal)*] code_2 $($rest:tt)*) => {
-        text!([$($said)* "  2  the words aren't a command, or ask for what can't be had
+        text!([$($said)* "  2  the words aren't a command, or ask for something that can't be had
 "] $($rest)*)
     };
     ([$($said:literal)*] code_4 $($rest:tt)*) => {
-        text!([$($said)* "  4  a file is missing or is there, or an edit is refused
+        text!([$($said)* "  4  a file is missing or already there, or an edit is refused
 "] $($rest)*)
     };
     ([$($said:literal)*] code_5 $($rest:tt)*) => {
-        text!([$($said)* "  5  reading, writing, a file or the random bytes failed
+        text!([$($said)* "  5  reading, writing, a file or the random device failed
 "] $($rest)*)
     };
     ([$($said:literal)*] code_7 $($rest:tt)*) => {
-        text!([$($said)* "  7  memory was wanting\n"] $($rest)*)
+        text!([$($said)* "  7  out of memory\n"] $($rest)*)
     };
     ([$($said:literal)*] code_8 $($rest:tt)*) => {
-        text!([$($said)* "  8  a word of the command isn't text\n"] $($rest)*)
+        text!([$($said)* "  8  a word of the command isn't text (UTF-8)\n"] $($rest)*)
     };
     ([$($said:literal)*] codes_024578 $($rest:tt)*) => {
         text!([$($said)*] "
@@ -62,13 +62,13 @@ Example:
 " $($rest)*)
     };
     ([$($said:literal)*] in_28 $($rest:tt)*) => {
-        text!([$($said)* "  --in FILE                 the file of the keyset that is read: a file's name, of one byte
-                            or more
+        text!([$($said)* "  --in FILE                 the file of the keyset to read: a file's name, of one byte or
+                            more
 "] $($rest)*)
     };
     ([$($said:literal)*] in_format_28 $($rest:tt)*) => {
-        text!([$($said)* "  --in-format json|binary   the form of that keyset: json or binary, in ASCII letters of
-                            either case; where it isn't named, json
+        text!([$($said)* "  --in-format json|binary   the form of that keyset: json or binary, in upper or lower case;
+                            json if it isn't given
 "] $($rest)*)
     };
     ([$($said:literal)*] options_of_add_key $($rest:tt)*) => {
@@ -80,13 +80,13 @@ Optional:
     };
     ([$($said:literal)*] read_by_add_key $($rest:tt)*) => {
         text!([$($said)* "
-Reads  a keyset, from the file of --in, or where none is named, from standard input
+Reads  a keyset, from the file of --in, or from standard input if there is no --in
 "] $($rest)*)
     };
     ([$($said:literal)*] given_by_add_key $($rest:tt)*) => {
         text!([$($said)* "\
-Gives  the keyset after that edit, as a new file of --out, or where none is named, on
-       standard output
+Gives  the keyset after that edit, in a new file of --out, or on standard output if there is
+       no --out
 "] $($rest)*)
     };
     ([$($said:literal)*] code_3 $($rest:tt)*) => {
@@ -106,20 +106,20 @@ Example:
     ([$($said:literal)*] options_of_promote_key $($rest:tt)*) => {
         text!([$($said)*] "
 Required:
-  --key-id N                the key that is changed: 1 to 10 decimal digits, of a number up
-                            to 4,294,967,295
+  --key-id N                the id of the key to change: 1 to 10 decimal digits, of a number
+                            up to 4,294,967,295
 
 Optional:
 " in_28 in_format_28 out_28 out_format_28 $($rest)*)
     };
     ([$($said:literal)*] out_31 $($rest:tt)*) => {
-        text!([$($said)* "  --out FILE                   the file that is made: a file's name, of one byte or more,
-                               whose last part doesn't begin with .tinkey-new-
+        text!([$($said)* "  --out FILE                   the file to make: a file's name, of one byte or more, whose
+                               last part doesn't begin with .tinkey-new-
 "] $($rest)*)
     };
     ([$($said:literal)*] out_format_31 $($rest:tt)*) => {
-        text!([$($said)* "  --out-format json|binary     the form of the keyset that is written: json or binary, in
-                               ASCII letters of either case; where it isn't named, json
+        text!([$($said)* "  --out-format json|binary     the form of the keyset to write: json or binary, in upper or
+                               lower case; json if it isn't given
 "] $($rest)*)
     };
     ([$($said:literal)*] options_of_wrap_keyset $($rest:tt)*) => {
@@ -129,12 +129,12 @@ Required:
                                file's name, of one byte or more
 
 Optional:
-  --master-format json|binary  the form of that keyset: json or binary, in ASCII letters of
-                               either case; where it isn't named, json
-  --in FILE                    the file of the keyset that is read: a file's name, of one
-                               byte or more
-  --in-format json|binary      the form of that keyset: json or binary, in ASCII letters of
-                               either case; where it isn't named, json
+  --master-format json|binary  the form of that keyset: json or binary, in upper or lower
+                               case; json if it isn't given
+  --in FILE                    the file of the keyset to read: a file's name, of one byte or
+                               more
+  --in-format json|binary      the form of that keyset: json or binary, in upper or lower
+                               case; json if it isn't given
 " out_31 out_format_31 $($rest)*)
     };
     ([$($said:literal)*] codes_012345678 $($rest:tt)*) => {
@@ -146,13 +146,13 @@ Example:
 " $($rest)*)
     };
     ([$($said:literal)*] keyset_31 $($rest:tt)*) => {
-        text!([$($said)* "  --keyset FILE                the file of the keyset that is used: a file's name, of one
-                               byte or more
+        text!([$($said)* "  --keyset FILE                the file of the keyset to use: a file's name, of one byte or
+                               more
 "] $($rest)*)
     };
     ([$($said:literal)*] keyset_format_31 $($rest:tt)*) => {
-        text!([$($said)* "  --keyset-format json|binary  the form of that keyset: json or binary, in ASCII letters of
-                               either case; where it isn't named, json
+        text!([$($said)* "  --keyset-format json|binary  the form of that keyset: json or binary, in upper or lower
+                               case; json if it isn't given
 "] $($rest)*)
     };
     ([$($said:literal)*] ad_31 $($rest:tt)*) => {
@@ -181,16 +181,16 @@ Reads  the keyset in the file of --keyset, and all of standard input
     ([$($said:literal)*] options_of_eseal $($rest:tt)*) => {
         text!([$($said)*] "
 Required:
-" keyset_31 "  --dek-template NAME          the name of the template of data keys: any text; it is looked
-                               up as the name of a template
+" keyset_31 "  --dek-template NAME          the template of the data key: any text; it is looked up as
+                               the name of a template
 
 Optional:
 " keyset_format_31 ad_31 ad_hex_31 out_31 $($rest)*)
     };
     ([$($said:literal)*] given_by_dseal $($rest:tt)*) => {
         text!([$($said)* "\
-Gives  as seal and open, without an IV, as a new file of --out, or where none is named, on
-       standard output
+Gives  as seal and open, without an IV, in a new file of --out, or on standard output if
+       there is no --out
 "] $($rest)*)
     };
     ([$($said:literal)*] options_of_sseal $($rest:tt)*) => {
@@ -207,17 +207,16 @@ Reads  the keyset, and standard input as a stream
     };
     ([$($said:literal)*] given_by_sseal $($rest:tt)*) => {
         text!([$($said)* "\
-Gives  as seal and open, of a stream, written as it is read
+Gives  as seal and open, of a stream, written while it is read
 "] $($rest)*)
     };
     ([$($said:literal)*] length_31 $($rest:tt)*) => {
-        text!([$($said)* "  --length N                   how many bytes are derived, or are in a range: 1 to 10
-                               decimal digits, of a number up to 4,294,967,295; a length of
-                               srange is at most 16,777,216
+        text!([$($said)* "  --length N                   how many bytes to derive, or to open: 1 to 10 decimal digits,
+                               of a number up to 4,294,967,295; for srange, up to 16,777,216
 "] $($rest)*)
     };
     ([$($said:literal)*] hex_31 $($rest:tt)*) => {
-        text!([$($said)* "  --hex                        whether what is put out is in hexadecimal
+        text!([$($said)* "  --hex                        writes the output in hexadecimal
 "] $($rest)*)
     };
 }
@@ -256,17 +255,17 @@ An option is given once, as --option VALUE or --option=VALUE.
 
 Make and change a keyset:
   create-keyset       makes a keyset of one new key, the primary
-  add-key             puts a new key behind the others
-  rotate-keyset       puts a new key behind the others, and makes it the primary
+  add-key             adds a new key
+  rotate-keyset       adds a new key, and makes it the primary
   promote-key         makes an enabled key the primary
   enable-key          makes a key ENABLED
-  disable-key         makes a key DISABLED: it does no work, and can be enabled again
-  destroy-key         takes a key's material away; this can't be undone
-  delete-key          takes a key out; this can't be undone
+  disable-key         makes a key DISABLED: it isn't used, and can be enabled again
+  destroy-key         destroys a key's material; this can't be undone
+  delete-key          removes a key; this can't be undone
 
 Look at a keyset, and keep it:
   list-keyset         lists a keyset without key material
-  list-key-templates  lists the names of the templates of new keys
+  list-key-templates  lists the names of the templates for new keys
   convert-keyset      writes a keyset in another form or place
   wrap-keyset         seals a keyset under another one, the master
   unwrap-keyset       opens a keyset that was wrapped
@@ -280,17 +279,17 @@ Seal and open:
   dseal               seals deterministically: equal texts give equal bytes
   dopen               opens what dseal sealed
   sseal               seals a stream of any length, in one pass
-  sopen               opens such a stream; only at exit code 0 is it whole
+  sopen               opens such a stream; it is complete only if the exit code is 0
   srange              opens a range of such a stream in a file
 
 Tag, verify and derive:
   tag                 tags standard input under the primary key
-  verify              says whether a tag is that of any enabled key
+  verify              says whether a tag is valid under any enabled key
   derive              derives bytes from standard input
 
 Many lines in one run:
   session             answers lines that seal, open, tag, verify, derive and edit
-  selftest            seals, opens and edits many times, and counts what came of it
+  selftest            seals, opens and edits many times, and counts the results
 
 More:
   tinkey help COMMAND   its options, what it reads and gives, its exit codes, an example
@@ -304,76 +303,76 @@ fn exit_text() -> &'static str
     ensures { result.now ≡ exit_text }
 {
     "\
-A command that can't be done tells so by a line on standard error, and by its exit code. The
-line is \"tinkey: \" and one of these; the code stands in front.
+A command that fails prints a line on standard error and ends with an exit code. The line is
+\"tinkey: \" and one of these, listed after their exit codes.
 
 0  done, and no line
 
 1  open failed
      No ENABLED key of the keyset opens these bytes with these associated data: another key
-     sealed them, the data are others, or the bytes are cut or altered. Give the same --ad;
-     look whether the key is still there and ENABLED (list-keyset); what seal, dseal, sseal
-     or eseal made is for open, dopen, sopen or eopen, and an envelope needs a template of
-     its data key's kind. For an encrypted keyset: the master is another one or lacks the
-     key that sealed, or the input is a keyset in clear.
+     sealed them, the associated data differ, or the bytes are cut or altered. Give the same
+     --ad; check that the key is still there and ENABLED (list-keyset). Open what seal,
+     dseal, sseal or eseal made with open, dopen, sopen or eopen; an envelope needs a
+     template of its data key's kind. For an encrypted keyset: the master is another one or
+     lacks the key that sealed, or the input is a keyset in clear.
 
 1  verify failed
-     The tag is that of no ENABLED key for this input. Give the whole tag, its prefix too,
-     in hexadecimal, as tag --hex does.
+     No ENABLED key makes this tag of this input. Give the whole tag with its prefix, in
+     hexadecimal, as tag --hex prints it.
 
 1  stream failed at segment {segment}
-     From this segment on the stream is damaged, cut, or of another key or other associated
-     data; at segment 0 it may be no stream at all. What was written before it is authentic;
-     the rest has to come from a copy.
+     From this segment on the stream is damaged or cut, or the key or the associated data
+     are not the ones it was sealed with; at segment 0 it may be no stream at all. What was
+     written before is authentic; the rest has to come from a copy.
 
 2  usage: word {word}
-     This word is at fault: no command, no option of this command, one that was given before
-     or can't stand beside another, or a value that isn't of its form. Words count from 0,
-     which is the command. Where the number is that of the words, one is missing behind
-     them: a value, or an option that the command requires. A second line tells which of
-     these it is. Look at the word before, too: where its value was left out, the next word
-     was taken for it. tinkey help lists the commands, and tinkey help COMMAND tells a
-     command's options.
+     This word is wrong: it is no command, no option of this command, an option that was
+     given before or excludes another one, or a value of the wrong form. Words count from 0,
+     which is the command. If the number equals the word count, a word is missing at the
+     end: a value, or an option that the command requires. A second line says which of these
+     it is. Check the word before, too: if its value was left out, the next word was taken
+     as the value. tinkey help lists the commands, and tinkey help COMMAND a command's
+     options.
 
 2  unknown key template
-     list-key-templates lists the names. The AEADs over Poly1305 are left out.
+     list-key-templates lists the names. AEADs with Poly1305 aren't supported.
 
 2  asymmetric key template
-     Keys of this template are left out: Tinkey makes them.
+     Asymmetric keys aren't supported: Tinkey makes them.
 
 2  template is not an AEAD
-     --dek-template names the data keys of envelopes, which are those of an AEAD, as
-     AES128_GCM makes them.
+     --dek-template is for the data keys of envelopes, which must be AEAD keys, such as
+     those of AES128_GCM.
 
 2  output too long: {asked} over {greatest}
      The key can derive at most the second number of bytes.
 
 2  range past the end
      The stream's plaintext is shorter than offset and length together. Ask for less; sopen,
-     piped to wc -c, tells how long it is.
+     piped to wc -c, shows how long it is.
 
 3  bad protobuf at byte {at}
-     The keyset isn't one in the binary form. If it is JSON, name no form, or json. An
-     encrypted keyset may be told so too: unwrap-keyset opens it. Else it is damaged from
-     about that byte on.
+     The keyset isn't one in the binary form. If it is JSON, give no form, or json. If it is
+     an encrypted keyset, unwrap-keyset opens it. Otherwise it is damaged from about that
+     byte on.
 
 3  not JSON
      The keyset isn't JSON: it is empty, cut or damaged, or in the binary form. If it is in
      that form, say so: --in-format binary, --keyset-format binary or --master-format
-     binary. Where no --in is given, standard input was read.
+     binary. Without --in, standard input was read.
 
 3  bad JSON member {member}
-     The JSON isn't a keyset's: this member isn't of its form.
+     The JSON isn't a keyset: this member has the wrong form.
 
 3  bad JSON member {member} of key {key}
-     The same, of a key. Keys count from 0.
+     The same, for a key. Keys count from 0.
 
 3  bad JSON member encryptedKeyset
      The JSON isn't an encrypted keyset, as wrap-keyset writes one.
 
 3  keyset has no key
-     An empty input in the binary form is such a keyset: look whether the file has bytes. An
-     encrypted keyset in JSON is told so too: unwrap-keyset opens it.
+     An empty input in the binary form is such a keyset: check that the file isn't empty. An
+     encrypted keyset in JSON also gives this line: unwrap-keyset opens it.
 
 3  keyset has too many keys
      A keyset has at most 1,000 keys. Delete some with the tool that made it.
@@ -382,16 +381,16 @@ line is \"tinkey: \" and one of these; the code stands in front.
      The key's status isn't one of Tink's: the file is damaged, or of a later Tink.
 
 3  key {key} has an unknown output prefix type
-     The same, of its output prefix type.
+     The same, for its output prefix type.
 
 3  key {key} has an unknown key material type
-     The same, of its key material type.
+     The same, for its key material type.
 
 3  key {key} has no key data
      Only a DESTROYED key may have none.
 
 3  no key has the primary id
-     The keyset is not whole. Another copy of it may have the key.
+     The keyset is incomplete. Another copy of it may have the key.
 
 3  the primary key is not enabled
      No key with the primary id is ENABLED. Enable it, or make another one the primary, with
@@ -405,26 +404,25 @@ line is \"tinkey: \" and one of these; the code stands in front.
      The key is of a kind that this command doesn't use: keys for AEAD are for seal, open,
      eseal and eopen, AES-SIV for dseal and dopen, HMAC and CMAC for tag and verify, PRFs
      for derive, streaming keys for sseal, sopen and srange. The keys of a master are for
-     AEAD. One ENABLED key of another kind is enough: disable it (behind another primary,
-     where it is that), or keep it in a keyset of its own.
+     AEAD. One ENABLED key of another kind is enough for this: disable it (if it is the
+     primary, make another key the primary first), or keep it in a keyset of its own.
 
 3  key {key} is not valid: {rule}
-     The key's message breaks this rule, as a size that its kind doesn't have. It was made
-     by another tool: disable it (behind another primary, where it is that).
+     The key breaks this rule, for example with a size that its kind doesn't have. Another
+     tool made it: disable it (if it is the primary, make another key the primary first).
 
 3  key {key} is not RAW
-     A key that derives has to be RAW, as there is no place for a prefix.
+     A key that derives has to be RAW, because there is no place for a prefix.
 
 3  no manager for the data key
-     Another program's managers don't have this kind of key. Those of tinkey have each
-     AEAD's.
+     Another program's managers lack this kind of key. tinkey itself has one for each AEAD.
 
 3  data key refused: {rule}
-     Another program's manager doesn't take the keys of this template. Those of tinkey take
+     Another program's manager refuses the keys of this template. Those of tinkey accept
      each.
 
 4  input file missing
-     No file has the name behind --in, --keyset, --master or --file.
+     There is no file with the name given by --in, --keyset, --master or --file.
 
 4  key not found
      No key of the keyset has this id: list-keyset shows the ids.
@@ -442,63 +440,63 @@ line is \"tinkey: \" and one of these; the code stands in front.
      The key's message breaks this rule, so it isn't enabled.
 
 4  key of another primitive
-     A keyset's keys do one kind of work. Make a keyset of its own for this template or key.
+     All keys of a keyset do one kind of work. Make a separate keyset for this template or
+     key.
 
 4  no free key id
-     64 random ids in a row were 0 or in use: look at the random device.
+     64 random ids in a row were 0 or in use: check the random device.
 
 4  too many keys
-     The keyset has 1,000 keys. Delete those under which nothing is kept any more.
+     The keyset has 1,000 keys. Delete those that nothing is sealed under any more.
 
 4  primary would be ambiguous
-     Another key has this id, and both would be ENABLED under the primary id. Where a key is
-     to be enabled, make one of another id the primary first. Else rotate-keyset makes a
-     primary whose id is its own.
+     Another key has this id, and both would be ENABLED under the primary id. To enable a
+     key, first make a key with another id the primary. Otherwise use rotate-keyset, which
+     makes a primary with an id of its own.
 
 4  output file exists
-     No file is ever replaced: name a new one. A session looks before its first line.
+     No file is ever replaced: give a new name. A session checks this before its first line.
 
 5  read fault
      Standard input couldn't be read.
 
 5  write fault
-     Standard output took no more bytes, as a closed pipe or a full disk does. What it took
-     is the front of the output.
+     Standard output accepted no more bytes, for example because a pipe was closed or a disk
+     is full. What it accepted is the first part of the output.
 
 5  entropy fault
      The system's random device couldn't be read, or isn't the system's.
 
 5  store fault
-     A file couldn't be read or made: it is a folder, or behind --file a pipe; the folder of
-     the new file isn't there; a name without permission; a full disk. The new file isn't
-     there, or is there whole; on a file system without hard links it may have its first
-     bytes alone. Remove it before the next try.
+     A file couldn't be read or made: it is a folder, or for --file a pipe; the folder of
+     the new file isn't there; permission is missing; the disk is full. The new file isn't
+     there, or is there whole; on a file system without hard links it may have only its
+     first bytes. Remove it before the next try.
 
 6  keyset too long
-     A keyset has at most 1,048,576 bytes, as it is read and as it is written; in JSON it is
-     longer than in the binary form. An encrypted one has at most 4,194,304.
+     A keyset has at most 1,048,576 bytes when it is read and when it is written; JSON is
+     longer than the binary form. An encrypted keyset has at most 4,194,304.
 
 6  input too long
-     The command takes 16,777,216 bytes, and open, dopen and eopen take all that was sealed
-     of so many. What is longer is sealed with sseal, under a streaming key.
+     The command takes 16,777,216 bytes, and open, dopen and eopen take everything that was
+     sealed from that many. Seal longer inputs with sseal, under a streaming key.
 
 6  too many segments
-     The input of a stream is too long for its segments: use a template of larger ones.
+     The input of a stream is too long for its segments: use a template with larger ones.
 
 6  line too long
-     A line of a session has at most 65,536 bytes. The replies before it stand; the keyset
-     that the session had then is gone, and --out makes no file.
+     A line of a session has at most 65,536 bytes. The replies before it are valid; the
+     session's keyset is lost, and --out makes no file.
 
 6  too many lines
-     A session has at most 100,000 lines. Its replies stand; the keyset that it had then is
-     gone, and --out makes no file. Count the lines before, and split them over several
-     sessions.
+     A session has at most 100,000 lines. Its replies are valid; its keyset is lost, and
+     --out makes no file. Count the lines first, and split them over several sessions.
 
 7  out of memory
-     Memory was refused. No new file was made; what a stream or a session had written
-     stands.
+     Memory was refused. No new file was made; what a stream or a session had written before
+     is valid.
 
-8  a word of the command isn't text, and no line
+8  a word of the command isn't text (UTF-8), and no line
 
 127  the processor lacks what the program was built for, as x86-64-v3: make run
      CPU=x86-64-v2 makes one for nearly every processor. The line is the toolchain's; the
@@ -520,58 +518,76 @@ Required:
 " key_template_28 "
 Optional:
 " out_28 out_format_28 read_by_create_keyset "\
-Gives  a keyset of one new key, as a new file of --out, or where none is named, on standard
-       output
+Gives  a keyset of one new key, in a new file of --out, or on standard output if there is no
+       --out
 " codes_024578 "  tinkey create-keyset --key-template AES256_GCM --out first.json
 "),
         CommandName::AddKey => text!([] "\
-tinkey add-key: puts a new key behind the others
+tinkey add-key: adds a new key
 
   tinkey add-key --key-template NAME [--in FILE] [--in-format json|binary] [--out FILE]
       [--out-format json|binary]
-" options_of_add_key read_by_add_key given_by_add_key codes_02345678 "  tinkey add-key --key-template AES256_GCM --in first.json --out second.json
+" options_of_add_key read_by_add_key given_by_add_key codes_02345678 "  tinkey create-keyset --key-template AES256_GCM --out one.json
+  tinkey add-key --key-template AES256_GCM --in one.json --out two.json
 "),
         CommandName::RotateKeyset => text!([] "\
-tinkey rotate-keyset: puts a new key behind the others, and makes it the primary
+tinkey rotate-keyset: adds a new key, and makes it the primary
 
   tinkey rotate-keyset --key-template NAME [--in FILE] [--in-format json|binary]
       [--out FILE] [--out-format json|binary]
-" options_of_add_key read_by_add_key given_by_add_key codes_02345678 "  tinkey rotate-keyset --key-template AES256_GCM --in first.json --out second.json
+" options_of_add_key read_by_add_key given_by_add_key codes_02345678 "  tinkey create-keyset --key-template AES256_GCM --out old.json
+  tinkey rotate-keyset --key-template AES256_GCM --in old.json --out rotated.json
 "),
         CommandName::PromoteKey => text!([] "\
 tinkey promote-key: makes an enabled key the primary
 
   tinkey promote-key --key-id N [--in FILE] [--in-format json|binary] [--out FILE]
       [--out-format json|binary]
-" options_of_promote_key read_by_add_key given_by_add_key codes_02345678 "  tinkey promote-key --key-id 2547982252 --in first.json --out second.json
+" options_of_promote_key read_by_add_key given_by_add_key codes_02345678 "  tinkey create-keyset --key-template AES256_GCM |
+      tinkey rotate-keyset --key-template AES256_GCM --out both.json
+  id=$(tinkey list-keyset --in both.json | sed -n 's/^  key_id: //p' | head -n 1)
+  tinkey promote-key --key-id $id --in both.json --out promoted.json
 "),
         CommandName::EnableKey => text!([] "\
 tinkey enable-key: makes a key ENABLED
 
   tinkey enable-key --key-id N [--in FILE] [--in-format json|binary] [--out FILE]
       [--out-format json|binary]
-" options_of_promote_key read_by_add_key given_by_add_key codes_02345678 "  tinkey enable-key --key-id 2547982252 --in first.json --out second.json
+" options_of_promote_key read_by_add_key given_by_add_key codes_02345678 "  tinkey create-keyset --key-template AES256_GCM |
+      tinkey rotate-keyset --key-template AES256_GCM --out ready.json
+  id=$(tinkey list-keyset --in ready.json | sed -n 's/^  key_id: //p' | head -n 1)
+  tinkey disable-key --key-id $id --in ready.json --out off.json
+  tinkey enable-key --key-id $id --in off.json --out on.json
 "),
         CommandName::DisableKey => text!([] "\
-tinkey disable-key: makes a key DISABLED: it does no work, and can be enabled again
+tinkey disable-key: makes a key DISABLED: it isn't used, and can be enabled again
 
   tinkey disable-key --key-id N [--in FILE] [--in-format json|binary] [--out FILE]
       [--out-format json|binary]
-" options_of_promote_key read_by_add_key given_by_add_key codes_02345678 "  tinkey disable-key --key-id 2547982252 --in first.json --out second.json
+" options_of_promote_key read_by_add_key given_by_add_key codes_02345678 "  tinkey create-keyset --key-template AES256_GCM |
+      tinkey rotate-keyset --key-template AES256_GCM --out busy.json
+  id=$(tinkey list-keyset --in busy.json | sed -n 's/^  key_id: //p' | head -n 1)
+  tinkey disable-key --key-id $id --in busy.json --out disabled.json
 "),
         CommandName::DestroyKey => text!([] "\
-tinkey destroy-key: takes a key's material away; this can't be undone
+tinkey destroy-key: destroys a key's material; this can't be undone
 
   tinkey destroy-key --key-id N [--in FILE] [--in-format json|binary] [--out FILE]
       [--out-format json|binary]
-" options_of_promote_key read_by_add_key given_by_add_key codes_02345678 "  tinkey destroy-key --key-id 2547982252 --in first.json --out second.json
+" options_of_promote_key read_by_add_key given_by_add_key codes_02345678 "  tinkey create-keyset --key-template AES256_GCM |
+      tinkey rotate-keyset --key-template AES256_GCM --out full.json
+  id=$(tinkey list-keyset --in full.json | sed -n 's/^  key_id: //p' | head -n 1)
+  tinkey destroy-key --key-id $id --in full.json --out destroyed.json
 "),
         CommandName::DeleteKey => text!([] "\
-tinkey delete-key: takes a key out; this can't be undone
+tinkey delete-key: removes a key; this can't be undone
 
   tinkey delete-key --key-id N [--in FILE] [--in-format json|binary] [--out FILE]
       [--out-format json|binary]
-" options_of_promote_key read_by_add_key given_by_add_key codes_02345678 "  tinkey delete-key --key-id 2547982252 --in first.json --out second.json
+" options_of_promote_key read_by_add_key given_by_add_key codes_02345678 "  tinkey create-keyset --key-template AES256_GCM |
+      tinkey rotate-keyset --key-template AES256_GCM --out many.json
+  id=$(tinkey list-keyset --in many.json | sed -n 's/^  key_id: //p' | head -n 1)
+  tinkey delete-key --key-id $id --in many.json --out fewer.json
 "),
         CommandName::ListKeyset => text!([] "\
 tinkey list-keyset: lists a keyset without key material
@@ -579,13 +595,15 @@ tinkey list-keyset: lists a keyset without key material
   tinkey list-keyset [--in FILE] [--in-format json|binary]
 
 Optional:
-  --in FILE                the file of the keyset that is read: a file's name, of one byte
-                           or more
-  --in-format json|binary  the form of that keyset: json or binary, in ASCII letters of
-                           either case; where it isn't named, json
-" read_by_add_key "Gives  its listing, on standard output\n" codes_02345678 "  tinkey list-keyset --in first.json\n"),
+  --in FILE                the file of the keyset to read: a file's name, of one byte or
+                           more
+  --in-format json|binary  the form of that keyset: json or binary, in upper or lower case;
+                           json if it isn't given
+" read_by_add_key "Gives  its listing, on standard output\n" codes_02345678 "  tinkey create-keyset --key-template AES256_GCM --out listed.json
+  tinkey list-keyset --in listed.json
+"),
         CommandName::ListKeyTemplates => text!([] "\
-tinkey list-key-templates: lists the names of the templates of new keys
+tinkey list-key-templates: lists the names of the templates for new keys
 
   tinkey list-key-templates
 " read_by_create_keyset "\
@@ -604,8 +622,9 @@ tinkey convert-keyset: writes a keyset in another form or place
 
 Optional:
 " in_28 in_format_28 out_28 out_format_28 read_by_add_key "\
-Gives  the same keyset, as a new file of --out, or where none is named, on standard output
-" codes_02345678 "  tinkey convert-keyset --in first.json --out first.bin --out-format binary
+Gives  the same keyset, in a new file of --out, or on standard output if there is no --out
+" codes_02345678 "  tinkey create-keyset --key-template AES256_GCM --out text.json
+  tinkey convert-keyset --in text.json --out keyset.bin --out-format binary
 "),
         CommandName::WrapKeyset => text!([] "\
 tinkey wrap-keyset: seals a keyset under another one, the master
@@ -613,11 +632,13 @@ tinkey wrap-keyset: seals a keyset under another one, the master
   tinkey wrap-keyset --master FILE [--master-format json|binary] [--in FILE]
       [--in-format json|binary] [--out FILE] [--out-format json|binary]
 " options_of_wrap_keyset "
-Reads  the master in the file of --master, and a keyset, from the file of --in, or where
-       none is named, from standard input
+Reads  the master in the file of --master, and a keyset, from the file of --in, or from
+       standard input if there is no --in
 Gives  the keyset as an encrypted keyset, sealed under the master's primary key, in the form
-       of --out-format, as a new file of --out, or where none is named, on standard output
-" codes_02345678 "  tinkey wrap-keyset --master master.json --in first.json --out first.wrapped
+       of --out-format, in a new file of --out, or on standard output if there is no --out
+" codes_02345678 "  tinkey create-keyset --key-template AES256_GCM --out master.json
+  tinkey create-keyset --key-template AES256_GCM |
+      tinkey wrap-keyset --master master.json --out wrapped.json
 "),
         CommandName::UnwrapKeyset => text!([] "\
 tinkey unwrap-keyset: opens a keyset that was wrapped
@@ -626,9 +647,12 @@ tinkey unwrap-keyset: opens a keyset that was wrapped
       [--in-format json|binary] [--out FILE] [--out-format json|binary]
 " options_of_wrap_keyset "
 Reads  the master, and an encrypted keyset in the form of --in-format, from the file of
-       --in, or where none is named, from standard input
-Gives  the keyset inside, as a new file of --out, or where none is named, on standard output
-" codes_012345678 "  tinkey unwrap-keyset --master master.json --in first.wrapped --out first.json
+       --in, or from standard input if there is no --in
+Gives  the keyset inside, in a new file of --out, or on standard output if there is no --out
+" codes_012345678 "  tinkey create-keyset --key-template AES256_GCM --out lock.json
+  tinkey create-keyset --key-template AES256_GCM |
+      tinkey wrap-keyset --master lock.json --out locked.json
+  tinkey unwrap-keyset --master lock.json --in locked.json --out unlocked.json
 "),
         CommandName::Seal => text!([] "\
 tinkey seal: seals standard input under the primary key
@@ -636,9 +660,10 @@ tinkey seal: seals standard input under the primary key
   tinkey seal --keyset FILE [--keyset-format json|binary] [--ad TEXT] [--ad-hex HEX]
       [--out FILE]
 " options_of_seal read_by_seal "\
-Gives  the input sealed under the primary key, as a new file of --out, or where none is
-       named, on standard output
-" codes_02345678 "  tinkey seal --keyset first.json --ad 'to Ada' < letter.txt > letter.sealed
+Gives  the input sealed under the primary key, in a new file of --out, or on standard output
+       if there is no --out
+" codes_02345678 "  tinkey create-keyset --key-template AES256_GCM --out seal.json
+  echo 'Dear Ada' | tinkey seal --keyset seal.json --ad 'to Ada' --out letter.sealed
 "),
         CommandName::Open => text!([] "\
 tinkey open: opens what any enabled key sealed
@@ -646,9 +671,11 @@ tinkey open: opens what any enabled key sealed
   tinkey open --keyset FILE [--keyset-format json|binary] [--ad TEXT] [--ad-hex HEX]
       [--out FILE]
 " options_of_seal read_by_seal "\
-Gives  what the input opens to, as a new file of --out, or where none is named, on standard
-       output
-" codes_012345678 "  tinkey open --keyset first.json --ad 'to Ada' < letter.sealed
+Gives  what the input opens to, in a new file of --out, or on standard output if there is no
+       --out
+" codes_012345678 "  tinkey create-keyset --key-template AES256_GCM --out open.json
+  echo 'Dear Ada' | tinkey seal --keyset open.json --ad 'to Ada' --out open.sealed
+  tinkey open --keyset open.json --ad 'to Ada' < open.sealed
 "),
         CommandName::Eseal => text!([] "\
 tinkey eseal: seals under a fresh data key, and that key under the keyset: an envelope
@@ -657,8 +684,9 @@ tinkey eseal: seals under a fresh data key, and that key under the keyset: an en
       [--ad-hex HEX] [--out FILE]
 " options_of_eseal read_by_seal "\
 Gives  an envelope of the input, under a fresh data key of the template of --dek-template,
-       as a new file of --out, or where none is named, on standard output
-" codes_02345678 "  tinkey eseal --keyset first.json --dek-template AES128_GCM < letter.txt > envelope
+       in a new file of --out, or on standard output if there is no --out
+" codes_02345678 "  tinkey create-keyset --key-template AES256_GCM --out eseal.json
+  echo 'Dear Ada' | tinkey eseal --keyset eseal.json --dek-template AES128_GCM --out envelope
 "),
         CommandName::Eopen => text!([] "\
 tinkey eopen: opens an envelope
@@ -666,34 +694,43 @@ tinkey eopen: opens an envelope
   tinkey eopen --keyset FILE --dek-template NAME [--keyset-format json|binary] [--ad TEXT]
       [--ad-hex HEX] [--out FILE]
 " options_of_eseal read_by_seal "\
-Gives  what the envelope opens to, as a new file of --out, or where none is named, on
-       standard output
-" codes_012345678 "  tinkey eopen --keyset first.json --dek-template AES128_GCM < envelope
+Gives  what the envelope opens to, in a new file of --out, or on standard output if there is
+       no --out
+" codes_012345678 "  tinkey create-keyset --key-template AES256_GCM --out eopen.json
+  echo 'Dear Ada' | tinkey eseal --keyset eopen.json --dek-template AES128_GCM --out eopen.sealed
+  tinkey eopen --keyset eopen.json --dek-template AES128_GCM < eopen.sealed
 "),
         CommandName::Dseal => text!([] "\
 tinkey dseal: seals deterministically: equal texts give equal bytes
 
   tinkey dseal --keyset FILE [--keyset-format json|binary] [--ad TEXT] [--ad-hex HEX]
       [--out FILE]
-" options_of_seal read_by_seal given_by_dseal codes_02345678 "  tinkey dseal --keyset siv.json < letter.txt > letter.sealed
+" options_of_seal read_by_seal given_by_dseal codes_02345678 "  tinkey create-keyset --key-template AES256_SIV --out dseal.json
+  echo 'Dear Ada' | tinkey dseal --keyset dseal.json --out same.sealed
 "),
         CommandName::Dopen => text!([] "\
 tinkey dopen: opens what dseal sealed
 
   tinkey dopen --keyset FILE [--keyset-format json|binary] [--ad TEXT] [--ad-hex HEX]
       [--out FILE]
-" options_of_seal read_by_seal given_by_dseal codes_012345678 "  tinkey dopen --keyset siv.json < letter.sealed\n"),
+" options_of_seal read_by_seal given_by_dseal codes_012345678 "  tinkey create-keyset --key-template AES256_SIV --out dopen.json
+  echo 'Dear Ada' | tinkey dseal --keyset dopen.json --out dopen.sealed
+  tinkey dopen --keyset dopen.json < dopen.sealed
+"),
         CommandName::Sseal => text!([] "\
 tinkey sseal: seals a stream of any length, in one pass
 
   tinkey sseal --keyset FILE [--keyset-format json|binary] [--ad TEXT] [--ad-hex HEX]
-" options_of_sseal read_by_sseal given_by_sseal codes_02345678 "  tinkey sseal --keyset streaming.json < backup.tar > backup.sealed
+" options_of_sseal read_by_sseal given_by_sseal codes_02345678 "  tinkey create-keyset --key-template AES256_GCM_HKDF_1MB --out sseal.json
+  echo 'Dear Ada' | tinkey sseal --keyset sseal.json > letter.stream
 "),
         CommandName::Sopen => text!([] "\
-tinkey sopen: opens such a stream; only at exit code 0 is it whole
+tinkey sopen: opens such a stream; it is complete only if the exit code is 0
 
   tinkey sopen --keyset FILE [--keyset-format json|binary] [--ad TEXT] [--ad-hex HEX]
-" options_of_sseal read_by_sseal given_by_sseal codes_012345678 "  tinkey sopen --keyset streaming.json < backup.sealed > backup.tar
+" options_of_sseal read_by_sseal given_by_sseal codes_012345678 "  tinkey create-keyset --key-template AES256_GCM_HKDF_1MB --out sopen.json
+  echo 'Dear Ada' | tinkey sseal --keyset sopen.json > sopen.stream
+  tinkey sopen --keyset sopen.json < sopen.stream > opened.txt && echo whole
 "),
         CommandName::Srange => text!([] "\
 tinkey srange: opens a range of such a stream in a file
@@ -702,17 +739,19 @@ tinkey srange: opens a range of such a stream in a file
       [--ad TEXT] [--ad-hex HEX] [--out FILE]
 
 Required:
-" keyset_31 "  --file FILE                  the file of a stream: a file's name, of one byte or more; the
-                               file is no folder and no pipe
-  --from N                     the offset of a range's first byte: 1 to 19 decimal digits,
+" keyset_31 "  --file FILE                  the file of the stream: a file's name, of one byte or more;
+                               the file is no folder and no pipe
+  --from N                     the offset of the first byte to open: 1 to 19 decimal digits,
                                of a number up to 9,223,372,036,854,775,807
 " length_31 "
 Optional:
 " keyset_format_31 ad_31 ad_hex_31 out_31 "
 Reads  the keyset, and the stream in the file of --file
-Gives  so many bytes of the stream's plaintext, as --length says, from the offset of --from
-       on, counted from 0; as a new file of --out, or on standard output
-" codes_012345678 "  tinkey srange --keyset streaming.json --file backup.sealed --from 1000000 --length 100
+Gives  as many bytes of the stream's plaintext as --length says, from the offset of --from
+       on, counted from 0; in a new file of --out, or on standard output
+" codes_012345678 "  tinkey create-keyset --key-template AES256_GCM_HKDF_1MB --out srange.json
+  echo 'Dear Ada' | tinkey sseal --keyset srange.json > srange.stream
+  tinkey srange --keyset srange.json --file srange.stream --from 5 --length 3
 "),
         CommandName::Tag => text!([] "\
 tinkey tag: tags standard input under the primary key
@@ -723,23 +762,26 @@ Required:
 " keyset_31 "
 Optional:
 " keyset_format_31 out_31 hex_31 read_by_seal "\
-Gives  the tag of the input under the primary key, as a new file of --out, or where none is
-       named, on standard output
-" codes_02345678 "  tinkey tag --keyset mac.json --hex < letter.txt > letter.tag
+Gives  the tag of the input under the primary key, in a new file of --out, or on standard
+       output if there is no --out
+" codes_02345678 "  tinkey create-keyset --key-template HMAC_SHA256_128BITTAG --out tag.json
+  echo 'Dear Ada' | tinkey tag --keyset tag.json --hex --out letter.tag
 "),
         CommandName::Verify => text!([] "\
-tinkey verify: says whether a tag is that of any enabled key
+tinkey verify: says whether a tag is valid under any enabled key
 
   tinkey verify --keyset FILE --tag-hex HEX [--keyset-format json|binary]
 
 Required:
-" keyset_31 "  --tag-hex HEX                the tag that is verified, in hexadecimal: an even number of
+" keyset_31 "  --tag-hex HEX                the tag to verify, in hexadecimal: an even number of
                                hexadecimal digits of either case, at most 2,097,152, or none
 
 Optional:
 " keyset_format_31 read_by_seal "\
 Gives  nothing; the status says whether the tag is one of the keyset's
-" codes_012345678 "  tinkey verify --keyset mac.json --tag-hex 01a62510fbf4892efd34083c < letter.txt
+" codes_012345678 "  tinkey create-keyset --key-template HMAC_SHA256_128BITTAG --out verify.json
+  tag=$(echo 'Dear Ada' | tinkey tag --keyset verify.json --hex)
+  echo 'Dear Ada' | tinkey verify --keyset verify.json --tag-hex $tag && echo verified
 "),
         CommandName::Derive => text!([] "\
 tinkey derive: derives bytes from standard input
@@ -750,9 +792,10 @@ Required:
 " keyset_31 length_31 "
 Optional:
 " keyset_format_31 out_31 hex_31 read_by_seal "\
-Gives  so many bytes derived from the input by the primary key, as a new file of --out, or
-       where none is named, on standard output
-" codes_02345678 "  tinkey derive --keyset prf.json --length 32 < letter.txt > derived
+Gives  as many bytes as --length says, derived from the input by the primary key, in a new
+       file of --out, or on standard output if there is no --out
+" codes_02345678 "  tinkey create-keyset --key-template HKDF_SHA256 --out derive.json
+  echo 'Dear Ada' | tinkey derive --keyset derive.json --length 32 --hex
 "),
         CommandName::Session => text!([] "\
 tinkey session: answers lines that seal, open, tag, verify, derive and edit
@@ -768,22 +811,24 @@ Reads  the keyset, and lines on standard input: seal HEX HEX and dseal HEX HEX (
        associated data), open HEX HEX and dopen HEX HEX, tag HEX, verify HEX HEX (a tag, its
        text), derive N HEX, add NAME and rotate NAME (a template), promote N, enable N,
        disable N, destroy N, delete N (a key id); - stands for no bytes
-Gives  one reply a line, on standard output; and then the last keyset to the new file of
-       --out, where one is named
-" codes_02345678 "  tinkey session --keyset first.json --out second.json < lines
+Gives  one reply for each line, on standard output; and then the last keyset in the new file
+       of --out, if one is given
+" codes_02345678 "  tinkey create-keyset --key-template AES256_GCM --out session.json
+  (echo seal 00 -; echo rotate AES256_GCM) |
+      tinkey session --keyset session.json --out after.json
 "),
         CommandName::Selftest => text!([] "\
-tinkey selftest: seals, opens and edits many times, and counts what came of it
+tinkey selftest: seals, opens and edits many times, and counts the results
 
   tinkey selftest --seed N [--lines N]
 
 Required:
-  --seed N   the number that a self-test is made from: 1 to 10 decimal digits, of a number
-             up to 4,294,967,295; a length of srange is at most 16,777,216
+  --seed N   the number that the self-test is made from: 1 to 10 decimal digits, of a number
+             up to 4,294,967,295
 
 Optional:
   --lines N  how many lines it has: 1 to 10 decimal digits, of a number from 1 to 100,000;
-             where it isn't named, 1,000
+             1,000 if it isn't given
 " read_by_create_keyset "Gives  one line of counts, on standard output\n" codes_024578 "  tinkey selftest --seed 1 --lines 1000\n"),
     }
 }

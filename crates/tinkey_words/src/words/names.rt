@@ -67,19 +67,19 @@ pub enum CommandName {
 /// An option by its name.
 #[derive(Clone, Copy, Debug, PartialEq, Eq)]
 pub enum OptionName {
-    /// `--key-template`, the name of the template of a new key.
+    /// `--key-template`, the template of the new key.
     KeyTemplate,
-    /// `--key-id`, the key that is changed.
+    /// `--key-id`, the id of the key to change.
     KeyId,
-    /// `--in`, the file of the keyset that is read.
+    /// `--in`, the file of the keyset to read.
     In,
     /// `--in-format`, the form of that keyset.
     InFormat,
-    /// `--out`, the file that is made.
+    /// `--out`, the file to make.
     Out,
-    /// `--out-format`, the form of the keyset that is written.
+    /// `--out-format`, the form of the keyset to write.
     OutFormat,
-    /// `--keyset`, the file of the keyset that is used.
+    /// `--keyset`, the file of the keyset to use.
     Keyset,
     /// `--keyset-format`, the form of that keyset.
     KeysetFormat,
@@ -87,11 +87,11 @@ pub enum OptionName {
     Ad,
     /// `--ad-hex`, the associated data in hexadecimal.
     AdHex,
-    /// `--tag-hex`, the tag that is verified, in hexadecimal.
+    /// `--tag-hex`, the tag to verify, in hexadecimal.
     TagHex,
-    /// `--length`, how many bytes are derived, or are in a range.
+    /// `--length`, how many bytes to derive, or to open.
     Length,
-    /// `--seed`, the number that a self-test is made from.
+    /// `--seed`, the number that the self-test is made from.
     Seed,
     /// `--lines`, how many lines it has.
     Lines,
@@ -99,13 +99,13 @@ pub enum OptionName {
     Master,
     /// `--master-format`, the form of that keyset.
     MasterFormat,
-    /// `--dek-template`, the name of the template of data keys.
+    /// `--dek-template`, the template of the data key.
     DekTemplate,
-    /// `--file`, the file of a stream.
+    /// `--file`, the file of the stream.
     File,
-    /// `--from`, the offset of a range's first byte.
+    /// `--from`, the offset of the first byte to open.
     From,
-    /// `--hex`, whether what is put out is in hexadecimal.
+    /// `--hex`, writes the output in hexadecimal.
     Hex,
 }
 
