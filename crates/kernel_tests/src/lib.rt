@@ -9,6 +9,8 @@ mod galois;
 #[cfg(test)]
 mod gcm;
 #[cfg(test)]
+mod hexadecimal;
+#[cfg(test)]
 mod plain;
 #[cfg(test)]
 mod prf;
