@@ -1,6 +1,7 @@
 -- One piece of a session's input after another.
-use Rattle.std.proofs.Common.{◌≡◌, ◌≢◌, ◌∙◌, inl, inr, refl, sym, ap, subst, ℕ, suc, ◌+◌, ◌<◌, ◌≤◌, Bool, true, false, List, [], ◌∷◌, ◌++◌, length, Option, Some, None, arith, append_assoc, append-nil, length-append}
-use Rattle.std.specs.Prelude.{◌==◌, nat_le}
+use Rattle.std.proofs.Common.{◌≡◌, ◌≢◌, ◌∙◌, inl, inr, refl, sym, ap, subst, ℕ, suc, ◌+◌, ◌-◌, ◌<◌, ◌≤◌, take, drop, Bool, true, false, List, [], ◌∷◌, ◌++◌, length, Option, Some, None, arith, append_assoc, append-nil, length-append}
+use Rattle.std.specs.Prelude.{◌==◌, nat_le, slice_index}
+use Rattle.std.proofs.lemmas.List.{get_or-take, length-take-le, take_more, take-append-drop}
 use Rattle.std.proofs.lemmas.Bool.{eq-eqb, le-leb, lt-leb}
 use Rattle.keyset_model.specs.Keyset.{Keys}
 use Rattle.managers.specs.Table.{Table}
@@ -8,7 +9,7 @@ use Rattle.tink_spec.proofs.Moves.{drew_more, drew_nothing, lost_later, took_mor
 use Rattle.tink_spec.specs.Outside.{SinkState, EntropyState, Drew, Rose, Stood, Took, TookPrefix}
 use Rattle.tinkey_session.proofs.TalkLemmas.{byte_by, over-append, over-more, over-stopped, with_more}
 use Rattle.tinkey_session.specs.Answered.{DrewSome, Gives, IsUnanswered}
-use Rattle.tinkey_session.specs.Feeding.{Ended, Fed, Finished, InLine, InPiece, IsReplied, Outside, Start, Stopped, HoldsBack, all_told, cut_off, dry, full, outside, Point, from, past, torn}
+use Rattle.tinkey_session.specs.Feeding.{Ended, Fed, Finished, InLine, InPiece, IsReplied, Outside, Start, Stopped, HoldsBack, IsInLine, all_told, cut_off, dry, full, outside, Point, from, past, torn}
 use Rattle.tinkey_session.specs.Lines.{line_of}
 use Rattle.tinkey_session.specs.Serving.{Served, serve}
 use Rattle.tinkey_session.specs.Talking.{Limit, long_line, many_lines, Stop, goes, wants, passes, Talk, replied, line_ended, byte_taken, count_limit, line_limit, on_go, over, last_line, finish, going}
@@ -263,20 +264,31 @@ full_byte table old byte output fault s t held d (all_told same took stood) = fu
 full_byte table old byte output fault s t held d (cut_off same front rose) =
     cut_before (λ x. over table x (byte ∷ [])) (from old) (InPiece table (from old) (byte ∷ []) output) output fault s t held d same (over_grows table (from old output []) (byte ∷ [])) front rose
 
--- a byte of the line
-pub fed_byte : (table : Table) (old last : Point) (byte : ℕ) (output : List ℕ) (a : Outside) → old.count < count_limit → (byte == 10) ≡ false → length old.line < line_limit
-    → last.keys ≡ old.keys → last.count ≡ old.count → last.line ≡ old.line ++ byte ∷ []
-    → Fed (from old) last (λ x. over table x (byte ∷ [])) output a a
-fed_byte table old last byte output a less other short keys count line = record {
+-- bytes of the line
+over_in_line : (table : Table) (keys : Keys) (line : List ℕ) (count : ℕ) (output bytes : List ℕ) → count < count_limit → IsInLine bytes → length line + length bytes ≤ line_limit
+    → over table (going keys line count output []) bytes ≡ going keys (line ++ bytes) count output []
+unfolding over
+over_in_line table keys line count output [] less other short = ap (λ l. going keys l count output []) (sym (append-nil line))
+over_in_line table keys line count output (b ∷ bytes) less other short =
+    let old : Point = record { keys = keys; line = line; count = count } in
+    ap (λ x. over table x bytes) (sym (over_byte table old b output [])
+    ∙ by_tests table old b output [] false false false (lt-leb _ _ less) (other 0 (omega arith)) (lt-leb _ _ (omega arith)))
+    ∙ over_in_line table keys (line ++ b ∷ []) count output bytes less (λ k h. other (suc k) (omega (arith, h))) (omega (arith, length-append line (b ∷ [])))
+    ∙ ap (λ l. going keys l count output []) (append_assoc line (b ∷ []) bytes)
+
+pub fed_in_line : (table : Table) (old last : Point) (bytes output : List ℕ) (a : Outside) → old.count < count_limit → IsInLine bytes → length old.line + length bytes ≤ line_limit
+    → last.keys ≡ old.keys → last.count ≡ old.count → last.line ≡ old.line ++ bytes
+    → Fed (from old) last (λ x. over table x bytes) output a a
+fed_in_line table old last bytes output a less other short keys count line = record {
   drawn = [];
   written = [];
   drew = drew_nothing a.entropy;
   told = told_nothing a.sink a.held;
   no_draw_fault = refl;
   no_write_fault = refl;
-  is = by_tests table old byte output [] false false false (lt-leb _ _ less) other (lt-leb _ _ short)
-      ∙ ap (λ k. going k (old.line ++ byte ∷ []) old.count output []) (sym keys)
-      ∙ same_going last.keys (old.line ++ byte ∷ []) last.line old.count last.count output (output ++ []) (sym line) (sym count) (sym (append-nil output));
+  is = over_in_line table old.keys old.line old.count output bytes less other short
+      ∙ ap (λ k. going k (old.line ++ bytes) old.count output []) (sym keys)
+      ∙ same_going last.keys (old.line ++ bytes) last.line old.count last.count output (output ++ []) (sym line) (sym count) (sym (append-nil output));
 }
 
 -- ---- one piece behind another
@@ -428,7 +440,7 @@ pub stopped_last : (table : Table) (old : Point) (output : List ℕ) (fault : Ta
 stopped_last table old output fault a b some stopped =
     stopped_as (from old) (line_ended table) (finish table true) InLine InLine output fault a b (λ drawn. last_some table old.line (from old output drawn) some) (λ drawn written inside. inside) stopped
 
--- ---- a piece, byte by byte, under tables that are the same
+-- ---- a piece, part by part, under tables that are the same
 
 pub fed_none : (table : Table) (at : Point) (output : List ℕ) (a : Outside) → Fed (from at) at (λ x. over table x []) output a a
 unfolding over
@@ -457,3 +469,40 @@ stopped_piece table own old mid p q r piece fault a b c same whole first behind 
 
 pub fed_all : (table : Table) (old last : Point) (p piece : List ℕ) (a b : Outside) → p ≡ piece → ((output : List ℕ) → Fed (from old) last (λ x. over table x p) output a b) → (output : List ℕ) → Fed (from old) last (λ x. over table x piece) output a b
 fed_all table old last p piece a b same fed = subst (λ l. (output : List ℕ) → Fed (from old) last (λ x. over table x l) output a b) same fed
+
+-- ---- the first of some bytes
+
+-- a stop at the first byte, whatever follows it
+pub stopped_first : (table : Table) (old : Point) (bytes : List ℕ) (fault : TalkFault) (a b : Outside) → 0 < length bytes
+    → ((byte : ℕ) → slice_index bytes 0 ≡ byte → (output : List ℕ) → Stopped (from old) (λ x. over table x (byte ∷ [])) (InPiece table (from old) (byte ∷ []) output) output fault a b)
+    → (output : List ℕ) → Stopped (from old) (λ x. over table x bytes) (InPiece table (from old) bytes output) output fault a b
+stopped_first table old [] fault a b some stopped output = absurd (omega (arith, some))
+stopped_first table old (byte ∷ bytes) fault a b some stopped output =
+    stopped_piece table table old old [] (byte ∷ []) bytes (byte ∷ bytes) fault a a b refl refl (λ told. fed_none table old told a) (stopped byte refl) output
+
+-- a byte too many behind bytes of the line
+pub stopped_in_line : (table : Table) (old : Point) (bytes : List ℕ) (front : ℕ) (fault : TalkFault) (s t : SinkState) (held : List ℕ) (d : EntropyState) → old.count < count_limit → length old.line ≤ line_limit
+    → front ≤ length bytes → IsInLine (take front bytes) → line_limit < length old.line + front → Ended faults.LineTooLong fault s t held
+    → (output : List ℕ) → Stopped (from old) (λ x. over table x bytes) (InPiece table (from old) bytes output) output fault (outside s held d) (outside t [] d)
+stopped_in_line table old bytes front fault s t held d less fits within other many ended output =
+    let room = line_limit - length old.line in
+    let some : room < length bytes = omega (arith, fits, within, many) in
+    let inside : room < front = omega (arith, fits, many) in
+    let line : List ℕ = take room bytes in
+    let size : length line ≡ room = length-take-le room bytes (omega (arith, some)) in
+    let mid : Point = record { keys = old.keys; line = old.line ++ line; count = old.count } in
+    let full : length mid.line ≡ line_limit = length-append old.line line ∙ omega (arith, size, fits) in
+    let byte = slice_index bytes room in
+    let here : slice_index (take front bytes) room ≡ byte = get_or-take front bytes room 0 inside in
+    let newline : (byte == 10) ≡ false = ap (λ b. b == 10) (sym here) ∙ other room (omega (arith, inside, length-take-le front bytes within)) in
+    let before : IsInLine line = λ k h. ap (λ b. b == 10) (get_or-take room bytes k 0 (omega (arith, h, size)) ∙ sym (get_or-take front bytes k 0 (omega (arith, h, size, inside)))) ∙ other k (omega (arith, h, size, inside, length-take-le front bytes within)) in
+    stopped_piece table table old mid line (byte ∷ []) (drop (room + 1) bytes) bytes fault (outside s held d) (outside s held d) (outside t [] d) refl
+    (sym (ap (λ l. l ++ drop (room + 1) bytes) (sym (take_more bytes room 0 some)) ∙ take-append-drop (room + 1) bytes))
+    (λ told. fed_in_line table old mid line told (outside s held d) less before (omega (arith, size, fits)) refl refl refl)
+    (λ told. stopped_long table mid byte told fault s t held d less newline (omega (arith, full)) ended) output
+
+-- the first byte is a newline
+pub fed_first : (table : Table) (old last : Point) (bytes output : List ℕ) (a b : Outside) → 0 < length bytes → slice_index bytes 0 ≡ 10 → old.count < count_limit
+    → Fed (from old) last (line_ended table) output a b → Fed (from old) last (λ x. over table x (take 1 bytes)) output a b
+fed_first table old last [] output a b some is less fed = absurd (omega (arith, some))
+fed_first table old last (byte ∷ bytes) output a b some is less fed = fed_newline table old last byte output a b is less fed

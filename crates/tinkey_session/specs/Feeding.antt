@@ -6,7 +6,7 @@
 --   Point         how far the code has come
 --   Fed, Stopped  the piece was taken, and the lines that end in it answered; or something of it
 --                 ended the session
-use Rattle.std.specs.Prelude.{◌≡◌, ℕ, ◌+◌, ◌*◌, List, [], ◌++◌, length, true}
+use Rattle.std.specs.Prelude.{◌≡◌, ℕ, ◌+◌, ◌*◌, ◌<◌, ◌==◌, List, [], ◌++◌, length, slice_index, true, false}
 use Rattle.keyset_model.specs.Keyset.{Keys}
 use Rattle.managers.specs.Table.{Table}
 use Rattle.tink_spec.specs.Outside.{SinkState, EntropyState, Drew, DrewLosing, Rose, Stood, Took, TookPrefix}
@@ -67,6 +67,10 @@ abbrev pub progress : (count : ℕ) (line : List ℕ) → ℕ
 progress count line = 65537 * count + length line
 
 -- ---- a line
+
+-- none of the bytes is a newline
+abbrev pub IsInLine : List ℕ → Type 0
+IsInLine bytes = (k : ℕ) → k < length bytes → (slice_index bytes k == 10) ≡ false
 
 -- a line gives this text of a reply, and this keyset is there after it
 pub record IsReplied (gives : Gives) (text : List ℕ) (keys : Keys) (old new : EntropyState)

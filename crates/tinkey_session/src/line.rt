@@ -5,6 +5,7 @@ ghost use Rattle.tinkey_session.specs.Lines.{bytes_in, line_of, line_of_words, l
 ghost use Rattle.tinkey_session.specs.Reading.{IsWithin, seen_line, seen_name};
 
 use hex::FromHexError;
+use hex_lanes::decode;
 use std::alloc::Global;
 use std::str::from_utf8;
 use tink_base::{Bytes, NoMemory, number_in};
@@ -145,7 +146,7 @@ fn bytes_in(alloc: Global, word: &str) -> Result<Option<Bytes>, NoMemory>
     if word.is_empty() {
         return Ok(None);
     }
-    match hex::decode(alloc, word) {
+    match decode(alloc, word.as_bytes()) {
         Ok(bytes) => Ok(Some(Bytes::own(bytes))),
         Err(FromHexError::OutOfMemory) => Err(NoMemory),
         Err(_) => Ok(None),

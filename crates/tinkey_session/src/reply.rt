@@ -6,6 +6,7 @@ ghost use Rattle.tinkey_session.specs.declared.reply.Refusal.TheVariants.{BadKey
 ghost use Rattle.tinkey_session.specs.Texts.{edit_text, refusal_text, reply_text, rule_text};
 
 use crate::short_text::ShortText;
+use hex_lanes::encode_onto;
 use itoa::Buffer;
 use key_msgs::Rule;
 use std::alloc::Global;
@@ -101,10 +102,12 @@ fn bytes_text(alloc: Global, bytes: &[u8]) -> Result<Vec<u8>, NoMemory>
     if bytes.is_empty() {
         return line_of(alloc, b"ok ", b"-");
     }
-    match hex::encode(alloc, bytes) {
-        Ok(digits) => line_of(alloc, b"ok ", digits.as_bytes()),
-        Err(_) => Err(NoMemory),
-    }
+    let size = bytes.len().saturating_mul(2).saturating_add(4);
+    let mut text = Vec::with_capacity(alloc, size)?;
+    text.extend_from_slice(b"ok ")?;
+    encode_onto(&mut text, bytes)?;
+    text.push(b'\n')?;
+    Ok(text)
 }
 
 /// The line of a reply that tells a key id.

@@ -1,10 +1,10 @@
 //! A session over its input: lines come in, and each has a reply.
 
-ghost use Rattle.std.specs.Prelude.{◌≡◌, ◌≤◌, ◌+◌, ℕ, List, [], ◌∷◌, ◌++◌, length, true, IfOk, IfErr, IfSome, IsErrOf, OnOk, OnErr};
+ghost use Rattle.std.specs.Prelude.{◌≡◌, ◌<◌, ◌≤◌, ◌+◌, ℕ, List, [], ◌++◌, length, slice_index, take, true, IfOk, IfErr, IfSome, IsErrOf, OnOk, OnErr};
 ghost use Rattle.std.specs.List.{AllByRecursion};
 ghost use Rattle.tink_spec.specs.Outside.{Rose, Stood, StopsAtEnd, Took, TookPrefix};
 ghost use Rattle.keyset_model.specs.Keyset.{IsShort};
-ghost use Rattle.tinkey_session.specs.Feeding.{Ended, Fed, Finished, HoldsBack, InLine, InPiece, IsReplied, IsUnreplied, Stopped, outside, point, progress};
+ghost use Rattle.tinkey_session.specs.Feeding.{Ended, Fed, Finished, HoldsBack, InLine, InPiece, IsInLine, IsReplied, IsUnreplied, Stopped, outside, point, progress};
 ghost use Rattle.tinkey_session.specs.Keeping.{IsKept};
 ghost use Rattle.tinkey_session.specs.Lines.{line_of};
 ghost use Rattle.tinkey_session.specs.Serving.{serve};
@@ -17,6 +17,7 @@ use crate::session::{LineFault, Session};
 use keyset_model::Keyset;
 use lookahead::{Drawn, Lookahead};
 use managers::{KeyTable, Managers};
+use memchr::memchr;
 use std::alloc::Global;
 use tink_base::{Entropy, Failed, Sink, Source, write_all};
 
@@ -147,8 +148,8 @@ fn take_piece<K: Sink, E: Lookahead>(
 {
     let mut i = 0;
     while i < piece.len() {
-        match take_byte(alloc, talk, piece[i], sink, entropy) {
-            Ok(()) => i += 1,
+        match take_part(alloc, talk, &piece[i..], sink, entropy) {
+            Ok(taken) => i += taken,
             Err(fault) => return Err(fault),
         }
     }
@@ -158,54 +159,68 @@ fn take_piece<K: Sink, E: Lookahead>(
     }
 }
 
-/// Takes a byte.
-fn take_byte<K: Sink, E: Lookahead>(
+/// Takes the first bytes of some, and says how many: those in front of the first newline, or that newline,
+/// where it comes first.
+fn take_part<K: Sink, E: Lookahead>(
     alloc: Global,
     talk: &mut TalkState<'_>,
-    byte: u8,
+    bytes: &[u8],
     sink: &mut K,
     entropy: &mut E,
-) -> Result<(), TalkFault>
+) -> Result<usize, TalkFault>
     requires kept { IfSome talk.old.session.kept (λ h. IsKept
         (⟦<Managers as KeyTable>⟧.table talk.old.session.managers.now)
         (⟦<Managers as KeyTable>⟧.table h.managers.now) h.primitive talk.old.session.keyset h.held) }
     requires few { talk.old.count ≤ count_limit }
+    requires some { 0 < length bytes.now }
     ensures kept { OnOk result (IfSome talk.new.session.kept (λ h. IsKept
         (⟦<Managers as KeyTable>⟧.table talk.new.session.managers.now)
         (⟦<Managers as KeyTable>⟧.table h.managers.now) h.primitive talk.new.session.keyset h.held)) }
     ensures few { OnOk result (talk.new.count ≤ count_limit) }
     ensures table { OnOk result (⟦<Managers as KeyTable>⟧.table talk.new.session.managers.now
         ≡ ⟦<Managers as KeyTable>⟧.table talk.old.session.managers.now) }
-    ensures less { OnOk result (progress talk.old.count talk.old.line.items + 1 ≤ progress talk.new.count talk.new.line.items) }
-    ensures fed { OnOk result ((output : List ℕ) → Fed
+    ensures some { IfOk result (λ taken. 0 < taken) }
+    ensures within { IfOk result (λ taken. taken ≤ length bytes.now) }
+    ensures less { IfOk result (λ taken. progress talk.old.count talk.old.line.items + taken ≤ progress talk.new.count talk.new.line.items) }
+    ensures fed { IfOk result (λ taken. (output : List ℕ) → Fed
         (going talk.old.session.keyset talk.old.line.items talk.old.count)
         (point talk.new.session.keyset talk.new.line.items talk.new.count)
-        (λ x. over (⟦<Managers as KeyTable>⟧.table talk.old.session.managers.now) x (byte ∷ []))
+        (λ x. over (⟦<Managers as KeyTable>⟧.table talk.old.session.managers.now) x (take taken bytes.now))
         output (outside (K.state sink.old) talk.old.replies.items (E.state entropy.old))
         (outside (K.state sink.new) talk.new.replies.items (E.state entropy.new))) }
     ensures stopped { IfErr result (λ fault. (output : List ℕ) → Stopped (going talk.old.session.keyset talk.old.line.items talk.old.count)
-        (λ x. over (⟦<Managers as KeyTable>⟧.table talk.old.session.managers.now) x (byte ∷ []))
+        (λ x. over (⟦<Managers as KeyTable>⟧.table talk.old.session.managers.now) x bytes.now)
         (InPiece (⟦<Managers as KeyTable>⟧.table talk.old.session.managers.now)
-        (going talk.old.session.keyset talk.old.line.items talk.old.count) (byte ∷ []) output) output fault
+        (going talk.old.session.keyset talk.old.line.items talk.old.count) bytes.now output) output fault
         (outside (K.state sink.old) talk.old.replies.items (E.state entropy.old))
         (outside (K.state sink.new) [] (E.state entropy.new))) }
 {
     if talk.count >= COUNT_LIMIT {
         return Err(end(TalkFault::TooManyLines, &mut talk.replies, sink));
     }
-    if byte == b'\n' {
+    let front = before_newline(bytes);
+    if front == 0 {
         match take_line(alloc, talk, sink, entropy) {
-            Ok(()) => return Ok(()),
+            Ok(()) => return Ok(1),
             Err(fault) => return Err(fault),
         }
     }
-    if talk.line.len() >= LINE_LIMIT {
+    if front > LINE_LIMIT - talk.line.len() {
         return Err(end(TalkFault::LineTooLong, &mut talk.replies, sink));
     }
-    match talk.line.push(byte) {
-        Ok(()) => Ok(()),
+    match talk.line.extend_from_slice(&bytes[..front]) {
+        Ok(()) => Ok(front),
         Err(_) => Err(end(TalkFault::NoMemory, &mut talk.replies, sink)),
     }
+}
+
+/// How many bytes stand before the first newline, or where there is none, in all.
+fn before_newline(bytes: &[u8]) -> usize
+    ensures within { result ≤ length bytes.now }
+    ensures none { IsInLine (take result bytes.now) }
+    ensures newline { result < length bytes.now → slice_index bytes.now result ≡ 10 }
+{
+    memchr(b'\n', bytes).unwrap_or(bytes.len())
 }
 
 /// Answers the line so far, which ends, and begins the next one.

@@ -1,6 +1,6 @@
-use Rattle.std.proofs.Common.{◌∙◌, refl, sym, ap, ◌+◌, ◌++◌, [], ◌∷◌, take, drop, arith}
-use Rattle.std.proofs.Math.ListN.{get_or}
-use Rattle.std.proofs.lemmas.List.{take_all, take_more, take-append-drop}
+use Rattle.std.proofs.Common.{◌≡◌, ◌∙◌, refl, sym, ap, ◌-◌, ◌++◌, [], take, drop, length, append-nil, arith}
+use Rattle.std.proofs.Math.Seq.{take-add}
+use Rattle.std.proofs.lemmas.List.{length-drop, take_all, take_rest, take-append-drop}
 use Rattle.tinkey_session.proofs.FeedLemmas.{cut_behind, fed_all, fed_none, fed_piece, fed_written, stopped_piece}
 use Rattle.tinkey_session.proofs.talk.take_piece.Goals as goal
 
@@ -16,21 +16,30 @@ loop-i-init g c = record {
 
 pub loop-i-preserved : goal.loop-i-preserved
 loop-i-preserved g c =
+    let piece = c.args.piece.now in
+    let i = c.loop-i.i in
+    let taken = c.in-Ok.taken in
+    let rest = take (length piece - i) (drop i piece) in
+    let same : rest ≡ drop i piece = take_rest piece i in
     let less = c.loop-i.invariant.less in
     let step = c.in-Ok.ensures.less in
     record {
-      within = omega arith;
+      within = omega (arith, c.in-Ok.ensures.within, ap length same, length-drop i piece);
       kept = c.in-Ok.ensures.kept;
       few = c.in-Ok.ensures.few;
       table = c.in-Ok.ensures.table ∙ c.loop-i.invariant.table;
       less = omega (arith, less, step);
-      fed = fed_piece _ _ _ _ _ (take c.loop-i.i c.args.piece.now) (get_or c.args.piece.now c.loop-i.i 0 ∷ []) _ _ _ _ c.loop-i.invariant.table (take_more c.args.piece.now c.loop-i.i 0 c.loop-i-test.true) c.loop-i.invariant.fed c.in-Ok.ensures.fed;
+      fed = fed_piece _ _ _ _ _ (take i piece) (take taken rest) _ _ _ _ c.loop-i.invariant.table
+          (take-add i taken piece ∙ ap (λ l. take i piece ++ take taken l) (sym same)) c.loop-i.invariant.fed c.in-Ok.ensures.fed;
     }
 
 pub returns-in-Err-clause-stopped : goal.returns-in-Err-clause-stopped
 returns-in-Err-clause-stopped g c =
-    stopped_piece _ _ _ _ (take c.loop-i.i c.args.piece.now) (get_or c.args.piece.now c.loop-i.i 0 ∷ []) (drop (c.loop-i.i + 1) c.args.piece.now) c.args.piece.now _ _ _ _ c.loop-i.invariant.table
-    (sym (ap (λ l. l ++ drop (c.loop-i.i + 1) c.args.piece.now) (sym (take_more c.args.piece.now c.loop-i.i 0 c.loop-i-test.true)) ∙ take-append-drop (c.loop-i.i + 1) c.args.piece.now))
+    let piece = c.args.piece.now in
+    let i = c.loop-i.i in
+    let rest = take (length piece - i) (drop i piece) in
+    stopped_piece _ _ _ _ (take i piece) rest [] piece _ _ _ _ c.loop-i.invariant.table
+    (sym (append-nil (take i piece ++ rest) ∙ ap (λ l. take i piece ++ l) (take_rest piece i) ∙ take-append-drop i piece))
     c.loop-i.invariant.fed c.in-Err.ensures.stopped
 
 pub returns-in-Ok-flush-clause-fed : goal.returns-in-Ok-flush-clause-fed
