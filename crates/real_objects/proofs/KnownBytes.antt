@@ -1,8 +1,12 @@
 -- One call of a stream after another, where it knows its bytes.
-use Rattle.std.proofs.Common.{◌≡◌, ℕ, ◌+◌, ◌≤◌, List, [], ◌++◌, length, take, None, Some, IfSome, ap, ◌∙◌, subst, arith}
+use Rattle.std.proofs.Common.{◌≡◌, ℕ, ◌+◌, ◌≤◌, List, [], ◌++◌, length, take, None, Some, IfSome, Result, Ok, Err, IfOk, OnOk, IsErr, refl, ap, ◌∙◌, subst, arith}
 use Rattle.std.proofs.lemmas.List.{length-take, take_all}
 use Rattle.std.specs.Prelude.{Option, option_map}
 use Rattle.std.specs.Io.KnownBytes.{Keeps, Appends}
+use Rattle.tink_base.specs.declared.store.Loaded.{Loaded}
+use Rattle.tink_base.specs.declared.store.Loaded.TheVariants as loaded
+use Rattle.tink_base.specs.declared.store.StoreError.{StoreError}
+use Rattle.real_objects.specs.Folder.{IsLoaded}
 
 -- a write after writes that took nothing
 pub appends_after : (a b c : Option (List ℕ)) (bs : List ℕ) → Keeps a b → Appends b c bs → Appends a c bs
@@ -18,9 +22,22 @@ within_is_all bytes all limit is within = (is ∙ take_all (limit + 1) bytes (om
     short : length bytes ≤ limit
     short = omega (arith, within, ap length is ∙ length-take (limit + 1) bytes)
 
-pub read_whole : (file front : Option (List ℕ)) (start items all : List ℕ) (limit : ℕ) → front ≡ option_map (take (limit + 1)) file → start ≡ [] → IfSome front (λ read. items ≡ start ++ read) → all ≡ items → length items ≤ limit → IfSome file (λ bytes. (all ≡ bytes) × (length bytes ≤ limit))
-read_whole None front start items all limit is none read same within = tt
-read_whole (Some bytes) front start items all limit is none read same within =
-    within_is_all bytes all limit
-    (same ∙ subst (λ (o : Option (List ℕ)). IfSome o (λ xs. items ≡ xs)) is (subst (λ (s : List ℕ). IfSome front (λ xs. items ≡ s ++ xs)) none read))
-    (omega (arith, ap length same, within))
+-- what was loaded of the first bytes of a file, up to one more than the limit, was loaded of the file
+front_whole : (bytes items : List ℕ) (limit : ℕ) (found : Loaded) → items ≡ take (limit + 1) bytes → IsLoaded items limit found → IsLoaded bytes limit found
+front_whole bytes items limit loaded.Absent is told = told
+front_whole bytes items limit loaded.TooLong is told =
+    omega (arith, told, ap length is ∙ length-take (limit + 1) bytes)
+front_whole bytes items limit (loaded.Bytes all) is told =
+    within_is_all bytes all limit (told.0 ∙ is) (omega (arith, ap length told.0, told.1))
+
+pub loaded_whole : {E : Type 0} (file front : Option (List ℕ)) (start items : List ℕ) (limit : ℕ) (read : Result ℕ E) (result : Result Loaded StoreError) → front ≡ option_map (take (limit + 1)) file → start ≡ [] → OnOk read (IfSome front (λ bs. items ≡ start ++ bs)) → IfOk result (λ found. IsLoaded items limit found) → (IsErr read → IsErr result) → IfSome file (λ bytes. IfOk result (λ found. IsLoaded bytes limit found))
+loaded_whole None front start items limit read result is none all told failed = tt
+loaded_whole (Some bytes) front start items limit read (Err error) is none all told failed = tt
+loaded_whole (Some bytes) front start items limit (Err error) (Ok found) is none all told failed =
+    let wrong : IsErr {T = Loaded} {E = StoreError} (Ok found) = failed refl in
+    let never : ⊥ = cc in
+    absurd never
+loaded_whole (Some bytes) front start items limit (Ok n) (Ok found) is none all told failed =
+    front_whole bytes items limit found
+    (subst (λ (o : Option (List ℕ)). IfSome o (λ xs. items ≡ xs)) is (subst (λ (s : List ℕ). IfSome front (λ xs. items ≡ s ++ xs)) none all))
+    told

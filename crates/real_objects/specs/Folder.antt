@@ -1,13 +1,24 @@
 -- What is found of a file, and the folder of a path.
-use Rattle.std.specs.Prelude.{◌≡◌, ◌⊎◌, ◌<◌, ◌≤◌, ℕ, ◌==◌, List, ◌∷◌, ◌++◌, length, take, drop, Option, Some, None, IfSome}
+use Rattle.std.specs.Prelude.{◌≡◌, ◌⊎◌, ◌<◌, ◌≤◌, ℕ, ◌==◌, List, ◌∷◌, ◌++◌, length, take, drop, Option, Some, None, IfSome, option_map, string_bytes}
 use Rattle.std.specs.Str.{NoCharPasses}
 use Rattle.std.specs.Path.{slash, root_dir, cur_dir}
 use Rattle.std.specs.Fs.{IsFile, file_type, metadata_len}
 use Rattle.std.specs.declared.fs.attrs.Metadata.{Metadata}
 use Rattle.std.specs.declared.io.ErrorKind.{ErrorKind}
 use Rattle.std.specs.declared.io.ErrorKind.TheVariants as kind
+use Rattle.real_objects.specs.declared.folder.DirStore.{DirStore}
+use Rattle.real_objects.specs.Streams.{untold_store}
+use Rattle.tink_spec.specs.Files.{StoreState}
 use Rattle.tink_base.specs.declared.store.Loaded.{Loaded}
 use Rattle.tink_base.specs.declared.store.Loaded.TheVariants as loaded
+
+-- the files, of which their counts alone are told
+abbrev pub told_files : DirStore → StoreState
+told_files files = untold_store files.faults files.given
+
+-- the path that the files keep of one which was made under a name aside that couldn't be removed
+abbrev pub kept_path : DirStore → Option (List ℕ)
+kept_path files = option_map string_bytes files.left
 
 -- what a load finds of a file of these bytes under this limit
 abbrev pub IsLoaded : List ℕ → ℕ → Loaded → Type 0

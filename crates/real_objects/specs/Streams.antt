@@ -28,6 +28,10 @@ told_source remaining source = record {
   late = source.late;
 }
 
+-- whether it was found closed, before its first read
+abbrev pub found_closed : {R : Type 0} → StdSource R → Bool
+found_closed source = source.closed
+
 -- it was found closed, before anything was read of it
 abbrev pub IsClosed : {R : Type 0} → StdSource R → Type 0
 IsClosed source = (source.closed ≡ true) × (read_ahead source ≡ [])

@@ -4,7 +4,7 @@
 //! The entropy tells the bytes of the device, where it knows them: the system's tells none. It isn't steady,
 //! since a device may fail whatever is asked, and a fill that failed may have used bytes up.
 
-ghost use Rattle.std.specs.Prelude.{◌≡◌, ◌≤◌, ℕ, List, Option, None, length, take, IfOk, IfSome, IsOk, OnOk, OnErr};
+ghost use Rattle.std.specs.Prelude.{◌≡◌, ◌≤◌, ℕ, List, [], Option, None, length, take, IfOk, IfSome, IsOk, OnOk, OnErr};
 ghost use Rattle.std.specs.Io.KnownBytes.{Consumes, Keeps};
 ghost use Rattle.tink_spec.specs.Outside.{Drew, RanShort, RoseOnce, Stood};
 ghost use Rattle.real_objects.specs.Device.{device_left, drawn_ahead, held_ahead, told_device, Skips};
@@ -103,7 +103,9 @@ pub struct FileEntropy<O: Opens> {
 impl<O: Opens> FileEntropy<O> {
     /// The device, before the first fill.
     pub fn new(opener: O) -> FileEntropy<O>
-        ensures { device_left O.given O.Device.remaining result ≡ O.given opener }
+        ensures left { device_left O.given O.Device.remaining result ≡ O.given opener }
+        ensures none_held { held_ahead result ≡ [] }
+        ensures new { (told_device O.given O.Device.remaining result).faults ≡ 0 }
     {
         FileEntropy {
             opener,

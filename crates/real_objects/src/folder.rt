@@ -2,11 +2,11 @@
 //! and fills one file speak of the bytes of the file, where it knows them. How a new one gets its name is
 //! in `naming`, and what is read of a file at a place in `placed`.
 
-ghost use Rattle.std.specs.Prelude.{◌≡◌, ◌≢◌, ◌^◌, ◌≤◌, Bool, Option, true, false, None, [], min, IfOk, IfErr, IsOk, IsErr, IsOkAnd, IsErrOf, IfSome, OnOk};
+ghost use Rattle.std.specs.Prelude.{◌≡◌, ◌≢◌, ◌^◌, ◌≤◌, Bool, Option, true, false, None, [], min, IfOk, IfErr, IsOk, IsErr, IsOkAnd, IsErrOf, IfSome, OnOk, option_map};
 ghost use Rattle.std.specs.Io.KnownBytes.{Appends, Keeps};
 ghost use Rattle.std.specs.IoError.{error_kind};
 ghost use Rattle.tink_base.specs.Store.{GivenByLoad, Loads};
-ghost use Rattle.real_objects.specs.Folder.{IsLoaded, IsMissing};
+ghost use Rattle.real_objects.specs.Folder.{IsLoaded, IsMissing, kept_path, told_files};
 ghost use Rattle.real_objects.specs.Naming.{Lasts};
 ghost use Rattle.real_objects.specs.Streams.{untold_store};
 
@@ -36,7 +36,10 @@ pub struct DirStore<'a> {
 
 impl<'a> DirStore<'a> {
     /// The files, before the first call.
-    pub fn new(rt: &'a HostRuntime) -> DirStore<'a> {
+    pub fn new(rt: &'a HostRuntime) -> DirStore<'a>
+        ensures none_left { kept_path result ≡ None }
+        ensures new { told_files result ≡ untold_store 0 0 }
+    {
         DirStore {
             rt,
             faults: 0,
@@ -46,7 +49,9 @@ impl<'a> DirStore<'a> {
     }
 
     /// The path of the last file that was made under a name aside which couldn't be removed.
-    pub fn left(&self) -> Option<&str> {
+    pub fn left(&self) -> Option<&str>
+        ensures { option_map (λ path. path.now) result ≡ kept_path self.now }
+    {
         match &self.left {
             Some(path) => Some(path.as_str()),
             None => None,
@@ -55,7 +60,7 @@ impl<'a> DirStore<'a> {
 }
 
 impl Store for DirStore<'_> {
-    ghost state = { λ s. untold_store s.faults s.given };
+    ghost state = { λ s. told_files s };
 
     fn load(&mut self, alloc: Global, name: &str, limit: usize) -> Result<Loaded, StoreError> {
         match load_opened(alloc, fs::open(self.rt, name), limit, &mut self.given) {
@@ -155,6 +160,8 @@ pub fn load_opened<R: Read + Drop>(
         result ≡ Ok Loaded.Absent) }
     ensures no_memory { IfErr opened (λ error. IsErrOf result StoreError.NoMemory →
         error_kind error ≡ ErrorKind.OutOfMemory) }
+    ensures starved { IfErr opened (λ error. error_kind error ≡ ErrorKind.OutOfMemory →
+        result ≡ Err StoreError.NoMemory) }
     ensures loads { IfOk result (λ found. Loads (untold_store 0 0) [] limit found) }
     ensures given { GivenByLoad limit result given.old given.new }
 {
@@ -183,18 +190,16 @@ fn read_file<R: Read + Drop>(
 {
     let mut bytes = Vec::new(alloc);
     let mut front = file.take(limit as u64 + 1);
-    let read = as_told(front.read_to_end(&mut bytes));
+    let read = front.read_to_end(&mut bytes);
     *given = given.saturating_add(bytes.len().min(limit + 1) as u64);
-    match read {
-        Ok(_) if bytes.len() > limit => Ok(Loaded::TooLong),
-        Ok(_) => Ok(Loaded::Bytes(Bytes::own(bytes))),
-        Err(error) => Err(error),
-    }
+    loaded_of(read, bytes, limit)
 }
 
-/// What a read is told as: want of memory exactly where its error says so.
-fn as_told(read: io::Result<usize>) -> Result<usize, StoreError>
-    ensures done { IfOk read (λ n. result ≡ Ok n) }
+/// What was found of a file of which these bytes were read, with one more than the limit at the most. A read
+/// that failed is told as want of memory exactly where its error says so.
+fn loaded_of(read: io::Result<usize>, bytes: Vec<u8>, limit: usize) -> Result<Loaded, StoreError>
+    ensures loaded { IfOk result (λ found. IsLoaded bytes.items limit found) }
+    ensures done { IsOk read → IsOk result }
     ensures failed { IsErr read → IsErr result }
     ensures memory { IfErr read (λ error. error_kind error ≡ ErrorKind.OutOfMemory →
         result ≡ Err StoreError.NoMemory) }
@@ -202,7 +207,8 @@ fn as_told(read: io::Result<usize>) -> Result<usize, StoreError>
         result ≡ Err StoreError.Failed) }
 {
     match read {
-        Ok(n) => Ok(n),
+        Ok(_) if bytes.len() > limit => Ok(Loaded::TooLong),
+        Ok(_) => Ok(Loaded::Bytes(Bytes::own(bytes))),
         Err(error) => Err(fault_of(error.kind())),
     }
 }
@@ -263,6 +269,8 @@ pub fn fill_opened<F: NewFile>(
         result ≡ Ok Created.Exists) }
     ensures no_memory { IfErr opened.old (λ error. IsErrOf result StoreError.NoMemory →
         error_kind error ≡ ErrorKind.OutOfMemory) }
+    ensures starved { IfErr opened.old (λ error. error_kind error ≡ ErrorKind.OutOfMemory →
+        result ≡ Err StoreError.NoMemory) }
     ensures unfilled { IsOk opened.old → IfErr result (λ error. error ≡ StoreError.Failed) }
     ensures unopened { IfErr opened.old (λ error. opened.new ≡ Err error) }
 {

@@ -1,9 +1,11 @@
 //! The path of a new file, and the paths aside in its folder. Each call looks the path up anew: there are no
 //! calls here that go from an open folder.
 
-ghost use Rattle.std.specs.Prelude.{◌≡◌, ◌≢◌, None, IfOk, IfErr, IsOk};
+ghost use Rattle.std.specs.Prelude.{◌≡◌, ◌≢◌, Option, None, IfOk, IfErr, IsOk, OnOk, OnErr, option_map, string_bytes};
 ghost use Rattle.std.specs.IoError.{error_kind};
 ghost use Rattle.real_objects.specs.Folder.{IsFolder};
+ghost use Rattle.real_objects.specs.Named.{left_path, place_of, there_path};
+ghost use Rattle.real_objects.specs.Naming.{Stage, There, Gone, Left};
 
 use crate::entropy::{Opens, RandomDevice};
 use crate::folder::OWNER_ALONE;
@@ -39,7 +41,9 @@ pub struct DirName<'a> {
 
 impl<'a> DirName<'a> {
     /// The path, before it is looked up. The memory is for the path of a name aside.
-    pub fn new(alloc: Global, rt: &'a HostRuntime, name: &'a str) -> DirName<'a> {
+    pub fn new(alloc: Global, rt: &'a HostRuntime, name: &'a str) -> DirName<'a>
+        ensures { place_of result.aside ≡ Gone }
+    {
         DirName {
             rt,
             alloc,
@@ -50,7 +54,9 @@ impl<'a> DirName<'a> {
     }
 
     /// The path of the file that couldn't be removed, where there is one.
-    pub fn into_left(self) -> Option<String> {
+    pub fn into_left(self) -> Option<String>
+        ensures { option_map string_bytes result ≡ left_path self.entry.aside }
+    {
         let DirName { aside, .. } = self;
         match aside {
             Aside::Left(path) => Some(path),
@@ -113,7 +119,15 @@ impl NewName for DirName<'_> {
     }
 
     /// A name that somebody else removed is gone, too.
-    fn clear(&mut self) -> io::Result<()> {
+    fn clear(&mut self) -> io::Result<()>
+        requires there { place_of self.old.aside ≡ There }
+        ensures gone { OnOk result (place_of self.new.aside ≡ Gone) }
+        ensures left { OnErr result (place_of self.new.aside ≡ Left) }
+        ensures kept { ◌≡◌ {A = Option Stage} None None }
+
+        // What is left is the file that stood under the name aside.
+        ensures path { OnErr result (left_path self.new.aside ≡ there_path self.old.aside) }
+    {
         let Aside::There(path) = mem::replace(&mut self.aside, Aside::Gone) else {
             return Ok(());
         };

@@ -5,7 +5,7 @@ ghost use Rattle.std.specs.Prelude.{◌≡◌, ◌≢◌, ◌<◌, ◌≤◌, tr
 ghost use Rattle.std.specs.Io.KnownBytes.{Appends, Consumes, Keeps, IsAtEnd as IsNoneLeft};
 ghost use Rattle.std.specs.IoError.{error_kind};
 ghost use Rattle.tink_spec.specs.Outside.{Rose, RoseOnce, Stood, Took, Gave, IsAtEnd, late_after};
-ghost use Rattle.real_objects.specs.Streams.{told_source, told_sink, stream_read, read_ahead, source_left, stream_written, IsClosed, closed_sink, has_written};
+ghost use Rattle.real_objects.specs.Streams.{told_source, told_sink, stream_read, read_ahead, source_left, stream_written, IsClosed, found_closed, closed_sink, has_written};
 
 use crate::beneath::{ReadStream, WriteStream};
 use crate::unread::Unread;
@@ -41,6 +41,7 @@ impl<R: ReadStream + Drop> StdSource<R> {
         ensures left { IfOk result (λ s. (told_source R.remaining s).left ≡ R.remaining from) }
         ensures new { IfOk result (λ s. (told_source R.remaining s).faults ≡ 0) }
         ensures not_ended { IfOk result (λ s. (told_source R.remaining s).ended ≡ false) }
+        ensures none_late { IfOk result (λ s. (told_source R.remaining s).late ≡ 0) }
     {
         Ok(StdSource {
             input: from,
@@ -63,6 +64,7 @@ impl<R: ReadStream + Drop> StdSource<R> {
         ensures left { IfOk result (λ s. (told_source R.remaining s).left ≡ R.remaining from) }
         ensures new { IfOk result (λ s. (told_source R.remaining s).faults ≡ 0) }
         ensures not_ended { IfOk result (λ s. (told_source R.remaining s).ended ≡ false) }
+        ensures none_late { IfOk result (λ s. (told_source R.remaining s).late ≡ 0) }
     {
         let closed = !from.is_open();
         Ok(StdSource {
@@ -116,6 +118,7 @@ impl<R: ReadStream> Source for StdSource<R> {
         ensures closed { IsClosed self.old → IsErr result }
         ensures left_alone { IsClosed self.old → stream_read self.new ≡ stream_read self.old }
         ensures stays_closed { IsClosed self.old → IsClosed self.new }
+        ensures stays_open { found_closed self.new ≡ found_closed self.old }
 
         // What was read ahead is given, and the stream isn't asked before it is used up.
         ensures enough { 0 < length (read_ahead self.old) → IsOk result }
@@ -160,6 +163,7 @@ impl<W: WriteStream> StdSink<W> {
         ensures beneath { stream_written result ≡ to }
         ensures open { closed_sink result ≡ false }
         ensures written { (told_sink W.contents result).written ≡ W.contents to }
+        ensures none_written { has_written result ≡ false }
         ensures new { (told_sink W.contents result).faults ≡ 0 }
     {
         StdSink {
@@ -177,6 +181,7 @@ impl<W: WriteStream> StdSink<W> {
         ensures open { W.opened to ≡ Some true → closed_sink result ≡ false }
         ensures closed { W.opened to ≡ Some false → closed_sink result ≡ true }
         ensures written { (told_sink W.contents result).written ≡ W.contents to }
+        ensures none_written { has_written result ≡ false }
         ensures new { (told_sink W.contents result).faults ≡ 0 }
     {
         let closed = !to.is_open();
@@ -201,6 +206,7 @@ impl<W: WriteStream> StdSink<W> {
             IfSome (W.settles (stream_written self.old)) (λ well. is_ok result ≡ well) }
         ensures unasked { has_written self.old ≡ false → IsOk result }
         ensures has_written { has_written self.new ≡ has_written self.old }
+        ensures stays_closed { closed_sink self.new ≡ closed_sink self.old }
         ensures settles { W.settles (stream_written self.new) ≡ W.settles (stream_written self.old) }
     {
         if !self.wrote {
@@ -239,6 +245,8 @@ impl<W: WriteStream> Sink for StdSink<W> {
         ensures unwritten { OnErr result
             (Keeps (W.contents (stream_written self.old)) (W.contents (stream_written self.new))) }
         ensures has_written { IfOk result (λ n. 0 < n → has_written self.new ≡ true) }
+        ensures none_written { IfOk result (λ n. n ≡ 0 → has_written self.new ≡ has_written self.old) }
+        ensures failed_written { OnErr result (has_written self.new ≡ has_written self.old) }
 
         // A stream that was found closed fails, is left alone, and stays so.
         ensures closed { closed_sink self.old ≡ true → IsErr result }

@@ -1,4 +1,4 @@
-use Rattle.std.proofs.Common.{arith, rules, length}
+use Rattle.std.proofs.Common.{rules, length}
 use Rattle.real_objects.proofs.DeviceLemmas.{device_short}
 use Rattle.real_objects.proofs.entropy.FileEntropyEntropy.fill.Goals as goal
 
