@@ -1,9 +1,14 @@
 /* What tools/library runs: lines of calls on standard input, each answered by a line; and what a caller can do wrong.
  *
  *     library_test         a line is CALL FORM KEYSET FIRST SECOND ROOM, bytes in hexadecimal and - for none, where
- *                          FORM is json or binary, and ROOM may be - for what the library says, and the bytes to derive
+ *                          FORM is json or binary, and ROOM may be - for what the library says, and bytes to derive.
+ *                          For an encrypted keyset FORM and KEYSET are two, with a + between them: first those of the
+ *                          encrypted text, and then those of its master
  *     library_test own     calls with null pointers, overlap, too little room and handles of others, and threads,
  *                          with an AEAD's keyset in the binary form as one such line on standard input
+ *     library_test memory  calls with each of their allocations refused in turn, with a line KEYSET ENCRYPTED: an
+ *                          AEAD's keyset in JSON, and a MAC's that is encrypted under it, in JSON too. It is linked
+ *                          with --wrap for malloc, calloc and realloc
  *
  * An answer is STATUS BYTES. It is BROKEN where a call that failed has changed its output, or one that was done has
  * changed what stands behind its answer. */
@@ -17,15 +22,13 @@
 
 enum { FILL = 0xa5, BEHIND = 16 };
 
+static int digit(char c) { return c <= '9' ? c - '0' : c - 'a' + 10; }
+
 static size_t unhex(const char *text, unsigned char **bytes) {
     size_t size = strcmp(text, "-") ? strlen(text) / 2 : 0;
     *bytes = malloc(size ? size : 1);
     if (!*bytes) exit(3);
-    for (size_t i = 0; i < size; i++) {
-        unsigned digits;
-        sscanf(text + 2 * i, "%2x", &digits);
-        (*bytes)[i] = (unsigned char)digits;
-    }
+    for (size_t i = 0; i < size; i++) (*bytes)[i] = (unsigned char)(digit(text[2 * i]) << 4 | digit(text[2 * i + 1]));
     return size;
 }
 
@@ -35,9 +38,20 @@ static int is_filled(const unsigned char *bytes, size_t size) {
     return 1;
 }
 
-#define NEW(primitive, at)                                                               \
-    (binary ? tinkey_##primitive##_new_binary(keyset, keyset_size, at)                   \
-            : tinkey_##primitive##_new(keyset, keyset_size, at))
+#define NEW(primitive, at)                                                                                      \
+    (master_word ? tinkey_##primitive##_new_wrapped(keyset, keyset_size, form, master, master_size,             \
+                                                    master_form, at)                                            \
+     : form      ? tinkey_##primitive##_new_binary(keyset, keyset_size, at)                                     \
+                 : tinkey_##primitive##_new(keyset, keyset_size, at))
+
+/* Cuts a word at its +, and gives what is behind it, or NULL. */
+static char *behind_plus(char *word) {
+    char *plus = strchr(word, '+');
+    if (plus) *plus++ = 0;
+    return plus;
+}
+
+static tinkey_form form_of(const char *word) { return strcmp(word, "binary") ? TINKEY_JSON : TINKEY_BINARY; }
 
 static void answer(char *line) {
     char *words[6], *word = strtok(line, " \n");
@@ -46,9 +60,11 @@ static void answer(char *line) {
         words[i] = word;
     }
     const char *call = words[0];
-    int binary = !strcmp(words[1], "binary");
-    unsigned char *keyset, *first, *second;
+    char *form_word = behind_plus(words[1]), *master_word = behind_plus(words[2]);
+    tinkey_form form = form_of(words[1]), master_form = form_word ? form_of(form_word) : TINKEY_JSON;
+    unsigned char *keyset, *master, *first, *second;
     size_t keyset_size = unhex(words[2], &keyset), m = unhex(words[3], &first), n = unhex(words[4], &second);
+    size_t master_size = unhex(master_word ? master_word : "-", &master);
     size_t room = strtoull(words[5], NULL, 10), made = 12345;
     tinkey_aead *aead = NULL;
     tinkey_daead *daead = NULL;
@@ -92,6 +108,7 @@ static void answer(char *line) {
     tinkey_mac_free(mac);
     tinkey_prf_free(prf);
     free(keyset);
+    free(master);
     free(first);
     free(second);
     free(out);
@@ -134,6 +151,15 @@ static void own(char *line) {
     EXPECT(tinkey_aead_new(keyset, size, &keys) == TINKEY_NO_KEYSET);
     EXPECT(tinkey_aead_new_binary(keyset, SIZE_MAX, &keys) == TINKEY_TOO_LONG);
     EXPECT(tinkey_aead_new_binary(keyset, ((size_t)1 << 30) + 1, &keys) == TINKEY_TOO_LONG);
+    EXPECT(tinkey_aead_new_wrapped(NULL, 3, TINKEY_JSON, keyset, size, TINKEY_BINARY, &keys) == TINKEY_BAD_CALL);
+    EXPECT(tinkey_aead_new_wrapped("{}", 2, TINKEY_JSON, NULL, 3, TINKEY_BINARY, &keys) == TINKEY_BAD_CALL);
+    EXPECT(tinkey_aead_new_wrapped("{}", 2, (tinkey_form)2, keyset, size, TINKEY_BINARY, &keys) == TINKEY_BAD_CALL);
+    EXPECT(tinkey_aead_new_wrapped("{}", 2, TINKEY_JSON, keyset, size, (tinkey_form)-1, &keys) == TINKEY_BAD_CALL);
+    EXPECT(tinkey_aead_new_wrapped("{}", 2, TINKEY_JSON, keyset, size, TINKEY_BINARY, NULL) == TINKEY_BAD_CALL);
+    EXPECT(tinkey_aead_new_wrapped("{}", SIZE_MAX, TINKEY_JSON, keyset, size, TINKEY_BINARY, &keys) == TINKEY_TOO_LONG);
+    EXPECT(tinkey_aead_new_wrapped("{}", 2, TINKEY_JSON, keyset, SIZE_MAX, TINKEY_BINARY, &keys) == TINKEY_TOO_LONG);
+    EXPECT(tinkey_aead_new_wrapped("{}", 2, TINKEY_JSON, NULL, 0, TINKEY_BINARY, &keys) == TINKEY_NO_MASTER);
+    EXPECT(tinkey_aead_new_wrapped("{}", 2, TINKEY_JSON, keyset, size, TINKEY_BINARY, &keys) == TINKEY_REFUSED);
     EXPECT(keys == (tinkey_aead *)out);
     errno = 77;
     EXPECT(tinkey_aead_new_binary(keyset, size, &keys) == TINKEY_OK);
@@ -185,10 +211,73 @@ static void own(char *line) {
     printf(failed ? "FAILED\n" : "all so\n");
 }
 
+/* ---- Memory that is refused. */
+
+/* How many allocations are left before the one that is refused; below 0 none is. */
+static long left = -1;
+static int was_refused;
+
+static int refuses(void) {
+    if (left < 0 || left--) return 0;
+    was_refused = 1;
+    return 1;
+}
+
+void *__real_malloc(size_t);
+void *__real_calloc(size_t, size_t);
+void *__real_realloc(void *, size_t);
+void *__wrap_malloc(size_t size) { return refuses() ? NULL : __real_malloc(size); }
+void *__wrap_calloc(size_t count, size_t size) { return refuses() ? NULL : __real_calloc(count, size); }
+void *__wrap_realloc(void *old, size_t size) { return refuses() ? NULL : __real_realloc(old, size); }
+
+/* A call with its first allocation refused, its second, and so on, up to the one that needs no more of them. */
+#define EACH_REFUSED(call, unchanged)                                   \
+    for (long n = 0;; n++) {                                            \
+        left = n;                                                       \
+        was_refused = 0;                                                \
+        tinkey_status status = (call);                                  \
+        left = -1;                                                      \
+        EXPECT(status == (was_refused ? TINKEY_NO_MEMORY : TINKEY_OK)); \
+        if (!was_refused) {                                             \
+            refusals += n;                                              \
+            break;                                                      \
+        }                                                               \
+        EXPECT(unchanged);                                              \
+    }
+
+static void memory(char *line) {
+    unsigned char *keyset, *encrypted, out[200], back[200];
+    size_t keyset_size = unhex(strtok(line, " \n"), &keyset), encrypted_size = unhex(strtok(NULL, " \n"), &encrypted);
+    size_t made = 7, opened = 7;
+    long refusals = 0;
+    tinkey_aead *aead = NULL;
+    tinkey_mac *mac = NULL;
+    memset(out, FILL, sizeof out);
+    memset(back, FILL, sizeof back);
+    EACH_REFUSED(tinkey_aead_new(keyset, keyset_size, &aead), !aead);
+    EACH_REFUSED(tinkey_mac_new_wrapped(encrypted, encrypted_size, TINKEY_JSON, keyset, keyset_size, TINKEY_JSON, &mac),
+                 !mac);
+    EACH_REFUSED(tinkey_aead_seal(aead, "body", 4, "ad", 2, out, 200, &made), is_filled(out, sizeof out) && made == 7);
+    EACH_REFUSED(tinkey_aead_open(aead, out, made, "ad", 2, back, 200, &opened),
+                 is_filled(back, sizeof back) && opened == 7);
+    EXPECT(opened == 4 && !memcmp(back, "body", 4));
+    memset(out, FILL, sizeof out);
+    made = 7;
+    EACH_REFUSED(tinkey_mac_tag(mac, "body", 4, out, 200, &made), is_filled(out, sizeof out) && made == 7);
+    EACH_REFUSED(tinkey_mac_verify(mac, out, made, "body", 4), 1);
+    tinkey_aead_free(aead);
+    tinkey_mac_free(mac);
+    free(keyset);
+    free(encrypted);
+    if (failed) printf("FAILED\n");
+    else printf("all so, of %ld\n", refusals);
+}
+
 int main(int count, char **words) {
-    static char line[1 << 22];
+    static char line[1 << 24];
     while (fgets(line, sizeof line, stdin)) {
         if (count > 1 && !strcmp(words[1], "own")) own(line);
+        else if (count > 1 && !strcmp(words[1], "memory")) memory(line);
         else answer(line);
     }
     return failed;

@@ -5,6 +5,7 @@
 
 #include <errno.h>
 #include <pthread.h>
+#include <stdbool.h>
 #include <stdint.h>
 #include <stdlib.h>
 #include <sys/random.h>
@@ -17,7 +18,10 @@ struct shared_keys {
 
 #define MAKERS(primitive)                                                                             \
     int32_t tinkey_core_##primitive##_of_json(const uint8_t *, size_t, struct shared_keys *);         \
-    int32_t tinkey_core_##primitive##_of_binary(const uint8_t *, size_t, struct shared_keys *);
+    int32_t tinkey_core_##primitive##_of_binary(const uint8_t *, size_t, struct shared_keys *);       \
+    int32_t tinkey_core_##primitive##_of_wrapped(const uint8_t *encrypted, size_t, bool json,         \
+                                                 const uint8_t *master, size_t, bool json_master,     \
+                                                 struct shared_keys *);
 MAKERS(aead)
 MAKERS(daead)
 MAKERS(mac)
@@ -95,25 +99,55 @@ struct handle {
 };
 
 typedef int32_t maker(const uint8_t *, size_t, struct shared_keys *);
+typedef int32_t unwrapper(const uint8_t *, size_t, bool, const uint8_t *, size_t, bool, struct shared_keys *);
+
+/* A handle without keys, or NULL. */
+static struct handle *blank(void) {
+    struct handle *made = calloc(1, sizeof *made);
+    if (made && pthread_mutex_init(&made->one_call, NULL)) {
+        free(made);
+        made = NULL;
+    }
+    return made;
+}
+
+/* Gives a handle out if its keys were made, and else lets it go. */
+static tinkey_status give(struct handle *made, int32_t status, void **out) {
+    if (!status) {
+        *out = made;
+    } else if (made) {
+        pthread_mutex_destroy(&made->one_call);
+        free(made);
+    }
+    return (tinkey_status)status;
+}
 
 static tinkey_status make(maker *core, const void *text, size_t len, void **out) {
     if (!out || is_missing(text, len)) return TINKEY_BAD_CALL;
     if (is_huge(len)) return TINKEY_TOO_LONG;
     if (!is_new_enough()) return TINKEY_OLD_PROCESSOR;
     int before = errno;
-    struct handle *made = calloc(1, sizeof *made);
-    int32_t status = TINKEY_NO_MEMORY;
-    if (made && pthread_mutex_init(&made->one_call, NULL) == 0) {
-        status = core(at(text, len), len, &made->keys);
-        if (status) pthread_mutex_destroy(&made->one_call);
-    }
-    if (status) {
-        free(made);
-    } else {
-        *out = made;
-    }
+    struct handle *made = blank();
+    tinkey_status status = give(made, made ? core(at(text, len), len, &made->keys) : TINKEY_NO_MEMORY, out);
     errno = before;
-    return (tinkey_status)status;
+    return status;
+}
+
+static int is_form(tinkey_form form) { return form == TINKEY_JSON || form == TINKEY_BINARY; }
+
+static tinkey_status unwrap(unwrapper *core, const void *text, size_t len, tinkey_form form, const void *master,
+                            size_t master_len, tinkey_form master_form, void **out) {
+    if (!out || is_missing(text, len) || is_missing(master, master_len) || !is_form(form) || !is_form(master_form))
+        return TINKEY_BAD_CALL;
+    if (is_huge(len) || is_huge(master_len)) return TINKEY_TOO_LONG;
+    if (!is_new_enough()) return TINKEY_OLD_PROCESSOR;
+    int before = errno;
+    struct handle *made = blank();
+    tinkey_status status = give(made, made ? core(at(text, len), len, form == TINKEY_JSON, at(master, master_len),
+                                                  master_len, master_form == TINKEY_JSON, &made->keys)
+                                           : TINKEY_NO_MEMORY, out);
+    errno = before;
+    return status;
 }
 
 static void let_go(struct handle *handle) {
@@ -214,6 +248,16 @@ static int32_t derive_all(struct shared_keys *keys, const uint8_t *input, size_t
         if (!status) *handle = made;                                                                          \
         return status;                                                                                        \
     }                                                                                                         \
+    tinkey_status tinkey_##primitive##_new_wrapped(const void *encrypted, size_t encrypted_len,               \
+                                                   tinkey_form form, const void *master, size_t master_len,   \
+                                                   tinkey_form master_form, tinkey_##primitive **handle) {    \
+        void *made = NULL;                                                                                    \
+        tinkey_status status = handle ? unwrap(tinkey_core_##primitive##_of_wrapped, encrypted,               \
+                                               encrypted_len, form, master, master_len, master_form, &made)   \
+                                      : TINKEY_BAD_CALL;                                                      \
+        if (!status) *handle = made;                                                                          \
+        return status;                                                                                        \
+    }                                                                                                         \
     void tinkey_##primitive##_free(tinkey_##primitive *handle) { let_go((struct handle *)handle); }
 
 HANDLES(aead)
@@ -277,15 +321,18 @@ const char *tinkey_status_text(tinkey_status status) {
     switch (status) {
     case TINKEY_OK: return "done";
     case TINKEY_REFUSED: return "nothing opens these bytes, or the tag isn't the body's";
-    case TINKEY_NO_KEYSET: return "the text is no keyset";
+    case TINKEY_NO_KEYSET: return "the text, or what was opened of an encrypted one, is no keyset";
     case TINKEY_UNFIT_KEY: return "a key of the keyset can't serve for the primitive";
     case TINKEY_OTHER_PRIMITIVE: return "the handle is one of another primitive";
     case TINKEY_NO_ROOM: return "the output is shorter than the answer";
     case TINKEY_TOO_LONG: return "too many bytes";
     case TINKEY_NO_RANDOM: return "the system gives no random bytes";
     case TINKEY_NO_MEMORY: return "out of memory";
-    case TINKEY_BAD_CALL: return "a null pointer, or an output that overlaps something else";
+    case TINKEY_BAD_CALL: return "a null pointer, an unknown form, or an output that overlaps something else";
     case TINKEY_OLD_PROCESSOR: return "the processor lacks what the library is built for";
+    case TINKEY_NO_MASTER: return "the text of the master is no keyset";
+    case TINKEY_UNFIT_MASTER: return "a key of the master can't serve as an AEAD";
+    case TINKEY_NO_WRAPPED: return "the text is no encrypted keyset";
     }
     return "no such status";
 }

@@ -1,17 +1,28 @@
-/* Seals and opens with a keyset file: cc examples/library.c -Iinclude lib/libtinkey.a -o library && ./library KEYSET.json */
+/* Seals and opens with a keyset file, or with one that is encrypted under a master:
+ * cc examples/library.c -Iinclude lib/libtinkey.a -o library && ./library KEYSET.json [MASTER.json] */
 #include <stdio.h>
 #include <stdlib.h>
 #include <tinkey.h>
 
-int main(int count, char **words) {
-    static char json[1 << 20], plain[] = "attack at dawn", ad[] = "associated data";
-    FILE *file = count == 2 ? fopen(words[1], "rb") : NULL;
-    if (!file) return 2;
-    size_t size = fread(json, 1, sizeof json, file), sealed_size, opened_size;
+/* Reads a file of at most a mebibyte, and ends the program if it can't. */
+static size_t read_file(const char *name, char *into) {
+    FILE *file = fopen(name, "rb");
+    if (!file) exit(2);
+    size_t size = fread(into, 1, 1 << 20, file);
     fclose(file);
+    return size;
+}
+
+int main(int count, char **words) {
+    static char json[1 << 20], master[1 << 20], plain[] = "attack at dawn", ad[] = "associated data";
+    if (count < 2) return 2;
+    size_t size = read_file(words[1], json), sealed_size, opened_size;
 
     tinkey_aead *keys;
-    tinkey_status status = tinkey_aead_new(json, size, &keys);
+    tinkey_status status =
+        count == 2 ? tinkey_aead_new(json, size, &keys)
+                   : tinkey_aead_new_wrapped(json, size, TINKEY_JSON, master, read_file(words[2], master), TINKEY_JSON,
+                                             &keys);
     if (status) {
         fprintf(stderr, "%s\n", tinkey_status_text(status));
         return 1;

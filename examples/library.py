@@ -1,9 +1,14 @@
-"""Seals and opens with a keyset file: python3 examples/library.py KEYSET.json, with python/ in PYTHONPATH."""
+"""Seals and opens with a keyset file, or with one that is encrypted under a master:
+
+    python3 examples/library.py KEYSET.json [MASTER.json]       with python/ in PYTHONPATH
+"""
 import sys
+from pathlib import Path
 
 import tinkey
 
-with open(sys.argv[1], "rb") as file, tinkey.Aead.from_json(file.read()) as keys:
+texts = [Path(name).read_bytes() for name in sys.argv[1:]]
+with tinkey.Aead.from_encrypted(*texts) if len(texts) == 2 else tinkey.Aead.from_json(*texts) as keys:
     sealed = keys.encrypt(b"attack at dawn", b"associated data")
     print(f"{len(sealed)} bytes, which open to {keys.decrypt(sealed, b'associated data').decode()!r}")
     try:

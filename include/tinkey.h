@@ -36,16 +36,21 @@ extern "C" {
 
 typedef enum tinkey_status {
     TINKEY_OK = 0,
-    TINKEY_REFUSED = 1,         /* nothing opens the bytes with this associated data, or the tag isn't the body's */
-    TINKEY_NO_KEYSET = 2,       /* the text is no keyset of that form */
+    TINKEY_REFUSED = 1,         /* nothing opens the bytes with this associated data, no key of the master opens the
+                                   encrypted keyset, or the tag isn't the body's */
+    TINKEY_NO_KEYSET = 2,       /* the text is no keyset of that form, or what was encrypted is no keyset */
     TINKEY_UNFIT_KEY = 3,       /* an ENABLED key of the keyset can't serve for the primitive */
     TINKEY_OTHER_PRIMITIVE = 4, /* the handle is one of another primitive */
     TINKEY_NO_ROOM = 5,         /* `out` is shorter than the answer */
-    TINKEY_TOO_LONG = 6,        /* an input has more than 2^30 bytes, or the key derives fewer bytes */
+    TINKEY_TOO_LONG = 6,        /* an input has more than 2^30 bytes, an encrypted keyset more than 4,194,304 or its
+                                   master more than 1,048,576, or the key derives fewer bytes */
     TINKEY_NO_RANDOM = 7,       /* the system gives no random bytes */
     TINKEY_NO_MEMORY = 8,
-    TINKEY_BAD_CALL = 9,        /* a null pointer, or an output that overlaps something else */
-    TINKEY_OLD_PROCESSOR = 10   /* the processor lacks what the library is built for */
+    TINKEY_BAD_CALL = 9,        /* a null pointer, an unknown form, or an output that overlaps something else */
+    TINKEY_OLD_PROCESSOR = 10,  /* the processor lacks what the library is built for */
+    TINKEY_NO_MASTER = 11,      /* the text of the master is no keyset of that form */
+    TINKEY_UNFIT_MASTER = 12,   /* an ENABLED key of the master can't serve as an AEAD */
+    TINKEY_NO_WRAPPED = 13      /* the text is no encrypted keyset of that form */
 } tinkey_status;
 
 /* A line of English for a status. */
@@ -69,6 +74,28 @@ TINKEY_CHECKED tinkey_status tinkey_mac_new(const void *json, size_t json_len, t
 TINKEY_CHECKED tinkey_status tinkey_mac_new_binary(const void *bytes, size_t bytes_len, tinkey_mac **handle);
 TINKEY_CHECKED tinkey_status tinkey_prf_new(const void *json, size_t json_len, tinkey_prf **handle);
 TINKEY_CHECKED tinkey_status tinkey_prf_new_binary(const void *bytes, size_t bytes_len, tinkey_prf **handle);
+
+/* ---- A handle of a keyset that is encrypted under another one, its master: Tink's `EncryptedKeyset`, of at most
+ * 4,194,304 bytes, as Tink and `tinkey wrap-keyset` write it, and the master in clear, of at most 1,048,576. Each
+ * text is in one of two forms. The master's keys are let go before the call returns.
+ *
+ * TINKEY_TOO_LONG first, and then, by the first step that fails: TINKEY_NO_MASTER, TINKEY_UNFIT_MASTER,
+ * TINKEY_NO_WRAPPED, TINKEY_REFUSED, TINKEY_NO_KEYSET, TINKEY_UNFIT_KEY. */
+
+typedef enum tinkey_form { TINKEY_JSON = 0, TINKEY_BINARY = 1 } tinkey_form;
+
+TINKEY_CHECKED tinkey_status tinkey_aead_new_wrapped(const void *encrypted, size_t encrypted_len, tinkey_form form,
+                                                     const void *master, size_t master_len, tinkey_form master_form,
+                                                     tinkey_aead **handle);
+TINKEY_CHECKED tinkey_status tinkey_daead_new_wrapped(const void *encrypted, size_t encrypted_len, tinkey_form form,
+                                                      const void *master, size_t master_len, tinkey_form master_form,
+                                                      tinkey_daead **handle);
+TINKEY_CHECKED tinkey_status tinkey_mac_new_wrapped(const void *encrypted, size_t encrypted_len, tinkey_form form,
+                                                    const void *master, size_t master_len, tinkey_form master_form,
+                                                    tinkey_mac **handle);
+TINKEY_CHECKED tinkey_status tinkey_prf_new_wrapped(const void *encrypted, size_t encrypted_len, tinkey_form form,
+                                                    const void *master, size_t master_len, tinkey_form master_form,
+                                                    tinkey_prf **handle);
 
 /* Lets a handle go. NULL is let be. */
 void tinkey_aead_free(tinkey_aead *handle);

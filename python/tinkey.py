@@ -15,7 +15,7 @@ makes its own handles.
 import ctypes
 import os
 import threading
-from typing import Any, Optional, Type, TypeVar, Union
+from typing import Any, Optional, Sequence, Type, TypeVar, Union
 
 Buffer = Union[bytes, bytearray, memoryview]
 Self = TypeVar("Self", bound="_Handle")
@@ -36,13 +36,13 @@ class TinkeyError(Exception):
 
 
 class Refused(TinkeyError):
-    """Nothing opens the bytes with this associated data, or the tag isn't the body's."""
+    """Nothing opens the bytes, no key of the master opens the encrypted keyset, or the tag isn't the body's."""
 
     status = 1
 
 
 class NoKeyset(TinkeyError):
-    """The text is no keyset of that form."""
+    """The text is no keyset of that form, or what was encrypted is no keyset."""
 
     status = 2
 
@@ -66,7 +66,7 @@ class NoRoom(TinkeyError):
 
 
 class TooLong(TinkeyError):
-    """An input has more than 2^30 bytes, or the key derives fewer bytes than were asked for."""
+    """An input or a text has too many bytes, or the key derives fewer bytes than were asked for."""
 
     status = 6
 
@@ -84,7 +84,7 @@ class NoMemory(TinkeyError):
 
 
 class BadCall(TinkeyError):
-    """A null pointer, or an output that overlaps something else."""
+    """A null pointer, an unknown form, or an output that overlaps something else."""
 
     status = 9
 
@@ -93,6 +93,24 @@ class OldProcessor(TinkeyError):
     """The processor lacks what the library is built for."""
 
     status = 10
+
+
+class NoMaster(TinkeyError):
+    """The text of the master is no keyset of that form."""
+
+    status = 11
+
+
+class UnfitMaster(TinkeyError):
+    """An ENABLED key of the master can't serve as an AEAD."""
+
+    status = 12
+
+
+class NoWrapped(TinkeyError):
+    """The text is no encrypted keyset of that form."""
+
+    status = 13
 
 
 _ERRORS = {it.status: it for it in TinkeyError.__subclasses__()}
@@ -114,7 +132,9 @@ def _function(name: str, *arguments: Any, gives: Any = ctypes.c_int) -> Any:
     return function
 
 
+_FORMS = {"json": 0, "binary": 1}
 _INPUT = (ctypes.c_char_p, _size)
+_TEXT = (ctypes.c_char_p, _size, ctypes.c_int)
 _OUTPUT = (ctypes.c_char_p, _size, ctypes.POINTER(_size))
 
 
@@ -123,23 +143,33 @@ class _Handle:
 
     _name = ""
 
-    def __init__(self, form: str, text: Buffer) -> None:
+    def __init__(self, new: str, types: Sequence[Any], words: Sequence[Any]) -> None:
         self._at: Optional[int] = None
         self._lock = threading.Lock()
-        new = _function(f"tinkey_{self._name}_{form}", *_INPUT, ctypes.POINTER(_pointer))
-        made, data = _pointer(), _bytes(text)
-        _check(new(data, len(data), ctypes.byref(made)))
+        made = _pointer()
+        function = _function(f"tinkey_{self._name}_{new}", *types, ctypes.POINTER(_pointer))
+        _check(function(*words, ctypes.byref(made)))
         self._at = made.value
 
     @classmethod
     def from_json(cls: Type[Self], text: Buffer) -> Self:
         """The handle of a keyset in Tink's JSON."""
-        return cls("new", text)
+        data = _bytes(text)
+        return cls("new", _INPUT, (data, len(data)))
 
     @classmethod
     def from_binary(cls: Type[Self], data: Buffer) -> Self:
         """The handle of a keyset in the binary form."""
-        return cls("new_binary", data)
+        data = _bytes(data)
+        return cls("new_binary", _INPUT, (data, len(data)))
+
+    @classmethod
+    def from_encrypted(cls: Type[Self], encrypted: Buffer, master: Buffer, form: str = "json",
+                       master_form: str = "json") -> Self:
+        """The handle of a keyset that is encrypted under a master keyset. A form is `json` or `binary`."""
+        text, key = _bytes(encrypted), _bytes(master)
+        return cls("new_wrapped", _TEXT + _TEXT,
+                   (text, len(text), _FORMS[form], key, len(key), _FORMS[master_form]))
 
     def close(self) -> None:
         """Lets the keys go. A handle that is closed may be closed again, and does nothing else."""

@@ -21,6 +21,9 @@ pub outcome_of : (primitive : Primitive) (keys : Keys) (work : Work) (old new : 
     → primitive_of work ≡ primitive → IsAnswered (lack_of work) (answer keys work) old new result
     → IsOutcome primitive keys work old new result
 outcome_of primitive keys work old new (Ok size) same answered = (same, answered)
+outcome_of primitive keys work old new (Err refusals.NoMaster) same answered = absurd answered
+outcome_of primitive keys work old new (Err refusals.UnfitMaster) same answered = absurd answered
+outcome_of primitive keys work old new (Err refusals.NoWrapped) same answered = absurd answered
 outcome_of primitive keys work old new (Err refusals.NoKeyset) same answered = absurd answered
 outcome_of primitive keys work old new (Err refusals.UnfitKey) same answered = absurd answered
 outcome_of primitive keys work old new (Err refusals.OtherPrimitive) same answered = absurd answered

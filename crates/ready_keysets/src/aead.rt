@@ -1,6 +1,6 @@
 //! Work of AEADs under the standard managers, which are made for one call.
 
-ghost use Rattle.std.specs.Prelude.{◌≡◌, IfOk, IfErr, OnErr};
+ghost use Rattle.std.specs.Prelude.{◌≡◌, ◌≤◌, length, IfOk, IfErr, OnErr};
 ghost use Rattle.key_msgs.specs.KeyTypes.{url_of_type};
 ghost use Rattle.key_msgs.specs.declared.primitive.Primitive.TheVariants.{Aead};
 ghost use Rattle.keyset_model.specs.Keyset.{Keys};
@@ -8,9 +8,11 @@ ghost use Rattle.managers.specs.Schemes.{aead_scheme, type_under};
 ghost use Rattle.managers.specs.Standard.{standard_table};
 ghost use Rattle.wrapped_prims.specs.Making.{IsOver};
 ghost use Rattle.ready_keysets.specs.Tables.{table_of};
+ghost use Rattle.ready_keysets.specs.Unwrapping.{GivesInside, inside_under};
 ghost use Rattle.ready_keysets.specs.Working.{IsAnswered, IsUnfit, IsWithin, answer, lack_of, primitive_of};
 
 use crate::perform::{hold_under, perform_under};
+use crate::unwrapping::unwrap_under;
 use crate::{Refusal, Work};
 use key_msgs::Primitive;
 use keyset_model::Keyset;
@@ -103,6 +105,41 @@ fn perform_among(
 {
     match Managers::new(all, Vec::new(alloc), Vec::new(alloc), Vec::new(alloc)) {
         Ok(managers) => perform_under(alloc, keys, &managers, work, out),
+        Err(SameUrl) => unreachable!(),
+    }
+}
+
+/// The keyset that an encrypted text gives under a master, whose keys are prepared for this call alone.
+pub(crate) fn unwrap(
+    alloc: Global,
+    master: &Keyset,
+    encrypted: &[u8],
+    json: bool,
+) -> Result<Keyset, Refusal>
+    requires bound { length encrypted.now ≤ 4194304 }
+    ensures { GivesInside result (inside_under encrypted.now json master.now) }
+{
+    let mut all: Vec<Box<dyn AeadManager>> = Vec::new(alloc);
+    all.push(manager(alloc, AeadScheme::Gcm)?)?;
+    all.push(manager(alloc, AeadScheme::Eax)?)?;
+    all.push(manager(alloc, AeadScheme::CtrHmac)?)?;
+    all.push(manager(alloc, AeadScheme::GcmSiv)?)?;
+    unwrap_among(alloc, master, all, encrypted, json)
+}
+
+fn unwrap_among(
+    alloc: Global,
+    master: &Keyset,
+    all: Vec<Box<dyn AeadManager>>,
+    encrypted: &[u8],
+    json: bool,
+) -> Result<Keyset, Refusal>
+    requires all { ⟦<Vec<Box<dyn AeadManager>> as KeyList>⟧.entries all ≡ standard_table.aead }
+    requires bound { length encrypted.now ≤ 4194304 }
+    ensures { GivesInside result (inside_under encrypted.now json master.now) }
+{
+    match Managers::new(all, Vec::new(alloc), Vec::new(alloc), Vec::new(alloc)) {
+        Ok(managers) => unwrap_under(alloc, master, &managers, encrypted, json),
         Err(SameUrl) => unreachable!(),
     }
 }

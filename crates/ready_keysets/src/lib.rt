@@ -2,7 +2,7 @@
 //! managers, and what they seal, open, tag, verify and derive into a slice of the caller's.
 //!
 //! The managers of the standard table are made anew for each call, those of the one primitive.
-//! Streams and encrypted keysets aren't served.
+//! Streams aren't served. A keyset can be read from its text, or opened from an encrypted one.
 #![tactic(auto)]
 
 mod aead;
@@ -13,6 +13,7 @@ mod prf;
 mod ready;
 mod refusal;
 mod texts;
+mod unwrapping;
 mod work;
 
 pub use ready::ReadyKeyset;

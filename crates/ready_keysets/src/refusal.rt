@@ -9,18 +9,25 @@ use tink_base::NoMemory;
 /// Why there is no answer. Nothing was written then.
 #[derive(Clone, Copy, Debug, PartialEq, Eq)]
 pub enum Refusal {
-    /// The text is no keyset.
+    /// The text of the master is no keyset.
+    NoMaster,
+    /// An ENABLED key of the master can't serve as an AEAD.
+    UnfitMaster,
+    /// The text is no encrypted keyset.
+    NoWrapped,
+    /// The text is no keyset, or what was opened of an encrypted one is none.
     NoKeyset,
     /// An ENABLED key of the keyset can't serve for the primitive.
     UnfitKey,
     /// The keys are for another primitive than the work.
     OtherPrimitive,
-    /// A text or an input has more than 2^30 bytes, or more bytes were to be derived than the
-    /// primary key gives.
+    /// A text or an input has more than 2^30 bytes, an encrypted keyset more than 4,194,304 or its
+    /// master more than 1,048,576, or more bytes were to be derived than the primary key gives.
     TooLong,
     /// There are fewer random bytes than the primary key takes for an IV.
     FewRandomBytes,
-    /// No key opens the bytes with this associated data, or the tag isn't one of the body.
+    /// No key opens the bytes with this associated data, no key of the master opens an encrypted
+    /// keyset, or the tag isn't one of the body.
     Refused,
     /// The answer has more bytes than the output.
     NoRoom,

@@ -49,7 +49,7 @@ SameKeys (Some old) None = ⊥
 
 -- ---- statuses
 
--- the number of a refusal; 0 is that there is none
+-- the number of a refusal; 0 is that there is none, and 9 and 10 are told outside
 abbrev pub number_of : Refusal → ℕ
 number_of refusals.Refused = 1
 number_of refusals.NoKeyset = 2
@@ -59,6 +59,9 @@ number_of refusals.NoRoom = 5
 number_of refusals.TooLong = 6
 number_of refusals.FewRandomBytes = 7
 number_of refusals.NoMemory = 8
+number_of refusals.NoMaster = 11
+number_of refusals.UnfitMaster = 12
+number_of refusals.NoWrapped = 13
 
 -- the status is that of a refusal for this reason
 pub record Refuses (reason : Refusal → Type 0) (status : ℤ) : Type 0 where

@@ -5,6 +5,7 @@ ghost use Rattle.key_msgs.specs.declared.primitive.Primitive.TheVariants.{Stream
 ghost use Rattle.keyset_json.specs.Reading.{reads_json};
 ghost use Rattle.keyset_model.specs.Reading.{reads_binary};
 ghost use Rattle.ready_keysets.specs.Texts.{IsNoKeyset};
+ghost use Rattle.ready_keysets.specs.Unwrapping.{IsNotInside, keyset_inside};
 ghost use Rattle.ready_keysets.specs.declared.refusal.Refusal.TheVariants as refusals;
 ghost use Rattle.tinkey_c.specs.Shared.{DoesBy, IsLive, IsMade, Refuses, SameKeys, Tells, number_of};
 
@@ -29,6 +30,9 @@ fn status(refusal: Refusal) -> i32
         Refusal::TooLong => 6,
         Refusal::FewRandomBytes => 7,
         Refusal::NoMemory => 8,
+        Refusal::NoMaster => 11,
+        Refusal::UnfitMaster => 12,
+        Refusal::NoWrapped => 13,
     }
 }
 
@@ -85,6 +89,41 @@ pub(crate) fn binary_keys(
     ensures none { result ≢ pos 0 → keys.new.held ≡ None }
 {
     match ReadyKeyset::of_binary(alloc, bytes, primitive) {
+        Ok(ready) => match keep(alloc, ready, keys) {
+            Ok(()) => 0,
+            Err(refusal) => status(refusal),
+        },
+        Err(refusal) => status(refusal),
+    }
+}
+
+/// Makes the keyset ready that is sealed in an encrypted text under a master, where C keeps it.
+pub(crate) fn wrapped_keys(
+    alloc: Global,
+    encrypted: &[u8],
+    encrypted_json: bool,
+    master: &[u8],
+    master_json: bool,
+    primitive: Primitive,
+    keys: &mut SharedKeys,
+) -> i32
+    requires no_stream { primitive ≢ Stream }
+    requires closed { keys.old.held ≡ None }
+    ensures made { result ≡ pos 0 → IsMade primitive
+        (keyset_inside encrypted.now encrypted_json master.now master_json) keys.new.held }
+    ensures refused { result ≢ pos 0 → Refuses
+        (IsNotInside primitive (length encrypted.now) (length master.now)
+        (keyset_inside encrypted.now encrypted_json master.now master_json)) result }
+    ensures none { result ≢ pos 0 → keys.new.held ≡ None }
+{
+    match ReadyKeyset::of_wrapped(
+        alloc,
+        encrypted,
+        encrypted_json,
+        master,
+        master_json,
+        primitive,
+    ) {
         Ok(ready) => match keep(alloc, ready, keys) {
             Ok(()) => 0,
             Err(refusal) => status(refusal),

@@ -5,10 +5,11 @@ ghost use Rattle.key_msgs.specs.declared.primitive.Primitive.TheVariants.{Aead, 
 ghost use Rattle.keyset_json.specs.Reading.{reads_json};
 ghost use Rattle.keyset_model.specs.Reading.{reads_binary};
 ghost use Rattle.ready_keysets.specs.Texts.{IsNoKeyset};
+ghost use Rattle.ready_keysets.specs.Unwrapping.{IsNotInside, keyset_inside};
 ghost use Rattle.ready_keysets.specs.declared.work.Work.TheVariants as works;
 ghost use Rattle.tinkey_c.specs.Shared.{DoesBy, IsLive, IsMade, IsOpen, Refuses, SameKeys, Verifies};
 
-use crate::calls::{binary_keys, json_keys, perform};
+use crate::calls::{binary_keys, json_keys, perform, wrapped_keys};
 use crate::shared::{SharedKeys, no_keys, taken};
 use key_msgs::Primitive;
 use ready_keysets::Work;
@@ -129,6 +130,126 @@ pub extern "C" fn tinkey_core_prf_of_binary(
     ensures none { result ≢ pos 0 → keys.new.held ≡ None }
 {
     binary_keys(alloc, bytes, Primitive::Prf, keys)
+}
+
+/// Makes the keys ready of an encrypted keyset under its master, for AEADs.
+/// Each text is in JSON or else in the binary form.
+#[unsafe(no_mangle)]
+pub extern "C" fn tinkey_core_aead_of_wrapped(
+    alloc: Global,
+    encrypted: &[u8],
+    encrypted_json: bool,
+    master: &[u8],
+    master_json: bool,
+    keys: &mut SharedKeys,
+) -> i32
+    requires closed { keys.old.held ≡ None }
+    ensures made { result ≡ pos 0 → IsMade Aead
+        (keyset_inside encrypted.now encrypted_json master.now master_json) keys.new.held }
+    ensures refused { result ≢ pos 0 → Refuses
+        (IsNotInside Aead (length encrypted.now) (length master.now)
+        (keyset_inside encrypted.now encrypted_json master.now master_json)) result }
+    ensures none { result ≢ pos 0 → keys.new.held ≡ None }
+{
+    wrapped_keys(
+        alloc,
+        encrypted,
+        encrypted_json,
+        master,
+        master_json,
+        Primitive::Aead,
+        keys,
+    )
+}
+
+/// Makes the keys ready of an encrypted keyset under its master, for deterministic AEADs.
+/// Each text is in JSON or else in the binary form.
+#[unsafe(no_mangle)]
+pub extern "C" fn tinkey_core_daead_of_wrapped(
+    alloc: Global,
+    encrypted: &[u8],
+    encrypted_json: bool,
+    master: &[u8],
+    master_json: bool,
+    keys: &mut SharedKeys,
+) -> i32
+    requires closed { keys.old.held ≡ None }
+    ensures made { result ≡ pos 0 → IsMade Daead
+        (keyset_inside encrypted.now encrypted_json master.now master_json) keys.new.held }
+    ensures refused { result ≢ pos 0 → Refuses
+        (IsNotInside Daead (length encrypted.now) (length master.now)
+        (keyset_inside encrypted.now encrypted_json master.now master_json)) result }
+    ensures none { result ≢ pos 0 → keys.new.held ≡ None }
+{
+    wrapped_keys(
+        alloc,
+        encrypted,
+        encrypted_json,
+        master,
+        master_json,
+        Primitive::Daead,
+        keys,
+    )
+}
+
+/// Makes the keys ready of an encrypted keyset under its master, for MACs.
+/// Each text is in JSON or else in the binary form.
+#[unsafe(no_mangle)]
+pub extern "C" fn tinkey_core_mac_of_wrapped(
+    alloc: Global,
+    encrypted: &[u8],
+    encrypted_json: bool,
+    master: &[u8],
+    master_json: bool,
+    keys: &mut SharedKeys,
+) -> i32
+    requires closed { keys.old.held ≡ None }
+    ensures made { result ≡ pos 0 → IsMade Mac
+        (keyset_inside encrypted.now encrypted_json master.now master_json) keys.new.held }
+    ensures refused { result ≢ pos 0 → Refuses
+        (IsNotInside Mac (length encrypted.now) (length master.now)
+        (keyset_inside encrypted.now encrypted_json master.now master_json)) result }
+    ensures none { result ≢ pos 0 → keys.new.held ≡ None }
+{
+    wrapped_keys(
+        alloc,
+        encrypted,
+        encrypted_json,
+        master,
+        master_json,
+        Primitive::Mac,
+        keys,
+    )
+}
+
+/// Makes the keys ready of an encrypted keyset under its master, for pseudo-random functions.
+/// Each text is in JSON or else in the binary form.
+#[unsafe(no_mangle)]
+pub extern "C" fn tinkey_core_prf_of_wrapped(
+    alloc: Global,
+    encrypted: &[u8],
+    encrypted_json: bool,
+    master: &[u8],
+    master_json: bool,
+    keys: &mut SharedKeys,
+) -> i32
+    requires closed { keys.old.held ≡ None }
+    ensures made { result ≡ pos 0 → IsMade Prf
+        (keyset_inside encrypted.now encrypted_json master.now master_json) keys.new.held }
+    ensures refused { result ≢ pos 0 → Refuses
+        (IsNotInside Prf (length encrypted.now) (length master.now)
+        (keyset_inside encrypted.now encrypted_json master.now master_json)) result }
+    ensures none { result ≢ pos 0 → keys.new.held ≡ None }
+{
+    wrapped_keys(
+        alloc,
+        encrypted,
+        encrypted_json,
+        master,
+        master_json,
+        Primitive::Prf,
+        keys,
+    )
 }
 
 /// Seals the plaintext with the first of these random bytes as IV, at the front of `out`.
