@@ -9,12 +9,12 @@ _tinkey() {
         before=${COMP_WORDS[COMP_CWORD-2]}
     fi
     case "$before" in
-    '<' | '>' | '>>' | '2>' | --in | --out | --keyset | --master | --file)
+    '<' | '>' | '>>' | '2>' | --in | --out | --keyset | --master | --new-master | --file)
         # a folder gets a slash, and a name with spaces its backslashes
         compopt -o filenames
         mapfile -t COMPREPLY < <(compgen -f -- "$word")
         return ;;
-    --in-format | --out-format | --keyset-format | --master-format) words='json binary' ;;
+    --in-format | --out-format | --keyset-format | --master-format | --new-master-format) words='json binary' ;;
     --key-template | --dek-template)
         words=$("${COMP_WORDS[0]/#\~/$HOME}" list-key-templates 2>/dev/null) ;;
     --key-id | --ad | --ad-hex | --tag-hex | --length | --seed | --lines | --from) return ;;
@@ -25,33 +25,33 @@ _tinkey() {
             words='create-keyset add-key rotate-keyset promote-key enable-key disable-key destroy-key delete-key list-keyset convert-keyset list-key-templates seal open dseal dopen sseal sopen tag verify derive session selftest wrap-keyset unwrap-keyset eseal eopen srange exit'
         else
             case "${COMP_WORDS[1]}" in
-            create-keyset) words='--key-template --out --out-format --help' ;;
-            add-key) words='--key-template --in --in-format --out --out-format --help' ;;
-            rotate-keyset) words='--key-template --in --in-format --out --out-format --help' ;;
-            promote-key) words='--key-id --in --in-format --out --out-format --help' ;;
-            enable-key) words='--key-id --in --in-format --out --out-format --help' ;;
-            disable-key) words='--key-id --in --in-format --out --out-format --help' ;;
-            destroy-key) words='--key-id --in --in-format --out --out-format --help' ;;
-            delete-key) words='--key-id --in --in-format --out --out-format --help' ;;
-            list-keyset) words='--in --in-format --help' ;;
-            convert-keyset) words='--in --in-format --out --out-format --help' ;;
+            create-keyset) words='--key-template --out --out-format --master --master-format --help' ;;
+            add-key) words='--key-template --in --in-format --out --out-format --master --master-format --help' ;;
+            rotate-keyset) words='--key-template --in --in-format --out --out-format --master --master-format --help' ;;
+            promote-key) words='--key-id --in --in-format --out --out-format --master --master-format --help' ;;
+            enable-key) words='--key-id --in --in-format --out --out-format --master --master-format --help' ;;
+            disable-key) words='--key-id --in --in-format --out --out-format --master --master-format --help' ;;
+            destroy-key) words='--key-id --in --in-format --out --out-format --master --master-format --help' ;;
+            delete-key) words='--key-id --in --in-format --out --out-format --master --master-format --help' ;;
+            list-keyset) words='--in --in-format --master --master-format --help' ;;
+            convert-keyset) words='--in --in-format --out --out-format --master --master-format --new-master --new-master-format --help' ;;
             list-key-templates) words='--help' ;;
-            seal) words='--keyset --keyset-format --ad --ad-hex --out --help' ;;
-            open) words='--keyset --keyset-format --ad --ad-hex --out --help' ;;
-            dseal) words='--keyset --keyset-format --ad --ad-hex --out --help' ;;
-            dopen) words='--keyset --keyset-format --ad --ad-hex --out --help' ;;
-            sseal) words='--keyset --keyset-format --ad --ad-hex --help' ;;
-            sopen) words='--keyset --keyset-format --ad --ad-hex --help' ;;
-            tag) words='--keyset --keyset-format --out --hex --help' ;;
-            verify) words='--keyset --tag-hex --keyset-format --help' ;;
-            derive) words='--keyset --length --keyset-format --out --hex --help' ;;
-            session) words='--keyset --keyset-format --out --out-format --help' ;;
+            seal) words='--keyset --keyset-format --ad --ad-hex --out --master --master-format --help' ;;
+            open) words='--keyset --keyset-format --ad --ad-hex --out --master --master-format --help' ;;
+            dseal) words='--keyset --keyset-format --ad --ad-hex --out --master --master-format --help' ;;
+            dopen) words='--keyset --keyset-format --ad --ad-hex --out --master --master-format --help' ;;
+            sseal) words='--keyset --keyset-format --ad --ad-hex --master --master-format --help' ;;
+            sopen) words='--keyset --keyset-format --ad --ad-hex --master --master-format --help' ;;
+            tag) words='--keyset --keyset-format --out --hex --master --master-format --help' ;;
+            verify) words='--keyset --tag-hex --keyset-format --master --master-format --help' ;;
+            derive) words='--keyset --length --keyset-format --out --hex --master --master-format --help' ;;
+            session) words='--keyset --keyset-format --out --out-format --master --master-format --help' ;;
             selftest) words='--seed --lines --help' ;;
             wrap-keyset) words='--master --master-format --in --in-format --out --out-format --help' ;;
             unwrap-keyset) words='--master --master-format --in --in-format --out --out-format --help' ;;
-            eseal) words='--keyset --dek-template --keyset-format --ad --ad-hex --out --help' ;;
-            eopen) words='--keyset --dek-template --keyset-format --ad --ad-hex --out --help' ;;
-            srange) words='--keyset --file --from --length --keyset-format --ad --ad-hex --out --help' ;;
+            eseal) words='--keyset --dek-template --keyset-format --ad --ad-hex --out --master --master-format --help' ;;
+            eopen) words='--keyset --dek-template --keyset-format --ad --ad-hex --out --master --master-format --help' ;;
+            srange) words='--keyset --file --from --length --keyset-format --ad --ad-hex --out --master --master-format --help' ;;
             esac
         fi ;;
     esac

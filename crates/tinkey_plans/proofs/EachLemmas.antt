@@ -11,16 +11,19 @@ use Rattle.tinkey_cmds.specs.Draws.{Draw}
 use Rattle.tinkey_cmds.specs.Edits.{Edit, Add, Rotate, Promote, Enable, Disable, Destroy, Delete}
 use Rattle.tinkey_cmds.specs.declared.command.CmdFault.{CmdFault}
 use Rattle.wrapped_prims.specs.Answers.{open_answer, dopen_answer, verify_answer, derive_answer}
-use Rattle.wrapped_prims.specs.Fitness.{Unfit, NoManager, BadKey, NotRaw}
+use Rattle.wrapped_prims.specs.Fitness.{Unfit, NoManager, BadKey, NotRaw, unfit}
 use Rattle.tinkey_plans.specs.declared.status.Status.TheVariants as status
 use Rattle.tinkey_words.specs.declared.words.rows.Format.{Format}
 use Rattle.tinkey_words.specs.declared.words.rows.Format.TheVariants as formats
 use Rattle.tinkey_plans.specs.Plan.{Plan, ends}
-use Rattle.tinkey_plans.specs.Steps.{with_keyset, with_json, keyset_in, with_row, finds_edit, with_made, keyset_limit, writes_keyset, written_in}
-use Rattle.tinkey_plans.specs.Using.{seals, unless_unfit, with_opened, with_verified, with_derived, works}
-use Rattle.tinkey_plans.specs.Wrapping.{makes_wrapped, with_unwrapped, wrapped_limit, wraps}
+use Rattle.tinkey_plans.specs.Steps.{with_keyset, with_json, keyset_in, with_row, finds_edit, with_made, keyset_limit, loads_bytes, reads_bytes, takes_bytes, writes_keyset, written_in}
+use Rattle.tinkey_plans.specs.Handles.{unless_unfit}
+use Rattle.tinkey_plans.specs.Using.{seals, with_opened, with_verified, with_derived, works}
+use Rattle.tinkey_plans.specs.Locks.{keyset_under, limit_under, loads_locked, opens_lock, opens_master, opens_new_lock, takes_locked, takes_under, writes_under}
+use Rattle.tinkey_plans.specs.Wrapping.{is_json, makes_wrapped, with_unwrapped, wrapped_limit, wraps}
 use Rattle.seal_wrap.specs.Unwrapped as unwrapped
-use Rattle.tinkey_words.specs.Words.{AskedEdit, AskedEnvelope, AskedWork, to_eseal, to_eopen, to_seal, to_open, to_dseal, to_dopen, to_tag, to_verify, to_derive}
+use Rattle.seal_wrap.specs.Unwrapped.{unwrap_of}
+use Rattle.tinkey_words.specs.Words.{AskedEdit, AskedEnvelope, AskedWork, Lock, Master, NewLock, Place, as_taken, in_clear, under, to_eseal, to_eopen, to_seal, to_open, to_dseal, to_dopen, to_tag, to_verify, to_derive}
 use Rattle.tinkey_plans.specs.Plan.{IsStated, Made, Of, allocates, draws, envelopings, sealings}
 use Rattle.tinkey_plans.specs.declared.status.Status.{Status}
 use Rattle.key_msgs.specs.KeyTypes.{primitive_of_type}
@@ -116,6 +119,45 @@ unwrapped_each P c (Err unwrapped.Member) next all = c.ended _ _
 unwrapped_each P c (Err unwrapped.NotOpened) next all = c.ended _ _
 unwrapped_each P c (Err (unwrapped.InnerWire at)) next all = c.ended _ _
 unwrapped_each P c (Err (unwrapped.Fault fault)) next all = c.ended _ _
+
+-- such a plan is so, too, that loads the bytes of a keyset, or reads them
+pub record IsOpen (P : Plan → Type 0) : Type 0 where
+  pub closed : IsClosed P
+  pub loaded : (limit : ℕ) (name : List ℕ) (next : List ℕ → Plan) → AreAll P next → P (loads_bytes limit name next)
+  pub read : (limit : ℕ) (next : List ℕ → Plan) → AreAll P next → P (reads_bytes limit next)
+
+bytes_each : (P : Plan → Type 0) → IsOpen P → (limit : ℕ) (file : Option (List ℕ)) (next : List ℕ → Plan) → AreAll P next → P (takes_bytes limit file next)
+bytes_each P o limit (Some name) next all = o.loaded limit name next all
+bytes_each P o limit None next all = o.read limit next all
+
+keyset_under_each : (P : Plan → Type 0) → IsOpen P → (table : Table) (master : Option Keys) (form : Format) (bytes : List ℕ) (next : Keys → Plan) → AreAll P next → P (keyset_under table master form bytes next)
+keyset_under_each P o table None form bytes next all = keyset_each P o.closed form bytes next all
+keyset_under_each P o table (Some master) form bytes next all = o.closed.allocated _ (unwrapped_each P o.closed (unwrap_of master table bytes (is_json form)) next all)
+
+master_each : (P : Plan → Type 0) → IsOpen P → (table : Table) (master : Master) (next : Option Keys → Plan) → AreAll P next → P (opens_master table master next)
+master_each P o table master next all = o.loaded keyset_limit master.file _ (λ bytes. keyset_each P o.closed master.form bytes _ (λ keys. o.closed.allocated _ (fit_each P o.closed (unfit keys Aead table) _ (all (Some keys)))))
+
+pub lock_each : (P : Plan → Type 0) → IsOpen P → (table : Table) (lock : Lock) (next : Option Keys → Plan) → AreAll P next → P (opens_lock table lock next)
+lock_each P o table None next all = all None
+lock_each P o table (Some master) next all = master_each P o table master next all
+
+pub new_lock_each : (P : Plan → Type 0) → IsOpen P → (table : Table) (new : NewLock) (taken : Option Keys) (next : Option Keys → Plan) → AreAll P next → P (opens_new_lock table new taken next)
+new_lock_each P o table as_taken taken next all = all taken
+new_lock_each P o table in_clear taken next all = all None
+new_lock_each P o table (under master) taken next all = master_each P o table master next all
+
+pub under_each : (P : Plan → Type 0) → IsOpen P → (table : Table) (master : Option Keys) (place : Place) (next : Keys → Plan) → AreAll P next → P (takes_under table master place next)
+under_each P o table master place next all = bytes_each P o (limit_under master) place.file (λ bytes. keyset_under table master place.form bytes next) (λ bytes. keyset_under_each P o table master place.form bytes next all)
+
+pub locked_each : (P : Plan → Type 0) → IsOpen P → (table : Table) (lock : Lock) (place : Place) (next : Keys → Plan) → AreAll P next → P (takes_locked table lock place next)
+locked_each P o table lock place next all = lock_each P o table lock _ (λ master. under_each P o table master place next all)
+
+pub loaded_each : (P : Plan → Type 0) → IsOpen P → (table : Table) (lock : Lock) (name : List ℕ) (form : Format) (next : Keys → Plan) → AreAll P next → P (loads_locked table lock name form next)
+loaded_each P o table lock name form next all = locked_each P o table lock (record { file = Some name; form = form }) next all
+
+pub written_under_each : (P : Plan → Type 0) → IsClosed P → (table : Table) (master : Option Keys) (form : Format) (keys : Keys) → ((m : Keys) → IsClosedAt P sealings (wraps keys m table form)) → (next : List ℕ → Plan) → AreAll P next → P (writes_under table master form keys next)
+written_under_each P c table None form keys drawn next all = written_each P c form keys next all
+written_under_each P c table (Some m) form keys drawn next all = written_each P c formats.Binary keys (λ plain. makes_wrapped keys m table form next) (λ plain. wrapped_each P c keys m table form (drawn m) next all)
 
 pub stretch_each : (P : Plan → Type 0) → IsClosed P → (opened : Opened) (next : List ℕ → Plan) → AreAll P next → P (with_stretch opened next)
 stretch_each P c (Ok plain) next all = all plain

@@ -21,6 +21,8 @@ use Rattle.managers.specs.Table.{scheme_at}
 use Rattle.seal_wrap.specs.EnvelopeLaws.{DataKeysAreServed, DataKeysAreValid, IsDataKeyRow}
 use Rattle.seal_wrap.specs.Enveloped.{Enveloped, behind_data_key, data_key_of, envelope, envelope_of, open_envelope_of, under_data_key}
 use Rattle.seal_wrap.specs.Enveloping.{url_made}
+use Rattle.seal_wrap.specs.Unwrapped as unwrapped
+use Rattle.seal_wrap.specs.Unwrapped.{unwrap_of}
 use Rattle.tinkey_cmds.specs.Draws.{Drawn}
 use Rattle.tinkey_cmds.specs.declared.command.CmdFault.{CmdFault}
 use Rattle.wrapped_prims.specs.Answers.{Sealed, seal_answer, seal_behind}
@@ -29,14 +31,17 @@ use Rattle.tinkey_plans.specs.declared.status.Status.{Status}
 use Rattle.tinkey_plans.specs.declared.status.Status.TheVariants as status
 use Rattle.tinkey_words.specs.declared.words.rows.Format.{Format}
 use Rattle.tinkey_words.specs.declared.words.rows.Format.TheVariants as formats
-use Rattle.tinkey_words.specs.Words.{AskedEnvelope, to_eseal, to_eopen}
+use Rattle.tinkey_words.specs.Words.{AskedEnvelope, Lock, to_eseal, to_eopen}
 use Rattle.tinkey_plans.specs.Commands.{asked_plan}
 use Rattle.tinkey_plans.specs.Ends.{Ends, Settles, World, create_failed, create_starved, made, name_taken, draw_failed, draw_starved, load_absent, load_failed, load_long, load_starved, loaded, read, read_failed, read_starved, settled, too_long, write_failed, wrote}
 use Rattle.tinkey_plans.specs.Envelopes.{as_enveloped, envelope_limit, envelope_output, envelopes, seals_envelope, with_aead, with_enveloped, with_scheme}
 use Rattle.tinkey_plans.specs.Laws.{DataKeysCome, IsDekStatus}
 use Rattle.tinkey_plans.specs.Plan.{IsStated, Plan, allocates, creates, ends, writes}
-use Rattle.tinkey_plans.specs.Steps.{keyset_in, loads_keyset, puts, reads_input, with_json, with_keyset, with_made, with_row}
-use Rattle.tinkey_plans.specs.Using.{unless_unfit, with_opened}
+use Rattle.tinkey_plans.specs.Locks.{loads_locked, opens_lock, takes_under}
+use Rattle.tinkey_plans.specs.Steps.{keyset_in, keyset_limit, loads_bytes, puts, reads_input, with_json, with_keyset, with_made, with_row}
+use Rattle.tinkey_plans.specs.Handles.{handles, unless_unfit}
+use Rattle.tinkey_plans.specs.Using.{with_opened}
+use Rattle.tinkey_plans.specs.Wrapping.{is_json, unwraps, with_unwrapped, wrapped_limit}
 
 -- a template that is found stands in the table
 found_contains : {A : Type 0} (p : A → Bool) (xs : List A) (x : A) → find p xs ≡ Some x → Contains xs x
@@ -162,12 +167,32 @@ clear_keyset : (form : Format) (bytes : List ℕ) (next : Keys → Plan) → ((k
 clear_keyset formats.Json bytes next clear = clear_memory _ (clear_json (reads_json bytes) next clear)
 clear_keyset formats.Binary bytes next clear = clear_memory _ (clear_binary (reads_binary bytes) next clear)
 
-clear_load : (name : List ℕ) (form : Format) (next : Keys → Plan) → ((keys : Keys) → Clears (next keys)) → Clears (loads_keyset name form next)
-clear_load name form next clear old s new (loaded bytes store kept stood given within holds run) d = clear_keyset form bytes next clear (record old { store = store }) s new run d
-clear_load name form next clear old s new (load_absent is only kept stood given holds) d = subst IsDekStatus is d
-clear_load name form next clear old s new (load_long is only kept stood given holds) d = subst IsDekStatus is d
-clear_load name form next clear old s new (load_failed is only kept rose given) d = subst IsDekStatus is d
-clear_load name form next clear old s new (load_starved is only kept stood given) d = subst IsDekStatus is d
+clear_load : (limit : ℕ) (name : List ℕ) (next : List ℕ → Plan) → ((bytes : List ℕ) → Clears (next bytes)) → Clears (loads_bytes limit name next)
+clear_load limit name next clear old s new (loaded bytes store kept stood given within holds run) d = clear bytes (record old { store = store }) s new run d
+clear_load limit name next clear old s new (load_absent is only kept stood given holds) d = subst IsDekStatus is d
+clear_load limit name next clear old s new (load_long is only kept stood given holds) d = subst IsDekStatus is d
+clear_load limit name next clear old s new (load_failed is only kept rose given) d = subst IsDekStatus is d
+clear_load limit name next clear old s new (load_starved is only kept stood given) d = subst IsDekStatus is d
+
+clear_unwrapped : (r : Result Keys unwrapped.Refusal) (next : Keys → Plan) → ((keys : Keys) → Clears (next keys)) → Clears (with_unwrapped r next)
+clear_unwrapped (Err (unwrapped.OuterWire at)) next clear = clear_end (status.BadProto at) tt (λ d. d)
+clear_unwrapped (Err unwrapped.NotJson) next clear = clear_end status.NotJson tt (λ d. d)
+clear_unwrapped (Err unwrapped.Member) next clear = clear_end status.WrappedMember tt (λ d. d)
+clear_unwrapped (Err unwrapped.NotOpened) next clear = clear_end status.OpenFailed tt (λ d. d)
+clear_unwrapped (Err (unwrapped.InnerWire at)) next clear = clear_end (status.BadProto at) tt (λ d. d)
+clear_unwrapped (Err (unwrapped.Fault fault)) next clear = clear_end (status.Keyset fault) tt (λ d. d)
+clear_unwrapped (Ok keys) next clear = clear keys
+
+clear_under : (master : Option Keys) (name : List ℕ) (form : Format) (next : Keys → Plan) → ((keys : Keys) → Clears (next keys)) → Clears (takes_under standard_table master (record { file = Some name; form = form }) next)
+clear_under None name form next clear = clear_load keyset_limit name (λ bytes. keyset_in form bytes next) (λ bytes. clear_keyset form bytes next clear)
+clear_under (Some master) name form next clear = clear_load wrapped_limit name (λ text. unwraps master standard_table form text next) (λ text. clear_memory (with_unwrapped (unwrap_of master standard_table text (is_json form)) next) (clear_unwrapped (unwrap_of master standard_table text (is_json form)) next clear))
+
+clear_lock : (lock : Lock) (next : Option Keys → Plan) → ((master : Option Keys) → Clears (next master)) → Clears (opens_lock standard_table lock next)
+clear_lock None next clear = clear None
+clear_lock (Some master) next clear = clear_load keyset_limit master.file (λ bytes. keyset_in master.form bytes (λ keys. handles standard_table Aead keys (λ fit. next (Some keys)))) (λ bytes. clear_keyset master.form bytes (λ keys. handles standard_table Aead keys (λ fit. next (Some keys))) (λ keys. clear_memory (unless_unfit (unfit keys Aead standard_table) (next (Some keys))) (clear_unfit (unfit keys Aead standard_table) (next (Some keys)) (clear (Some keys)))))
+
+clear_locked : (lock : Lock) (name : List ℕ) (form : Format) (next : Keys → Plan) → ((keys : Keys) → Clears (next keys)) → Clears (loads_locked standard_table lock name form next)
+clear_locked lock name form next clear = clear_lock lock _ (λ master. clear_under master name form next clear)
 
 clear_aead : (p : Primitive) (next : Plan) → (p ≡ Aead → Clears next) → Clears (with_aead p next)
 clear_aead Aead next clear = clear refl
@@ -184,17 +209,17 @@ clear_row : (found : Option Row) (name : List ℕ) (next : Row → Plan) → ((r
 clear_row (Some row) name next clear = clear row refl
 clear_row None name next clear = clear_asymmetric (is_asymmetric name)
 
-clear_envelope : DataKeysAreServed → DataKeysAreValid → (name : List ℕ) (form : Format) (template : List ℕ) (work : AskedEnvelope) (out : Option (List ℕ)) → Clears (envelope_output standard_table name form template work (puts out))
-clear_envelope served valid name form template work out =
+clear_envelope : DataKeysAreServed → DataKeysAreValid → (lock : Lock) (name : List ℕ) (form : Format) (template : List ℕ) (work : AskedEnvelope) (out : Option (List ℕ)) → Clears (envelope_output standard_table lock name form template work (puts out))
+clear_envelope served valid lock name form template work out =
     clear_row (row_named template) template _ (λ row named.
     clear_aead (primitive_of_type (type_made row)) _ (λ aead.
     let scheme = served row aead in
-    clear_load name form _ (λ keys.
+    clear_locked lock name form _ (λ keys.
     clear_memory _ (clear_unfit (unfit keys Aead standard_table) _
     (clear_scheme (scheme_at standard_table Aead (url_made row)) scheme.0 _ scheme.1
     (clear_input (envelope_limit work) _ (λ input.
     clear_work valid keys scheme.0 row work out input (record { known = row_known template row named; aead = aead }) scheme.1)))))))
 
 pub data_keys_come : DataKeysAreServed → DataKeysAreValid → DataKeysCome
-data_keys_come served valid words name form template work out old s new is run =
-    clear_envelope served valid name form template work out old s new (subst (λ p. Ends p old s new) (ap (λ r. asked_plan standard_table r words) is) run)
+data_keys_come served valid words lock name form template work out old s new is run =
+    clear_envelope served valid lock name form template work out old s new (subst (λ p. Ends p old s new) (ap (λ r. asked_plan standard_table r words) is) run)

@@ -19,25 +19,23 @@ use Rattle.wrapped_prims.specs.Fitness.{unfit}
 use Rattle.tinkey_plans.specs.declared.status.Status.{Status}
 use Rattle.tinkey_plans.specs.declared.status.Status.TheVariants as status
 use Rattle.tinkey_words.specs.declared.words.rows.Format.{Format}
-use Rattle.tinkey_words.specs.declared.words.rows.Format.TheVariants as formats
 use Rattle.tinkey_plans.specs.Going.{DoneExactly, NoneRefuses}
 use Rattle.tinkey_plans.specs.Plan.{Answer, Of, Plan, Told, answer, create_answer, draw_answer, load_answer, look_answer, range_answer, pump_answer, refused, stream_status, talk_answer, limit_status, ends, writes, creates, looks, allocates, loads, reads_all, ranges, draws, pumps, exchanges}
-use Rattle.tinkey_plans.specs.Steps.{takes_keyset, makes_keyset, puts, puts_keyset}
+use Rattle.tinkey_plans.specs.Locks.{puts_under}
+use Rattle.tinkey_plans.specs.Steps.{makes_keyset, puts}
 use Rattle.tinkey_plans.specs.Using.{hex_line, puts_output, shows}
-use Rattle.seal_wrap.specs.Unwrapped.{unwrap_of}
-use Rattle.tinkey_plans.specs.Wrapping.{is_json, makes_wrapped, takes_wrapped}
 use Rattle.tinkey_selftest.specs.Trial as trial
 use Rattle.tinkey_selftest.specs.declared.counts.Counts.{Counts}
 use Rattle.tinkey_plans.specs.SelfTesting.{tells_counts}
-use Rattle.tinkey_plans.specs.Session.{finds_free, saves_as}
+use Rattle.tinkey_plans.specs.Session.{finds_free, holds_session, saves_as}
 use Rattle.tinkey_plans.specs.Streaming.{keys_for, seals_stream, with_keys}
 use Rattle.tinkey_plans.specs.Streaming as streaming
 use Rattle.tinkey_plans.specs.Stretch.{Opened, Stretch, stretch_in}
 use Rattle.tinkey_session.proofs.Options.{clash}
 use Rattle.tinkey_session.specs.Talking.{Stop, goes, wants, passes, long_line, many_lines, Talk, Limit}
 use Rattle.tinkey_plans.specs.Commands.{command_plan}
-use Rattle.tinkey_words.specs.Words.{Asked, self_test, Place, primitive_for, create_keyset, edit_keyset, list_keyset, convert_keyset, list_key_templates, use_keyset, use_envelope, seal_stream, open_stream, open_range, session, wrap_keyset, unwrap_keyset, help, version}
-use Rattle.tinkey_plans.proofs.EachLemmas.{AreAll, IsClosed, dek_each, envelope_each, scheme_each, stretch_each, edit_each, fit_each, keyset_each, made_each, row_each, work_each, written_each, wrapped_each, unwrapped_each}
+use Rattle.tinkey_words.specs.Words.{Asked, self_test, Place, primitive_for, create_keyset, edit_keyset, list_keyset, convert_keyset, list_key_templates, use_keyset, use_envelope, seal_stream, open_stream, open_range, session, help, version}
+use Rattle.tinkey_plans.proofs.EachLemmas.{AreAll, IsClosed, IsOpen, dek_each, envelope_each, scheme_each, stretch_each, edit_each, fit_each, loaded_each, lock_each, locked_each, made_each, new_lock_each, row_each, under_each, work_each, written_under_each}
 
 -- the refusals of its steps aren't Done
 abbrev IsProper : Plan → Type 0
@@ -150,9 +148,8 @@ done_exactly (exchanges exchange next) told proper =
 closed : IsClosed IsProper
 closed = record { ended = λ s stated. tt; allocated = λ next all. all }
 
-taken_proper : (file : Option (List ℕ)) (form : Format) (next : Keys → Plan) → AreAll IsProper next → IsProper (takes_keyset (record { file = file; form = form }) next)
-taken_proper (Some name) form next proper = (λ e. cc, λ e. cc, λ bytes. keyset_each IsProper closed form bytes next proper)
-taken_proper None form next proper = (λ e. cc, λ bytes. keyset_each IsProper closed form bytes next proper)
+open' : IsOpen IsProper
+open' = record { closed = closed; loaded = λ limit name next all. (λ e. cc, λ e. cc, all); read = λ limit next all. (λ e. cc, all) }
 
 draw_proper : (give : Draw Keys) (next : Keys → Plan) → AreAll IsProper next → IsProper (makes_keyset give next)
 draw_proper give next proper = λ given. made_each IsProper closed given next proper
@@ -161,16 +158,12 @@ put_proper : (file : Option (List ℕ)) (output : List ℕ) → IsProper (puts f
 put_proper (Some name) output = λ e. cc
 put_proper None output = tt
 
-out_proper : (out : Place) (keys : Keys) → IsProper (puts_keyset out keys)
-out_proper out keys = written_each IsProper closed out.form keys (puts out.file) (put_proper out.file)
+out_proper : (table : Table) (master : Option Keys) (out : Place) (keys : Keys) → IsProper (puts_under table master out keys)
+out_proper table master out keys = written_under_each IsProper closed table master out.form keys (λ m next all. all) (puts out.file) (put_proper out.file)
 
 shown_proper : (hex : Bool) (file : Option (List ℕ)) (bytes : List ℕ) → IsProper (shows hex bytes (puts file))
 shown_proper false file bytes = put_proper file bytes
 shown_proper true file bytes = put_proper file (hex_line bytes)
-
-text_proper : (file : Option (List ℕ)) (next : List ℕ → Plan) → AreAll IsProper next → IsProper (takes_wrapped file next)
-text_proper (Some name) next proper = (λ e. cc, λ e. cc, proper)
-text_proper None next proper = (λ e. cc, proper)
 
 counts_proper : (r : Result Counts CmdFault) (lines : ℕ) → IsProper (tells_counts lines r writes)
 counts_proper (Ok n) lines = tt
@@ -189,29 +182,27 @@ stream_keys_proper (Some keys) next proper = proper keys
 seals_proper : (ad : List ℕ) (keys : KeysForStreams) → IsProper (seals_stream keys ad)
 seals_proper ad keys = λ made. made_each IsProper closed made _ (λ random. tt)
 
-saves_proper : (file : Option (List ℕ)) (form : Format) (keys : Keys) → IsProper (saves_as file form keys)
-saves_proper None form keys = tt
-saves_proper (Some name) form keys = written_each IsProper closed form keys (λ output. creates name output status.OutExists tt) (λ output e. cc)
+saves_proper : (table : Table) (master : Option Keys) (file : Option (List ℕ)) (form : Format) (keys : Keys) → IsProper (saves_as table master file form keys)
+saves_proper table master None form keys = tt
+saves_proper table master (Some name) form keys = written_under_each IsProper closed table master form keys (λ m next all. all) (λ output. creates name output status.OutExists tt) (λ output e. cc)
 
 free_proper : (file : Option (List ℕ)) (next : Unit {0} → Plan) → IsProper (next tt) → IsProper (finds_free file next)
 free_proper None next proper = proper
 free_proper (Some name) next proper = (λ e. cc, proper)
 
 commands_are_proper : (table : Table) (asked : Asked) → IsProper (command_plan table asked)
-commands_are_proper table (create_keyset name out) = row_each IsProper closed (row_named name) name _ (λ row. draw_proper (first row) _ (out_proper out))
-commands_are_proper table (edit_keyset edit in' out) = edit_each IsProper closed edit _ (λ edit. taken_proper in'.file in'.form _ (λ keys. draw_proper (step keys edit) _ (out_proper out)))
-commands_are_proper table (list_keyset in') = taken_proper in'.file in'.form _ (λ keys. tt)
-commands_are_proper table (convert_keyset in' out) = taken_proper in'.file in'.form _ (out_proper out)
+commands_are_proper table (create_keyset lock name out) = (row_each IsProper closed (row_named name) name _ (λ row. lock_each IsProper open' table lock _ (λ master. draw_proper (first row) _ (out_proper table master out))))
+commands_are_proper table (edit_keyset lock edit in' out) = (edit_each IsProper closed edit _ (λ edit. lock_each IsProper open' table lock _ (λ master. under_each IsProper open' table master in' _ (λ keys. draw_proper (step keys edit) _ (out_proper table master out)))))
+commands_are_proper table (list_keyset lock in') = (locked_each IsProper open' table lock in' _ (λ keys. tt))
+commands_are_proper table (convert_keyset lock new in' out) = (lock_each IsProper open' table lock _ (λ taken. new_lock_each IsProper open' table new taken _ (λ put. under_each IsProper open' table taken in' _ (out_proper table put out))))
 commands_are_proper table list_key_templates = tt
-commands_are_proper table (use_keyset name form work out) = (λ e. cc, λ e. cc, λ bytes. keyset_each IsProper closed form bytes _ (λ keys. fit_each IsProper closed (unfit keys (primitive_for work) table) _ (λ e. cc, λ input. work_each IsProper closed table keys work input (λ ad next all. all) (puts_output out) (shown_proper out.hex out.file))))
-commands_are_proper table (use_envelope name form template work out) = dek_each IsProper closed template _ (λ row. (λ e. cc, λ e. cc, λ bytes. keyset_each IsProper closed form bytes _ (λ keys. fit_each IsProper closed (unfit keys Aead table) _ (scheme_each IsProper closed (scheme_at table Aead (url_made row)) _ (λ scheme. (λ e. cc, λ input. envelope_each IsProper closed table keys scheme row work input (λ ad next all. all) (puts out) (put_proper out)))))))
-commands_are_proper table (seal_stream name form ad) = (λ e. cc, λ e. cc, λ bytes. keyset_each IsProper closed form bytes _ (λ keys. stream_fit_proper (streams.stream_unfit keys) _ (stream_keys_proper (keys_for keys) _ (seals_proper ad))))
-commands_are_proper table (open_stream name form ad) = (λ e. cc, λ e. cc, λ bytes. keyset_each IsProper closed form bytes _ (λ keys. stream_fit_proper (streams.stream_unfit keys) _ (stream_keys_proper (keys_for keys) _ (λ k. tt))))
-commands_are_proper table (open_range name form ad range out) = (λ e. cc, λ e. cc, λ bytes. keyset_each IsProper closed form bytes _ (λ keys. stream_fit_proper (streams.stream_unfit keys) _ (stream_keys_proper (keys_for keys) _ (λ k. (λ e. cc, λ opened. stretch_each IsProper closed opened _ (put_proper out))))))
-commands_are_proper table (self_test seed lines) = counts_proper (trial.self_test table seed lines) lines
-commands_are_proper table (wrap_keyset name form in' out) = (λ e. cc, λ e. cc, λ bytes. keyset_each IsProper closed form bytes _ (λ master. fit_each IsProper closed (unfit master Aead table) _ (taken_proper in'.file in'.form _ (λ keys. written_each IsProper closed formats.Binary keys (λ plain. makes_wrapped keys master table out.form (puts out.file)) (λ plain. wrapped_each IsProper closed keys master table out.form (λ next all. all) (puts out.file) (put_proper out.file))))))
-commands_are_proper table (unwrap_keyset name form in' out) = (λ e. cc, λ e. cc, λ bytes. keyset_each IsProper closed form bytes _ (λ master. fit_each IsProper closed (unfit master Aead table) _ (text_proper in'.file _ (λ text. unwrapped_each IsProper closed (unwrap_of master table text (is_json in'.form)) _ (out_proper out)))))
-commands_are_proper table (session name form out) = (λ e. cc, λ e. cc, λ bytes. keyset_each IsProper closed form bytes _ (λ keys. free_proper out.file _ (λ last. saves_proper out.file out.form last)))
+commands_are_proper table (use_keyset lock name form work out) = (loaded_each IsProper open' table lock name form _ (λ keys. fit_each IsProper closed (unfit keys (primitive_for work) table) _ (λ e. cc, λ input. work_each IsProper closed table keys work input (λ ad next all. all) (puts_output out) (shown_proper out.hex out.file))))
+commands_are_proper table (use_envelope lock name form template work out) = (dek_each IsProper closed template _ (λ row. loaded_each IsProper open' table lock name form _ (λ keys. fit_each IsProper closed (unfit keys Aead table) _ (scheme_each IsProper closed (scheme_at table Aead (url_made row)) _ (λ scheme. (λ e. cc, λ input. envelope_each IsProper closed table keys scheme row work input (λ ad next all. all) (puts out) (put_proper out)))))))
+commands_are_proper table (seal_stream lock name form ad) = loaded_each IsProper open' table lock name form _ (λ keys. stream_fit_proper (streams.stream_unfit keys) _ (stream_keys_proper (keys_for keys) _ (seals_proper ad)))
+commands_are_proper table (open_stream lock name form ad) = loaded_each IsProper open' table lock name form _ (λ keys. stream_fit_proper (streams.stream_unfit keys) _ (stream_keys_proper (keys_for keys) _ (λ k. tt)))
+commands_are_proper table (open_range lock name form ad range out) = (loaded_each IsProper open' table lock name form _ (λ keys. stream_fit_proper (streams.stream_unfit keys) _ (stream_keys_proper (keys_for keys) _ (λ k. (λ e. cc, λ opened. stretch_each IsProper closed opened _ (put_proper out))))))
+commands_are_proper table (self_test seed lines) = (counts_proper (trial.self_test table seed lines) lines)
+commands_are_proper table (session lock name form out) = lock_each IsProper open' table lock _ (λ master. under_each IsProper open' table master (record { file = Some name; form = form }) (holds_session table master out) (λ keys. free_proper out.file _ (λ last. saves_proper table master out.file out.form last)))
 commands_are_proper table (help topic) = tt
 commands_are_proper table version = tt
 

@@ -4,6 +4,7 @@ use Rattle.keyset_json.specs.Reading as Json
 use Rattle.keyset_json.specs.Reading.{reads_json}
 use Rattle.keyset_model.specs.Keyset.{Keys}
 use Rattle.keyset_model.specs.Reading.{Refusal, Wire, Fault, reads_binary}
+use Rattle.managers.specs.Table.{Table}
 use Rattle.segment_stream.specs.KeysModel.{KeysForStreams}
 use Rattle.segment_stream.specs.Range.{stream_failed, past_end}
 use Rattle.segment_stream.specs.StreamKeys.{StreamUnfit, not_stream, bad_key, stream_unfit}
@@ -131,12 +132,12 @@ keyset_ends formats.Binary bytes then' old s new (inr (is, same)) = inl same
 abbrev stretch_plan : List ℕ → AskedRange → Option (List ℕ) → KeysForStreams → Plan
 stretch_plan ad range out keys = opens_stretch keys ad range (puts out)
 
-range_gave : (name : List ℕ) (form : Format) (ad : List ℕ) (range : AskedRange) (out : Option (List ℕ)) (old : World) (s : Status) (new : World) → Ends (range_output name form ad range (puts out)) old s new → GaveWithin old.store new.store (keyset_limit + 1) ⊎ RangeGave name form ad range old.store s new.store
-range_gave name form ad range out old s new (load_absent is only kept stood given holds) = inl (omega (arith, given))
-range_gave name form ad range out old s new (load_long is only kept stood given holds) = inl (omega (arith, given))
-range_gave name form ad range out old s new (load_failed is only kept rose given) = inl (omega (arith, given))
-range_gave name form ad range out old s new (load_starved is only kept stood given) = inl (omega (arith, given))
-range_gave name form ad range out old s new (loaded bytes store kept stood given within holds run) = by (keyset_ends form bytes (stretch_plan ad range out) (record old { store = store }) s new run)
+range_gave : (table : Table) (name : List ℕ) (form : Format) (ad : List ℕ) (range : AskedRange) (out : Option (List ℕ)) (old : World) (s : Status) (new : World) → Ends (range_output table None name form ad range (puts out)) old s new → GaveWithin old.store new.store (keyset_limit + 1) ⊎ RangeGave name form ad range old.store s new.store
+range_gave table name form ad range out old s new (load_absent is only kept stood given holds) = inl (omega (arith, given))
+range_gave table name form ad range out old s new (load_long is only kept stood given holds) = inl (omega (arith, given))
+range_gave table name form ad range out old s new (load_failed is only kept rose given) = inl (omega (arith, given))
+range_gave table name form ad range out old s new (load_starved is only kept stood given) = inl (omega (arith, given))
+range_gave table name form ad range out old s new (loaded bytes store kept stood given within holds run) = by (keyset_ends form bytes (stretch_plan ad range out) (record old { store = store }) s new run)
   where
     mid : World
     mid = record old { store = store }
@@ -165,4 +166,4 @@ range_gave name form ad range out old s new (loaded bytes store kept stood given
 
 pub ranges_read_little : RangesReadLittle
 ranges_read_little table words name form ad range out old s new is run =
-    range_gave name form ad range out old s new (subst (λ (r : Result Asked Misuse). Ends (asked_plan table r words) old s new) is run)
+    range_gave table name form ad range out old s new (subst (λ (r : Result Asked Misuse). Ends (asked_plan table r words) old s new) is run)

@@ -12,7 +12,7 @@ use Rattle.tinkey_plans.specs.declared.status.Status.{Status}
 use Rattle.tinkey_plans.specs.declared.status.Status.TheVariants as status
 use Rattle.tinkey_plans.specs.Ends.{World, Ends, settled, draw_failed}
 use Rattle.tinkey_plans.specs.Plan.{Plan}
-use Rattle.tinkey_plans.specs.Steps.{works_out, makes_keyset, edit_refusal, Passes, PassesAs}
+use Rattle.tinkey_plans.specs.Steps.{works_out, makes_keyset, edit_refusal, Passes}
 
 -- a step that gave a value, and then another
 pub passes_then : {A B : Type 0} (first : (A → Plan) → Plan) (second : A → (B → Plan) → Plan) (old mid new : World) (value : A) (r : Result B Status) → Passes first old (Ok value) mid → Passes (second value) mid r new → Passes (λ next. first (λ x. second x next)) old r new
@@ -31,11 +31,6 @@ worked_out value w = λ next s last run. inl run
 pub starved_there : {A : Type 0} (value : A) (w : World) (r : Result A Status) → IsErrAnd r (λ e. e ≡ status.NoMemory) → Passes (works_out value) w r w
 starved_there value w (Ok given) is = absurd is
 starved_there value w (Err e) is = λ next. inr (is, refl)
-
--- a step whose value the rest takes as it is seen, and then another
-pub passes_then_as : {A B C : Type 0} (view : A → B) (first : (B → Plan) → Plan) (second : B → (C → Plan) → Plan) (old mid new : World) (value : A) (r : Result C Status) → PassesAs view first old (Ok value) mid → Passes (second (view value)) mid r new → Passes (λ next. first (λ x. second x next)) old r new
-passes_then_as view first second old mid new value (Ok given) one two = λ next s last run. one (λ x. second x next) s last (two next s last run)
-passes_then_as view first second old mid new value (Err s) one two = λ next. one (λ x. second x next) s new (two next)
 
 -- a keyset that random bytes gave, or why they gave none
 pub made_passes : (give : Draw Keys) (old : World) (entropy : EntropyState) (keyset : Keyset) → Applied (Ok keyset) give old.entropy entropy → Passes (makes_keyset give) old (Ok keyset) (record old { entropy = entropy })

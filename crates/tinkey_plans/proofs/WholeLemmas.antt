@@ -6,33 +6,30 @@ use Rattle.keyset_model.specs.Keyset.{Keys}
 use Rattle.tinkey_cmds.specs.Draws.{Draw}
 use Rattle.tinkey_cmds.specs.Edits.{first, step}
 use Rattle.tinkey_cmds.specs.declared.command.CmdFault.{CmdFault}
-use Rattle.managers.specs.Table.{scheme_at}
+use Rattle.managers.specs.Table.{Table, scheme_at}
 use Rattle.seal_wrap.specs.Enveloping.{url_made}
 use Rattle.wrapped_prims.specs.Fitness.{unfit}
 use Rattle.tinkey_words.specs.declared.words.rows.Format.{Format}
-use Rattle.tinkey_words.specs.declared.words.rows.Format.TheVariants as formats
 use Rattle.tinkey_plans.specs.Laws.{CommandsAreWhole}
 use Rattle.tinkey_plans.specs.Plan.{writes, Plan}
 use Rattle.tinkey_plans.specs.Promises.{IsWhole}
-use Rattle.tinkey_plans.proofs.EachLemmas.{AreAll, IsClosed, dek_each, envelope_each, scheme_each, stretch_each, edit_each, fit_each, keyset_each, made_each, row_each, work_each, written_each, wrapped_each, unwrapped_each}
-use Rattle.tinkey_plans.specs.Steps.{takes_keyset, makes_keyset, puts, puts_keyset}
+use Rattle.tinkey_plans.proofs.EachLemmas.{AreAll, IsClosed, IsOpen, dek_each, envelope_each, scheme_each, stretch_each, edit_each, fit_each, loaded_each, lock_each, locked_each, made_each, new_lock_each, row_each, under_each, work_each, written_under_each}
+use Rattle.tinkey_plans.specs.Locks.{puts_under}
+use Rattle.tinkey_plans.specs.Steps.{makes_keyset, puts}
 use Rattle.tinkey_plans.specs.Using.{hex_line, puts_output, shows}
-use Rattle.seal_wrap.specs.Unwrapped.{unwrap_of}
-use Rattle.tinkey_plans.specs.Wrapping.{is_json, makes_wrapped, takes_wrapped}
 use Rattle.tinkey_selftest.specs.Trial as trial
 use Rattle.segment_stream.specs.KeysModel.{KeysForStreams}
 use Rattle.segment_stream.specs.StreamKeys as streams
 use Rattle.tinkey_plans.specs.Streaming as streaming
 use Rattle.tinkey_selftest.specs.declared.counts.Counts.{Counts}
 use Rattle.tinkey_plans.specs.SelfTesting.{tells_counts}
-use Rattle.tinkey_words.specs.Words.{self_test, Place, primitive_for, create_keyset, edit_keyset, list_keyset, convert_keyset, list_key_templates, use_keyset, use_envelope, seal_stream, open_stream, open_range, session, wrap_keyset, unwrap_keyset, help, version}
+use Rattle.tinkey_words.specs.Words.{self_test, Place, primitive_for, create_keyset, edit_keyset, list_keyset, convert_keyset, list_key_templates, use_keyset, use_envelope, seal_stream, open_stream, open_range, session, help, version}
 
 closed : IsClosed IsWhole
 closed = record { ended = λ s stated. tt; allocated = λ next all. all }
 
-taken_whole : (file : Option (List ℕ)) (form : Format) (next : Keys → Plan) → AreAll IsWhole next → IsWhole (takes_keyset (record { file = file; form = form }) next)
-taken_whole (Some name) form next whole = λ bytes. keyset_each IsWhole closed form bytes next whole
-taken_whole None form next whole = λ bytes. keyset_each IsWhole closed form bytes next whole
+open' : IsOpen IsWhole
+open' = record { closed = closed; loaded = λ limit name next all. all; read = λ limit next all. all }
 
 draw_whole : (give : Draw Keys) (next : Keys → Plan) → AreAll IsWhole next → IsWhole (makes_keyset give next)
 draw_whole give next whole = λ given. made_each IsWhole closed given next whole
@@ -41,16 +38,12 @@ put_whole : (file : Option (List ℕ)) (output : List ℕ) → IsWhole (puts fil
 put_whole (Some name) output = tt
 put_whole None output = tt
 
-out_whole : (out : Place) (keys : Keys) → IsWhole (puts_keyset out keys)
-out_whole out keys = written_each IsWhole closed out.form keys (puts out.file) (put_whole out.file)
+out_whole : (table : Table) (master : Option Keys) (out : Place) (keys : Keys) → IsWhole (puts_under table master out keys)
+out_whole table master out keys = written_under_each IsWhole closed table master out.form keys (λ m next all. all) (puts out.file) (put_whole out.file)
 
 shown_whole : (hex : Bool) (file : Option (List ℕ)) (bytes : List ℕ) → IsWhole (shows hex bytes (puts file))
 shown_whole false file bytes = put_whole file bytes
 shown_whole true file bytes = put_whole file (hex_line bytes)
-
-text_whole : (file : Option (List ℕ)) (next : List ℕ → Plan) → AreAll IsWhole next → IsWhole (takes_wrapped file next)
-text_whole (Some name) next whole = whole
-text_whole None next whole = whole
 
 counts_whole : (r : Result Counts CmdFault) (lines : ℕ) → IsWhole (tells_counts lines r writes)
 counts_whole (Ok n) lines = tt
@@ -66,19 +59,17 @@ stream_keys_whole None next whole = tt
 stream_keys_whole (Some keys) next whole = whole keys
 
 pub commands_are_whole : CommandsAreWhole
-commands_are_whole table (create_keyset name out) = inl (row_each IsWhole closed (row_named name) name _ (λ row. draw_whole (first row) _ (out_whole out)))
-commands_are_whole table (edit_keyset edit in' out) = inl (edit_each IsWhole closed edit _ (λ edit. taken_whole in'.file in'.form _ (λ keys. draw_whole (step keys edit) _ (out_whole out))))
-commands_are_whole table (list_keyset in') = inl (taken_whole in'.file in'.form _ (λ keys. tt))
-commands_are_whole table (convert_keyset in' out) = inl (taken_whole in'.file in'.form _ (out_whole out))
+commands_are_whole table (create_keyset lock name out) = inl (row_each IsWhole closed (row_named name) name _ (λ row. lock_each IsWhole open' table lock _ (λ master. draw_whole (first row) _ (out_whole table master out))))
+commands_are_whole table (edit_keyset lock edit in' out) = inl (edit_each IsWhole closed edit _ (λ edit. lock_each IsWhole open' table lock _ (λ master. under_each IsWhole open' table master in' _ (λ keys. draw_whole (step keys edit) _ (out_whole table master out)))))
+commands_are_whole table (list_keyset lock in') = inl (locked_each IsWhole open' table lock in' _ (λ keys. tt))
+commands_are_whole table (convert_keyset lock new in' out) = inl (lock_each IsWhole open' table lock _ (λ taken. new_lock_each IsWhole open' table new taken _ (λ put. under_each IsWhole open' table taken in' _ (out_whole table put out))))
 commands_are_whole table list_key_templates = inl tt
-commands_are_whole table (use_keyset name form work out) = inl (λ bytes. keyset_each IsWhole closed form bytes _ (λ keys. fit_each IsWhole closed (unfit keys (primitive_for work) table) _ (λ input. work_each IsWhole closed table keys work input (λ ad next all. all) (puts_output out) (shown_whole out.hex out.file))))
-commands_are_whole table (use_envelope name form template work out) = inl (dek_each IsWhole closed template _ (λ row bytes. keyset_each IsWhole closed form bytes _ (λ keys. fit_each IsWhole closed (unfit keys Aead table) _ (scheme_each IsWhole closed (scheme_at table Aead (url_made row)) _ (λ scheme input. envelope_each IsWhole closed table keys scheme row work input (λ ad next all. all) (puts out) (put_whole out))))))
-commands_are_whole table (seal_stream name form ad) = inr (inl tt)
-commands_are_whole table (open_stream name form ad) = inr (inl tt)
-commands_are_whole table (open_range name form ad range out) = inl (λ bytes. keyset_each IsWhole closed form bytes _ (λ keys. stream_fit_whole (streams.stream_unfit keys) _ (stream_keys_whole (streaming.keys_for keys) _ (λ k opened. stretch_each IsWhole closed opened _ (put_whole out)))))
+commands_are_whole table (use_keyset lock name form work out) = inl (loaded_each IsWhole open' table lock name form _ (λ keys. fit_each IsWhole closed (unfit keys (primitive_for work) table) _ (λ input. work_each IsWhole closed table keys work input (λ ad next all. all) (puts_output out) (shown_whole out.hex out.file))))
+commands_are_whole table (use_envelope lock name form template work out) = inl (dek_each IsWhole closed template _ (λ row. loaded_each IsWhole open' table lock name form _ (λ keys. fit_each IsWhole closed (unfit keys Aead table) _ (scheme_each IsWhole closed (scheme_at table Aead (url_made row)) _ (λ scheme. (λ input. envelope_each IsWhole closed table keys scheme row work input (λ ad next all. all) (puts out) (put_whole out)))))))
+commands_are_whole table (seal_stream lock name form ad) = inr (inl tt)
+commands_are_whole table (open_stream lock name form ad) = inr (inl tt)
+commands_are_whole table (open_range lock name form ad range out) = inl (loaded_each IsWhole open' table lock name form _ (λ keys. stream_fit_whole (streams.stream_unfit keys) _ (stream_keys_whole (streaming.keys_for keys) _ (λ k opened. stretch_each IsWhole closed opened _ (put_whole out)))))
 commands_are_whole table (self_test seed lines) = inl (counts_whole (trial.self_test table seed lines) lines)
-commands_are_whole table (session name form out) = inr (inr tt)
-commands_are_whole table (wrap_keyset name form in' out) = inl (λ bytes. keyset_each IsWhole closed form bytes _ (λ master. fit_each IsWhole closed (unfit master Aead table) _ (taken_whole in'.file in'.form _ (λ keys. written_each IsWhole closed formats.Binary keys (λ plain. makes_wrapped keys master table out.form (puts out.file)) (λ plain. wrapped_each IsWhole closed keys master table out.form (λ next all. all) (puts out.file) (put_whole out.file))))))
-commands_are_whole table (unwrap_keyset name form in' out) = inl (λ bytes. keyset_each IsWhole closed form bytes _ (λ master. fit_each IsWhole closed (unfit master Aead table) _ (text_whole in'.file _ (λ text. unwrapped_each IsWhole closed (unwrap_of master table text (is_json in'.form)) _ (out_whole out)))))
+commands_are_whole table (session lock name form out) = inr (inr tt)
 commands_are_whole table (help topic) = inl tt
 commands_are_whole table version = inl tt

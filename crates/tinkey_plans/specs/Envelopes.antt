@@ -15,10 +15,12 @@ use Rattle.seal_wrap.specs.Enveloping.{url_made}
 use Rattle.tinkey_cmds.specs.Draws.{Draw, Drawn}
 use Rattle.tinkey_plans.specs.declared.status.Status.TheVariants as status
 use Rattle.tinkey_plans.specs.Plan.{Plan, ends, allocates, draws, envelopings}
-use Rattle.tinkey_plans.specs.Steps.{finds_template, input_limit, loads_keyset, reads_input, sealed_limit, with_made}
-use Rattle.tinkey_plans.specs.Using.{handles, with_opened}
+use Rattle.tinkey_plans.specs.Handles.{handles}
+use Rattle.tinkey_plans.specs.Locks.{loads_locked}
+use Rattle.tinkey_plans.specs.Steps.{finds_template, input_limit, reads_input, sealed_limit, with_made}
+use Rattle.tinkey_plans.specs.Using.{with_opened}
 use Rattle.tinkey_words.specs.declared.words.rows.Format.{Format}
-use Rattle.tinkey_words.specs.Words.{AskedEnvelope, to_eseal, to_eopen}
+use Rattle.tinkey_words.specs.Words.{AskedEnvelope, Lock, to_eseal, to_eopen}
 
 -- the primitive is that of AEADs, or the template is refused
 abbrev pub with_aead : Primitive → Plan → Plan
@@ -71,11 +73,11 @@ envelope_limit (to_eseal ad) = input_limit
 envelope_limit (to_eopen ad) = sealed_limit
 
 -- eseal and eopen: work on the whole input, by data keys under the keys of the keyset in a file
-abbrev pub envelope_output : Table → List ℕ → Format → (template : List ℕ) → AskedEnvelope
+abbrev pub envelope_output : Table → Lock → List ℕ → Format → (template : List ℕ) → AskedEnvelope
     → (List ℕ → Plan) → Plan
-envelope_output table name form template work next =
+envelope_output table lock name form template work next =
     finds_dek template (λ row.
-    loads_keyset name form (λ keys.
+    loads_locked table lock name form (λ keys.
     handles table Aead keys (λ fit.
     finds_scheme table row (λ scheme.
     reads_input (envelope_limit work) (λ input.

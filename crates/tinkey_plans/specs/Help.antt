@@ -203,20 +203,30 @@ exit_text =
 -- it is; a command's options, what it reads and what it gives, named after the first one; and exit codes,
 -- by their numbers.
 
-abbrev pub key_template_28 : List ℕ
-key_template_28 =
-    codes "  --key-template NAME       the template of the new key: any text; it is looked up as the\n"
-    ++ codes "                            name of a template\n"
+abbrev pub key_template_31 : List ℕ
+key_template_31 =
+    codes "  --key-template NAME          the template of the new key: any text; it is looked up as the\n"
+    ++ codes "                               name of a template\n"
 
-abbrev pub out_28 : List ℕ
-out_28 =
-    codes "  --out FILE                the file to make: a file's name, of one byte or more, whose last\n"
-    ++ codes "                            part doesn't begin with .tinkey-new-\n"
+abbrev pub out_31 : List ℕ
+out_31 =
+    codes "  --out FILE                   the file to make: a file's name, of one byte or more, whose\n"
+    ++ codes "                               last part doesn't begin with .tinkey-new-\n"
 
-abbrev pub out_format_28 : List ℕ
-out_format_28 =
-    codes "  --out-format json|binary  the form of the keyset to write: json or binary, in upper or\n"
-    ++ codes "                            lower case; json if it isn't given\n"
+abbrev pub out_format_31 : List ℕ
+out_format_31 =
+    codes "  --out-format json|binary     the form of the keyset to write: json or binary, in upper or\n"
+    ++ codes "                               lower case; json if it isn't given\n"
+
+abbrev pub master_31 : List ℕ
+master_31 =
+    codes "  --master FILE                the file of the master, the keyset that others are sealed\n"
+    ++ codes "                               under: a file's name, of one byte or more\n"
+
+abbrev pub master_format_31 : List ℕ
+master_format_31 =
+    codes "  --master-format json|binary  the form of the master: json or binary, in upper or lower\n"
+    ++ codes "                               case; json if it isn't given\n"
 
 abbrev pub read_by_create_keyset : List ℕ
 read_by_create_keyset =
@@ -230,6 +240,10 @@ abbrev pub code_2 : List ℕ
 code_2 =
     codes "  2  the words aren't a command, or ask for something that can't be had\n"
 
+abbrev pub code_3 : List ℕ
+code_3 =
+    codes "  3  the keyset isn't one, or its keys can't serve for the command\n"
+
 abbrev pub code_4 : List ℕ
 code_4 =
     codes "  4  a file is missing or already there, or an edit is refused\n"
@@ -237,6 +251,10 @@ code_4 =
 abbrev pub code_5 : List ℕ
 code_5 =
     codes "  5  reading, writing, a file or the random device failed\n"
+
+abbrev pub code_6 : List ℕ
+code_6 =
+    codes "  6  a limit was passed\n"
 
 abbrev pub code_7 : List ℕ
 code_7 =
@@ -246,28 +264,28 @@ abbrev pub code_8 : List ℕ
 code_8 =
     codes "  8  a word of the command isn't text (UTF-8)\n"
 
-abbrev pub codes_024578 : List ℕ
-codes_024578 =
+abbrev pub codes_02345678 : List ℕ
+codes_02345678 =
     codes "\nExit codes:\n"
-    ++ code_0 ++ code_2 ++ code_4 ++ code_5 ++ code_7 ++ code_8
+    ++ code_0 ++ code_2 ++ code_3 ++ code_4 ++ code_5 ++ code_6 ++ code_7 ++ code_8
     ++ codes "\nExample:\n"
 
-abbrev pub in_28 : List ℕ
-in_28 =
-    codes "  --in FILE                 the file of the keyset to read: a file's name, of one byte or\n"
-    ++ codes "                            more\n"
+abbrev pub in_31 : List ℕ
+in_31 =
+    codes "  --in FILE                    the file of the keyset to read: a file's name, of one byte or\n"
+    ++ codes "                               more\n"
 
-abbrev pub in_format_28 : List ℕ
-in_format_28 =
-    codes "  --in-format json|binary   the form of that keyset: json or binary, in upper or lower case;\n"
-    ++ codes "                            json if it isn't given\n"
+abbrev pub in_format_31 : List ℕ
+in_format_31 =
+    codes "  --in-format json|binary      the form of that keyset: json or binary, in upper or lower\n"
+    ++ codes "                               case; json if it isn't given\n"
 
 abbrev pub options_of_add_key : List ℕ
 options_of_add_key =
     codes "\nRequired:\n"
-    ++ key_template_28
+    ++ key_template_31
     ++ codes "\nOptional:\n"
-    ++ in_28 ++ in_format_28 ++ out_28 ++ out_format_28
+    ++ in_31 ++ in_format_31 ++ out_31 ++ out_format_31 ++ master_31 ++ master_format_31
 
 abbrev pub read_by_add_key : List ℕ
 read_by_add_key =
@@ -278,52 +296,6 @@ given_by_add_key =
     codes "Gives  the keyset after that edit, in a new file of --out, or on standard output if there is\n"
     ++ codes "       no --out\n"
 
-abbrev pub code_3 : List ℕ
-code_3 =
-    codes "  3  the keyset isn't one, or its keys can't serve for the command\n"
-
-abbrev pub code_6 : List ℕ
-code_6 =
-    codes "  6  a limit was passed\n"
-
-abbrev pub codes_02345678 : List ℕ
-codes_02345678 =
-    codes "\nExit codes:\n"
-    ++ code_0 ++ code_2 ++ code_3 ++ code_4 ++ code_5 ++ code_6 ++ code_7 ++ code_8
-    ++ codes "\nExample:\n"
-
-abbrev pub options_of_promote_key : List ℕ
-options_of_promote_key =
-    codes "\nRequired:\n"
-    ++ codes "  --key-id N                the id of the key to change: 1 to 10 decimal digits, of a number\n"
-    ++ codes "                            up to 4,294,967,295\n\n"
-    ++ codes "Optional:\n"
-    ++ in_28 ++ in_format_28 ++ out_28 ++ out_format_28
-
-abbrev pub out_31 : List ℕ
-out_31 =
-    codes "  --out FILE                   the file to make: a file's name, of one byte or more, whose\n"
-    ++ codes "                               last part doesn't begin with .tinkey-new-\n"
-
-abbrev pub out_format_31 : List ℕ
-out_format_31 =
-    codes "  --out-format json|binary     the form of the keyset to write: json or binary, in upper or\n"
-    ++ codes "                               lower case; json if it isn't given\n"
-
-abbrev pub options_of_wrap_keyset : List ℕ
-options_of_wrap_keyset =
-    codes "\nRequired:\n"
-    ++ codes "  --master FILE                the file of the keyset under which another one is sealed: a\n"
-    ++ codes "                               file's name, of one byte or more\n\n"
-    ++ codes "Optional:\n"
-    ++ codes "  --master-format json|binary  the form of that keyset: json or binary, in upper or lower\n"
-    ++ codes "                               case; json if it isn't given\n"
-    ++ codes "  --in FILE                    the file of the keyset to read: a file's name, of one byte or\n"
-    ++ codes "                               more\n"
-    ++ codes "  --in-format json|binary      the form of that keyset: json or binary, in upper or lower\n"
-    ++ codes "                               case; json if it isn't given\n"
-    ++ out_31 ++ out_format_31
-
 abbrev pub codes_012345678 : List ℕ
 codes_012345678 =
     codes "\nExit codes:\n"
@@ -331,6 +303,21 @@ codes_012345678 =
     ++ codes "  1  what was given doesn't open, doesn't verify, or is no whole stream\n"
     ++ code_2 ++ code_3 ++ code_4 ++ code_5 ++ code_6 ++ code_7 ++ code_8
     ++ codes "\nExample:\n"
+
+abbrev pub options_of_promote_key : List ℕ
+options_of_promote_key =
+    codes "\nRequired:\n"
+    ++ codes "  --key-id N                   the id of the key to change: 1 to 10 decimal digits, of a\n"
+    ++ codes "                               number up to 4,294,967,295\n\n"
+    ++ codes "Optional:\n"
+    ++ in_31 ++ in_format_31 ++ out_31 ++ out_format_31 ++ master_31 ++ master_format_31
+
+abbrev pub options_of_wrap_keyset : List ℕ
+options_of_wrap_keyset =
+    codes "\nRequired:\n"
+    ++ master_31
+    ++ codes "\nOptional:\n"
+    ++ master_format_31 ++ in_31 ++ in_format_31 ++ out_31 ++ out_format_31
 
 abbrev pub keyset_31 : List ℕ
 keyset_31 =
@@ -358,7 +345,7 @@ options_of_seal =
     codes "\nRequired:\n"
     ++ keyset_31
     ++ codes "\nOptional:\n"
-    ++ keyset_format_31 ++ ad_31 ++ ad_hex_31 ++ out_31
+    ++ keyset_format_31 ++ ad_31 ++ ad_hex_31 ++ out_31 ++ master_31 ++ master_format_31
 
 abbrev pub read_by_seal : List ℕ
 read_by_seal =
@@ -371,7 +358,7 @@ options_of_eseal =
     ++ codes "  --dek-template NAME          the template of the data key: any text; it is looked up as\n"
     ++ codes "                               the name of a template\n\n"
     ++ codes "Optional:\n"
-    ++ keyset_format_31 ++ ad_31 ++ ad_hex_31 ++ out_31
+    ++ keyset_format_31 ++ ad_31 ++ ad_hex_31 ++ out_31 ++ master_31 ++ master_format_31
 
 abbrev pub given_by_dseal : List ℕ
 given_by_dseal =
@@ -383,7 +370,7 @@ options_of_sseal =
     codes "\nRequired:\n"
     ++ keyset_31
     ++ codes "\nOptional:\n"
-    ++ keyset_format_31 ++ ad_31 ++ ad_hex_31
+    ++ keyset_format_31 ++ ad_31 ++ ad_hex_31 ++ master_31 ++ master_format_31
 
 abbrev pub read_by_sseal : List ℕ
 read_by_sseal =
@@ -406,37 +393,38 @@ hex_31 =
 unfoldable pub command_text : CommandName → List ℕ
 command_text commands.CreateKeyset =
     codes "tinkey create-keyset: makes a keyset of one new key, the primary\n\n"
-    ++ codes "  tinkey create-keyset --key-template NAME [--out FILE] [--out-format json|binary]\n\n"
+    ++ codes "  tinkey create-keyset --key-template NAME [--out FILE] [--out-format json|binary]\n"
+    ++ codes "      [--master FILE] [--master-format json|binary]\n\n"
     ++ codes "Required:\n"
-    ++ key_template_28
+    ++ key_template_31
     ++ codes "\nOptional:\n"
-    ++ out_28 ++ out_format_28 ++ read_by_create_keyset
+    ++ out_31 ++ out_format_31 ++ master_31 ++ master_format_31 ++ read_by_create_keyset
     ++ codes "Gives  a keyset of one new key, in a new file of --out, or on standard output if there is no\n"
     ++ codes "       --out\n"
-    ++ codes_024578
+    ++ codes_02345678
     ++ codes "  tinkey create-keyset --key-template AES256_GCM --out first.json\n"
 command_text commands.AddKey =
     codes "tinkey add-key: adds a new key\n\n"
     ++ codes "  tinkey add-key --key-template NAME [--in FILE] [--in-format json|binary] [--out FILE]\n"
-    ++ codes "      [--out-format json|binary]\n"
+    ++ codes "      [--out-format json|binary] [--master FILE] [--master-format json|binary]\n"
     ++ options_of_add_key ++ read_by_add_key ++ given_by_add_key
-    ++ codes_02345678
+    ++ codes_012345678
     ++ codes "  tinkey create-keyset --key-template AES256_GCM --out one.json\n"
     ++ codes "  tinkey add-key --key-template AES256_GCM --in one.json --out two.json\n"
 command_text commands.RotateKeyset =
     codes "tinkey rotate-keyset: adds a new key, and makes it the primary\n\n"
     ++ codes "  tinkey rotate-keyset --key-template NAME [--in FILE] [--in-format json|binary]\n"
-    ++ codes "      [--out FILE] [--out-format json|binary]\n"
+    ++ codes "      [--out FILE] [--out-format json|binary] [--master FILE] [--master-format json|binary]\n"
     ++ options_of_add_key ++ read_by_add_key ++ given_by_add_key
-    ++ codes_02345678
+    ++ codes_012345678
     ++ codes "  tinkey create-keyset --key-template AES256_GCM --out old.json\n"
     ++ codes "  tinkey rotate-keyset --key-template AES256_GCM --in old.json --out rotated.json\n"
 command_text commands.PromoteKey =
     codes "tinkey promote-key: makes an enabled key the primary\n\n"
     ++ codes "  tinkey promote-key --key-id N [--in FILE] [--in-format json|binary] [--out FILE]\n"
-    ++ codes "      [--out-format json|binary]\n"
+    ++ codes "      [--out-format json|binary] [--master FILE] [--master-format json|binary]\n"
     ++ options_of_promote_key ++ read_by_add_key ++ given_by_add_key
-    ++ codes_02345678
+    ++ codes_012345678
     ++ codes "  tinkey create-keyset --key-template AES256_GCM |\n"
     ++ codes "      tinkey rotate-keyset --key-template AES256_GCM --out both.json\n"
     ++ codes "  id=$(tinkey list-keyset --in both.json | sed -n 's/^  key_id: //p' | head -n 1)\n"
@@ -444,9 +432,9 @@ command_text commands.PromoteKey =
 command_text commands.EnableKey =
     codes "tinkey enable-key: makes a key ENABLED\n\n"
     ++ codes "  tinkey enable-key --key-id N [--in FILE] [--in-format json|binary] [--out FILE]\n"
-    ++ codes "      [--out-format json|binary]\n"
+    ++ codes "      [--out-format json|binary] [--master FILE] [--master-format json|binary]\n"
     ++ options_of_promote_key ++ read_by_add_key ++ given_by_add_key
-    ++ codes_02345678
+    ++ codes_012345678
     ++ codes "  tinkey create-keyset --key-template AES256_GCM |\n"
     ++ codes "      tinkey rotate-keyset --key-template AES256_GCM --out ready.json\n"
     ++ codes "  id=$(tinkey list-keyset --in ready.json | sed -n 's/^  key_id: //p' | head -n 1)\n"
@@ -455,9 +443,9 @@ command_text commands.EnableKey =
 command_text commands.DisableKey =
     codes "tinkey disable-key: makes a key DISABLED: it isn't used, and can be enabled again\n\n"
     ++ codes "  tinkey disable-key --key-id N [--in FILE] [--in-format json|binary] [--out FILE]\n"
-    ++ codes "      [--out-format json|binary]\n"
+    ++ codes "      [--out-format json|binary] [--master FILE] [--master-format json|binary]\n"
     ++ options_of_promote_key ++ read_by_add_key ++ given_by_add_key
-    ++ codes_02345678
+    ++ codes_012345678
     ++ codes "  tinkey create-keyset --key-template AES256_GCM |\n"
     ++ codes "      tinkey rotate-keyset --key-template AES256_GCM --out busy.json\n"
     ++ codes "  id=$(tinkey list-keyset --in busy.json | sed -n 's/^  key_id: //p' | head -n 1)\n"
@@ -465,9 +453,9 @@ command_text commands.DisableKey =
 command_text commands.DestroyKey =
     codes "tinkey destroy-key: destroys a key's material; this can't be undone\n\n"
     ++ codes "  tinkey destroy-key --key-id N [--in FILE] [--in-format json|binary] [--out FILE]\n"
-    ++ codes "      [--out-format json|binary]\n"
+    ++ codes "      [--out-format json|binary] [--master FILE] [--master-format json|binary]\n"
     ++ options_of_promote_key ++ read_by_add_key ++ given_by_add_key
-    ++ codes_02345678
+    ++ codes_012345678
     ++ codes "  tinkey create-keyset --key-template AES256_GCM |\n"
     ++ codes "      tinkey rotate-keyset --key-template AES256_GCM --out full.json\n"
     ++ codes "  id=$(tinkey list-keyset --in full.json | sed -n 's/^  key_id: //p' | head -n 1)\n"
@@ -475,24 +463,21 @@ command_text commands.DestroyKey =
 command_text commands.DeleteKey =
     codes "tinkey delete-key: removes a key; this can't be undone\n\n"
     ++ codes "  tinkey delete-key --key-id N [--in FILE] [--in-format json|binary] [--out FILE]\n"
-    ++ codes "      [--out-format json|binary]\n"
+    ++ codes "      [--out-format json|binary] [--master FILE] [--master-format json|binary]\n"
     ++ options_of_promote_key ++ read_by_add_key ++ given_by_add_key
-    ++ codes_02345678
+    ++ codes_012345678
     ++ codes "  tinkey create-keyset --key-template AES256_GCM |\n"
     ++ codes "      tinkey rotate-keyset --key-template AES256_GCM --out many.json\n"
     ++ codes "  id=$(tinkey list-keyset --in many.json | sed -n 's/^  key_id: //p' | head -n 1)\n"
     ++ codes "  tinkey delete-key --key-id $id --in many.json --out fewer.json\n"
 command_text commands.ListKeyset =
     codes "tinkey list-keyset: lists a keyset without key material\n\n"
-    ++ codes "  tinkey list-keyset [--in FILE] [--in-format json|binary]\n\n"
+    ++ codes "  tinkey list-keyset [--in FILE] [--in-format json|binary] [--master FILE]\n"
+    ++ codes "      [--master-format json|binary]\n\n"
     ++ codes "Optional:\n"
-    ++ codes "  --in FILE                the file of the keyset to read: a file's name, of one byte or\n"
-    ++ codes "                           more\n"
-    ++ codes "  --in-format json|binary  the form of that keyset: json or binary, in upper or lower case;\n"
-    ++ codes "                           json if it isn't given\n"
-    ++ read_by_add_key
+    ++ in_31 ++ in_format_31 ++ master_31 ++ master_format_31 ++ read_by_add_key
     ++ codes "Gives  its listing, on standard output\n"
-    ++ codes_02345678
+    ++ codes_012345678
     ++ codes "  tinkey create-keyset --key-template AES256_GCM --out listed.json\n"
     ++ codes "  tinkey list-keyset --in listed.json\n"
 command_text commands.ListKeyTemplates =
@@ -507,11 +492,28 @@ command_text commands.ListKeyTemplates =
 command_text commands.ConvertKeyset =
     codes "tinkey convert-keyset: writes a keyset in another form or place\n\n"
     ++ codes "  tinkey convert-keyset [--in FILE] [--in-format json|binary] [--out FILE]\n"
-    ++ codes "      [--out-format json|binary]\n\n"
+    ++ codes "      [--out-format json|binary] [--master FILE] [--master-format json|binary]\n"
+    ++ codes "      [--new-master FILE] [--new-master-format json|binary]\n\n"
     ++ codes "Optional:\n"
-    ++ in_28 ++ in_format_28 ++ out_28 ++ out_format_28 ++ read_by_add_key
+    ++ codes "  --in FILE                        the file of the keyset to read: a file's name, of one\n"
+    ++ codes "                                   byte or more\n"
+    ++ codes "  --in-format json|binary          the form of that keyset: json or binary, in upper or\n"
+    ++ codes "                                   lower case; json if it isn't given\n"
+    ++ codes "  --out FILE                       the file to make: a file's name, of one byte or more,\n"
+    ++ codes "                                   whose last part doesn't begin with .tinkey-new-\n"
+    ++ codes "  --out-format json|binary         the form of the keyset to write: json or binary, in upper\n"
+    ++ codes "                                   or lower case; json if it isn't given\n"
+    ++ codes "  --master FILE                    the file of the master, the keyset that others are sealed\n"
+    ++ codes "                                   under: a file's name, of one byte or more\n"
+    ++ codes "  --master-format json|binary      the form of the master: json or binary, in upper or lower\n"
+    ++ codes "                                   case; json if it isn't given\n"
+    ++ codes "  --new-master FILE                the file of the master that the keyset is put under: a\n"
+    ++ codes "                                   file's name, of one byte or more\n"
+    ++ codes "  --new-master-format json|binary  the form of that master: json or binary, in upper or\n"
+    ++ codes "                                   lower case; json if it isn't given\n"
+    ++ read_by_add_key
     ++ codes "Gives  the same keyset, in a new file of --out, or on standard output if there is no --out\n"
-    ++ codes_02345678
+    ++ codes_012345678
     ++ codes "  tinkey create-keyset --key-template AES256_GCM --out text.json\n"
     ++ codes "  tinkey convert-keyset --in text.json --out keyset.bin --out-format binary\n"
 command_text commands.WrapKeyset =
@@ -543,17 +545,17 @@ command_text commands.UnwrapKeyset =
 command_text commands.Seal =
     codes "tinkey seal: seals standard input under the primary key\n\n"
     ++ codes "  tinkey seal --keyset FILE [--keyset-format json|binary] [--ad TEXT] [--ad-hex HEX]\n"
-    ++ codes "      [--out FILE]\n"
+    ++ codes "      [--out FILE] [--master FILE] [--master-format json|binary]\n"
     ++ options_of_seal ++ read_by_seal
     ++ codes "Gives  the input sealed under the primary key, in a new file of --out, or on standard output\n"
     ++ codes "       if there is no --out\n"
-    ++ codes_02345678
+    ++ codes_012345678
     ++ codes "  tinkey create-keyset --key-template AES256_GCM --out seal.json\n"
     ++ codes "  echo 'Dear Ada' | tinkey seal --keyset seal.json --ad 'to Ada' --out letter.sealed\n"
 command_text commands.Open =
     codes "tinkey open: opens what any enabled key sealed\n\n"
     ++ codes "  tinkey open --keyset FILE [--keyset-format json|binary] [--ad TEXT] [--ad-hex HEX]\n"
-    ++ codes "      [--out FILE]\n"
+    ++ codes "      [--out FILE] [--master FILE] [--master-format json|binary]\n"
     ++ options_of_seal ++ read_by_seal
     ++ codes "Gives  what the input opens to, in a new file of --out, or on standard output if there is no\n"
     ++ codes "       --out\n"
@@ -564,17 +566,17 @@ command_text commands.Open =
 command_text commands.Eseal =
     codes "tinkey eseal: seals under a fresh data key, and that key under the keyset: an envelope\n\n"
     ++ codes "  tinkey eseal --keyset FILE --dek-template NAME [--keyset-format json|binary] [--ad TEXT]\n"
-    ++ codes "      [--ad-hex HEX] [--out FILE]\n"
+    ++ codes "      [--ad-hex HEX] [--out FILE] [--master FILE] [--master-format json|binary]\n"
     ++ options_of_eseal ++ read_by_seal
     ++ codes "Gives  an envelope of the input, under a fresh data key of the template of --dek-template,\n"
     ++ codes "       in a new file of --out, or on standard output if there is no --out\n"
-    ++ codes_02345678
+    ++ codes_012345678
     ++ codes "  tinkey create-keyset --key-template AES256_GCM --out eseal.json\n"
     ++ codes "  echo 'Dear Ada' | tinkey eseal --keyset eseal.json --dek-template AES128_GCM --out envelope\n"
 command_text commands.Eopen =
     codes "tinkey eopen: opens an envelope\n\n"
     ++ codes "  tinkey eopen --keyset FILE --dek-template NAME [--keyset-format json|binary] [--ad TEXT]\n"
-    ++ codes "      [--ad-hex HEX] [--out FILE]\n"
+    ++ codes "      [--ad-hex HEX] [--out FILE] [--master FILE] [--master-format json|binary]\n"
     ++ options_of_eseal ++ read_by_seal
     ++ codes "Gives  what the envelope opens to, in a new file of --out, or on standard output if there is\n"
     ++ codes "       no --out\n"
@@ -585,15 +587,15 @@ command_text commands.Eopen =
 command_text commands.Dseal =
     codes "tinkey dseal: seals deterministically: equal texts give equal bytes\n\n"
     ++ codes "  tinkey dseal --keyset FILE [--keyset-format json|binary] [--ad TEXT] [--ad-hex HEX]\n"
-    ++ codes "      [--out FILE]\n"
+    ++ codes "      [--out FILE] [--master FILE] [--master-format json|binary]\n"
     ++ options_of_seal ++ read_by_seal ++ given_by_dseal
-    ++ codes_02345678
+    ++ codes_012345678
     ++ codes "  tinkey create-keyset --key-template AES256_SIV --out dseal.json\n"
     ++ codes "  echo 'Dear Ada' | tinkey dseal --keyset dseal.json --out same.sealed\n"
 command_text commands.Dopen =
     codes "tinkey dopen: opens what dseal sealed\n\n"
     ++ codes "  tinkey dopen --keyset FILE [--keyset-format json|binary] [--ad TEXT] [--ad-hex HEX]\n"
-    ++ codes "      [--out FILE]\n"
+    ++ codes "      [--out FILE] [--master FILE] [--master-format json|binary]\n"
     ++ options_of_seal ++ read_by_seal ++ given_by_dseal
     ++ codes_012345678
     ++ codes "  tinkey create-keyset --key-template AES256_SIV --out dopen.json\n"
@@ -602,13 +604,15 @@ command_text commands.Dopen =
 command_text commands.Sseal =
     codes "tinkey sseal: seals a stream of any length, in one pass\n\n"
     ++ codes "  tinkey sseal --keyset FILE [--keyset-format json|binary] [--ad TEXT] [--ad-hex HEX]\n"
+    ++ codes "      [--master FILE] [--master-format json|binary]\n"
     ++ options_of_sseal ++ read_by_sseal ++ given_by_sseal
-    ++ codes_02345678
+    ++ codes_012345678
     ++ codes "  tinkey create-keyset --key-template AES256_GCM_HKDF_1MB --out sseal.json\n"
     ++ codes "  echo 'Dear Ada' | tinkey sseal --keyset sseal.json > letter.stream\n"
 command_text commands.Sopen =
     codes "tinkey sopen: opens such a stream; it is complete only if the exit code is 0\n\n"
     ++ codes "  tinkey sopen --keyset FILE [--keyset-format json|binary] [--ad TEXT] [--ad-hex HEX]\n"
+    ++ codes "      [--master FILE] [--master-format json|binary]\n"
     ++ options_of_sseal ++ read_by_sseal ++ given_by_sseal
     ++ codes_012345678
     ++ codes "  tinkey create-keyset --key-template AES256_GCM_HKDF_1MB --out sopen.json\n"
@@ -617,7 +621,7 @@ command_text commands.Sopen =
 command_text commands.Srange =
     codes "tinkey srange: opens a range of such a stream in a file\n\n"
     ++ codes "  tinkey srange --keyset FILE --file FILE --from N --length N [--keyset-format json|binary]\n"
-    ++ codes "      [--ad TEXT] [--ad-hex HEX] [--out FILE]\n\n"
+    ++ codes "      [--ad TEXT] [--ad-hex HEX] [--out FILE] [--master FILE] [--master-format json|binary]\n\n"
     ++ codes "Required:\n"
     ++ keyset_31
     ++ codes "  --file FILE                  the file of the stream: a file's name, of one byte or more;\n"
@@ -626,7 +630,7 @@ command_text commands.Srange =
     ++ codes "                               of a number up to 9,223,372,036,854,775,807\n"
     ++ length_31
     ++ codes "\nOptional:\n"
-    ++ keyset_format_31 ++ ad_31 ++ ad_hex_31 ++ out_31
+    ++ keyset_format_31 ++ ad_31 ++ ad_hex_31 ++ out_31 ++ master_31 ++ master_format_31
     ++ codes "\nReads  the keyset, and the stream in the file of --file\n"
     ++ codes "Gives  as many bytes of the stream's plaintext as --length says, from the offset of --from\n"
     ++ codes "       on, counted from 0; in a new file of --out, or on standard output\n"
@@ -636,25 +640,27 @@ command_text commands.Srange =
     ++ codes "  tinkey srange --keyset srange.json --file srange.stream --from 5 --length 3\n"
 command_text commands.Tag =
     codes "tinkey tag: tags standard input under the primary key\n\n"
-    ++ codes "  tinkey tag --keyset FILE [--keyset-format json|binary] [--out FILE] [--hex]\n\n"
+    ++ codes "  tinkey tag --keyset FILE [--keyset-format json|binary] [--out FILE] [--hex]\n"
+    ++ codes "      [--master FILE] [--master-format json|binary]\n\n"
     ++ codes "Required:\n"
     ++ keyset_31
     ++ codes "\nOptional:\n"
-    ++ keyset_format_31 ++ out_31 ++ hex_31 ++ read_by_seal
+    ++ keyset_format_31 ++ out_31 ++ hex_31 ++ master_31 ++ master_format_31 ++ read_by_seal
     ++ codes "Gives  the tag of the input under the primary key, in a new file of --out, or on standard\n"
     ++ codes "       output if there is no --out\n"
-    ++ codes_02345678
+    ++ codes_012345678
     ++ codes "  tinkey create-keyset --key-template HMAC_SHA256_128BITTAG --out tag.json\n"
     ++ codes "  echo 'Dear Ada' | tinkey tag --keyset tag.json --hex --out letter.tag\n"
 command_text commands.Verify =
     codes "tinkey verify: says whether a tag is valid under any enabled key\n\n"
-    ++ codes "  tinkey verify --keyset FILE --tag-hex HEX [--keyset-format json|binary]\n\n"
+    ++ codes "  tinkey verify --keyset FILE --tag-hex HEX [--keyset-format json|binary] [--master FILE]\n"
+    ++ codes "      [--master-format json|binary]\n\n"
     ++ codes "Required:\n"
     ++ keyset_31
     ++ codes "  --tag-hex HEX                the tag to verify, in hexadecimal: an even number of\n"
     ++ codes "                               hexadecimal digits of either case, at most 2,097,152, or none\n\n"
     ++ codes "Optional:\n"
-    ++ keyset_format_31 ++ read_by_seal
+    ++ keyset_format_31 ++ master_31 ++ master_format_31 ++ read_by_seal
     ++ codes "Gives  nothing; the status says whether the tag is one of the keyset's\n"
     ++ codes_012345678
     ++ codes "  tinkey create-keyset --key-template HMAC_SHA256_128BITTAG --out verify.json\n"
@@ -662,31 +668,32 @@ command_text commands.Verify =
     ++ codes "  echo 'Dear Ada' | tinkey verify --keyset verify.json --tag-hex $tag && echo verified\n"
 command_text commands.Derive =
     codes "tinkey derive: derives bytes from standard input\n\n"
-    ++ codes "  tinkey derive --keyset FILE --length N [--keyset-format json|binary] [--out FILE] [--hex]\n\n"
+    ++ codes "  tinkey derive --keyset FILE --length N [--keyset-format json|binary] [--out FILE] [--hex]\n"
+    ++ codes "      [--master FILE] [--master-format json|binary]\n\n"
     ++ codes "Required:\n"
     ++ keyset_31 ++ length_31
     ++ codes "\nOptional:\n"
-    ++ keyset_format_31 ++ out_31 ++ hex_31 ++ read_by_seal
+    ++ keyset_format_31 ++ out_31 ++ hex_31 ++ master_31 ++ master_format_31 ++ read_by_seal
     ++ codes "Gives  as many bytes as --length says, derived from the input by the primary key, in a new\n"
     ++ codes "       file of --out, or on standard output if there is no --out\n"
-    ++ codes_02345678
+    ++ codes_012345678
     ++ codes "  tinkey create-keyset --key-template HKDF_SHA256 --out derive.json\n"
     ++ codes "  echo 'Dear Ada' | tinkey derive --keyset derive.json --length 32 --hex\n"
 command_text commands.Session =
     codes "tinkey session: answers lines that seal, open, tag, verify, derive and edit\n\n"
     ++ codes "  tinkey session --keyset FILE [--keyset-format json|binary] [--out FILE]\n"
-    ++ codes "      [--out-format json|binary]\n\n"
+    ++ codes "      [--out-format json|binary] [--master FILE] [--master-format json|binary]\n\n"
     ++ codes "Required:\n"
     ++ keyset_31
     ++ codes "\nOptional:\n"
-    ++ keyset_format_31 ++ out_31 ++ out_format_31
+    ++ keyset_format_31 ++ out_31 ++ out_format_31 ++ master_31 ++ master_format_31
     ++ codes "\nReads  the keyset, and lines on standard input: seal HEX HEX and dseal HEX HEX (a text, its\n"
     ++ codes "       associated data), open HEX HEX and dopen HEX HEX, tag HEX, verify HEX HEX (a tag, its\n"
     ++ codes "       text), derive N HEX, add NAME and rotate NAME (a template), promote N, enable N,\n"
     ++ codes "       disable N, destroy N, delete N (a key id); - stands for no bytes\n"
     ++ codes "Gives  one reply for each line, on standard output; and then the last keyset in the new file\n"
     ++ codes "       of --out, if one is given\n"
-    ++ codes_02345678
+    ++ codes_012345678
     ++ codes "  tinkey create-keyset --key-template AES256_GCM --out session.json\n"
     ++ codes "  (echo seal 00 -; echo rotate AES256_GCM) |\n"
     ++ codes "      tinkey session --keyset session.json --out after.json\n"
@@ -700,8 +707,10 @@ command_text commands.Selftest =
     ++ codes "  --lines N  how many lines it has: 1 to 10 decimal digits, of a number from 1 to 100,000;\n"
     ++ codes "             1,000 if it isn't given\n"
     ++ read_by_create_keyset
-    ++ codes "Gives  one line of counts, on standard output\n"
-    ++ codes_024578
+    ++ codes "Gives  one line of counts, on standard output\n\n"
+    ++ codes "Exit codes:\n"
+    ++ code_0 ++ code_2 ++ code_4 ++ code_5 ++ code_7 ++ code_8
+    ++ codes "\nExample:\n"
     ++ codes "  tinkey selftest --seed 1 --lines 1000\n"
 
 -- what a topic has to say

@@ -32,7 +32,7 @@ use Rattle.tinkey_plans.specs.Streaming.{keys_for}
 use Rattle.tinkey_plans.specs.Stretch.{GivesAtMost}
 use Rattle.tinkey_words.specs.declared.words.rows.Format.{Format}
 use Rattle.tinkey_words.specs.declared.words.rows.Format.TheVariants as formats
-use Rattle.tinkey_words.specs.Words.{Asked, AskedEnvelope, AskedRange, seal_stream, open_stream, open_range, self_test, session, use_envelope, words_of}
+use Rattle.tinkey_words.specs.Words.{Asked, AskedEnvelope, AskedRange, Lock, seal_stream, open_stream, open_range, self_test, session, use_envelope, words_of}
 
 -- a keyset without a fault, each record of which can serve for the primitive
 pub record IsFit (table : Table) (primitive : Primitive) (keys : Keys) : Type 0 where
@@ -55,13 +55,13 @@ pub record FitKeysetsAnswer : Type 0 where
 
 -- a stream is asked for
 abbrev pub IsStream : Asked → Type 0
-IsStream (seal_stream keyset form ad) = Unit {0}
-IsStream (open_stream keyset form ad) = Unit {0}
+IsStream (seal_stream lock keyset form ad) = Unit {0}
+IsStream (open_stream lock keyset form ad) = Unit {0}
 IsStream _ = ⊥
 
 -- a session is asked for
 abbrev pub IsSession : Asked → Type 0
-IsSession (session keyset form out) = Unit {0}
+IsSession (session lock keyset form out) = Unit {0}
 IsSession _ = ⊥
 
 -- every other command writes nothing but at its end
@@ -79,9 +79,9 @@ IsDekStatus _ = ⊥
 
 -- Over the standard table no run of eseal or eopen ends so, whatever fails.
 abbrev pub DataKeysCome : Type 0
-DataKeysCome = (words : List (List ℕ)) (name : List ℕ) (form : Format) (template : List ℕ)
-    (work : AskedEnvelope) (out : Option (List ℕ)) (old : World) (s : Status) (new : World)
-    → words_of words ≡ Ok (use_envelope name form template work out)
+DataKeysCome = (words : List (List ℕ)) (lock : Lock) (name : List ℕ) (form : Format)
+    (template : List ℕ) (work : AskedEnvelope) (out : Option (List ℕ)) (old : World) (s : Status)
+    (new : World) → words_of words ≡ Ok (use_envelope lock name form template work out)
     → Ends (plan_of standard_table words) old s new → IsDekStatus s → ⊥
 
 -- ---- ranges
@@ -116,7 +116,7 @@ pub record RangeGave (name : List ℕ) (form : Format) (ad : List ℕ) (range : 
 abbrev pub RangesReadLittle : Type 0
 RangesReadLittle = (table : Table) (words : List (List ℕ)) (name : List ℕ) (form : Format) (ad : List ℕ)
     (range : AskedRange) (out : Option (List ℕ)) (old : World) (s : Status) (new : World)
-    → words_of words ≡ Ok (open_range name form ad range out) → Ends (plan_of table words) old s new
+    → words_of words ≡ Ok (open_range None name form ad range out) → Ends (plan_of table words) old s new
     → GaveWithin old.store new.store (keyset_limit + 1)
     ⊎ RangeGave name form ad range old.store s new.store
 

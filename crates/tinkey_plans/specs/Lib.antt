@@ -1,8 +1,10 @@
 pub mod Commands
 pub mod Ends
 pub mod Envelopes
+pub mod Handles
 pub mod Help
 pub mod Laws
+pub mod Locks
 pub mod Misfits
 pub mod Plan
 pub mod Promises

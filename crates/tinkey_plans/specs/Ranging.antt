@@ -2,6 +2,7 @@
 -- Range of segment_stream.
 use Rattle.std.specs.Prelude.{ℕ, ◌+◌, List, Result, Ok, Err}
 use Rattle.std.specs.Global.{Vec}
+use Rattle.managers.specs.Table.{Table}
 use Rattle.segment_stream.specs.KeysModel.{KeysForStreams}
 use Rattle.segment_stream.specs.Range.{stream_failed, past_end}
 use Rattle.segment_stream.specs.Segments.{ciphers_of}
@@ -14,7 +15,7 @@ use Rattle.tinkey_plans.specs.Plan.{Plan, ends, allocates, ranges}
 use Rattle.tinkey_plans.specs.Streaming.{loads_stream_keys}
 use Rattle.tinkey_plans.specs.Stretch.{Opened, Stretch}
 use Rattle.tinkey_words.specs.declared.words.rows.Format.{Format}
-use Rattle.tinkey_words.specs.Words.{AskedRange}
+use Rattle.tinkey_words.specs.Words.{AskedRange, Lock}
 
 -- the plaintext goes on, or its refusal is the answer
 abbrev pub with_stretch : Opened → (List ℕ → Plan) → Plan
@@ -51,6 +52,7 @@ opens_stretch keys ad range next =
     (λ opened. with_stretch opened next))
 
 -- srange: a range of a stream in a file, by the keys of the keyset in another one
-abbrev pub range_output : List ℕ → Format → (ad : List ℕ) → AskedRange → (List ℕ → Plan) → Plan
-range_output name form ad range next =
-    loads_stream_keys name form (λ keys. opens_stretch keys ad range next)
+abbrev pub range_output : Table → Lock → List ℕ → Format → (ad : List ℕ) → AskedRange
+    → (List ℕ → Plan) → Plan
+range_output table lock name form ad range next =
+    loads_stream_keys table lock name form (λ keys. opens_stretch keys ad range next)

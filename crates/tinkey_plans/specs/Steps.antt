@@ -77,6 +77,11 @@ loads_bytes limit name next = loads name limit status.InMissing status.KeysetToo
 abbrev pub reads_bytes : (limit : ℕ) → (List ℕ → Plan) → Plan
 reads_bytes limit next = reads_all limit status.KeysetTooLong tt next
 
+-- those in a file, or where none is named, those that the whole input is
+abbrev pub takes_bytes : (limit : ℕ) → (file : Option (List ℕ)) → (List ℕ → Plan) → Plan
+takes_bytes limit (Some name) next = loads_bytes limit name next
+takes_bytes limit None next = reads_bytes limit next
+
 -- the keyset in the file of this name
 abbrev pub loads_keyset : List ℕ → Format → (Keys → Plan) → Plan
 loads_keyset name form next = loads_bytes keyset_limit name (λ bytes. keyset_in form bytes next)
@@ -87,8 +92,7 @@ reads_keyset form next = reads_bytes keyset_limit (λ bytes. keyset_in form byte
 
 -- the keyset in a file, or where none is named, the one that the whole input is
 abbrev pub keyset_at : Option (List ℕ) → Format → (Keys → Plan) → Plan
-keyset_at (Some name) form next = loads_keyset name form next
-keyset_at None form next = reads_keyset form next
+keyset_at file form next = takes_bytes keyset_limit file (λ bytes. keyset_in form bytes next)
 
 -- the keyset that lies at this place
 abbrev pub takes_keyset : Place → (Keys → Plan) → Plan
@@ -155,6 +159,15 @@ writes_keyset form keys next = works_out (written_in form keys) (within_limit ke
 -- the keyset in its written form becomes a new file, or where none is named, goes to the sink
 abbrev pub puts_keyset : Place → Keys → Plan
 puts_keyset place keys = writes_keyset place.form keys (puts place.file)
+
+-- the status of what was done, or why it wasn't
+abbrev pub status_of : Result (Unit {0}) Status → Status
+status_of (Ok done) = status.Done
+status_of (Err s) = s
+
+-- the plan was done to its end, or ended so
+abbrev pub Finishes : Plan → World → Result (Unit {0}) Status → World → Type 0
+Finishes p old result new = Ends p old (status_of result) new
 
 -- What a step leaves to the rest of the plan, which takes values as they are seen. Where it gives a
 -- value, each end of the rest is an end of the whole, for any rest; where it gives a status, the

@@ -4,6 +4,7 @@ use Rattle.std.specs.Prelude.{ℕ, ◌+◌, List, Option, Some, None}
 use Rattle.std.specs.Option.{option_map}
 use Rattle.keyset_model.specs.Keyset.{Keys}
 use Rattle.keyset_model.specs.declared.keyset.KeysetFault.TheVariants as faults
+use Rattle.managers.specs.Table.{Table}
 use Rattle.segment_stream.specs.KeysModel.{KeysForStreams}
 use Rattle.segment_stream.specs.Pumping.{sealing, opening_any}
 use Rattle.segment_stream.specs.Sealing.{header_of}
@@ -16,7 +17,9 @@ use Rattle.tinkey_plans.specs.declared.status.Status.{Status}
 use Rattle.tinkey_plans.specs.declared.status.Status.TheVariants as status
 use Rattle.tinkey_words.specs.declared.words.rows.Format.{Format}
 use Rattle.tinkey_plans.specs.Plan.{Plan, ends, allocates, draws, sealings, pumps}
-use Rattle.tinkey_plans.specs.Steps.{loads_keyset, with_made}
+use Rattle.tinkey_plans.specs.Locks.{loads_locked}
+use Rattle.tinkey_plans.specs.Steps.{with_made}
+use Rattle.tinkey_words.specs.Words.{Lock}
 
 -- the rest goes on, or the record that gives no key for streams is refused
 abbrev pub unless_unfit : Option (ℕ × StreamUnfit) → Plan → Plan
@@ -36,9 +39,10 @@ with_keys None next = ends (status.Keyset faults.NoPrimary) tt
 with_keys (Some keys) next = next keys
 
 -- the keys for streams of the keyset in a file
-abbrev pub loads_stream_keys : List ℕ → Format → (KeysForStreams → Plan) → Plan
-loads_stream_keys name form next =
-    loads_keyset name form (λ keys. allocates (unless_unfit (stream_unfit keys) (with_keys (keys_for keys) next)))
+abbrev pub loads_stream_keys : Table → Lock → List ℕ → Format → (KeysForStreams → Plan) → Plan
+loads_stream_keys table lock name form next =
+    loads_locked table lock name form (λ keys.
+    allocates (unless_unfit (stream_unfit keys) (with_keys (keys_for keys) next)))
 
 -- the input sealed under the primary key, behind a header of random bytes: salt and nonce prefix
 abbrev pub seals_stream : KeysForStreams → (ad : List ℕ) → Plan

@@ -10,27 +10,15 @@ use Rattle.tinkey_cmds.specs.Draws.{Draw, Drawn}
 use Rattle.wrapped_prims.specs.Answers.{Sealed, seal_answer, open_answer, dseal_answer, dopen_answer, tag_answer, verify_answer, derive_answer}
 use Rattle.wrapped_prims.specs.Making.{IsOver}
 use Rattle.wrapped_prims.specs.declared.held.Held.{Held}
-use Rattle.wrapped_prims.specs.declared.handle.HandleFault.{HandleFault}
-use Rattle.wrapped_prims.specs.declared.handle.HandleFault.TheVariants as faults
-use Rattle.wrapped_prims.specs.Fitness.{Unfit, NoManager, BadKey, NotRaw, unfit}
 use Rattle.tinkey_plans.specs.declared.status.Status.{Status}
 use Rattle.tinkey_plans.specs.declared.status.Status.TheVariants as status
 use Rattle.tinkey_words.specs.declared.words.rows.Format.{Format}
 use Rattle.tinkey_plans.specs.Plan.{Plan, ends, allocates, draws, sealings}
 use Rattle.tinkey_plans.specs.Ends.{World}
-use Rattle.tinkey_plans.specs.Steps.{input_limit, sealed_limit, loads_keyset, puts, reads_input, works_out, with_made, Passes}
-use Rattle.tinkey_words.specs.Words.{AskedWork, to_seal, to_open, to_dseal, to_dopen, to_tag, to_verify, to_derive, primitive_for, Output}
-
--- the rest goes on, or the record that can't serve is refused
-abbrev pub unless_unfit : Option (ℕ × Unfit) → Plan → Plan
-unless_unfit None next = next
-unless_unfit (Some (i, NoManager)) next = ends (status.NoManager i) tt
-unless_unfit (Some (i, BadKey rule)) next = ends (status.BadKey i rule) tt
-unless_unfit (Some (i, NotRaw)) next = ends (status.NotRaw i) tt
-
--- the records of the keyset can serve for the primitive, under the table
-abbrev pub handles : Table → Primitive → Keys → (Unit {0} → Plan) → Plan
-handles table primitive keys next = allocates (unless_unfit (unfit keys primitive table) (next tt))
+use Rattle.tinkey_plans.specs.Handles.{handles}
+use Rattle.tinkey_plans.specs.Locks.{loads_locked}
+use Rattle.tinkey_plans.specs.Steps.{input_limit, sealed_limit, puts, reads_input, works_out, with_made, Passes}
+use Rattle.tinkey_words.specs.Words.{AskedWork, Lock, to_seal, to_open, to_dseal, to_dopen, to_tag, to_verify, to_derive, primitive_for, Output}
 
 -- a sealing, and the random bytes that it leaves
 abbrev pub as_drawn : Sealed → Drawn (List ℕ)
@@ -84,9 +72,9 @@ limit_for (to_dopen ad) = sealed_limit
 limit_for _ = input_limit
 
 -- work on the whole input, by the keys of the keyset in a file
-abbrev pub use_output : Table → List ℕ → Format → AskedWork → (List ℕ → Plan) → Plan
-use_output table name form work next =
-    loads_keyset name form (λ keys.
+abbrev pub use_output : Table → Lock → List ℕ → Format → AskedWork → (List ℕ → Plan) → Plan
+use_output table lock name form work next =
+    loads_locked table lock name form (λ keys.
     handles table (primitive_for work) keys (λ fit.
     reads_input (limit_for work) (λ input.
     works table keys work input next)))
@@ -103,17 +91,6 @@ shows true bytes next = works_out (hex_line bytes) next
 -- what the work gives is put here
 abbrev pub puts_output : Output → List ℕ → Plan
 puts_output out bytes = shows out.hex bytes (puts out.file)
-
--- the status of a keyset that can't serve, and of want of memory
-abbrev pub handle_refusal : HandleFault → Status
-handle_refusal (faults.NoManager i) = status.NoManager i
-handle_refusal (faults.BadKey i rule) = status.BadKey i rule
-handle_refusal (faults.NotRaw i) = status.NotRaw i
-handle_refusal faults.NoMemory = status.NoMemory
-
--- what is held is some keyset whose records can serve
-abbrev pub IsServing : Table → Primitive → Held → Type 0
-IsServing table primitive held = (keys : Keys) × IsOver table primitive keys held
 
 -- the work is done by the keys of the keyset that is held
 abbrev pub Works : Table → Held → AskedWork → List ℕ → World → Result (List ℕ) Status → World → Type 0

@@ -1,4 +1,4 @@
--- Encrypted keysets, as steps of plans. What a wrapped text is, and what one gives, is said apart from
+-- Keysets sealed under a master, as steps of plans. What a wrapped text is, and what one gives, is said apart from
 -- plans, in Wrapped and Unwrapped of seal_wrap.
 use Rattle.std.specs.Prelude.{ℕ, Bool, true, false, List, Option, Some, None, Result, Ok, Err}
 use Rattle.std.specs.Option.{option_map}
@@ -13,11 +13,10 @@ use Rattle.tinkey_cmds.specs.Draws.{Draw, Drawn}
 use Rattle.tinkey_plans.specs.declared.status.Status.{Status}
 use Rattle.tinkey_plans.specs.declared.status.Status.TheVariants as status
 use Rattle.tinkey_plans.specs.Plan.{Plan, ends, allocates, draws, sealings}
-use Rattle.tinkey_plans.specs.Steps.{loads_bytes, loads_keyset, reads_bytes, takes_keyset, with_made, within_limit, writes_keyset}
-use Rattle.tinkey_plans.specs.Using.{handles}
+use Rattle.tinkey_plans.specs.Steps.{loads_keyset, takes_bytes, with_made, within_limit}
+use Rattle.tinkey_plans.specs.Handles.{handles}
 use Rattle.tinkey_words.specs.declared.words.rows.Format.{Format}
 use Rattle.tinkey_words.specs.declared.words.rows.Format.TheVariants as formats
-use Rattle.tinkey_words.specs.Words.{Place}
 
 -- a wrapped text of more bytes is too long
 abbrev pub wrapped_limit : ℕ
@@ -50,22 +49,11 @@ makes_wrapped keys master table form next =
     allocates (draws sealings (wraps keys master table form)
     (λ made. allocates (with_made made (within_limit wrapped_limit next))))
 
--- wrap-keyset: a keyset is sealed under its master. One whose binary form is longer than what is read as
--- a keyset is refused, so that what is wrapped can be read again.
-abbrev pub wrap_output : Table → (master : List ℕ) → Format → (in' : Place) → (out : Format)
-    → (List ℕ → Plan) → Plan
-wrap_output table master form in' out next =
-    loads_master table master form (λ master.
-    takes_keyset in' (λ keys.
-    writes_keyset formats.Binary keys (λ plain.
-    makes_wrapped keys master table out next)))
-
 -- ---- unwrapping
 
 -- the wrapped text in a file, or where none is named, the whole input
 abbrev pub takes_wrapped : (file : Option (List ℕ)) → (List ℕ → Plan) → Plan
-takes_wrapped (Some name) next = loads_bytes wrapped_limit name next
-takes_wrapped None next = reads_bytes wrapped_limit next
+takes_wrapped file next = takes_bytes wrapped_limit file next
 
 -- the keyset goes on, or why the text gives none is the answer. A place in the keyset inside is told as
 -- one in the text around it is.
@@ -92,10 +80,3 @@ unwrap_refusal faults.NoMemory = status.NoMemory
 abbrev pub unwraps : (master : Keys) → Table → Format → (text : List ℕ) → (Keys → Plan) → Plan
 unwraps master table form text next =
     allocates (with_unwrapped (unwrap_of master table text (is_json form)) next)
-
--- unwrap-keyset: a keyset that was sealed under its master is opened
-abbrev pub unwrap_output : Table → (master : List ℕ) → Format → (in' : Place) → (Keys → Plan) → Plan
-unwrap_output table master form in' next =
-    loads_master table master form (λ master.
-    takes_wrapped in'.file (λ text.
-    unwraps master table in'.form text next))

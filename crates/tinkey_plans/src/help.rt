@@ -13,19 +13,29 @@ macro_rules! text {
     ([$($said:literal)*] $line:literal $($rest:tt)*) => {
         text!([$($said)* $line] $($rest)*)
     };
-    ([$($said:literal)*] key_template_28 $($rest:tt)*) => {
-        text!([$($said)* "  --key-template NAME       the template of the new key: any text; it is looked up as the
-                            name of a template
+    ([$($said:literal)*] key_template_31 $($rest:tt)*) => {
+        text!([$($said)* "  --key-template NAME          the template of the new key: any text; it is looked up as the
+                               name of a template
 "] $($rest)*)
     };
-    ([$($said:literal)*] out_28 $($rest:tt)*) => {
-        text!([$($said)* "  --out FILE                the file to make: a file's name, of one byte or more, whose last
-                            part doesn't begin with .tinkey-new-
+    ([$($said:literal)*] out_31 $($rest:tt)*) => {
+        text!([$($said)* "  --out FILE                   the file to make: a file's name, of one byte or more, whose
+                               last part doesn't begin with .tinkey-new-
 "] $($rest)*)
     };
-    ([$($said:literal)*] out_format_28 $($rest:tt)*) => {
-        text!([$($said)* "  --out-format json|binary  the form of the keyset to write: json or binary, in upper or
-                            lower case; json if it isn't given
+    ([$($said:literal)*] out_format_31 $($rest:tt)*) => {
+        text!([$($said)* "  --out-format json|binary     the form of the keyset to write: json or binary, in upper or
+                               lower case; json if it isn't given
+"] $($rest)*)
+    };
+    ([$($said:literal)*] master_31 $($rest:tt)*) => {
+        text!([$($said)* "  --master FILE                the file of the master, the keyset that others are sealed
+                               under: a file's name, of one byte or more
+"] $($rest)*)
+    };
+    ([$($said:literal)*] master_format_31 $($rest:tt)*) => {
+        text!([$($said)* "  --master-format json|binary  the form of the master: json or binary, in upper or lower
+                               case; json if it isn't given
 "] $($rest)*)
     };
     ([$($said:literal)*] read_by_create_keyset $($rest:tt)*) => {
@@ -40,6 +50,10 @@ Reads  nothing
         text!([$($said)* "  2  the words aren't a command, or ask for something that can't be had
 "] $($rest)*)
     };
+    ([$($said:literal)*] code_3 $($rest:tt)*) => {
+        text!([$($said)* "  3  the keyset isn't one, or its keys can't serve for the command
+"] $($rest)*)
+    };
     ([$($said:literal)*] code_4 $($rest:tt)*) => {
         text!([$($said)* "  4  a file is missing or already there, or an edit is refused
 "] $($rest)*)
@@ -48,35 +62,38 @@ Reads  nothing
         text!([$($said)* "  5  reading, writing, a file or the random device failed
 "] $($rest)*)
     };
+    ([$($said:literal)*] code_6 $($rest:tt)*) => {
+        text!([$($said)* "  6  a limit was passed\n"] $($rest)*)
+    };
     ([$($said:literal)*] code_7 $($rest:tt)*) => {
         text!([$($said)* "  7  out of memory\n"] $($rest)*)
     };
     ([$($said:literal)*] code_8 $($rest:tt)*) => {
         text!([$($said)* "  8  a word of the command isn't text (UTF-8)\n"] $($rest)*)
     };
-    ([$($said:literal)*] codes_024578 $($rest:tt)*) => {
+    ([$($said:literal)*] codes_02345678 $($rest:tt)*) => {
         text!([$($said)*] "
 Exit codes:
-" code_0 code_2 code_4 code_5 code_7 code_8 "
+" code_0 code_2 code_3 code_4 code_5 code_6 code_7 code_8 "
 Example:
 " $($rest)*)
     };
-    ([$($said:literal)*] in_28 $($rest:tt)*) => {
-        text!([$($said)* "  --in FILE                 the file of the keyset to read: a file's name, of one byte or
-                            more
+    ([$($said:literal)*] in_31 $($rest:tt)*) => {
+        text!([$($said)* "  --in FILE                    the file of the keyset to read: a file's name, of one byte or
+                               more
 "] $($rest)*)
     };
-    ([$($said:literal)*] in_format_28 $($rest:tt)*) => {
-        text!([$($said)* "  --in-format json|binary   the form of that keyset: json or binary, in upper or lower case;
-                            json if it isn't given
+    ([$($said:literal)*] in_format_31 $($rest:tt)*) => {
+        text!([$($said)* "  --in-format json|binary      the form of that keyset: json or binary, in upper or lower
+                               case; json if it isn't given
 "] $($rest)*)
     };
     ([$($said:literal)*] options_of_add_key $($rest:tt)*) => {
         text!([$($said)*] "
 Required:
-" key_template_28 "
+" key_template_31 "
 Optional:
-" in_28 in_format_28 out_28 out_format_28 $($rest)*)
+" in_31 in_format_31 out_31 out_format_31 master_31 master_format_31 $($rest)*)
     };
     ([$($said:literal)*] read_by_add_key $($rest:tt)*) => {
         text!([$($said)* "
@@ -89,54 +106,6 @@ Gives  the keyset after that edit, in a new file of --out, or on standard output
        no --out
 "] $($rest)*)
     };
-    ([$($said:literal)*] code_3 $($rest:tt)*) => {
-        text!([$($said)* "  3  the keyset isn't one, or its keys can't serve for the command
-"] $($rest)*)
-    };
-    ([$($said:literal)*] code_6 $($rest:tt)*) => {
-        text!([$($said)* "  6  a limit was passed\n"] $($rest)*)
-    };
-    ([$($said:literal)*] codes_02345678 $($rest:tt)*) => {
-        text!([$($said)*] "
-Exit codes:
-" code_0 code_2 code_3 code_4 code_5 code_6 code_7 code_8 "
-Example:
-" $($rest)*)
-    };
-    ([$($said:literal)*] options_of_promote_key $($rest:tt)*) => {
-        text!([$($said)*] "
-Required:
-  --key-id N                the id of the key to change: 1 to 10 decimal digits, of a number
-                            up to 4,294,967,295
-
-Optional:
-" in_28 in_format_28 out_28 out_format_28 $($rest)*)
-    };
-    ([$($said:literal)*] out_31 $($rest:tt)*) => {
-        text!([$($said)* "  --out FILE                   the file to make: a file's name, of one byte or more, whose
-                               last part doesn't begin with .tinkey-new-
-"] $($rest)*)
-    };
-    ([$($said:literal)*] out_format_31 $($rest:tt)*) => {
-        text!([$($said)* "  --out-format json|binary     the form of the keyset to write: json or binary, in upper or
-                               lower case; json if it isn't given
-"] $($rest)*)
-    };
-    ([$($said:literal)*] options_of_wrap_keyset $($rest:tt)*) => {
-        text!([$($said)*] "
-Required:
-  --master FILE                the file of the keyset under which another one is sealed: a
-                               file's name, of one byte or more
-
-Optional:
-  --master-format json|binary  the form of that keyset: json or binary, in upper or lower
-                               case; json if it isn't given
-  --in FILE                    the file of the keyset to read: a file's name, of one byte or
-                               more
-  --in-format json|binary      the form of that keyset: json or binary, in upper or lower
-                               case; json if it isn't given
-" out_31 out_format_31 $($rest)*)
-    };
     ([$($said:literal)*] codes_012345678 $($rest:tt)*) => {
         text!([$($said)*] "
 Exit codes:
@@ -144,6 +113,22 @@ Exit codes:
 " code_2 code_3 code_4 code_5 code_6 code_7 code_8 "
 Example:
 " $($rest)*)
+    };
+    ([$($said:literal)*] options_of_promote_key $($rest:tt)*) => {
+        text!([$($said)*] "
+Required:
+  --key-id N                   the id of the key to change: 1 to 10 decimal digits, of a
+                               number up to 4,294,967,295
+
+Optional:
+" in_31 in_format_31 out_31 out_format_31 master_31 master_format_31 $($rest)*)
+    };
+    ([$($said:literal)*] options_of_wrap_keyset $($rest:tt)*) => {
+        text!([$($said)*] "
+Required:
+" master_31 "
+Optional:
+" master_format_31 in_31 in_format_31 out_31 out_format_31 $($rest)*)
     };
     ([$($said:literal)*] keyset_31 $($rest:tt)*) => {
         text!([$($said)* "  --keyset FILE                the file of the keyset to use: a file's name, of one byte or
@@ -171,7 +156,7 @@ Example:
 Required:
 " keyset_31 "
 Optional:
-" keyset_format_31 ad_31 ad_hex_31 out_31 $($rest)*)
+" keyset_format_31 ad_31 ad_hex_31 out_31 master_31 master_format_31 $($rest)*)
     };
     ([$($said:literal)*] read_by_seal $($rest:tt)*) => {
         text!([$($said)* "
@@ -185,7 +170,7 @@ Required:
                                the name of a template
 
 Optional:
-" keyset_format_31 ad_31 ad_hex_31 out_31 $($rest)*)
+" keyset_format_31 ad_31 ad_hex_31 out_31 master_31 master_format_31 $($rest)*)
     };
     ([$($said:literal)*] given_by_dseal $($rest:tt)*) => {
         text!([$($said)* "\
@@ -198,7 +183,7 @@ Gives  as seal and open, without an IV, in a new file of --out, or on standard o
 Required:
 " keyset_31 "
 Optional:
-" keyset_format_31 ad_31 ad_hex_31 $($rest)*)
+" keyset_format_31 ad_31 ad_hex_31 master_31 master_format_31 $($rest)*)
     };
     ([$($said:literal)*] read_by_sseal $($rest:tt)*) => {
         text!([$($said)* "
@@ -513,37 +498,38 @@ fn command_text(command: CommandName) -> &'static str
 tinkey create-keyset: makes a keyset of one new key, the primary
 
   tinkey create-keyset --key-template NAME [--out FILE] [--out-format json|binary]
+      [--master FILE] [--master-format json|binary]
 
 Required:
-" key_template_28 "
+" key_template_31 "
 Optional:
-" out_28 out_format_28 read_by_create_keyset "\
+" out_31 out_format_31 master_31 master_format_31 read_by_create_keyset "\
 Gives  a keyset of one new key, in a new file of --out, or on standard output if there is no
        --out
-" codes_024578 "  tinkey create-keyset --key-template AES256_GCM --out first.json
+" codes_02345678 "  tinkey create-keyset --key-template AES256_GCM --out first.json
 "),
         CommandName::AddKey => text!([] "\
 tinkey add-key: adds a new key
 
   tinkey add-key --key-template NAME [--in FILE] [--in-format json|binary] [--out FILE]
-      [--out-format json|binary]
-" options_of_add_key read_by_add_key given_by_add_key codes_02345678 "  tinkey create-keyset --key-template AES256_GCM --out one.json
+      [--out-format json|binary] [--master FILE] [--master-format json|binary]
+" options_of_add_key read_by_add_key given_by_add_key codes_012345678 "  tinkey create-keyset --key-template AES256_GCM --out one.json
   tinkey add-key --key-template AES256_GCM --in one.json --out two.json
 "),
         CommandName::RotateKeyset => text!([] "\
 tinkey rotate-keyset: adds a new key, and makes it the primary
 
   tinkey rotate-keyset --key-template NAME [--in FILE] [--in-format json|binary]
-      [--out FILE] [--out-format json|binary]
-" options_of_add_key read_by_add_key given_by_add_key codes_02345678 "  tinkey create-keyset --key-template AES256_GCM --out old.json
+      [--out FILE] [--out-format json|binary] [--master FILE] [--master-format json|binary]
+" options_of_add_key read_by_add_key given_by_add_key codes_012345678 "  tinkey create-keyset --key-template AES256_GCM --out old.json
   tinkey rotate-keyset --key-template AES256_GCM --in old.json --out rotated.json
 "),
         CommandName::PromoteKey => text!([] "\
 tinkey promote-key: makes an enabled key the primary
 
   tinkey promote-key --key-id N [--in FILE] [--in-format json|binary] [--out FILE]
-      [--out-format json|binary]
-" options_of_promote_key read_by_add_key given_by_add_key codes_02345678 "  tinkey create-keyset --key-template AES256_GCM |
+      [--out-format json|binary] [--master FILE] [--master-format json|binary]
+" options_of_promote_key read_by_add_key given_by_add_key codes_012345678 "  tinkey create-keyset --key-template AES256_GCM |
       tinkey rotate-keyset --key-template AES256_GCM --out both.json
   id=$(tinkey list-keyset --in both.json | sed -n 's/^  key_id: //p' | head -n 1)
   tinkey promote-key --key-id $id --in both.json --out promoted.json
@@ -552,8 +538,8 @@ tinkey promote-key: makes an enabled key the primary
 tinkey enable-key: makes a key ENABLED
 
   tinkey enable-key --key-id N [--in FILE] [--in-format json|binary] [--out FILE]
-      [--out-format json|binary]
-" options_of_promote_key read_by_add_key given_by_add_key codes_02345678 "  tinkey create-keyset --key-template AES256_GCM |
+      [--out-format json|binary] [--master FILE] [--master-format json|binary]
+" options_of_promote_key read_by_add_key given_by_add_key codes_012345678 "  tinkey create-keyset --key-template AES256_GCM |
       tinkey rotate-keyset --key-template AES256_GCM --out ready.json
   id=$(tinkey list-keyset --in ready.json | sed -n 's/^  key_id: //p' | head -n 1)
   tinkey disable-key --key-id $id --in ready.json --out off.json
@@ -563,8 +549,8 @@ tinkey enable-key: makes a key ENABLED
 tinkey disable-key: makes a key DISABLED: it isn't used, and can be enabled again
 
   tinkey disable-key --key-id N [--in FILE] [--in-format json|binary] [--out FILE]
-      [--out-format json|binary]
-" options_of_promote_key read_by_add_key given_by_add_key codes_02345678 "  tinkey create-keyset --key-template AES256_GCM |
+      [--out-format json|binary] [--master FILE] [--master-format json|binary]
+" options_of_promote_key read_by_add_key given_by_add_key codes_012345678 "  tinkey create-keyset --key-template AES256_GCM |
       tinkey rotate-keyset --key-template AES256_GCM --out busy.json
   id=$(tinkey list-keyset --in busy.json | sed -n 's/^  key_id: //p' | head -n 1)
   tinkey disable-key --key-id $id --in busy.json --out disabled.json
@@ -573,8 +559,8 @@ tinkey disable-key: makes a key DISABLED: it isn't used, and can be enabled agai
 tinkey destroy-key: destroys a key's material; this can't be undone
 
   tinkey destroy-key --key-id N [--in FILE] [--in-format json|binary] [--out FILE]
-      [--out-format json|binary]
-" options_of_promote_key read_by_add_key given_by_add_key codes_02345678 "  tinkey create-keyset --key-template AES256_GCM |
+      [--out-format json|binary] [--master FILE] [--master-format json|binary]
+" options_of_promote_key read_by_add_key given_by_add_key codes_012345678 "  tinkey create-keyset --key-template AES256_GCM |
       tinkey rotate-keyset --key-template AES256_GCM --out full.json
   id=$(tinkey list-keyset --in full.json | sed -n 's/^  key_id: //p' | head -n 1)
   tinkey destroy-key --key-id $id --in full.json --out destroyed.json
@@ -583,8 +569,8 @@ tinkey destroy-key: destroys a key's material; this can't be undone
 tinkey delete-key: removes a key; this can't be undone
 
   tinkey delete-key --key-id N [--in FILE] [--in-format json|binary] [--out FILE]
-      [--out-format json|binary]
-" options_of_promote_key read_by_add_key given_by_add_key codes_02345678 "  tinkey create-keyset --key-template AES256_GCM |
+      [--out-format json|binary] [--master FILE] [--master-format json|binary]
+" options_of_promote_key read_by_add_key given_by_add_key codes_012345678 "  tinkey create-keyset --key-template AES256_GCM |
       tinkey rotate-keyset --key-template AES256_GCM --out many.json
   id=$(tinkey list-keyset --in many.json | sed -n 's/^  key_id: //p' | head -n 1)
   tinkey delete-key --key-id $id --in many.json --out fewer.json
@@ -592,14 +578,11 @@ tinkey delete-key: removes a key; this can't be undone
         CommandName::ListKeyset => text!([] "\
 tinkey list-keyset: lists a keyset without key material
 
-  tinkey list-keyset [--in FILE] [--in-format json|binary]
+  tinkey list-keyset [--in FILE] [--in-format json|binary] [--master FILE]
+      [--master-format json|binary]
 
 Optional:
-  --in FILE                the file of the keyset to read: a file's name, of one byte or
-                           more
-  --in-format json|binary  the form of that keyset: json or binary, in upper or lower case;
-                           json if it isn't given
-" read_by_add_key "Gives  its listing, on standard output\n" codes_02345678 "  tinkey create-keyset --key-template AES256_GCM --out listed.json
+" in_31 in_format_31 master_31 master_format_31 read_by_add_key "Gives  its listing, on standard output\n" codes_012345678 "  tinkey create-keyset --key-template AES256_GCM --out listed.json
   tinkey list-keyset --in listed.json
 "),
         CommandName::ListKeyTemplates => text!([] "\
@@ -618,12 +601,29 @@ Example:
 tinkey convert-keyset: writes a keyset in another form or place
 
   tinkey convert-keyset [--in FILE] [--in-format json|binary] [--out FILE]
-      [--out-format json|binary]
+      [--out-format json|binary] [--master FILE] [--master-format json|binary]
+      [--new-master FILE] [--new-master-format json|binary]
 
 Optional:
-" in_28 in_format_28 out_28 out_format_28 read_by_add_key "\
+  --in FILE                        the file of the keyset to read: a file's name, of one
+                                   byte or more
+  --in-format json|binary          the form of that keyset: json or binary, in upper or
+                                   lower case; json if it isn't given
+  --out FILE                       the file to make: a file's name, of one byte or more,
+                                   whose last part doesn't begin with .tinkey-new-
+  --out-format json|binary         the form of the keyset to write: json or binary, in upper
+                                   or lower case; json if it isn't given
+  --master FILE                    the file of the master, the keyset that others are sealed
+                                   under: a file's name, of one byte or more
+  --master-format json|binary      the form of the master: json or binary, in upper or lower
+                                   case; json if it isn't given
+  --new-master FILE                the file of the master that the keyset is put under: a
+                                   file's name, of one byte or more
+  --new-master-format json|binary  the form of that master: json or binary, in upper or
+                                   lower case; json if it isn't given
+" read_by_add_key "\
 Gives  the same keyset, in a new file of --out, or on standard output if there is no --out
-" codes_02345678 "  tinkey create-keyset --key-template AES256_GCM --out text.json
+" codes_012345678 "  tinkey create-keyset --key-template AES256_GCM --out text.json
   tinkey convert-keyset --in text.json --out keyset.bin --out-format binary
 "),
         CommandName::WrapKeyset => text!([] "\
@@ -658,18 +658,18 @@ Gives  the keyset inside, in a new file of --out, or on standard output if there
 tinkey seal: seals standard input under the primary key
 
   tinkey seal --keyset FILE [--keyset-format json|binary] [--ad TEXT] [--ad-hex HEX]
-      [--out FILE]
+      [--out FILE] [--master FILE] [--master-format json|binary]
 " options_of_seal read_by_seal "\
 Gives  the input sealed under the primary key, in a new file of --out, or on standard output
        if there is no --out
-" codes_02345678 "  tinkey create-keyset --key-template AES256_GCM --out seal.json
+" codes_012345678 "  tinkey create-keyset --key-template AES256_GCM --out seal.json
   echo 'Dear Ada' | tinkey seal --keyset seal.json --ad 'to Ada' --out letter.sealed
 "),
         CommandName::Open => text!([] "\
 tinkey open: opens what any enabled key sealed
 
   tinkey open --keyset FILE [--keyset-format json|binary] [--ad TEXT] [--ad-hex HEX]
-      [--out FILE]
+      [--out FILE] [--master FILE] [--master-format json|binary]
 " options_of_seal read_by_seal "\
 Gives  what the input opens to, in a new file of --out, or on standard output if there is no
        --out
@@ -681,18 +681,18 @@ Gives  what the input opens to, in a new file of --out, or on standard output if
 tinkey eseal: seals under a fresh data key, and that key under the keyset: an envelope
 
   tinkey eseal --keyset FILE --dek-template NAME [--keyset-format json|binary] [--ad TEXT]
-      [--ad-hex HEX] [--out FILE]
+      [--ad-hex HEX] [--out FILE] [--master FILE] [--master-format json|binary]
 " options_of_eseal read_by_seal "\
 Gives  an envelope of the input, under a fresh data key of the template of --dek-template,
        in a new file of --out, or on standard output if there is no --out
-" codes_02345678 "  tinkey create-keyset --key-template AES256_GCM --out eseal.json
+" codes_012345678 "  tinkey create-keyset --key-template AES256_GCM --out eseal.json
   echo 'Dear Ada' | tinkey eseal --keyset eseal.json --dek-template AES128_GCM --out envelope
 "),
         CommandName::Eopen => text!([] "\
 tinkey eopen: opens an envelope
 
   tinkey eopen --keyset FILE --dek-template NAME [--keyset-format json|binary] [--ad TEXT]
-      [--ad-hex HEX] [--out FILE]
+      [--ad-hex HEX] [--out FILE] [--master FILE] [--master-format json|binary]
 " options_of_eseal read_by_seal "\
 Gives  what the envelope opens to, in a new file of --out, or on standard output if there is
        no --out
@@ -704,15 +704,15 @@ Gives  what the envelope opens to, in a new file of --out, or on standard output
 tinkey dseal: seals deterministically: equal texts give equal bytes
 
   tinkey dseal --keyset FILE [--keyset-format json|binary] [--ad TEXT] [--ad-hex HEX]
-      [--out FILE]
-" options_of_seal read_by_seal given_by_dseal codes_02345678 "  tinkey create-keyset --key-template AES256_SIV --out dseal.json
+      [--out FILE] [--master FILE] [--master-format json|binary]
+" options_of_seal read_by_seal given_by_dseal codes_012345678 "  tinkey create-keyset --key-template AES256_SIV --out dseal.json
   echo 'Dear Ada' | tinkey dseal --keyset dseal.json --out same.sealed
 "),
         CommandName::Dopen => text!([] "\
 tinkey dopen: opens what dseal sealed
 
   tinkey dopen --keyset FILE [--keyset-format json|binary] [--ad TEXT] [--ad-hex HEX]
-      [--out FILE]
+      [--out FILE] [--master FILE] [--master-format json|binary]
 " options_of_seal read_by_seal given_by_dseal codes_012345678 "  tinkey create-keyset --key-template AES256_SIV --out dopen.json
   echo 'Dear Ada' | tinkey dseal --keyset dopen.json --out dopen.sealed
   tinkey dopen --keyset dopen.json < dopen.sealed
@@ -721,13 +721,15 @@ tinkey dopen: opens what dseal sealed
 tinkey sseal: seals a stream of any length, in one pass
 
   tinkey sseal --keyset FILE [--keyset-format json|binary] [--ad TEXT] [--ad-hex HEX]
-" options_of_sseal read_by_sseal given_by_sseal codes_02345678 "  tinkey create-keyset --key-template AES256_GCM_HKDF_1MB --out sseal.json
+      [--master FILE] [--master-format json|binary]
+" options_of_sseal read_by_sseal given_by_sseal codes_012345678 "  tinkey create-keyset --key-template AES256_GCM_HKDF_1MB --out sseal.json
   echo 'Dear Ada' | tinkey sseal --keyset sseal.json > letter.stream
 "),
         CommandName::Sopen => text!([] "\
 tinkey sopen: opens such a stream; it is complete only if the exit code is 0
 
   tinkey sopen --keyset FILE [--keyset-format json|binary] [--ad TEXT] [--ad-hex HEX]
+      [--master FILE] [--master-format json|binary]
 " options_of_sseal read_by_sseal given_by_sseal codes_012345678 "  tinkey create-keyset --key-template AES256_GCM_HKDF_1MB --out sopen.json
   echo 'Dear Ada' | tinkey sseal --keyset sopen.json > sopen.stream
   tinkey sopen --keyset sopen.json < sopen.stream > opened.txt && echo whole
@@ -736,7 +738,7 @@ tinkey sopen: opens such a stream; it is complete only if the exit code is 0
 tinkey srange: opens a range of such a stream in a file
 
   tinkey srange --keyset FILE --file FILE --from N --length N [--keyset-format json|binary]
-      [--ad TEXT] [--ad-hex HEX] [--out FILE]
+      [--ad TEXT] [--ad-hex HEX] [--out FILE] [--master FILE] [--master-format json|binary]
 
 Required:
 " keyset_31 "  --file FILE                  the file of the stream: a file's name, of one byte or more;
@@ -745,7 +747,7 @@ Required:
                                of a number up to 9,223,372,036,854,775,807
 " length_31 "
 Optional:
-" keyset_format_31 ad_31 ad_hex_31 out_31 "
+" keyset_format_31 ad_31 ad_hex_31 out_31 master_31 master_format_31 "
 Reads  the keyset, and the stream in the file of --file
 Gives  as many bytes of the stream's plaintext as --length says, from the offset of --from
        on, counted from 0; in a new file of --out, or on standard output
@@ -757,27 +759,29 @@ Gives  as many bytes of the stream's plaintext as --length says, from the offset
 tinkey tag: tags standard input under the primary key
 
   tinkey tag --keyset FILE [--keyset-format json|binary] [--out FILE] [--hex]
+      [--master FILE] [--master-format json|binary]
 
 Required:
 " keyset_31 "
 Optional:
-" keyset_format_31 out_31 hex_31 read_by_seal "\
+" keyset_format_31 out_31 hex_31 master_31 master_format_31 read_by_seal "\
 Gives  the tag of the input under the primary key, in a new file of --out, or on standard
        output if there is no --out
-" codes_02345678 "  tinkey create-keyset --key-template HMAC_SHA256_128BITTAG --out tag.json
+" codes_012345678 "  tinkey create-keyset --key-template HMAC_SHA256_128BITTAG --out tag.json
   echo 'Dear Ada' | tinkey tag --keyset tag.json --hex --out letter.tag
 "),
         CommandName::Verify => text!([] "\
 tinkey verify: says whether a tag is valid under any enabled key
 
-  tinkey verify --keyset FILE --tag-hex HEX [--keyset-format json|binary]
+  tinkey verify --keyset FILE --tag-hex HEX [--keyset-format json|binary] [--master FILE]
+      [--master-format json|binary]
 
 Required:
 " keyset_31 "  --tag-hex HEX                the tag to verify, in hexadecimal: an even number of
                                hexadecimal digits of either case, at most 2,097,152, or none
 
 Optional:
-" keyset_format_31 read_by_seal "\
+" keyset_format_31 master_31 master_format_31 read_by_seal "\
 Gives  nothing; the status says whether the tag is one of the keyset's
 " codes_012345678 "  tinkey create-keyset --key-template HMAC_SHA256_128BITTAG --out verify.json
   tag=$(echo 'Dear Ada' | tinkey tag --keyset verify.json --hex)
@@ -787,33 +791,34 @@ Gives  nothing; the status says whether the tag is one of the keyset's
 tinkey derive: derives bytes from standard input
 
   tinkey derive --keyset FILE --length N [--keyset-format json|binary] [--out FILE] [--hex]
+      [--master FILE] [--master-format json|binary]
 
 Required:
 " keyset_31 length_31 "
 Optional:
-" keyset_format_31 out_31 hex_31 read_by_seal "\
+" keyset_format_31 out_31 hex_31 master_31 master_format_31 read_by_seal "\
 Gives  as many bytes as --length says, derived from the input by the primary key, in a new
        file of --out, or on standard output if there is no --out
-" codes_02345678 "  tinkey create-keyset --key-template HKDF_SHA256 --out derive.json
+" codes_012345678 "  tinkey create-keyset --key-template HKDF_SHA256 --out derive.json
   echo 'Dear Ada' | tinkey derive --keyset derive.json --length 32 --hex
 "),
         CommandName::Session => text!([] "\
 tinkey session: answers lines that seal, open, tag, verify, derive and edit
 
   tinkey session --keyset FILE [--keyset-format json|binary] [--out FILE]
-      [--out-format json|binary]
+      [--out-format json|binary] [--master FILE] [--master-format json|binary]
 
 Required:
 " keyset_31 "
 Optional:
-" keyset_format_31 out_31 out_format_31 "
+" keyset_format_31 out_31 out_format_31 master_31 master_format_31 "
 Reads  the keyset, and lines on standard input: seal HEX HEX and dseal HEX HEX (a text, its
        associated data), open HEX HEX and dopen HEX HEX, tag HEX, verify HEX HEX (a tag, its
        text), derive N HEX, add NAME and rotate NAME (a template), promote N, enable N,
        disable N, destroy N, delete N (a key id); - stands for no bytes
 Gives  one reply for each line, on standard output; and then the last keyset in the new file
        of --out, if one is given
-" codes_02345678 "  tinkey create-keyset --key-template AES256_GCM --out session.json
+" codes_012345678 "  tinkey create-keyset --key-template AES256_GCM --out session.json
   (echo seal 00 -; echo rotate AES256_GCM) |
       tinkey session --keyset session.json --out after.json
 "),
@@ -829,6 +834,13 @@ Required:
 Optional:
   --lines N  how many lines it has: 1 to 10 decimal digits, of a number from 1 to 100,000;
              1,000 if it isn't given
-" read_by_create_keyset "Gives  one line of counts, on standard output\n" codes_024578 "  tinkey selftest --seed 1 --lines 1000\n"),
+" read_by_create_keyset "\
+Gives  one line of counts, on standard output
+
+Exit codes:
+" code_0 code_2 code_4 code_5 code_7 code_8 "
+Example:
+  tinkey selftest --seed 1 --lines 1000
+"),
     }
 }

@@ -106,7 +106,7 @@ fn command_word(command: CommandName) -> &'static str
 /// An option's word.
 fn option_word(name: OptionName) -> &'static str
     ensures word { result.now ≡ (option_row name).word }
-    ensures short { length result.now ≤ 15 }
+    ensures short { length result.now ≤ 19 }
 {
     name.word()
 }

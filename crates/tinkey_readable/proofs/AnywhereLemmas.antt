@@ -1,6 +1,6 @@
 -- What was made under a key, read over any keyset that has it.
 use Rattle.std.proofs.Common.{arith, ◌≡◌, ◌∙◌, sym, refl, ap, subst, false, ℕ, ◌≤◌, ◌∷◌, [], List, length, Some, None, Ok, Err, option_map}
-use Rattle.std.specs.Prelude.{take, drop}
+use Rattle.std.specs.Prelude.{take, drop, slice_get}
 use Rattle.key_msgs.specs.KeyTypes.{primitive_of_type, url_of_type}
 use Rattle.key_msgs.specs.Templates.{row_named, type_made}
 use Rattle.key_msgs.specs.declared.primitive.Primitive.TheVariants.{Aead, Daead, Mac}
@@ -26,7 +26,7 @@ use Rattle.tinkey_session.proofs.Options.{map_some}
 use Rattle.tinkey_session.proofs.TurnLemmas.{reached}
 use Rattle.tinkey_session.specs.Laws.{KeptDopen, KeptDopenPresent, KeptOpen, KeptOpenPresent, KeptTag}
 use Rattle.tinkey_session.specs.Serving.{Served, sealed_reply, serve}
-use Rattle.tinkey_session.specs.Session.{asked_in}
+use Rattle.tinkey_session.specs.Session.{Turn, asked_in, turns}
 use Rattle.tinkey_session.specs.declared.reply.Reply.TheVariants.{Gives}
 use Rattle.wrapped_prims.specs.Answers.{dseal_answer, open_answer, seal_answer, tag_answer}
 use Rattle.wrapped_prims.specs.Fitness.{unfit}
@@ -38,10 +38,12 @@ use Rattle.tinkey_plans.specs.Plan.{Answer, Told, answer, writes}
 use Rattle.tinkey_plans.specs.Ranging.{opens_stretch}
 use Rattle.tinkey_plans.specs.Steps.{input_limit, puts, puts_keyset, sealed_limit}
 use Rattle.tinkey_plans.specs.Streaming.{opens_stream, seals_stream}
-use Rattle.tinkey_plans.specs.Using.{handles, limit_for, unless_unfit}
+use Rattle.tinkey_plans.specs.Handles.{handles, unless_unfit}
+use Rattle.tinkey_plans.specs.Using.{limit_for}
 use Rattle.tinkey_plans.specs.Wrapping.{is_json, unwraps}
 use Rattle.tinkey_readable.proofs.EnvelopeRunLemmas.{aead_scheme, gives_key_for, sealed_by as enveloped_by, used_done, used_reached, used_within}
 use Rattle.tinkey_readable.proofs.LineRunLemmas.{Answers, MakesSeal, computed_gave, dopen_answers, gave, open_answers, same_bytes, verify_answers}
+use Rattle.tinkey_readable.proofs.LockLemmas.{finished_under, given_is_keyset, started_under}
 use Rattle.tinkey_readable.proofs.PutLemmas.{envelope_worked, made_is, made_put, made_written}
 use Rattle.tinkey_readable.proofs.RangeRunLemmas.{puts_reached, range_past, range_within, stretch_reached}
 use Rattle.tinkey_readable.proofs.ReachLemmas.{IsDoneAnswer, behind, bytes_put, load_reached, put_done}
@@ -49,11 +51,12 @@ use Rattle.tinkey_readable.proofs.RunLemmas.{Started, done_within, dsealed_by, d
 use Rattle.tinkey_readable.proofs.StreamKeyLemmas.{first_under, fit_sound, opens_under, primary_gives, primary_key_there, sound_key}
 use Rattle.tinkey_readable.proofs.StreamRunLemmas.{chosen_so, keys_loaded, keys_reached, opened_so, opens_alone, sealed_by as stream_by, with_primary}
 use Rattle.tinkey_readable.proofs.WrappedRunLemmas.{behind_files, form_within, given_keyset, opens_plan, put_reached, text_reached, unwrapped, wraps_done}
-use Rattle.tinkey_readable.specs.Anywhere.{DopensAnywhere, DopensSomehowAnywhere, IsReadAnywhere, IsReadSomehowAnywhere, OpensAnywhere, OpensEnvelopeAnywhere, OpensFirstAnywhere, OpensRangeAnywhere, OpensSomehowAnywhere, OpensStreamAnywhere, ServesStreams, UnwrapsAnywhere, VerifiesAnywhere, WasMadeBy, by_line, by_run}
+use Rattle.tinkey_readable.specs.Anywhere.{DopensAnywhere, DopensSomehowAnywhere, IsReadAnywhere, IsReadSomehowAnywhere, OpensAnywhere, OpensEnvelopeAnywhere, OpensFirstAnywhere, OpensRangeAnywhere, OpensSomehowAnywhere, OpensStreamAnywhere, ServesStreams, UnwrapsAnywhere, VerifiesAnywhere, WasMadeBy, by_line, by_locked, by_locked_line, by_run}
 use Rattle.tinkey_readable.specs.LineRuns.{asks, done_reply}
+use Rattle.tinkey_readable.specs.LockedRuns.{IsDoneUnder}
 use Rattle.tinkey_readable.specs.Runs.{IsDone, IsFree, ReadIsStored, Written, bytes_at, keyset_of}
 use Rattle.tinkey_readable.specs.StreamRuns.{WasSealed}
-use Rattle.tinkey_words.specs.Words.{AskedWork, to_dopen, to_dseal, to_eopen, to_eseal, to_open, to_seal, to_tag, to_verify}
+use Rattle.tinkey_words.specs.Words.{AskedWork, primitive_for, to_dopen, to_dseal, to_eopen, to_eseal, to_open, to_seal, to_tag, to_verify}
 
 -- ---- where something was made
 
@@ -64,6 +67,19 @@ record Maker (input : List ℕ) (most : ℕ) (Makes : Keys → Type 0) (r : Reco
   short : length input ≤ most
   makes : Makes old
 
+line_maker : (work : AskedWork) (input output : List ℕ) (r : Record) (Makes : Keys → Type 0)
+    → ((keys : Keys) (random : List ℕ) (x : Served) → serve standard_table keys (asks work input) random ≡ Some x → x.reply ≡ Gives output → Makes keys)
+    → (keys : Keys) (told : Told) (place : ℕ) (t : Turn) → slice_get (turns standard_table keys (asked_in told.input) told.random) place ≡ Some t → length input ≤ limit_for work → t.line ≡ asks work input → t.reply ≡ Gives output → primary_of t.before ≡ Some r
+    → Maker input (limit_for work) Makes r
+line_maker work input output r Makes of_line keys told place t there short line reply primary =
+    let at = reached standard_table (asked_in told.input) keys told.random place t there in
+    record {
+      old = t.before;
+      primary = primary;
+      short = short;
+      makes = of_line t.before at.random at.served (subst (λ asked. serve standard_table t.before asked at.random ≡ Some at.served) line at.is) (sym at.reply ∙ reply);
+    }
+
 maker : ReadKeysFit → (work : AskedWork) (input output : List ℕ) (r : Record) (Makes : Keys → Type 0)
     → ((old : Keys) (told : Told) → IsKeyset old → Started work old told output → told.input ≡ input → Makes old)
     → ((keys : Keys) (random : List ℕ) (x : Served) → serve standard_table keys (asks work input) random ≡ Some x → x.reply ≡ Gives output → Makes keys)
@@ -72,26 +88,40 @@ maker fit work input output r Makes of_run of_line (by_run before old read told 
     let k = read_keyset fit before.form before.bytes old (done_within work before told output was) read in
     let b = started work before old told output read was in
     record { old = old; primary = primary; short = subst (λ i. length i ≤ limit_for work) same b.fits; makes = of_run old told k b same }
-maker fit work input output r Makes of_run of_line (by_line before told t has short line reply primary) =
-    let at = reached standard_table (asked_in told.input) has.keys told.random has.place t has.there in
+maker fit work input output r Makes of_run of_line (by_locked master text over old read gives told was same primary) =
+    let b = started_under work master text over old told output read gives was in
     record {
-      old = t.before;
+      old = old;
       primary = primary;
-      short = short;
-      makes = of_line t.before at.random at.served (subst (λ asked. serve standard_table t.before asked at.random ≡ Some at.served) line at.is) (sym at.reply ∙ reply);
+      short = subst (λ i. length i ≤ limit_for work) same b.fits;
+      makes = of_run old told (given_is_keyset over text old gives) b same;
     }
+maker fit work input output r Makes of_run of_line (by_line before told t has short line reply primary) = line_maker work input output r Makes of_line has.keys told has.place t has.there short line reply primary
+maker fit work input output r Makes of_run of_line (by_locked_line master text told t has short line reply primary) = line_maker work input output r Makes of_line has.keys told has.place t has.there short line reply primary
 
 -- ---- where it is read
+
+-- by a line over some keyset
+line_reads : (work : AskedWork) (input : List ℕ) (P : List ℕ → Type 0) (keys : Keys) (told : Told) (place : ℕ) (t : Turn) → slice_get (turns standard_table keys (asked_in told.input) told.random) place ≡ Some t → t.line ≡ asks work input → unfit t.before (primitive_for work) standard_table ≡ None
+    → (a : Answers work input P t.before) → t.reply ≡ done_reply work a.other
+line_reads work input P keys told place t there line fit a =
+    let at = reached standard_table (asked_in told.input) keys told.random place t there in
+    at.reply ∙ a.of_line at.random at.served fit (subst (λ asked. serve standard_table t.before asked at.random ≡ Some at.served) line at.is)
 
 read_over : {While : Record → Keys → Type 0} (work : AskedWork) (input output : List ℕ) (r : Record) → length input ≤ limit_for work → ((keys : Keys) → While r keys → Answers work input (λ other. other ≡ output) keys) → IsReadAnywhere While work input output r
 read_over work input output r fits answers = record {
   by_run = λ written keys serves while'.
       let a = answers keys while' in
       subst (λ o. IsDone work written input o) a.is (finished work written keys input a.other serves.read serves.within serves.fit fits a.of_run);
+  by_locked = λ master text keys serves while'.
+      let a = answers keys while' in
+      subst (λ o. IsDoneUnder work master text input o) a.is (finished_under work master text keys input a.other serves fits a.of_run);
   by_line = λ written told t has line fit while'.
-      let at = reached standard_table (asked_in told.input) has.keys told.random has.place t has.there in
       let a = answers t.before while' in
-      at.reply ∙ a.of_line at.random at.served fit (subst (λ asked. serve standard_table t.before asked at.random ≡ Some at.served) line at.is) ∙ ap (done_reply work) a.is;
+      line_reads work input (λ other. other ≡ output) has.keys told has.place t has.there line fit a ∙ ap (done_reply work) a.is;
+  by_locked_line = λ master text told t has line fit while'.
+      let a = answers t.before while' in
+      line_reads work input (λ other. other ≡ output) has.keys told has.place t has.there line fit a ∙ ap (done_reply work) a.is;
 }
 
 read_somehow_over : (work : AskedWork) (input : List ℕ) (r : Record) → length input ≤ limit_for work → ((keys : Keys) → HasKey r keys → Answers work input (λ other. Unit {0}) keys) → IsReadSomehowAnywhere work input r
@@ -99,10 +129,15 @@ read_somehow_over work input r fits answers = record {
   by_run = λ written keys serves has.
       let a = answers keys has in
       (a.other, finished work written keys input a.other serves.read serves.within serves.fit fits a.of_run);
+  by_locked = λ master text keys serves has.
+      let a = answers keys has in
+      (a.other, finished_under work master text keys input a.other serves fits a.of_run);
   by_line = λ written told t turn line fit has.
-      let at = reached standard_table (asked_in told.input) turn.keys told.random turn.place t turn.there in
       let a = answers t.before has in
-      (a.other, at.reply ∙ a.of_line at.random at.served fit (subst (λ asked. serve standard_table t.before asked at.random ≡ Some at.served) line at.is));
+      (a.other, line_reads work input (λ other. Unit {0}) turn.keys told turn.place t turn.there line fit a);
+  by_locked_line = λ master text told t turn line fit has.
+      let a = answers t.before has in
+      (a.other, line_reads work input (λ other. Unit {0}) turn.keys told turn.place t turn.there line fit a);
 }
 
 -- ---- seals
@@ -179,7 +214,7 @@ record MadeStream (r : Record) (ad stream plain : List ℕ) : Type 0 where
 
 stream_maker : StreamBack → (before : Written) (old : Keys) (r : Record) (ad stream : List ℕ) (told : Told) → keyset_of before ≡ Some old → primary_of old ≡ Some r → WasSealed ad before told stream → MadeStream r ad stream told.input
 stream_maker back before old r ad stream told read primary was =
-    let u = keys_loaded was.name before.form before.bytes old (λ k. seals_stream k ad) told was.lies read was.done in
+    let u = keys_loaded standard_table was.name before.form before.bytes old (λ k. seals_stream k ad) told was.lies read was.done in
     let s = stream_by (with_primary old u.primary) ad told stream (ap (λ (a : Answer). a.status) (sym u.goes_on) ∙ was.done) (ap (λ (a : Answer). a.output) (sym u.goes_on) ∙ was.gave) in
     let gives : stream_key_of r ≡ Ok u.primary = primary_gives old r u.primary primary u.there in
     record { key = u.primary; gives = gives; alone = opens_alone back u.primary ad told stream (sound_key r u.primary gives) s }
@@ -194,7 +229,7 @@ opens_stream_anywhere back fit before other old keys r ad stream told read prima
     let p = primary_there fit other keys serves in
     let opens = opens_under keys r m.key ad stream told.input has m.gives only m.alone in
     λ t name lies input.
-    let reached' = keys_reached name other.form other.bytes keys p.0 (λ k. opens_stream k ad) t lies serves.read serves.within serves.fit p.1 in
+    let reached' = keys_reached standard_table name other.form other.bytes keys p.0 (λ k. opens_stream k ad) t lies serves.read serves.within serves.fit p.1 in
     let g = opened_so (with_primary keys p.0) ad t stream told.input input opens.answer in
     (ap (λ (a : Answer). a.status) reached' ∙ g.0, ap (λ (a : Answer). a.output) reached' ∙ g.1)
 
@@ -209,7 +244,7 @@ opens_first_anywhere back fit before other old keys r ad stream told read primar
       there = f.there;
       first = f.first;
       answers = λ t name lies input.
-          keys_reached name other.form other.bytes keys p.0 (λ k. opens_stream k ad) t lies serves.read serves.within serves.fit p.1
+          keys_reached standard_table name other.form other.bytes keys p.0 (λ k. opens_stream k ad) t lies serves.read serves.within serves.fit p.1
           ∙ chosen_so (with_primary keys p.0) f.key ad t stream input f.choice;
     }
 
@@ -221,13 +256,13 @@ opens_range_anywhere back slice fit before other old keys r ad stream told read 
     let with' = with_primary keys p.0 in
     record {
       within = λ t name range out lie free within.
-          let reached' = keys_reached name other.form other.bytes keys p.0 (λ k. opens_stretch k ad range (puts out)) t lie.keyset serves.read serves.within serves.fit p.1 in
+          let reached' = keys_reached standard_table name other.form other.bytes keys p.0 (λ k. opens_stretch k ad range (puts out)) t lie.keyset serves.read serves.within serves.fit p.1 in
           let plain : List ℕ = take range.size (drop range.from told.input) in
           let e = reached' ∙ stretch_reached with' ad stream range out t (Ok plain) lie.sealed (range_within slice keys ad stream told.input range.from range.size opens within) in
           let done = puts_reached out plain t free in
           (ap (λ (a : Answer). a.status) e ∙ done, ap (λ (a : Answer). bytes_at out a.files a.output) e ∙ bytes_put out plain t done);
       past = λ t name range out lie behind'.
-          let reached' = keys_reached name other.form other.bytes keys p.0 (λ k. opens_stretch k ad range (puts out)) t lie.keyset serves.read serves.within serves.fit p.1 in
+          let reached' = keys_reached standard_table name other.form other.bytes keys p.0 (λ k. opens_stretch k ad range (puts out)) t lie.keyset serves.read serves.within serves.fit p.1 in
           reached' ∙ stretch_reached with' ad stream range out t (Err past_end) lie.sealed (range_past slice keys ad stream told.input range.from range.size opens behind');
     }
 

@@ -21,7 +21,7 @@ use Rattle.tinkey_readable.proofs.WrappedRunLemmas.{wraps_done}
 use Rattle.tinkey_readable.specs.Anywhere.{DopensAnywhere, DopensSomehowAnywhere, OpensAnywhere, OpensEnvelopeAnywhere, OpensFirstAnywhere, OpensRangeAnywhere, OpensSomehowAnywhere, OpensStreamAnywhere, Serves, ServesStreams, UnwrapsAnywhere, VerifiesAnywhere, by_run}
 use Rattle.tinkey_readable.specs.EnvelopeRuns.{RunsOpenEnvelope}
 use Rattle.tinkey_readable.specs.RangeRuns.{RunsOpenRange}
-use Rattle.tinkey_readable.specs.Runs.{LeadOn, Passage, RunStep, RunsDopen, RunsDopenPresent, RunsOpen, RunsOpenPresent, RunsUnwrap, RunsVerify, WrapStep, Written}
+use Rattle.tinkey_readable.specs.Runs.{LeadOn, Passage, RunStep, RunsDopen, RunsDopenPresent, RunsOpen, RunsOpenPresent, RunsUnwrap, RunsVerify, LocksStep, Written}
 use Rattle.tinkey_readable.specs.StreamRuns.{RunsOpenStream, RunsOpenStreamPresent, WasSealed}
 use Rattle.tinkey_words.specs.Words.{to_dseal, to_eseal, to_seal, to_tag}
 
@@ -31,7 +31,7 @@ use Rattle.tinkey_words.specs.Words.{to_dseal, to_eseal, to_seal, to_tag}
 pub record RunLaws : Type 0 where
   pub fit : ReadKeysFit
   pub run : RunStep
-  pub wrap : WrapStep
+  pub wrap : LocksStep
   pub sessions : SessionIsEdits
   pub sound : EditedIsSound
   pub keyset : EditedIsKeyset
@@ -45,7 +45,7 @@ streams_after : RunLaws → (runs : List Passage) (before after : Written) (r : 
 streams_after l runs before after r ad stream told x was =
     let within = load_within was.name before.form before.bytes (behind_keyset (λ k. seals_stream k ad)) told was.lies was.done in
     let e = lead_ends l.fit l.run l.wrap l.sessions runs before after r within x in
-    let u = keys_loaded was.name before.form before.bytes x.old (λ k. seals_stream k ad) told was.lies x.read was.done in
+    let u = keys_loaded standard_table was.name before.form before.bytes x.old (λ k. seals_stream k ad) told was.lies x.read was.done in
     record { read = e.read_again; within = e.within; fit = sound_fit x.new (l.sound Stream x.old x.new e.edited (fit_sound x.old e.keyset u.fit)) }
 
 -- ---- whole inputs

@@ -46,7 +46,7 @@ done_of : (table : Table) (keys : Keys) (scheme : Scheme) (row : Row) (work : As
 done_of table keys scheme row (to_eseal ad) input told goes = ap (λ o. (sealed_so writes told o).status) goes.2
 done_of table keys scheme row (to_eopen ad) input told goes = ap (λ o. (answer (with_opened o writes) told).status) goes.1
 
-envelope_is : (table : Table) (name : List ℕ) (form : Format) (template : List ℕ) (work : AskedEnvelope) (out : Option (List ℕ)) (told : Told) → IsDoneAnswer (answer (command_plan table (use_envelope name form template work out)) told) → EnvelopeIsDone table name form template work out told
+envelope_is : (table : Table) (name : List ℕ) (form : Format) (template : List ℕ) (work : AskedEnvelope) (out : Option (List ℕ)) (told : Told) → IsDoneAnswer (answer (command_plan table (use_envelope None name form template work out)) told) → EnvelopeIsDone table name form template work out told
 envelope_is table name form template work out told is =
     let d = dek_done template (behind_dek table name form work (puts out)) told is in
     let k = loads_there name form (behind_keys table d.row work (puts out)) told (ap (λ (a : Answer). a.status) (sym d.goes_on) ∙ is) in
@@ -69,7 +69,7 @@ envelope_is table name form template work out told is =
       free = subst (IsFree out) w.files (name_free out w.made w.left (ap (λ (a : Answer). a.status) (sym (w.is (puts out))) ∙ worked));
     }
 
-envelope_comes : (table : Table) (name : List ℕ) (form : Format) (template : List ℕ) (work : AskedEnvelope) (out : Option (List ℕ)) (told : Told) → EnvelopeIsDone table name form template work out told → IsDoneAnswer (answer (command_plan table (use_envelope name form template work out)) told)
+envelope_comes : (table : Table) (name : List ℕ) (form : Format) (template : List ℕ) (work : AskedEnvelope) (out : Option (List ℕ)) (told : Told) → EnvelopeIsDone table name form template work out told → IsDoneAnswer (answer (command_plan table (use_envelope None name form template work out)) told)
 envelope_comes table name form template work out told x =
     let l = x.lies in
     let left = record told { input = [] } in

@@ -40,19 +40,19 @@ stretched keys ad range out told done = by_file (map.get told.files range.file) 
     by_file None holds done = absurd (cc)
     by_file (Some stream) holds done = by_range stream (stretch_in (stretch_for keys ad range) stream) holds refl done
 
-range_is : (table : Table) (name : List ℕ) (form : Format) (ad : List ℕ) (range : AskedRange) (out : Option (List ℕ)) (told : Told) → IsDoneAnswer (answer (command_plan table (open_range name form ad range out)) told) → RangeOpens name form ad range out told
+range_is : (table : Table) (name : List ℕ) (form : Format) (ad : List ℕ) (range : AskedRange) (out : Option (List ℕ)) (told : Told) → IsDoneAnswer (answer (command_plan table (open_range None name form ad range out)) told) → RangeOpens name form ad range out told
 range_is table name form ad range out told is =
     let k = loads_there name form (behind_keyset (λ s. opens_stretch s ad range (puts out))) told is in
     let l = k.1 in
-    let u = keys_loaded name form l.bytes k.0 (λ s. opens_stretch s ad range (puts out)) told l.there l.read is in
+    let u = keys_loaded table name form l.bytes k.0 (λ s. opens_stretch s ad range (puts out)) told l.there l.read is in
     let s = stretched (with_primary k.0 u.primary) ad range out told (ap (λ (a : Answer). a.status) (sym u.goes_on) ∙ is) in
     record { keys = k.0; lies = l; fit = u.fit; primary = u.primary; there = u.there; stream = s.stream; holds = s.holds; plain = s.plain; opens = s.opens; free = s.free }
 
-range_comes : (table : Table) (name : List ℕ) (form : Format) (ad : List ℕ) (range : AskedRange) (out : Option (List ℕ)) (told : Told) → RangeOpens name form ad range out told → IsDoneAnswer (answer (command_plan table (open_range name form ad range out)) told)
+range_comes : (table : Table) (name : List ℕ) (form : Format) (ad : List ℕ) (range : AskedRange) (out : Option (List ℕ)) (told : Told) → RangeOpens name form ad range out told → IsDoneAnswer (answer (command_plan table (open_range None name form ad range out)) told)
 range_comes table name form ad range out told x =
     let l = x.lies in
     let keys = with_primary x.keys x.primary in
-    let reached = keys_reached name form l.bytes x.keys x.primary (λ s. opens_stretch s ad range (puts out)) told l.there l.read l.within x.fit x.there in
+    let reached = keys_reached table name form l.bytes x.keys x.primary (λ s. opens_stretch s ad range (puts out)) told l.there l.read l.within x.fit x.there in
     let stretch = stretch_reached keys ad x.stream range out told (Ok x.plain) x.holds x.opens in
     ap (λ (a : Answer). a.status) (reached ∙ stretch) ∙ puts_reached out x.plain told x.free
 

@@ -31,13 +31,13 @@ look_reached : (file : Option (List ℕ)) (next : Unit {0} → Plan) (told : Tol
 look_reached None next told free = refl
 look_reached (Some name) next told free = ap (λ (found : Option (List ℕ)). look_answer found (refused told status.OutExists) (answer (next tt) told)) free
 
-saved_within : (file : Option (List ℕ)) (form : Format) (keys : Keys) (told : Told) → IsDoneAnswer (answer (saves_as file form keys) told) → IsSavedWithin file form keys
-saved_within None form keys told done = tt
-saved_within (Some name) form keys told done = (put_done (record { file = Some name; form = form }) keys told done).within
+saved_within : (table : Table) (file : Option (List ℕ)) (form : Format) (keys : Keys) (told : Told) → IsDoneAnswer (answer (saves_as table None file form keys) told) → IsSavedWithin file form keys
+saved_within table None form keys told done = tt
+saved_within table (Some name) form keys told done = (put_done (record { file = Some name; form = form }) keys told done).within
 
-save_reached : (file : Option (List ℕ)) (form : Format) (keys : Keys) (told : Told) → IsSavedWithin file form keys → IsFree file told.files → IsDoneAnswer (answer (saves_as file form keys) told)
-save_reached None form keys told within free = refl
-save_reached (Some name) form keys told within free = put_reached (record { file = Some name; form = form }) keys told within free
+save_reached : (table : Table) (file : Option (List ℕ)) (form : Format) (keys : Keys) (told : Told) → IsSavedWithin file form keys → IsFree file told.files → IsDoneAnswer (answer (saves_as table None file form keys) told)
+save_reached table None form keys told within free = refl
+save_reached table (Some name) form keys told within free = put_reached (record { file = Some name; form = form }) keys told within free
 
 -- ---- the lines
 
@@ -45,44 +45,44 @@ save_reached (Some name) form keys told within free = put_reached (record { file
 abbrev stands : Table → Keys → Place → Told → Stop → Answer
 stands table keys out told stop =
     let x = talk table keys told.input told.random true in
-    talk_answer stop x told (answer (saves out x.keys) (record told { input = []; random = x.random }))
+    talk_answer stop x told (answer (saves table None out x.keys) (record told { input = []; random = x.random }))
 
 record Held (table : Table) (keys : Keys) (out : Place) (told : Told) : Type 0 where
   goes_on : (talk table keys told.input told.random true).stop ≡ goes
   saved : IsSavedWithin out.file out.form (talk table keys told.input told.random true).keys
 
-held : (table : Table) (keys : Keys) (out : Place) (told : Told) → IsDoneAnswer (answer (exchanges (talk table keys) (saves out)) told) → Held table keys out told
+held : (table : Table) (keys : Keys) (out : Place) (told : Told) → IsDoneAnswer (answer (exchanges (talk table keys) (saves table None out)) told) → Held table keys out told
 held table keys out told done = by x.stop refl done
   where
     x : Talk
     x = talk table keys told.input told.random true
 
     by : (stop : Stop) → x.stop ≡ stop → IsDoneAnswer (stands table keys out told stop) → Held table keys out told
-    by goes is done = record { goes_on = is; saved = saved_within out.file out.form x.keys (record told { input = []; random = x.random }) done }
+    by goes is done = record { goes_on = is; saved = saved_within table out.file out.form x.keys (record told { input = []; random = x.random }) done }
     by wants is done = absurd (cc)
     by (passes long_line) is done = absurd (cc)
     by (passes many_lines) is done = absurd (cc)
 
-session_is : (table : Table) (name : List ℕ) (form : Format) (out : Place) (told : Told) → IsDoneAnswer (answer (command_plan table (session name form out)) told) → SessionGoes table name form out told
+session_is : (table : Table) (name : List ℕ) (form : Format) (out : Place) (told : Told) → IsDoneAnswer (answer (command_plan table (session None name form out)) told) → SessionGoes table name form out told
 session_is table name form out told is =
-    let k = loads_there name form (holds_session table out) told is in
+    let k = loads_there name form (holds_session table None out) told is in
     let keys = k.0 in
     let l = k.1 in
-    let loaded = load_done name form l.bytes keys (holds_session table out) told l.there l.read is in
-    let whole : IsDoneAnswer (answer (holds_session table out keys) told) = ap (λ (a : Answer). a.status) (sym loaded) ∙ is in
-    let free = free_done out.file (λ free. exchanges (talk table keys) (saves out)) told whole in
+    let loaded = load_done name form l.bytes keys (holds_session table None out) told l.there l.read is in
+    let whole : IsDoneAnswer (answer (holds_session table None out keys) told) = ap (λ (a : Answer). a.status) (sym loaded) ∙ is in
+    let free = free_done out.file (λ free. exchanges (talk table keys) (saves table None out)) told whole in
     let h = held table keys out told (ap (λ (a : Answer). a.status) (sym free) ∙ whole) in
-    record { keys = keys; lies = l; free = looked_free out.file (λ free. exchanges (talk table keys) (saves out)) told whole; goes_on = h.goes_on; saved = h.saved }
+    record { keys = keys; lies = l; free = looked_free out.file (λ free. exchanges (talk table keys) (saves table None out)) told whole; goes_on = h.goes_on; saved = h.saved }
 
-session_comes : (table : Table) (name : List ℕ) (form : Format) (out : Place) (told : Told) → SessionGoes table name form out told → IsDoneAnswer (answer (command_plan table (session name form out)) told)
+session_comes : (table : Table) (name : List ℕ) (form : Format) (out : Place) (told : Told) → SessionGoes table name form out told → IsDoneAnswer (answer (command_plan table (session None name form out)) told)
 session_comes table name form out told x =
     let l = x.lies in
     let t = talk table x.keys told.input told.random true in
-    let loaded = load_reached name form l.bytes x.keys (holds_session table out) told l.there l.read l.within in
-    let free = look_reached out.file (λ free. exchanges (talk table x.keys) (saves out)) told x.free in
+    let loaded = load_reached name form l.bytes x.keys (holds_session table None out) told l.there l.read l.within in
+    let free = look_reached out.file (λ free. exchanges (talk table x.keys) (saves table None out)) told x.free in
     ap (λ (a : Answer). a.status) (loaded ∙ free)
     ∙ ap (λ s. (stands table x.keys out told s).status) x.goes_on
-    ∙ save_reached out.file out.form t.keys (record told { input = []; random = t.random }) x.saved x.free
+    ∙ save_reached table out.file out.form t.keys (record told { input = []; random = t.random }) x.saved x.free
 
 pub sessions_done : SessionsDone
 sessions_done table name form out told = (session_is table name form out told, session_comes table name form out told)

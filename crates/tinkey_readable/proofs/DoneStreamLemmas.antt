@@ -68,31 +68,31 @@ opens_done keys ad told none = ap (λ o. (pump_answer (opening_any (ciphers_of a
 
 -- ---- the whole
 
-seal_is : (table : Table) (name : List ℕ) (form : Format) (ad : List ℕ) (told : Told) → IsDoneAnswer (answer (command_plan table (seal_stream name form ad)) told) → StreamSeals name form ad told
+seal_is : (table : Table) (name : List ℕ) (form : Format) (ad : List ℕ) (told : Told) → IsDoneAnswer (answer (command_plan table (seal_stream None name form ad)) told) → StreamSeals name form ad told
 seal_is table name form ad told is =
     let k = loads_there name form (behind_keyset (λ s. seals_stream s ad)) told is in
     let l = k.1 in
-    let u = keys_loaded name form l.bytes k.0 (λ s. seals_stream s ad) told l.there l.read is in
+    let u = keys_loaded table name form l.bytes k.0 (λ s. seals_stream s ad) told l.there l.read is in
     let s = seals_where (with_primary k.0 u.primary) ad told (ap (λ (a : Answer). a.status) (sym u.goes_on) ∙ is) in
     record { keys = k.0; lies = l; fit = u.fit; primary = u.primary; there = u.there; enough = s.0; few = s.1 }
 
-seal_comes : (table : Table) (name : List ℕ) (form : Format) (ad : List ℕ) (told : Told) → StreamSeals name form ad told → IsDoneAnswer (answer (command_plan table (seal_stream name form ad)) told)
+seal_comes : (table : Table) (name : List ℕ) (form : Format) (ad : List ℕ) (told : Told) → StreamSeals name form ad told → IsDoneAnswer (answer (command_plan table (seal_stream None name form ad)) told)
 seal_comes table name form ad told x =
     let l = x.lies in
-    ap (λ (a : Answer). a.status) (keys_reached name form l.bytes x.keys x.primary (λ s. seals_stream s ad) told l.there l.read l.within x.fit x.there)
+    ap (λ (a : Answer). a.status) (keys_reached table name form l.bytes x.keys x.primary (λ s. seals_stream s ad) told l.there l.read l.within x.fit x.there)
     ∙ seals_done (with_primary x.keys x.primary) ad told x.enough x.few
 
-open_is : (table : Table) (name : List ℕ) (form : Format) (ad : List ℕ) (told : Told) → IsDoneAnswer (answer (command_plan table (open_stream name form ad)) told) → StreamOpens name form ad told
+open_is : (table : Table) (name : List ℕ) (form : Format) (ad : List ℕ) (told : Told) → IsDoneAnswer (answer (command_plan table (open_stream None name form ad)) told) → StreamOpens name form ad told
 open_is table name form ad told is =
     let k = loads_there name form (behind_keyset (λ s. opens_stream s ad)) told is in
     let l = k.1 in
-    let u = keys_loaded name form l.bytes k.0 (λ s. opens_stream s ad) told l.there l.read is in
+    let u = keys_loaded table name form l.bytes k.0 (λ s. opens_stream s ad) told l.there l.read is in
     record { keys = k.0; lies = l; fit = u.fit; primary = u.primary; there = u.there; opens = opens_where (with_primary k.0 u.primary) ad told (ap (λ (a : Answer). a.status) (sym u.goes_on) ∙ is) }
 
-open_comes : (table : Table) (name : List ℕ) (form : Format) (ad : List ℕ) (told : Told) → StreamOpens name form ad told → IsDoneAnswer (answer (command_plan table (open_stream name form ad)) told)
+open_comes : (table : Table) (name : List ℕ) (form : Format) (ad : List ℕ) (told : Told) → StreamOpens name form ad told → IsDoneAnswer (answer (command_plan table (open_stream None name form ad)) told)
 open_comes table name form ad told x =
     let l = x.lies in
-    ap (λ (a : Answer). a.status) (keys_reached name form l.bytes x.keys x.primary (λ s. opens_stream s ad) told l.there l.read l.within x.fit x.there)
+    ap (λ (a : Answer). a.status) (keys_reached table name form l.bytes x.keys x.primary (λ s. opens_stream s ad) told l.there l.read l.within x.fit x.there)
     ∙ opens_done (with_primary x.keys x.primary) ad told x.opens
 
 pub streams_done : StreamsDone

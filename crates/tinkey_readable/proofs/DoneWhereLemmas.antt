@@ -26,7 +26,8 @@ use Rattle.tinkey_plans.specs.Going.{FitKeysetsSeal}
 use Rattle.tinkey_plans.specs.Laws.{FitKeysetsAnswer, IsFit}
 use Rattle.tinkey_plans.specs.Plan.{Answer, Plan, Told, answer, create_answer, draw_answer, ends, load_answer, refused, writes}
 use Rattle.tinkey_plans.specs.Steps.{finds_edit, finds_template, keyset_at, keyset_in, keyset_limit, loads_keyset, makes_keyset, puts, puts_keyset, reads_input, reads_keyset, takes_keyset, with_json, with_keyset, with_made, with_row, works_out, written_in}
-use Rattle.tinkey_plans.specs.Using.{as_drawn, handles, hex_line, limit_for, puts_output, shows, with_derived, with_opened, with_verified, works}
+use Rattle.tinkey_plans.specs.Handles.{handles}
+use Rattle.tinkey_plans.specs.Using.{as_drawn, hex_line, limit_for, puts_output, shows, with_derived, with_opened, with_verified, works}
 use Rattle.tinkey_words.specs.declared.words.rows.Format.{Format}
 use Rattle.tinkey_words.specs.declared.words.rows.Format.TheVariants as formats
 use Rattle.tinkey_words.specs.Words.{AskedEdit, AskedWork, Place, use_keyset, to_seal, to_open, to_dseal, to_dopen, to_tag, to_verify, to_derive, primitive_for}
@@ -266,7 +267,7 @@ pub works_done : FitKeysetsAnswer → FitKeysetsSeal → WorksDone
 works_done answers seals table name form work out told = (goes, done)
   where
     a : Answer
-    a = answer (command_plan table (use_keyset name form work out)) told
+    a = answer (command_plan table (use_keyset None name form work out)) told
 
     left : Told
     left = record told { input = [] }

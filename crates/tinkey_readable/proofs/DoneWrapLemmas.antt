@@ -15,7 +15,7 @@ use Rattle.tinkey_plans.specs.declared.status.Status.TheVariants as status
 use Rattle.tinkey_plans.specs.Commands.{command_plan}
 use Rattle.tinkey_plans.specs.Plan.{Answer, Plan, Told, answer, draw_answer, ends, load_answer, refused}
 use Rattle.tinkey_plans.specs.Steps.{keyset_limit, puts, puts_keyset, takes_keyset, with_made, within_limit, writes_keyset, written_in}
-use Rattle.tinkey_plans.specs.Using.{handles, unless_unfit}
+use Rattle.tinkey_plans.specs.Handles.{handles, unless_unfit}
 use Rattle.tinkey_plans.specs.Wrapping.{as_wrapping, is_json, makes_wrapped, takes_wrapped, unwraps, with_unwrapped, wrapped_limit}
 use Rattle.tinkey_words.specs.Words.{Place, unwrap_keyset, wrap_keyset}
 use Rattle.tinkey_words.specs.declared.words.rows.Format.{Format}

@@ -233,10 +233,10 @@ has_replies readable table keys told old s new output done is w all took front =
 }
 
 -- saving writes nothing to the sink
-saved : (file : Option (List ℕ)) (form : Format) (keys : Keys) (old : World) (s : Status) (new : World) → Ends (saves_as file form keys) old s new → (s ≢ status.WriteFault) × (old.sink ≡ new.sink)
-saved None form keys old s new (is, same) = (λ h. absurd (cc), ap (λ (w : World). w.sink) same)
-saved (Some name) form keys old s new (inr (is, same)) = (λ h. absurd (cc), ap (λ (w : World). w.sink) same)
-saved (Some name) form keys old s new (inl ended) = by (nat_le (length (written_in form keys)) keyset_limit) ended
+saved : (table : Table) (file : Option (List ℕ)) (form : Format) (keys : Keys) (old : World) (s : Status) (new : World) → Ends (saves_as table None file form keys) old s new → (s ≢ status.WriteFault) × (old.sink ≡ new.sink)
+saved table None form keys old s new (is, same) = (λ h. absurd (cc), ap (λ (w : World). w.sink) same)
+saved table (Some name) form keys old s new (inr (is, same)) = (λ h. absurd (cc), ap (λ (w : World). w.sink) same)
+saved table (Some name) form keys old s new (inl ended) = by (nat_le (length (written_in form keys)) keyset_limit) ended
   where
     by : (b : Bool) → Ends (if b then creates name (written_in form keys) status.OutExists tt else plans.ends status.KeysetTooLong tt) old s new → (s ≢ status.WriteFault) × (old.sink ≡ new.sink)
     by true (made is only stood given added) = (λ h. absurd (cc), only.sink)
@@ -302,16 +302,16 @@ session_left readable law table keys told old s new fault is tells ended run = b
         let random = split new.entropy.left old.entropy.left told.random (drawn ++ part) tells.random drew.left in
         some_lines taken (more ++ input.0) drawn (part ++ random.0) (input.2 ∙ append_assoc taken more input.0) (random.2 ∙ append_assoc drawn part random.0) false (λ h. absurd (cc)) (λ h. took) (λ h. absurd (cc))
 
-talk_ends : TurnsAreReadable → TalkIsTurns → (table : Table) (out : Place) (keys : Keys) (told : Told) (old : World) (s : Status) (new : World) → IsKeyset keys → Tells old told → Ends (exchanges (talk table keys) (saves out)) old s new → HasReplies table keys told old s new
+talk_ends : TurnsAreReadable → TalkIsTurns → (table : Table) (out : Place) (keys : Keys) (told : Told) (old : World) (s : Status) (new : World) → IsKeyset keys → Tells old told → Ends (exchanges (talk table keys) (saves table None out)) old s new → HasReplies table keys told old s new
 talk_ends readable law table out keys told old s new is tells (exchanged last mid run kept steady later) =
-    session_done readable law table out keys last told old mid s new is tells (went (talk table keys) last (sides_of old) (sides_of mid) run) (saved out.file out.form last mid s new later)
+    session_done readable law table out keys last told old mid s new is tells (went (talk table keys) last (sides_of old) (sides_of mid) run) (saved table out.file out.form last mid s new later)
 talk_ends readable law table out keys told old s new is tells (exchange_ended fault ended run kept steady) = session_left readable law table keys told old s new fault is tells ended run
 
 -- behind a name that was looked up
-session_ends : TurnsAreReadable → TalkIsTurns → (table : Table) (out : Place) (keys : Keys) (told : Told) (old : World) (s : Status) (new : World) → IsKeyset keys → Tells old told → Ends (holds_session table out keys) old s new → HasReplies table keys told old s new
+session_ends : TurnsAreReadable → TalkIsTurns → (table : Table) (out : Place) (keys : Keys) (told : Told) (old : World) (s : Status) (new : World) → IsKeyset keys → Tells old told → Ends (holds_session table None out keys) old s new → HasReplies table keys told old s new
 session_ends readable law table out keys told old s new is tells run = by out.file run
   where
-    by : (file : Option (List ℕ)) → Ends (finds_free file (λ free. exchanges (talk table keys) (saves out))) old s new → HasReplies table keys told old s new
+    by : (file : Option (List ℕ)) → Ends (finds_free file (λ free. exchanges (talk table keys) (saves table None out))) old s new → HasReplies table keys told old s new
     by None run = talk_ends readable law table out keys told old s new is tells run
     by (Some name) (look_free store kept stood given holds run) =
         let r = talk_ends readable law table out keys told (record old { store = store }) s new is (record { input = tells.input; files = sym kept.files ∙ tells.files; random = tells.random }) run in
@@ -336,15 +336,15 @@ starved_replies : (table : Table) (keys : Keys) (told : Told) (old : World) (s :
 starved_replies table keys told old s new is same = none_replied table keys told old s new (λ h. absurd (cc)) (λ h. absurd (cc)) (took_same old.sink new.sink same)
 
 loads_ends : TurnsAreReadable → TalkIsTurns → ReadKeysFit → (table : Table) (name bytes : List ℕ) (form : Format) (out : Place) (keys : Keys) (told : Told) (old : World) (s : Status) (new : World) → Tells old told → map.get told.files name ≡ Some bytes → read_in form bytes ≡ Some keys
-    → Ends (loads_keyset name form (holds_session table out)) old s new → HasReplies table keys told old s new
+    → Ends (loads_keyset name form (holds_session table None out)) old s new → HasReplies table keys told old s new
 loads_ends readable law fit table name bytes form out keys told old s new tells there read (loaded found store kept stood given within holds run) =
     let same : bytes ≡ found = same_Some _ _ (sym there ∙ file_told old.store told.files name found tells.files holds) in
     let mid : World = record old { store = store } in
     let mid_tells : Tells mid told = record { input = tells.input; files = sym kept.files ∙ tells.files; random = tells.random } in
     let is = read_keyset fit form bytes keys (subst (λ l. length l ≤ keyset_limit) (sym same) within) read in
-    by mid mid_tells is refl (keyset_ends form bytes keys (holds_session table out) mid s new read (subst (λ l. Ends (keyset_in form l (holds_session table out)) mid s new) (sym same) run))
+    by mid mid_tells is refl (keyset_ends form bytes keys (holds_session table None out) mid s new read (subst (λ l. Ends (keyset_in form l (holds_session table None out)) mid s new) (sym same) run))
   where
-    by : (mid : World) → Tells mid told → IsKeyset keys → mid.sink ≡ old.sink → Ends (holds_session table out keys) mid s new ⊎ ((s ≡ status.NoMemory) × (mid ≡ new)) → HasReplies table keys told old s new
+    by : (mid : World) → Tells mid told → IsKeyset keys → mid.sink ≡ old.sink → Ends (holds_session table None out keys) mid s new ⊎ ((s ≡ status.NoMemory) × (mid ≡ new)) → HasReplies table keys told old s new
     by mid tells is sink (inl run) =
         let r = session_ends readable law table out keys told mid s new is tells run in
         record {

@@ -27,7 +27,7 @@ use Rattle.tinkey_words.specs.Words.{AskedEnvelope, to_eseal}
 use Rattle.tinkey_plans.specs.Envelopes.{as_enveloped, envelope_limit, envelope_output, envelopes, finds_dek, finds_scheme, with_aead, with_enveloped, with_scheme}
 use Rattle.tinkey_plans.specs.Plan.{Answer, Plan, Told, answer, draw_answer, ends, refused, writes}
 use Rattle.tinkey_plans.specs.Steps.{keyset_limit, loads_keyset, reads_input, with_made, with_row}
-use Rattle.tinkey_plans.specs.Using.{handles, unless_unfit}
+use Rattle.tinkey_plans.specs.Handles.{handles, unless_unfit}
 use Rattle.tinkey_readable.specs.Runs.{read_in}
 use Rattle.tinkey_readable.proofs.ReachLemmas.{IsDoneAnswer, load_done, load_reached, load_within, input_done, input_reached, input_within, unfit_done}
 
@@ -109,8 +109,8 @@ pub record UsedEnvelope (table : Table) (keys : Keys) (template : List ℕ) (wor
   pub fits : length told.input ≤ envelope_limit work
   pub goes_on : a ≡ answer (envelopes table keys scheme row work told.input next) (record told { input = [] })
 
-pub used_done : (table : Table) (name : List ℕ) (form : Format) (template : List ℕ) (work : AskedEnvelope) (next : List ℕ → Plan) (bytes : List ℕ) (keys : Keys) (told : Told) → map.get told.files name ≡ Some bytes → read_in form bytes ≡ Some keys → IsDoneAnswer (answer (envelope_output table name form template work next) told)
-    → UsedEnvelope table keys template work next told (answer (envelope_output table name form template work next) told)
+pub used_done : (table : Table) (name : List ℕ) (form : Format) (template : List ℕ) (work : AskedEnvelope) (next : List ℕ → Plan) (bytes : List ℕ) (keys : Keys) (told : Told) → map.get told.files name ≡ Some bytes → read_in form bytes ≡ Some keys → IsDoneAnswer (answer (envelope_output table None name form template work next) told)
+    → UsedEnvelope table keys template work next told (answer (envelope_output table None name form template work next) told)
 used_done table name form template work next bytes keys told there e done =
     let d = dek_done template (behind_dek table name form work next) told done in
     let done1 : IsDoneAnswer (answer (behind_dek table name form work next d.row) told) = ap (λ (a : Answer). a.status) (sym d.goes_on) ∙ done in
@@ -133,14 +133,14 @@ used_done table name form template work next bytes keys told there e done =
       goes_on = d.goes_on ∙ l ∙ f ∙ g ∙ input_done (envelope_limit work) (λ input. envelopes table keys s.0 d.row work input next) told done4;
     }
 
-pub used_within : (table : Table) (name : List ℕ) (form : Format) (template : List ℕ) (work : AskedEnvelope) (next : List ℕ → Plan) (bytes : List ℕ) (told : Told) → map.get told.files name ≡ Some bytes → IsDoneAnswer (answer (envelope_output table name form template work next) told) → length bytes ≤ keyset_limit
+pub used_within : (table : Table) (name : List ℕ) (form : Format) (template : List ℕ) (work : AskedEnvelope) (next : List ℕ → Plan) (bytes : List ℕ) (told : Told) → map.get told.files name ≡ Some bytes → IsDoneAnswer (answer (envelope_output table None name form template work next) told) → length bytes ≤ keyset_limit
 used_within table name form template work next bytes told there done =
     let d = dek_done template (behind_dek table name form work next) told done in
     load_within name form bytes (behind_keys table d.row work next) told there (ap (λ (a : Answer). a.status) (sym d.goes_on) ∙ done)
 
 pub used_reached : (table : Table) (name : List ℕ) (form : Format) (template : List ℕ) (row : Row) (scheme : Scheme) (work : AskedEnvelope) (next : List ℕ → Plan) (bytes : List ℕ) (keys : Keys) (told : Told) → row_named template ≡ Some row → IsAead row → scheme_at table Aead (url_made row) ≡ Some scheme
     → map.get told.files name ≡ Some bytes → read_in form bytes ≡ Some keys → length bytes ≤ keyset_limit → unfit keys Aead table ≡ None → length told.input ≤ envelope_limit work
-    → answer (envelope_output table name form template work next) told ≡ answer (envelopes table keys scheme row work told.input next) (record told { input = [] })
+    → answer (envelope_output table None name form template work next) told ≡ answer (envelopes table keys scheme row work told.input next) (record told { input = [] })
 used_reached table name form template row scheme work next bytes keys told named aead served there e within fit fits =
     dek_reached template row (behind_dek table name form work next) told named aead
     ∙ load_reached name form bytes keys (behind_keys table row work next) told there e within

@@ -38,12 +38,13 @@ use Rattle.tinkey_plans.specs.Steps.{makes_keyset, puts_keyset}
 use Rattle.tinkey_plans.specs.declared.status.Status.{Status}
 use Rattle.tinkey_plans.specs.declared.status.Status.TheVariants as status
 use Rattle.tinkey_readable.proofs.FileLemmas.{files_stay, has_once}
+use Rattle.tinkey_readable.proofs.LockedRunLemmas.{EachUnder, StepLaws, locks_keep}
 use Rattle.tinkey_readable.proofs.ReachLemmas.{found_row, made_done, put_done}
 use Rattle.tinkey_readable.proofs.RunLemmas.{each_of, hands_within, template_row, kept as keyset_written}
-use Rattle.tinkey_readable.specs.KeptRuns.{CommandIdsStayDistinct, CreatedIdsAreDistinct, DataStaysByCommands, Event, EventDraws, GivenBackByEnable, HaveLed, HasLed, IsPut, KeptByCommands, KeptByItsIdAlone, OfAsked, OfEvent, OfEvents, Passes, PassesOn, PassesWrapped, StaysIn, TookPlace, passed_by, passed_on, passed_wrapped}
-use Rattle.tinkey_readable.specs.Runs.{Does, GoesWrapped, Handing, Hands, HandsOn, HoldsBytes, ReadIsStored, Run, RunStep, WrapStep, Written, bytes_at, edit_of, keyset_of}
+use Rattle.tinkey_readable.specs.KeptRuns.{CommandIdsStayDistinct, CreatedIdsAreDistinct, DataStaysByCommands, Event, EventDraws, GivenBackByEnable, HaveLed, HasLed, IsPut, KeptByCommands, KeptByItsIdAlone, HavePassed, OfAsked, OfEvent, OfEvents, OfLocked, Passes, PassesOn, PassesUnder, PassesWrapped, StaysIn, TookPlace, passed_by, passed_on, passed_wrapped}
+use Rattle.tinkey_readable.specs.Runs.{AreLocked, Does, GoesLocked, Handing, Hands, HandsOn, HandsUnder, HoldsBytes, ReadIsStored, Run, RunStep, Written, bytes_at, edit_of, keyset_of}
 use Rattle.tinkey_words.specs.declared.words.rows.Format.{Format}
-use Rattle.tinkey_words.specs.Words.{Asked, AskedEdit, Place, create_keyset, edit_keyset, list_keyset, convert_keyset, list_key_templates, use_keyset, use_envelope, seal_stream, open_stream, open_range, self_test, session, wrap_keyset, unwrap_keyset, help, version}
+use Rattle.tinkey_words.specs.Words.{Asked, AskedEdit, Lock, Place, create_keyset, edit_keyset, list_keyset, convert_keyset, list_key_templates, use_keyset, use_envelope, seal_stream, open_stream, open_range, self_test, session, help, version}
 
 -- ---- one run
 
@@ -59,39 +60,37 @@ edit_follows (edits.Delete id) edit e = subst (Follows (edits.Delete id)) (same_
 
 -- what the edit of a run leaves has this, and what its session does
 record EachDone (P : Keys → Type 0) (table : Table) (told : Told) (old : Keys) (asked : Asked) : Type 0 where
-  by_edit : (edit : AskedEdit) (in' out : Place) → asked ≡ edit_keyset edit in' out → (e : Edit) → Follows edit e → (s : Stepped) → step old e told.random ≡ Some s → P (kept old s.answer)
-  by_session : (name : List ℕ) (form : Format) (out : Place) → asked ≡ session name form out → (m : Remains) → remains table old (asked_in told.input) told.random ≡ Some m → P m.keys
+  by_edit : (lock : Lock) (edit : AskedEdit) (in' out : Place) → asked ≡ edit_keyset lock edit in' out → (e : Edit) → Follows edit e → (s : Stepped) → step old e told.random ≡ Some s → P (kept old s.answer)
+  by_session : (lock : Lock) (name : List ℕ) (form : Format) (out : Place) → asked ≡ session lock name form out → (m : Remains) → remains table old (asked_in told.input) told.random ≡ Some m → P m.keys
 
 -- any other run that hands a keyset on leaves it
 run_keeps : (P : Keys → Type 0) (table : Table) (told : Told) (asked : Asked) (old new : Keys) → P old → EachDone P table told old asked → Does table told old new asked → P new
-run_keeps P table told (edit_keyset edit in' out) old new p each does =
-    subst (λ a. P (kept old a)) does.accepted (each.by_edit edit in' out refl does.edit (edit_follows edit does.edit does.is) does.stepped does.steps)
-run_keeps P table told (convert_keyset in' out) old new p each does = subst P does p
-run_keeps P table told (session name form out) old new p each does = subst P does.2 (each.by_session name form out refl does.0 does.1)
-run_keeps P table told (create_keyset template out) old new p each does = absurd does
-run_keeps P table told (list_keyset in') old new p each does = absurd does
+run_keeps P table told (edit_keyset lock edit in' out) old new p each does =
+    subst (λ a. P (kept old a)) does.accepted (each.by_edit lock edit in' out refl does.edit (edit_follows edit does.edit does.is) does.stepped does.steps)
+run_keeps P table told (convert_keyset lock how in' out) old new p each does = subst P does p
+run_keeps P table told (session lock name form out) old new p each does = subst P does.2 (each.by_session lock name form out refl does.0 does.1)
+run_keeps P table told (create_keyset lock template out) old new p each does = absurd does
+run_keeps P table told (list_keyset lock in') old new p each does = absurd does
 run_keeps P table told list_key_templates old new p each does = absurd does
-run_keeps P table told (use_keyset name form work out) old new p each does = absurd does
-run_keeps P table told (use_envelope name form template work out) old new p each does = absurd does
-run_keeps P table told (seal_stream name form ad) old new p each does = absurd does
-run_keeps P table told (open_stream name form ad) old new p each does = absurd does
-run_keeps P table told (open_range name form ad range out) old new p each does = absurd does
+run_keeps P table told (use_keyset lock name form work out) old new p each does = absurd does
+run_keeps P table told (use_envelope lock name form template work out) old new p each does = absurd does
+run_keeps P table told (seal_stream lock name form ad) old new p each does = absurd does
+run_keeps P table told (open_stream lock name form ad) old new p each does = absurd does
+run_keeps P table told (open_range lock name form ad range out) old new p each does = absurd does
 run_keeps P table told (self_test seed lines) old new p each does = absurd does
-run_keeps P table told (wrap_keyset name form in' out) old new p each does = absurd does
-run_keeps P table told (unwrap_keyset name form in' out) old new p each does = absurd does
 run_keeps P table told (help topic) old new p each does = absurd does
 run_keeps P table told version old new p each does = absurd does
 
 key_done : (table : Table) (r : Record) (prefix : List ℕ) → HasWordId r → prefix_of r ≡ Some prefix → (told : Told) (old : Keys) (asked : Asked) → HasSameKey r old → OfAsked (SparesKey r) old told asked → EachDone (HasSameKey r) standard_table told old asked
 key_done table r prefix word has told old asked key spares = record {
-  by_edit = λ edit in' out is e follows s steps. kept_by_edits old r prefix e told.random s word has key steps (if_ok s.answer (follows_key r old edit e follows (subst (OfAsked (SparesKey r) old told) is spares)));
-  by_session = λ name form out is m. kept_by_session standard_table old r prefix (asked_in told.input) told.random m word has key (subst (OfAsked (SparesKey r) old told) is spares);
+  by_edit = λ lock edit in' out is e follows s steps. kept_by_edits old r prefix e told.random s word has key steps (if_ok s.answer (follows_key r old edit e follows (subst (OfAsked (SparesKey r) old told) is spares)));
+  by_session = λ lock name form out is m. kept_by_session standard_table old r prefix (asked_in told.input) told.random m word has key (subst (OfAsked (SparesKey r) old told) is spares);
 }
 
 distinct_done : (told : Told) (old : Keys) (asked : Asked) → HasDistinctIds old → EachDone HasDistinctIds standard_table told old asked
 distinct_done told old asked apart = record {
-  by_edit = λ edit in' out is e follows s. ids_stay_distinct old e told.random s apart;
-  by_session = λ name form out is m. session_ids_stay_distinct standard_table old (asked_in told.input) told.random m apart;
+  by_edit = λ lock edit in' out is e follows s. ids_stay_distinct old e told.random s apart;
+  by_session = λ lock name form out is m. session_ids_stay_distinct standard_table old (asked_in told.input) told.random m apart;
 }
 
 -- the key is alone, and ids are distinct
@@ -100,8 +99,8 @@ IsAlone r keys = HasDistinctIds keys × HasSameKey r keys
 
 alone_done : (r : Record) (prefix : List ℕ) → prefix_of r ≡ Some prefix → (told : Told) (old : Keys) (asked : Asked) → IsHeld r old → OfAsked (λ keys. Spares r.id) old told asked → EachDone (IsAlone r) standard_table told old asked
 alone_done r prefix has told old asked held spares = record {
-  by_edit = λ edit in' out is e follows s steps. of_held (held_by_edit old r prefix e told.random s has held steps (if_ok s.answer (follows.spares r.id (subst (OfAsked (λ keys. Spares r.id) old told) is spares))));
-  by_session = λ name form out is m left. of_held (held_by_session standard_table old r prefix (asked_in told.input) told.random m has held (subst (OfAsked (λ keys. Spares r.id) old told) is spares) left);
+  by_edit = λ lock edit in' out is e follows s steps. of_held (held_by_edit old r prefix e told.random s has held steps (if_ok s.answer (follows.spares r.id (subst (OfAsked (λ keys. Spares r.id) old told) is spares))));
+  by_session = λ lock name form out is m left. of_held (held_by_session standard_table old r prefix (asked_in told.input) told.random m has held (subst (OfAsked (λ keys. Spares r.id) old told) is spares) left);
 }
   where
     of_held : {keys : Keys} → IsHeld r keys → IsAlone r keys
@@ -109,8 +108,8 @@ alone_done r prefix has told old asked held spares = record {
 
 data_done : (r : Record) (told : Told) (old : Keys) (asked : Asked) → HasData r old → OfAsked (λ keys. SparesData r.id) old told asked → EachDone (HasData r) standard_table told old asked
 data_done r told old asked h spares = record {
-  by_edit = λ edit in' out is e follows s steps. data_stays old r e told.random s h steps (if_ok s.answer (follows.data' r.id (subst (OfAsked (λ keys. SparesData r.id) old told) is spares)));
-  by_session = λ name form out is m. session_data_stays standard_table old r (asked_in told.input) told.random m h (subst (OfAsked (λ keys. SparesData r.id) old told) is spares);
+  by_edit = λ lock edit in' out is e follows s steps. data_stays old r e told.random s h steps (if_ok s.answer (follows.data' r.id (subst (OfAsked (λ keys. SparesData r.id) old told) is spares)));
+  by_session = λ lock name form out is m. session_data_stays standard_table old r (asked_in told.input) told.random m h (subst (OfAsked (λ keys. SparesData r.id) old told) is spares);
 }
 
 -- ---- a run as it took place
@@ -126,7 +125,7 @@ put_by (Some name) old new a bytes is put = subst (λ (o : Option Files). IfSome
 put_by None old new a bytes is (written, was, now) =
     ap Some (append_cancel_left written a.output bytes (same_Some _ _ (sym (is.output.written ∙ ap (option_map (λ before. before ++ a.output)) was) ∙ now)))
 
-hands_of : (run : Run) (handing : Handing) (before after : Written) → Passes run handing before after → Hands standard_table run handing before after
+pub hands_of : (run : Run) (handing : Handing) (before after : Written) → Passes run handing before after → Hands standard_table run handing before after
 hands_of run handing before after x =
     let is = answered_by run x.old status.Done x.new x.took tt in
     record { done = sym is.status; read_form = x.read_form; read = x.read; put_form = x.put_form; put = put_by handing.put.file x.old x.new _ after.bytes is x.put }
@@ -134,13 +133,38 @@ hands_of run handing before after x =
 pub hands_on_of : (run : Run) (before after : Written) → PassesOn run before after → HandsOn standard_table run before after
 hands_on_of run before after x = record { handing = x.handing; hands = x.hands; handed = hands_of run x.handing before after x.passes }
 
-pub goes_of : (wrap unwrap : Run) (before after : Written) → PassesWrapped wrap unwrap before after → GoesWrapped standard_table wrap unwrap before after
-goes_of wrap unwrap before after x = record {
-  master = x.master;
-  text = x.text;
-  wraps = record { name = x.name; lies = x.lies; handing = x.handing; asked = x.asked; handed = hands_of wrap x.handing before x.text x.passes };
+pub hands_under_of : (run : Run) (master text put after : Written) → PassesUnder run master text put after → HandsUnder standard_table run master text put after
+hands_under_of run master text put after x = record {
+  locked = x.locked;
+  hands = x.hands;
+  form = x.form;
+  lies = x.lies;
+  new_form = x.new_form;
+  new_lies = x.new_lies;
+  over = x.over;
+  read = x.read;
+  handed = hands_of run x.locked.handing text after x.passes;
+}
+
+abbrev pub are_of : (runs : List Run) (master text last after : Written) → HavePassed runs master text last after → AreLocked standard_table runs master text last after
+are_of [] master text last after have = have
+are_of (run ∷ later) master text last after (opening, put, between, opens, passes, have) =
+    (opening, put, between, opens, hands_under_of run opening text put between passes, are_of later put between last after have)
+
+abbrev pub goes_of : (wrap : Run) (locked : List Run) (unwrap : Run) (before after : Written) → PassesWrapped wrap locked unwrap before after → GoesLocked standard_table wrap locked unwrap before after
+goes_of wrap locked unwrap before after x = record {
   later = x.later;
-  opens = x.opens;
+  text = x.text;
+  goes = record {
+    master = x.master;
+    over = x.over;
+    read = x.read;
+    first = x.first;
+    wraps = record { name = x.name; lies = x.lies; handing = x.handing; asked = x.asked; handed = hands_of wrap x.handing before x.first x.passes };
+    last = x.last;
+    are = are_of locked x.master x.first x.last x.text x.are;
+    opens = x.opens;
+  };
   unwraps = record { name = x.later_name; lies = x.later_lies; handing = x.later_handing; asked = x.later_asked; handed = hands_of unwrap x.later_handing x.text after x.later_passes };
 }
 
@@ -160,62 +184,106 @@ words_stored keys stored = each_of keys.records (λ r s. s.held.id) stored
 words_read : ReadIsStored → (run : Run) (before after : Written) (old : Keys) → HandsOn standard_table run before after → HoldsBytes before → keyset_of before ≡ Some old → AllByRecursion HasWordId old.records
 words_read stored run before after old hands holds is = words_stored old (stored before old holds (hands_within standard_table run before after hands) is)
 
--- what is claimed of events, as that of the first and those behind it
+-- what is claimed of one event, and of events
+abbrev Heads : Type 1
+Heads = (event : Event) (before after : Written) → HasLed event before after → Type 0
+
 abbrev Claims : Type 1
 Claims = (events : List Event) (before after : Written) → HaveLed events before after → Type 0
 
-abbrev Splits : (Written → Event → Type 0) → Claims → Type 0
+abbrev Splits : Heads → Claims → Type 0
 Splits Head All = (event : Event) (later : List Event) (before between after : Written) (has : HasLed event before between) (led : HaveLed later between after)
-    → All (event ∷ later) before after (between, has, led) → Head before event × All later between after led
+    → All (event ∷ later) before after (between, has, led) → Head event before between has × All later between after led
 
--- what each run that hands the keyset on keeps, all events keep
-abbrev EachKeeps : (Keys → Type 0) → (Written → Event → Type 0) → Type 0
-EachKeeps P Head = (run : Run) (before after : Written) (keys : Keys) → HandsOn standard_table run before after → HoldsBytes before → keyset_of before ≡ Some keys → P keys → Head before (passed_on run) → EachDone P standard_table run.told keys run.asked
+-- what each run that hands the keyset on keeps, in clear or under masters, all events keep
+record EachKeeps (P : Keys → Type 0) (Head : Heads) : Type 0 where
+  on : (run : Run) (before after : Written) (has : PassesOn run before after) (keys : Keys) → AreStored keys → keyset_of before ≡ Some keys → P keys → Head (passed_on run) before after has → EachDone P standard_table run.told keys run.asked
+  by_locks : (wrap : Run) (locked : List Run) (unwrap : Run) (before after : Written) (has : PassesWrapped wrap locked unwrap before after) → Head (passed_wrapped wrap locked unwrap) before after has
+      → EachUnder P locked has.master has.first has.last has.text (are_of locked has.master has.first has.last has.text has.are)
 
-events_keep : (P : Keys → Type 0) (Head : Written → Event → Type 0) (All : Claims) → Splits Head All → EachKeeps P Head → RunStep → WrapStep → (events : List Event) (before after : Written) (led : HaveLed events before after)
+events_keep : (P : Keys → Type 0) (Head : Heads) (All : Claims) → Splits Head All → EachKeeps P Head → RunStep → StepLaws → (events : List Event) (before after : Written) (led : HaveLed events before after)
     → AllByRecursion EventDraws events → HoldsBytes before → (old : Keys) → keyset_of before ≡ Some old → P old → All events before after led → (new : Keys) × (keyset_of after ≡ Some new) × P new
-events_keep P Head All splits each law wrap [] before after led bytes holds old is p claims = (old, ap keyset_of (sym led) ∙ is, p)
-events_keep P Head All splits each law wrap (passed_on run ∷ later) before after (between, on, led) bytes holds old is p claims =
+events_keep P Head All splits each law l [] before after led bytes holds old is p claims = (old, ap keyset_of (sym led) ∙ is, p)
+events_keep P Head All splits each law l (passed_on run ∷ later) before after (between, on, led) bytes holds old is p claims =
     let hands = hands_on_of run before between on in
     let g = law standard_table run before between old hands bytes.0 holds is in
     let c = splits (passed_on run) later before between after on led claims in
-    let next = run_keeps P standard_table run.told run.asked old g.new p (each run before between old hands holds is p c.0) g.does in
-    events_keep P Head All splits each law wrap later between after led bytes.1 g.holds g.new g.read next c.1
-events_keep P Head All splits each law wrap (passed_wrapped wrap_run unwrap_run ∷ later) before after (between, went, led) bytes holds old is p claims =
-    let k = wrap wrap_run unwrap_run before between old (goes_of wrap_run unwrap_run before between went) bytes.0 holds is in
-    events_keep P Head All splits each law wrap later between after led bytes.1 k.holds old k.read p (splits (passed_wrapped wrap_run unwrap_run) later before between after went led claims).1
-events_keep P Head All splits each law wrap (passed_by ∷ later) before after (between, stays, led) bytes holds old is p claims =
+    let stored = l.stored before old holds (hands_within standard_table run before between hands) is in
+    let next = run_keeps P standard_table run.told run.asked old g.new p (each.on run before between on old stored is p c.0) g.does in
+    events_keep P Head All splits each law l later between after led bytes.1 g.holds g.new g.read next c.1
+events_keep P Head All splits each law l (passed_wrapped wrap locked unwrap ∷ later) before after (between, went, led) bytes holds old is p claims =
+    let c = splits (passed_wrapped wrap locked unwrap) later before between after went led claims in
+    let k = locks_keep P l wrap locked unwrap before between old (goes_of wrap locked unwrap before between went) bytes.0.0 bytes.0.1 holds is (each.by_locks wrap locked unwrap before between went c.0) p in
+    events_keep P Head All splits each law l later between after led bytes.1 k.keeps.holds k.new k.keeps.read k.has c.1
+events_keep P Head All splits each law l (passed_by ∷ later) before after (between, stays, led) bytes holds old is p claims =
     let same : between ≡ before = same_written before between stays in
-    events_keep P Head All splits each law wrap later between after led bytes.1 (subst HoldsBytes (sym same) holds) old (ap keyset_of same ∙ is) p (splits passed_by later before between after stays led claims).1
+    events_keep P Head All splits each law l later between after led bytes.1 (subst HoldsBytes (sym same) holds) old (ap keyset_of same ∙ is) p (splits passed_by later before between after stays led claims).1
 
 split_claim : (Claim : Keys → AskedEdit → Type 0) → Splits (OfEvent Claim) (OfEvents Claim)
 split_claim Claim event later before between after has led claims = claims
 
-pub kept_by_commands : ReadIsStored → RunStep → WrapStep → KeptByCommands
-kept_by_commands stored law wrap events before after old r prefix course has key spares =
+-- what a run keeps where the claim holds of it
+abbrev RunKeeps : (Keys → Type 0) → (Keys → AskedEdit → Type 0) → Type 0
+RunKeeps P Claim = (run : Run) (keys : Keys) → AreStored keys → P keys → OfAsked Claim keys run.told run.asked → EachDone P standard_table run.told keys run.asked
+
+locked_keep : (P : Keys → Type 0) (Claim : Keys → AskedEdit → Type 0) → RunKeeps P Claim → (runs : List Run) (master text last after : Written) (have : HavePassed runs master text last after) → OfLocked Claim runs master text last after have
+    → EachUnder P runs master text last after (are_of runs master text last after have)
+locked_keep P Claim keep [] master text last after have claims = tt
+locked_keep P Claim keep (run ∷ later) master text last after (opening, put, between, opens, passes, have) claims = (
+  λ keys new gives stored p does. run_keeps P standard_table run.told run.asked keys new p (keep run keys stored p (claims.0 keys gives)) does,
+  locked_keep P Claim keep later put between last after have claims.1,
+)
+
+each_keeps : (P : Keys → Type 0) (Claim : Keys → AskedEdit → Type 0) → RunKeeps P Claim → EachKeeps P (OfEvent Claim)
+each_keeps P Claim keep = record {
+  on = λ run before after has keys stored is p claim. keep run keys stored p (claim keys is);
+  by_locks = λ wrap locked unwrap before after has claims. locked_keep P Claim keep locked has.master has.first has.last has.text has.are claims;
+}
+
+pub kept_by_commands : RunStep → StepLaws → KeptByCommands
+kept_by_commands law l events before after old r prefix course has key spares =
     let k = events_keep (HasSameKey r) (OfEvent (SparesKey r)) (OfEvents (SparesKey r)) (split_claim (SparesKey r))
-    (λ run before after keys hands holds is key spares. key_done standard_table r prefix (word_of_key keys r (words_read stored run before after keys hands holds is) key) has run.told keys run.asked key (spares keys is))
-    law wrap events before after course.led course.bytes course.holds old course.read key spares in
+    (each_keeps (HasSameKey r) (SparesKey r) (λ run keys stored key spares. key_done standard_table r prefix (word_of_key keys r (words_stored keys stored) key) has run.told keys run.asked key spares))
+    law l events before after course.led course.bytes course.holds old course.read key spares in
     record { keys = k.0; read = k.1; key = k.2 }
 
-pub command_ids_stay_distinct : RunStep → WrapStep → CommandIdsStayDistinct
-command_ids_stay_distinct law wrap events before after old course apart =
-    events_keep HasDistinctIds (λ before event. Unit {0}) (λ events before after led. Unit {0}) (λ event later before between after has led claims. (tt, tt))
-    (λ run before after keys hands holds is apart none. distinct_done run.told keys run.asked apart)
-    law wrap events before after course.led course.bytes course.holds old course.read apart tt
+locked_distinct : (runs : List Run) (master text last after : Written) (have : HavePassed runs master text last after) → EachUnder HasDistinctIds runs master text last after (are_of runs master text last after have)
+locked_distinct [] master text last after have = tt
+locked_distinct (run ∷ later) master text last after (opening, put, between, opens, passes, have) = (
+  λ keys new gives stored p does. run_keeps HasDistinctIds standard_table run.told run.asked keys new p (distinct_done run.told keys run.asked p) does,
+  locked_distinct later put between last after have,
+)
 
-pub kept_by_its_id_alone : ReadIsStored → RunStep → WrapStep → KeptByItsIdAlone
-kept_by_its_id_alone stored law wrap events before after old r prefix course apart has key spares =
+-- nothing is claimed of an event, or of events
+abbrev no_head : Heads
+no_head event before after has = Unit {0}
+
+abbrev no_claims : Claims
+no_claims events before after led = Unit {0}
+
+each_distinct : EachKeeps HasDistinctIds no_head
+each_distinct = record {
+  on = λ run before after has keys stored is p none. distinct_done run.told keys run.asked p;
+  by_locks = λ wrap locked unwrap before after has none. locked_distinct locked has.master has.first has.last has.text has.are;
+}
+
+pub command_ids_stay_distinct : RunStep → StepLaws → CommandIdsStayDistinct
+command_ids_stay_distinct law l events before after old course apart =
+    events_keep HasDistinctIds no_head no_claims (λ event later before between after has led claims. (tt, tt)) each_distinct
+    law l events before after course.led course.bytes course.holds old course.read apart tt
+
+pub kept_by_its_id_alone : RunStep → StepLaws → KeptByItsIdAlone
+kept_by_its_id_alone law l events before after old r prefix course apart has key spares =
     let k = events_keep (IsAlone r) (OfEvent (λ keys. Spares r.id)) (OfEvents (λ keys. Spares r.id)) (split_claim (λ keys. Spares r.id))
-    (λ run before after keys hands holds is p spares. alone_done r prefix has run.told keys run.asked (record { apart = p.0; words = words_read stored run before after keys hands holds is; key = p.1 }) (spares keys is))
-    law wrap events before after course.led course.bytes course.holds old course.read (apart, key) spares in
+    (each_keeps (IsAlone r) (λ keys. Spares r.id) (λ run keys stored p spares. alone_done r prefix has run.told keys run.asked (record { apart = p.0; words = words_stored keys stored; key = p.1 }) spares))
+    law l events before after course.led course.bytes course.holds old course.read (apart, key) spares in
     record { keys = k.0; read = k.1; key = k.2.1 }
 
-pub data_stays_by_commands : RunStep → WrapStep → DataStaysByCommands
-data_stays_by_commands law wrap events before after old r course h spares =
+pub data_stays_by_commands : RunStep → StepLaws → DataStaysByCommands
+data_stays_by_commands law l events before after old r course h spares =
     events_keep (HasData r) (OfEvent (λ keys. SparesData r.id)) (OfEvents (λ keys. SparesData r.id)) (split_claim (λ keys. SparesData r.id))
-    (λ run before after keys hands holds is h spares. data_done r run.told keys run.asked h (spares keys is))
-    law wrap events before after course.led course.bytes course.holds old course.read h spares
+    (each_keeps (HasData r) (λ keys. SparesData r.id) (λ run keys stored h spares. data_done r run.told keys run.asked h spares))
+    law l events before after course.led course.bytes course.holds old course.read h spares
 
 -- ---- where a key is
 
@@ -234,7 +302,7 @@ alone_is_there r keys key =
 -- ---- a key that was disabled
 
 enabled_by : (r : Record) (prefix : List ℕ) → prefix_of r ≡ Some prefix → (told : Told) (old new : Keys) (in' out : Place) → HasDistinctIds old → AllByRecursion HasWordId old.records → HasData r old
-    → Does standard_table told old new (edit_keyset (edits.Enable r.id) in' out) → HasSameKey r new
+    → Does standard_table told old new (edit_keyset None (edits.Enable r.id) in' out) → HasSameKey r new
 enabled_by r prefix has told old new in' out apart words h does =
     enable_gives_back old new r prefix told.random does.stepped apart words has h (ap (λ e. step old e told.random) (same_Some _ _ does.is) ∙ does.steps) does.accepted
 
@@ -250,8 +318,8 @@ given_back_by_enable stored law run before after old r prefix in' out asked pass
 
 -- ---- the first keyset
 
-created : FaultlessKeysets → BinaryBack → JsonBack → FirstsAreKeysets → FirstsAreStored → (told : Told) (template : List ℕ) (out : Place) (after : Written) → (answer (command_plan standard_table (create_keyset template out)) told).status ≡ status.Done → AllByRecursion (λ b. b < 256) told.random → out.form ≡ after.form
-    → bytes_at out.file (answer (command_plan standard_table (create_keyset template out)) told).files (answer (command_plan standard_table (create_keyset template out)) told).output ≡ Some after.bytes
+created : FaultlessKeysets → BinaryBack → JsonBack → FirstsAreKeysets → FirstsAreStored → (told : Told) (template : List ℕ) (out : Place) (after : Written) → (answer (command_plan standard_table (create_keyset None template out)) told).status ≡ status.Done → AllByRecursion (λ b. b < 256) told.random → out.form ≡ after.form
+    → bytes_at out.file (answer (command_plan standard_table (create_keyset None template out)) told).files (answer (command_plan standard_table (create_keyset None template out)) told).output ≡ Some after.bytes
     → (keys : Keys) × (keyset_of after ≡ Some keys) × HasDistinctIds keys
 created law binary json firsts firsts_stored told template out after done random form put =
     let f = found_row (row_named template) template (λ row. makes_keyset (first row) (puts_keyset out)) told done in
@@ -266,7 +334,7 @@ created law binary json firsts firsts_stored told template out after done random
 pub created_ids_are_distinct : FaultlessKeysets → BinaryBack → JsonBack → FirstsAreKeysets → FirstsAreStored → CreatedIdsAreDistinct
 created_ids_are_distinct law binary json firsts firsts_stored run template out old new after asked took random form put =
     let is = answered_by run old status.Done new took tt in
-    let same : answer (command_plan standard_table run.asked) run.told ≡ answer (command_plan standard_table (create_keyset template out)) run.told = ap (λ a. answer (command_plan standard_table a) run.told) asked in
+    let same : answer (command_plan standard_table run.asked) run.told ≡ answer (command_plan standard_table (create_keyset None template out)) run.told = ap (λ a. answer (command_plan standard_table a) run.told) asked in
     created law binary json firsts firsts_stored run.told template out after
     (ap (λ (a : Answer). a.status) (sym same) ∙ sym is.status) random form
     (ap (λ (a : Answer). bytes_at out.file a.files a.output) (sym same) ∙ put_by out.file old new _ after.bytes is put)

@@ -21,12 +21,12 @@ use Rattle.tinkey_readable.proofs.StreamKeyLemmas.{fit_sound, sound_fit}
 use Rattle.tinkey_readable.specs.Anywhere.{DopensAnywhere, OpensAnywhere, OpensEnvelopeAnywhere, OpensRangeAnywhere, OpensStreamAnywhere, Serves, ServesStreams, UnwrapsAnywhere, VerifiesAnywhere}
 use Rattle.tinkey_readable.specs.KeptRuns.{Course, Event, EventDraws, HaveLed, KeptByCommands, KeptByItsIdAlone, LiesAlone, passed_by, passed_on, passed_wrapped}
 use Rattle.tinkey_readable.specs.KeptTexts.{ReadsAfterCommands, ReadsByItsIdAlone, StillReads}
-use Rattle.tinkey_readable.specs.Runs.{HoldsBytes, RunStep, WrapStep, Written, keyset_of}
+use Rattle.tinkey_readable.specs.Runs.{HoldsBytes, LocksStep, RunStep, Written, keyset_of}
 
 -- ---- what events lead to
 
 -- some edits of the first keyset
-events_led : RunStep → WrapStep → SessionIsEdits → (events : List Event) (before after : Written) (led : HaveLed events before after) → AllByRecursion EventDraws events → HoldsBytes before → (old : Keys) → keyset_of before ≡ Some old → length before.bytes ≤ keyset_limit → Led old after
+events_led : RunStep → LocksStep → SessionIsEdits → (events : List Event) (before after : Written) (led : HaveLed events before after) → AllByRecursion EventDraws events → HoldsBytes before → (old : Keys) → keyset_of before ≡ Some old → length before.bytes ≤ keyset_limit → Led old after
 events_led law wrap sessions [] before after led bytes holds old is within = record {
   new = old;
   read = ap keyset_of (sym led) ∙ is;
@@ -42,9 +42,10 @@ events_led law wrap sessions (passed_on run ∷ later) before after (between, on
       within = rest.within;
       edited = edited_on old g.new rest.new (done_edits sessions standard_table run.told run.asked old g.new g.does) rest.edited;
     }
-events_led law wrap sessions (passed_wrapped wrap_run unwrap_run ∷ later) before after (between, went, led) bytes holds old is within =
-    let k = wrap wrap_run unwrap_run before between old (goes_of wrap_run unwrap_run before between went) bytes.0 holds is in
-    events_led law wrap sessions later between after led bytes.1 k.holds old k.read k.within
+events_led law wrap sessions (passed_wrapped wrap_run locked unwrap_run ∷ later) before after (between, went, led) bytes holds old is within =
+    let k = wrap wrap_run locked unwrap_run before between old (goes_of wrap_run locked unwrap_run before between went) bytes.0.0 bytes.0.1 holds is in
+    let rest = events_led law wrap sessions later between after led bytes.1 k.keeps.holds k.new k.keeps.read k.keeps.within in
+    record { new = rest.new; read = rest.read; within = rest.within; edited = edited_on old k.new rest.new k.edited rest.edited }
 events_led law wrap sessions (passed_by ∷ later) before after (between, stays, led) bytes holds old is within =
     let same : between ≡ before = same_written before between stays in
     events_led law wrap sessions later between after led bytes.1 (subst HoldsBytes (sym same) holds) old (ap keyset_of same ∙ is) (subst (λ (w : Written). length w.bytes ≤ keyset_limit) (sym same) within)
@@ -97,17 +98,17 @@ reads_there a old keys r prefix after has read key serves = record {
 }
 
 -- after a course of events in which the key stayed
-read_after : ReadKeysFit → RunStep → WrapStep → SessionIsEdits → EditLaws → AnywhereLaws → (events : List Event) (before after : Written) (old : Keys) (r : Record) (prefix : List ℕ) → Course events before after old
+read_after : ReadKeysFit → RunStep → LocksStep → SessionIsEdits → EditLaws → AnywhereLaws → (events : List Event) (before after : Written) (old : Keys) (r : Record) (prefix : List ℕ) → Course events before after old
     → length before.bytes ≤ keyset_limit → prefix_of r ≡ Some prefix → LiesAlone r after → StillReads old r after
 read_after fit law wrap sessions e a events before after old r prefix course within has lies =
     let l = events_led law wrap sessions events before after course.led course.bytes course.holds old course.read within in
     let s = still_serves e old after (read_keyset fit before.form before.bytes old within course.read) l in
     reads_there a old l.new r prefix after has l.read (subst (HasSameKey r) (same_Some _ _ (sym lies.read ∙ l.read)) lies.key) s
 
-pub reads_after_commands : ReadKeysFit → RunStep → WrapStep → SessionIsEdits → EditLaws → AnywhereLaws → KeptByCommands → ReadsAfterCommands
+pub reads_after_commands : ReadKeysFit → RunStep → LocksStep → SessionIsEdits → EditLaws → AnywhereLaws → KeptByCommands → ReadsAfterCommands
 reads_after_commands fit law wrap sessions e a kept events before after old r prefix course within has key spares =
     read_after fit law wrap sessions e a events before after old r prefix course within has (kept events before after old r prefix course has key spares)
 
-pub reads_by_its_id_alone : ReadKeysFit → RunStep → WrapStep → SessionIsEdits → EditLaws → AnywhereLaws → KeptByItsIdAlone → ReadsByItsIdAlone
+pub reads_by_its_id_alone : ReadKeysFit → RunStep → LocksStep → SessionIsEdits → EditLaws → AnywhereLaws → KeptByItsIdAlone → ReadsByItsIdAlone
 reads_by_its_id_alone fit law wrap sessions e a kept events before after old r prefix course within apart has key spares =
     read_after fit law wrap sessions e a events before after old r prefix course within has (kept events before after old r prefix course apart has key spares)

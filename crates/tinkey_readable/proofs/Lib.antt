@@ -14,11 +14,14 @@ pub mod KeptRunLemmas
 pub mod KeptTextLemmas
 pub mod LineCaseLemmas
 pub mod LineRunLemmas
+pub mod LockLemmas
+pub mod LockedRunLemmas
 pub mod PutLemmas
 pub mod ReachLemmas
 pub mod ReadableLemmas
 pub mod RunLemmas
 pub mod ReadBytesLemmas
+pub mod ReadIdLemmas
 pub mod RangeRunLemmas
 pub mod StreamKeyLemmas
 pub mod StreamRunLemmas

@@ -29,7 +29,7 @@ use Rattle.tinkey_plans.specs.Plan.{Answer, Told, answer, exchanges, writes}
 use Rattle.tinkey_plans.specs.Session.{holds_session, saves}
 use Rattle.tinkey_plans.specs.Using.{limit_for, works}
 use Rattle.tinkey_words.specs.declared.words.rows.Format.{Format}
-use Rattle.tinkey_words.specs.Words.{Asked, AskedWork, Place, create_keyset, edit_keyset, list_keyset, convert_keyset, list_key_templates, use_keyset, use_envelope, seal_stream, open_stream, open_range, self_test, session, wrap_keyset, unwrap_keyset, help, version, to_seal, to_open, to_dseal, to_dopen, to_tag, to_verify, to_derive, primitive_for}
+use Rattle.tinkey_words.specs.Words.{Asked, AskedWork, Lock, Place, create_keyset, edit_keyset, list_keyset, convert_keyset, list_key_templates, use_keyset, use_envelope, seal_stream, open_stream, open_range, self_test, session, help, version, to_seal, to_open, to_dseal, to_dopen, to_tag, to_verify, to_derive, primitive_for}
 use Rattle.tinkey_readable.specs.LineRuns.{asks, done_reply}
 use Rattle.tinkey_readable.specs.Runs.{Does, Handing, HandsOn, Run, Written, bytes_at, hands_on, keyset_of, read_in, session_handing}
 use Rattle.tinkey_readable.proofs.ReachLemmas.{IsDoneAnswer, load_done}
@@ -82,26 +82,25 @@ turn_on table (line ∷ later) keys random (suc i) t m at e = elim (serve table 
 
 -- what is asked of a session
 record IsSessionAsked (asked : Asked) : Type 0 where
+  lock : Lock
   name : List ℕ
   form : Format
   out : Place
-  is : session name form out ≡ asked
+  is : session lock name form out ≡ asked
 
 session_asked : (asked : Asked) → IsSession asked → IsSessionAsked asked
-session_asked (session name form out) is = record { name = name; form = form; out = out; is = refl }
-session_asked (create_keyset template out) is = absurd is
-session_asked (edit_keyset edit in' out) is = absurd is
-session_asked (list_keyset in') is = absurd is
-session_asked (convert_keyset in' out) is = absurd is
+session_asked (session lock name form out) is = record { lock = lock; name = name; form = form; out = out; is = refl }
+session_asked (create_keyset lock template out) is = absurd is
+session_asked (edit_keyset lock edit in' out) is = absurd is
+session_asked (list_keyset lock in') is = absurd is
+session_asked (convert_keyset lock how in' out) is = absurd is
 session_asked list_key_templates is = absurd is
-session_asked (use_keyset name form work out) is = absurd is
-session_asked (use_envelope name form template work out) is = absurd is
-session_asked (seal_stream name form ad) is = absurd is
-session_asked (open_stream name form ad) is = absurd is
-session_asked (open_range name form ad range out) is = absurd is
+session_asked (use_keyset lock name form work out) is = absurd is
+session_asked (use_envelope lock name form template work out) is = absurd is
+session_asked (seal_stream lock name form ad) is = absurd is
+session_asked (open_stream lock name form ad) is = absurd is
+session_asked (open_range lock name form ad range out) is = absurd is
 session_asked (self_test seed lines) is = absurd is
-session_asked (wrap_keyset name form in' out) is = absurd is
-session_asked (unwrap_keyset name form in' out) is = absurd is
 session_asked (help topic) is = absurd is
 session_asked version is = absurd is
 
@@ -116,23 +115,30 @@ AreShort lines = AllByRecursion (λ line. length line ≤ line_limit) lines
 
 -- they are within the limit of a line, since the session went to its end
 named_short : TalkIsTurns → (table : Table) (name : List ℕ) (form : Format) (out : Place) (file : Option (List ℕ)) (told : Told) (before : Written) (old : Keys) (h : Handing) → session_handing name form out file ≡ Some h
-    → IsDoneAnswer (answer (command_plan table (session name form out)) told) → h.taken.form ≡ before.form → bytes_at h.taken.file told.files told.input ≡ Some before.bytes → keyset_of before ≡ Some old → AreShort (lines_of told.input)
+    → IsDoneAnswer (answer (command_plan table (session None name form out)) told) → h.taken.form ≡ before.form → bytes_at h.taken.file told.files told.input ≡ Some before.bytes → keyset_of before ≡ Some old → AreShort (lines_of told.input)
 named_short law table name form out None told before old h e done form_is read is = clash e
 named_short law table name form out (Some file) told before old h e done form_is read is =
     let same = same_Some _ _ e in
     let form_same : form ≡ before.form = ap (λ (x : Handing). x.taken.form) same ∙ form_is in
     let there : map.get told.files name ≡ Some before.bytes = ap (λ (x : Handing). bytes_at x.taken.file told.files told.input) same ∙ read in
-    let l = load_done name form before.bytes old (holds_session table out) told there (ap (λ x. read_in x before.bytes) form_same ∙ is) done in
-    let whole : IsDoneAnswer (answer (holds_session table out old) told) = ap (λ (a : Answer). a.status) (sym l) ∙ done in
-    let free = free_done out.file (λ free. exchanges (talk table old) (saves out)) told whole in
-    (talk_done law table out old told (ap (λ (a : Answer). a.status) (sym free) ∙ whole)).short
+    let l = load_done name form before.bytes old (holds_session table None out) told there (ap (λ x. read_in x before.bytes) form_same ∙ is) done in
+    let whole : IsDoneAnswer (answer (holds_session table None out old) told) = ap (λ (a : Answer). a.status) (sym l) ∙ done in
+    let free = free_done out.file (λ free. exchanges (talk table old) (saves table None out)) told whole in
+    (talk_done law table None out old told (ap (λ (a : Answer). a.status) (sym free) ∙ whole)).short
+
+-- a session under a lock hands nothing on
+session_short : TalkIsTurns → (table : Table) (lock : Lock) (name : List ℕ) (form : Format) (out : Place) (run : Run) (before after : Written) (old : Keys) → session lock name form out ≡ run.asked → HandsOn table run before after → keyset_of before ≡ Some old → AreShort (lines_of run.told.input)
+session_short law table None name form out run before after old is hands read =
+    let d = hands.handed in
+    named_short law table name form out out.file run.told before old hands.handing (ap hands_on is ∙ hands.hands)
+    (ap (λ a. (answer (command_plan table a) run.told).status) is ∙ d.done) d.read_form d.read read
+session_short law table (Some master) name form out run before after old is hands read =
+    let e : None ≡ Some hands.handing = ap hands_on is ∙ hands.hands in clash e
 
 pub lines_short : TalkIsTurns → (table : Table) (run : Run) (before after : Written) (old : Keys) → HandsOn table run before after → IsSession run.asked → keyset_of before ≡ Some old → AreShort (lines_of run.told.input)
 lines_short law table run before after old hands is read =
     let s = session_asked run.asked is in
-    let d = hands.handed in
-    named_short law table s.name s.form s.out s.out.file run.told before old hands.handing (ap hands_on s.is ∙ hands.hands)
-    (ap (λ a. (answer (command_plan table a) run.told).status) s.is ∙ d.done) d.read_form d.read read
+    session_short law table s.lock s.name s.form s.out run before after old s.is hands read
 
 abbrev none_wrong : Line → Result Line (Unit {0})
 none_wrong line = Ok line

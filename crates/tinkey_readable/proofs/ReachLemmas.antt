@@ -24,7 +24,8 @@ use Rattle.tinkey_words.specs.declared.words.rows.Format.TheVariants as formats
 use Rattle.tinkey_plans.specs.Plan.{Plan, Told, Answer, answer, refused, load_answer, create_answer, draw_answer, ends}
 use Rattle.tinkey_readable.specs.Runs.{IsFree, read_in, bytes_at, edit_of}
 use Rattle.tinkey_plans.specs.Steps.{keyset_limit, keyset_in, with_keyset, with_json, loads_keyset, reads_keyset, takes_keyset, keyset_at, reads_input, finds_edit, with_row, makes_keyset, with_made, puts, puts_keyset, written_in}
-use Rattle.tinkey_plans.specs.Using.{handles, limit_for, unless_unfit, use_output, works}
+use Rattle.tinkey_plans.specs.Handles.{handles, unless_unfit}
+use Rattle.tinkey_plans.specs.Using.{limit_for, use_output, works}
 use Rattle.tinkey_words.specs.Words.{AskedEdit, AskedWork, Place, primitive_for}
 
 abbrev pub IsDoneAnswer : Answer → Type 0
@@ -225,7 +226,7 @@ input_reached limit next told within =
     went_on (nat_le (length told.input) limit) (answer (next told.input) (record told { input = [] })) (record (refused told status.InputTooLong) { input = Some (drop (limit + 1) told.input) }) (grind (arith, nat_tests, within))
 
 -- work behind the keyset and its fitness
-abbrev work_behind : Table → Keys → AskedWork → (List ℕ → Plan) → Plan
+abbrev pub work_behind : Table → Keys → AskedWork → (List ℕ → Plan) → Plan
 work_behind table keys work next = reads_input (limit_for work) (λ input. works table keys work input next)
 
 pub record UsedKeys (table : Table) (keys : Keys) (work : AskedWork) (next : List ℕ → Plan) (told : Told) (a : Answer) : Type 0 where
@@ -233,25 +234,32 @@ pub record UsedKeys (table : Table) (keys : Keys) (work : AskedWork) (next : Lis
   pub fits : length told.input ≤ limit_for work
   pub goes_on : a ≡ answer (works table keys work told.input next) (record told { input = [] })
 
-pub used_done : (table : Table) (name : List ℕ) (form : Format) (work : AskedWork) (next : List ℕ → Plan) (bytes : List ℕ) (keys : Keys) (told : Told) → map.get told.files name ≡ Some bytes → read_in form bytes ≡ Some keys → IsDoneAnswer (answer (use_output table name form work next) told)
-    → UsedKeys table keys work next told (answer (use_output table name form work next) told)
-used_done table name form work next bytes keys told there e done =
-    let l = load_done name form bytes keys (λ k. handles table (primitive_for work) k (λ fit. work_behind table k work next)) told there e done in
-    let d : IsDoneAnswer (answer (unless_unfit (unfit keys (primitive_for work) table) (work_behind table keys work next)) told) = ap (λ (a : Answer). a.status) (sym l) ∙ done in
+-- behind the keyset
+pub use_done : (table : Table) (work : AskedWork) (next : List ℕ → Plan) (keys : Keys) (told : Told) → IsDoneAnswer (answer (handles table (primitive_for work) keys (λ fit. work_behind table keys work next)) told)
+    → UsedKeys table keys work next told (answer (handles table (primitive_for work) keys (λ fit. work_behind table keys work next)) told)
+use_done table work next keys told done =
+    let d : IsDoneAnswer (answer (unless_unfit (unfit keys (primitive_for work) table) (work_behind table keys work next)) told) = done in
     let fit = unfit_done (unfit keys (primitive_for work) table) (work_behind table keys work next) told d in
     let f : answer (unless_unfit (unfit keys (primitive_for work) table) (work_behind table keys work next)) told ≡ answer (work_behind table keys work next) told = ap (λ u. answer (unless_unfit u (work_behind table keys work next)) told) fit in
     record {
       fit = fit;
       fits = input_within (limit_for work) (λ input. works table keys work input next) told (ap (λ (a : Answer). a.status) (sym f) ∙ d);
-      goes_on = l ∙ f ∙ input_done (limit_for work) (λ input. works table keys work input next) told (ap (λ (a : Answer). a.status) (sym f) ∙ d);
+      goes_on = f ∙ input_done (limit_for work) (λ input. works table keys work input next) told (ap (λ (a : Answer). a.status) (sym f) ∙ d);
     }
 
-pub used_within : (table : Table) (name : List ℕ) (form : Format) (work : AskedWork) (next : List ℕ → Plan) (bytes : List ℕ) (told : Told) → map.get told.files name ≡ Some bytes → IsDoneAnswer (answer (use_output table name form work next) told) → length bytes ≤ keyset_limit
+pub used_done : (table : Table) (name : List ℕ) (form : Format) (work : AskedWork) (next : List ℕ → Plan) (bytes : List ℕ) (keys : Keys) (told : Told) → map.get told.files name ≡ Some bytes → read_in form bytes ≡ Some keys → IsDoneAnswer (answer (use_output table None name form work next) told)
+    → UsedKeys table keys work next told (answer (use_output table None name form work next) told)
+used_done table name form work next bytes keys told there e done =
+    let l = load_done name form bytes keys (λ k. handles table (primitive_for work) k (λ fit. work_behind table k work next)) told there e done in
+    let u = use_done table work next keys told (ap (λ (a : Answer). a.status) (sym l) ∙ done) in
+    record { fit = u.fit; fits = u.fits; goes_on = l ∙ u.goes_on }
+
+pub used_within : (table : Table) (name : List ℕ) (form : Format) (work : AskedWork) (next : List ℕ → Plan) (bytes : List ℕ) (told : Told) → map.get told.files name ≡ Some bytes → IsDoneAnswer (answer (use_output table None name form work next) told) → length bytes ≤ keyset_limit
 used_within table name form work next bytes told there done = load_within name form bytes (λ k. handles table (primitive_for work) k (λ fit. work_behind table k work next)) told there done
 
 pub used_reached : (table : Table) (name : List ℕ) (form : Format) (work : AskedWork) (next : List ℕ → Plan) (bytes : List ℕ) (keys : Keys) (told : Told) → map.get told.files name ≡ Some bytes → read_in form bytes ≡ Some keys → length bytes ≤ keyset_limit
     → unfit keys (primitive_for work) table ≡ None → length told.input ≤ limit_for work
-    → answer (use_output table name form work next) told ≡ answer (works table keys work told.input next) (record told { input = [] })
+    → answer (use_output table None name form work next) told ≡ answer (works table keys work told.input next) (record told { input = [] })
 used_reached table name form work next bytes keys told there e within fit fits =
     load_reached name form bytes keys (λ k. handles table (primitive_for work) k (λ x. work_behind table k work next)) told there e within
     ∙ ap (λ u. answer (unless_unfit u (work_behind table keys work next)) told) fit

@@ -66,9 +66,9 @@ none_readable = record {
 -- ---- the answer of a session
 
 -- saving writes nothing
-saves_nothing : (file : Option (List ℕ)) (form : Format) (keys : Keys) (told : Told) → (answer (saves_as file form keys) told).output ≡ []
-saves_nothing None form keys told = refl
-saves_nothing (Some name) form keys told = by (nat_le (length (written_in form keys)) keyset_limit) (map.get told.files name) refl
+saves_nothing : (table : Table) (file : Option (List ℕ)) (form : Format) (keys : Keys) (told : Told) → (answer (saves_as table None file form keys) told).output ≡ []
+saves_nothing table None form keys told = refl
+saves_nothing table (Some name) form keys told = by (nat_le (length (written_in form keys)) keyset_limit) (map.get told.files name) refl
   where
     by : (b : Bool) (found : Option (List ℕ)) → map.get told.files name ≡ found → (answer (if b then creates name (written_in form keys) status.OutExists tt else ends status.KeysetTooLong tt) told).output ≡ []
     by true None is = ap (λ f. (create_answer f told name (written_in form keys) (refused told status.OutExists)).output) is
@@ -77,14 +77,14 @@ saves_nothing (Some name) form keys told = by (nat_le (length (written_in form k
 
 -- what the answer of the session itself says of the run
 talk_replied : SessionOpens → SessionDopens → SessionOpensPresent → SessionDopensPresent → SessionVerifies → TalkIsTurns → (table : Table) (out : Place) (keys : Keys) (told : Told) (old : World) (s : Status) (new : World)
-    → IsKeyset keys → IsStated s → IsAnswer (answer (exchanges (talk table keys) (saves out)) told) old s new → HasReplies table keys told old s new
+    → IsKeyset keys → IsStated s → IsAnswer (answer (exchanges (talk table keys) (saves table None out)) told) old s new → HasReplies table keys told old s new
 talk_replied opens dopens opens_present dopens_present verifies law table out keys told old s new is stated a = by_stop x.stop refl a
   where
     x : Talk
     x = talk table keys told.input told.random true
 
     next : Answer
-    next = answer (saves out x.keys) (record told { input = []; random = x.random })
+    next = answer (saves table None out x.keys) (record told { input = []; random = x.random })
 
     told_so : (s ≡ status.Done → x.stop ≡ goes) → (output : List ℕ) → output ≡ x.output → Took old.sink new.sink output → HasReplies table keys told old s new
     told_so done output same took =
@@ -101,7 +101,7 @@ talk_replied opens dopens opens_present dopens_present verifies law table out ke
         }
 
     by_stop : (stop : Stop) → x.stop ≡ stop → IsAnswer (talk_answer stop x told next) old s new → HasReplies table keys told old s new
-    by_stop goes is a = told_so (λ h. is) (x.output ++ next.output) (ap (λ l. x.output ++ l) (saves_nothing out.file out.form x.keys (record told { input = []; random = x.random })) ∙ append-nil x.output) a.output
+    by_stop goes is a = told_so (λ h. is) (x.output ++ next.output) (ap (λ l. x.output ++ l) (saves_nothing table out.file out.form x.keys (record told { input = []; random = x.random })) ∙ append-nil x.output) a.output
     by_stop wants is a = absurd (not_fault s stated a.status)
     by_stop (passes long_line) is a = told_so (λ h. let clash : status.Done ≡ status.LineTooLong = sym h ∙ a.status in absurd (cc)) x.output refl a.output
     by_stop (passes many_lines) is a = told_so (λ h. let clash : status.Done ≡ status.TooManyLines = sym h ∙ a.status in absurd (cc)) x.output refl a.output
@@ -122,32 +122,32 @@ none_replied table keys told old s new undone other took = record {
 
 -- behind a name that was looked up
 replied : SessionOpens → SessionDopens → SessionOpensPresent → SessionDopensPresent → SessionVerifies → TalkIsTurns → (table : Table) (out : Place) (keys : Keys) (told : Told) (old : World) (s : Status) (new : World)
-    → IsKeyset keys → IsStated s → IsAnswer (answer (holds_session table out keys) told) old s new → HasReplies table keys told old s new
+    → IsKeyset keys → IsStated s → IsAnswer (answer (holds_session table None out keys) told) old s new → HasReplies table keys told old s new
 replied opens dopens opens_present dopens_present verifies law table out keys told old s new is stated a = by_file out.file a
   where
-    went : IsAnswer (answer (exchanges (talk table keys) (saves out)) told) old s new → HasReplies table keys told old s new
+    went : IsAnswer (answer (exchanges (talk table keys) (saves table None out)) told) old s new → HasReplies table keys told old s new
     went a = talk_replied opens dopens opens_present dopens_present verifies law table out keys told old s new is stated a
 
-    by_found : (found : Option (List ℕ)) → IsAnswer (look_answer found (refused told status.OutExists) (answer (exchanges (talk table keys) (saves out)) told)) old s new → HasReplies table keys told old s new
+    by_found : (found : Option (List ℕ)) → IsAnswer (look_answer found (refused told status.OutExists) (answer (exchanges (talk table keys) (saves table None out)) told)) old s new → HasReplies table keys told old s new
     by_found None a = went a
     by_found (Some there) a = none_replied table keys told old s new (λ h. let clash : status.Done ≡ status.OutExists = sym h ∙ a.status in absurd (cc)) (not_unwritten s stated) a.output
 
-    by_file : (file : Option (List ℕ)) → IsAnswer (answer (finds_free file (λ free. exchanges (talk table keys) (saves out))) told) old s new → HasReplies table keys told old s new
+    by_file : (file : Option (List ℕ)) → IsAnswer (answer (finds_free file (λ free. exchanges (talk table keys) (saves table None out))) told) old s new → HasReplies table keys told old s new
     by_file None a = went a
     by_file (Some name) a = by_found (map.get told.files name) a
 
 pub readable_answer : SessionOpens → SessionDopens → SessionOpensPresent → SessionDopensPresent → SessionVerifies → TalkIsTurns → ReadKeysFit → AnswersAreReadable
 readable_answer opens dopens opens_present dopens_present verifies law fit table words old s new stated answers = record {
   replies = λ told name bytes form out keys tells is there read.
-      let a : IsAnswer (answer (loads_keyset name form (holds_session table out)) told) old s new = subst (λ p. IsAnswer (answer p told) old s new) (ap (λ r. asked_plan table r words) is) (answers.over told tells stated) in
-      let b : IsAnswer (if nat_le (length bytes) keyset_limit then answer (keyset_in form bytes (holds_session table out)) told else refused told status.KeysetTooLong) old s new = rw there at a in
+      let a : IsAnswer (answer (loads_keyset name form (holds_session table None out)) told) old s new = subst (λ p. IsAnswer (answer p told) old s new) (ap (λ r. asked_plan table r words) is) (answers.over told tells stated) in
+      let b : IsAnswer (if nat_le (length bytes) keyset_limit then answer (keyset_in form bytes (holds_session table None out)) told else refused told status.KeysetTooLong) old s new = rw there at a in
       by_length told bytes form out keys read (nat_le (length bytes) keyset_limit) refl b;
 }
   where
     by_length : (told : Told) (bytes : List ℕ) (form : Format) (out : Place) (keys : Keys) → read_in form bytes ≡ Some keys → (t : Bool) → nat_le (length bytes) keyset_limit ≡ t
-        → IsAnswer (if t then answer (keyset_in form bytes (holds_session table out)) told else refused told status.KeysetTooLong) old s new → HasReplies table keys told old s new
+        → IsAnswer (if t then answer (keyset_in form bytes (holds_session table None out)) told else refused told status.KeysetTooLong) old s new → HasReplies table keys told old s new
     by_length told bytes form out keys read true is a =
         replied opens dopens opens_present dopens_present verifies law table out keys told old s new (read_keyset fit form bytes keys (grind (arith, nat_tests, is)) read) stated
-        (subst (λ x. IsAnswer x old s new) (keyset_reached form bytes keys (holds_session table out) told read) a)
+        (subst (λ x. IsAnswer x old s new) (keyset_reached form bytes keys (holds_session table None out) told read) a)
     by_length told bytes form out keys read false is a =
         none_replied table keys told old s new (λ h. let clash : status.Done ≡ status.KeysetTooLong = sym h ∙ a.status in absurd (cc)) (not_unwritten s stated) a.output

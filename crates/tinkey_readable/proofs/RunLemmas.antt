@@ -45,13 +45,13 @@ use Rattle.tinkey_words.specs.declared.words.rows.Format.TheVariants as formats
 use Rattle.tinkey_plans.specs.Commands.{command_plan}
 use Rattle.tinkey_plans.specs.Plan.{Told, Answer, Plan, answer, exchanges, writes, draw_answer, look_answer, refused, talk_answer}
 use Rattle.tinkey_plans.specs.Session.{finds_free, holds_session, saves, saves_as}
-use Rattle.tinkey_readable.specs.Runs.{Handing, hands_on, session_handing, AreRuns, Does, Gives, HandsOn, HoldsBytes, IsDone, Keeps, LeadOn, ReadIsStored, Passage, PassesBytes, Run, RunStep, WasDone, WrapStep, Written, by_run, by_wrap, bytes_at, edit_of, keyset_of, read_in}
+use Rattle.tinkey_readable.specs.Runs.{Handing, hands_on, session_handing, AreRuns, Does, Gives, HandsOn, HoldsBytes, IsDone, Keeps, LeadOn, ReadIsStored, Passage, PassesBytes, Run, RunStep, WasDone, LocksStep, Written, by_run, by_wrap, bytes_at, edit_of, keyset_of, read_in, shown}
 use Rattle.tinkey_plans.specs.Laws.{FitKeysetsAnswer}
 use Rattle.tinkey_plans.specs.Steps.{input_limit, sealed_limit, keyset_limit, takes_keyset, makes_keyset, puts_keyset, with_made, written_in}
 use Rattle.tinkey_plans.specs.Using.{as_drawn, limit_for, made_bytes, with_opened, with_verified, works, puts_output}
-use Rattle.tinkey_words.specs.Words.{Asked, AskedEdit, AskedWork, Place, create_keyset, edit_keyset, list_keyset, convert_keyset, list_key_templates, use_keyset, use_envelope, seal_stream, open_stream, open_range, self_test, session, wrap_keyset, unwrap_keyset, to_seal, to_dseal, to_tag, primitive_for, help, version}
+use Rattle.tinkey_words.specs.Words.{Asked, AskedEdit, AskedWork, Output, Place, create_keyset, edit_keyset, list_keyset, as_taken, in_clear, under, convert_keyset, list_key_templates, use_keyset, use_envelope, seal_stream, open_stream, open_range, self_test, session, to_seal, to_dseal, to_tag, primitive_for, help, version}
 use Rattle.seal_wrap.specs.Sealings.{DsealingsFit, SealingsFit}
-use Rattle.tinkey_readable.proofs.ReachLemmas.{load_done, load_within, IsDoneAnswer, behind, found_edit, made_done, put_done, taken_done, taken_within, used_done, used_reached, used_within}
+use Rattle.tinkey_readable.proofs.ReachLemmas.{load_done, load_within, IsDoneAnswer, UsedKeys, behind, found_edit, made_done, put_done, taken_done, taken_within, used_done, used_reached, used_within}
 use Rattle.tinkey_readable.proofs.PutLemmas.{made_is, made_put, made_written, worked}
 use Rattle.tinkey_readable.proofs.WrittenBytesLemmas.{written_bytes}
 
@@ -61,7 +61,7 @@ of_built : (keys got : Keys) (o : Option KeysetFault) → fault_of got ≡ o →
 of_built keys got None is e = let same : got ≡ keys = cc in ap fault_of (sym same) ∙ is
 of_built keys got (Some fault) is e = absurd (cc)
 
-read_binary_keyset : (bytes : List ℕ) (keys : Keys) → reads_binary bytes ≡ Ok keys → fault_of keys ≡ None
+pub read_binary_keyset : (bytes : List ℕ) (keys : Keys) → reads_binary bytes ≡ Ok keys → fault_of keys ≡ None
 unfolding reads_binary
 read_binary_keyset bytes keys e = of_read _ e
   where
@@ -139,7 +139,7 @@ pub template_row : (name : List ℕ) (row : Row) → row_named name ≡ Some row
 template_row name row e = template_there name row (ap (λ (o : Option Row). template_or o (is_asymmetric name)) e)
 
 -- the edit of a name has its template
-edit_template : (asked : AskedEdit) (edit : Edit) → edit_of asked ≡ Some edit → HasTemplate edit
+pub edit_template : (asked : AskedEdit) (edit : Edit) → edit_of asked ≡ Some edit → HasTemplate edit
 edit_template (edits.Add name) edit e = let m = then_some (λ row. Some (edits.Add row)) (row_named name) edit e in subst HasTemplate (same_Some _ _ m.2) (template_row name m.0 m.1)
 edit_template (edits.Rotate name) edit e = let m = then_some (λ row. Some (edits.Rotate row)) (row_named name) edit e in subst HasTemplate (same_Some _ _ m.2) (template_row name m.0 m.1)
 edit_template (edits.Promote id) edit e = subst HasTemplate (same_Some _ _ e) tt
@@ -172,11 +172,11 @@ behind_random (Some name) told = refl
 behind_random None told = refl
 
 edit_step : FaultlessKeysets → BinaryBack → JsonBack → EditsKeepKeysets → EditsKeepStored → (table : Table) (edit : AskedEdit) (in' out : Place) (told : Told) (before after : Written) (old : Keys)
-    → IsDoneAnswer (answer (command_plan table (edit_keyset edit in' out)) told)
+    → IsDoneAnswer (answer (command_plan table (edit_keyset None edit in' out)) told)
     → in'.form ≡ before.form → bytes_at in'.file told.files told.input ≡ Some before.bytes → out.form ≡ after.form
-    → bytes_at out.file (answer (command_plan table (edit_keyset edit in' out)) told).files (answer (command_plan table (edit_keyset edit in' out)) told).output ≡ Some after.bytes
+    → bytes_at out.file (answer (command_plan table (edit_keyset None edit in' out)) told).files (answer (command_plan table (edit_keyset None edit in' out)) told).output ≡ Some after.bytes
     → AllByRecursion (λ b. b < 256) told.random → keyset_of before ≡ Some old → AreStored old
-    → Gives table (record { asked = edit_keyset edit in' out; told = told }) old after
+    → Gives table (record { asked = edit_keyset None edit in' out; told = told }) old after
 edit_step law binary json keeps keeps_stored table edit in' out told before after old done form read put_form put random is stored =
     let f = found_edit edit (λ e. takes_keyset in' (λ keys. makes_keyset (step keys e) (puts_keyset out))) told done in
     let d : IsDoneAnswer (answer (takes_keyset in' (λ keys. makes_keyset (step keys f.edit) (puts_keyset out))) told) = ap (λ (a : Answer). a.status) (sym f.goes_on) ∙ done in
@@ -189,7 +189,7 @@ edit_step law binary json keeps keeps_stored table edit in' out told before afte
     let gave : step old f.edit told.random ≡ Some m.drawn = ap (step old f.edit) (sym (behind_random in'.file told)) ∙ m.gave in
     let template = edit_template edit f.edit f.is in
     let faultless = read_faultless before old is in
-    given law binary json table (record { asked = edit_keyset edit in' out; told = told }) old m.new out after put_form put
+    given law binary json table (record { asked = edit_keyset None edit in' out; told = told }) old m.new out after put_form put
     (ap (λ (a : Answer). bytes_at out.file a.files a.output) whole ∙ p.there)
     p.within
     (keeps old m.new f.edit told.random m.drawn template faultless gave m.made)
@@ -197,30 +197,31 @@ edit_step law binary json keeps keeps_stored table edit in' out told before afte
     (record { edit = f.edit; is = f.is; stepped = m.drawn; steps = gave; accepted = m.made })
 
 convert_step : FaultlessKeysets → BinaryBack → JsonBack → (table : Table) (in' out : Place) (told : Told) (before after : Written) (old : Keys)
-    → IsDoneAnswer (answer (command_plan table (convert_keyset in' out)) told)
+    → IsDoneAnswer (answer (command_plan table (convert_keyset None as_taken in' out)) told)
     → in'.form ≡ before.form → bytes_at in'.file told.files told.input ≡ Some before.bytes → out.form ≡ after.form
-    → bytes_at out.file (answer (command_plan table (convert_keyset in' out)) told).files (answer (command_plan table (convert_keyset in' out)) told).output ≡ Some after.bytes
+    → bytes_at out.file (answer (command_plan table (convert_keyset None as_taken in' out)) told).files (answer (command_plan table (convert_keyset None as_taken in' out)) told).output ≡ Some after.bytes
     → keyset_of before ≡ Some old → AreStored old
-    → Gives table (record { asked = convert_keyset in' out; told = told }) old after
+    → Gives table (record { asked = convert_keyset None as_taken in' out; told = told }) old after
 convert_step law binary json table in' out told before after old done form read put_form put is stored =
     let t = taken_done in' before.bytes old (puts_keyset out) told read (ap (λ x. read_in x before.bytes) form ∙ is) done in
     let p = put_done out old (behind in'.file told) (ap (λ (a : Answer). a.status) (sym t) ∙ done) in
-    given law binary json table (record { asked = convert_keyset in' out; told = told }) old old out after put_form put
+    given law binary json table (record { asked = convert_keyset None as_taken in' out; told = told }) old old out after put_form put
     (ap (λ (a : Answer). bytes_at out.file a.files a.output) t ∙ p.there)
     p.within
     (read_faultless before old is) stored refl
 
 -- the answer of a session over its whole input that is Done, and what goes on
-pub record SessionDone (table : Table) (out : Place) (old : Keys) (told : Told) : Type 0 where
+pub record SessionDone (table : Table) (master : Option Keys) (out : Place) (old : Keys) (told : Told) : Type 0 where
   pub last : Remains
   pub is : remains table old (asked_in told.input) told.random ≡ Some last
   pub short : AllByRecursion (λ line. length line ≤ line_limit) (lines_of told.input)
   pub left : Told
-  pub goes_on : (answer (exchanges (talk table old) (saves out)) told).files ≡ (answer (saves out last.keys) left).files
-  pub done : IsDoneAnswer (answer (saves out last.keys) left)
+  pub left_bytes : last.left ≡ left.random
+  pub goes_on : (answer (exchanges (talk table old) (saves table master out)) told).files ≡ (answer (saves table master out last.keys) left).files
+  pub done : IsDoneAnswer (answer (saves table master out last.keys) left)
 
-pub talk_done : TalkIsTurns → (table : Table) (out : Place) (old : Keys) (told : Told) → IsDoneAnswer (answer (exchanges (talk table old) (saves out)) told) → SessionDone table out old told
-talk_done law table out old told done = by_stop x.stop refl done
+pub talk_done : TalkIsTurns → (table : Table) (master : Option Keys) (out : Place) (old : Keys) (told : Told) → IsDoneAnswer (answer (exchanges (talk table old) (saves table master out)) told) → SessionDone table master out old told
+talk_done law table master out old told done = by_stop x.stop refl done
   where
     x : Talk
     x = talk table old told.input told.random true
@@ -229,9 +230,9 @@ talk_done law table out old told done = by_stop x.stop refl done
     left = record told { input = []; random = x.random }
 
     next : Answer
-    next = answer (saves out x.keys) left
+    next = answer (saves table master out x.keys) left
 
-    by_stop : (s : Stop) → x.stop ≡ s → IsDoneAnswer (talk_answer s x told next) → SessionDone table out old told
+    by_stop : (s : Stop) → x.stop ≡ s → IsDoneAnswer (talk_answer s x told next) → SessionDone table master out old told
     by_stop goes is done =
         let t = law table old told.input told.random true in
         let all : lines_of told.input ≡ t.answered = t.cut ∙ ap (λ l. t.answered ++ l) (t.all is) ∙ append-nil t.answered in
@@ -240,8 +241,9 @@ talk_done law table out old told done = by_stop x.stop refl done
           is = ap (λ l. remains table old (each line_of l) told.random) all ∙ t.remains';
           short = subst (λ l. AllByRecursion (λ line. length line ≤ line_limit) l) (sym all) t.short;
           left = left;
-          goes_on = ap (λ (a : Answer). a.files) (ap (λ s. talk_answer s x told next) is) ∙ ap (λ k. (answer (saves out k) left).files) (sym t.keys');
-          done = ap (λ k. (answer (saves out k) left).status) t.keys' ∙ done;
+          left_bytes = t.left (λ h. let e : goes ≡ wants = sym is ∙ h in absurd (cc));
+          goes_on = ap (λ (a : Answer). a.files) (ap (λ s. talk_answer s x told next) is) ∙ ap (λ k. (answer (saves table master out k) left).files) (sym t.keys');
+          done = ap (λ k. (answer (saves table master out k) left).status) t.keys' ∙ done;
         }
     by_stop wants is done = absurd (cc)
     by_stop (passes long_line) is done = absurd (cc)
@@ -257,40 +259,40 @@ free_done (Some name) next told done = by (map.get told.files name) done
     by (Some there) done = absurd (cc)
 
 -- what a session saved is within the limit, and is there
-record SavedKeyset (out : Place) (keys : Keys) (told : Told) (file : List ℕ) : Type 0 where
+record SavedKeyset (table : Table) (out : Place) (keys : Keys) (told : Told) (file : List ℕ) : Type 0 where
   within : length (written_in out.form keys) ≤ keyset_limit
-  there : map.get (answer (saves out keys) told).files file ≡ Some (written_in out.form keys)
+  there : map.get (answer (saves table None out keys) told).files file ≡ Some (written_in out.form keys)
 
-saved : (out : Place) (keys : Keys) (told : Told) (file : List ℕ) → out.file ≡ Some file → IsDoneAnswer (answer (saves out keys) told) → SavedKeyset out keys told file
-saved out keys told file is done = by out.file refl is done
+saved : (table : Table) (out : Place) (keys : Keys) (told : Told) (file : List ℕ) → out.file ≡ Some file → IsDoneAnswer (answer (saves table None out keys) told) → SavedKeyset table out keys told file
+saved table out keys told file is done = by out.file refl is done
   where
-    by : (f : Option (List ℕ)) → out.file ≡ f → f ≡ Some file → IsDoneAnswer (answer (saves_as f out.form keys) told) → SavedKeyset out keys told file
+    by : (f : Option (List ℕ)) → out.file ≡ f → f ≡ Some file → IsDoneAnswer (answer (saves_as table None f out.form keys) told) → SavedKeyset table out keys told file
     by None at is done = clash is
     by (Some other) at is done =
         let p = put_done (record { file = Some other; form = out.form }) keys told done in
         record {
           within = p.within;
-          there = ap (λ f. map.get (answer (saves_as f out.form keys) told).files file) at
-              ∙ subst (λ n. map.get (answer (saves_as (Some other) out.form keys) told).files n ≡ Some (written_in out.form keys)) (same_Some _ _ is) p.there;
+          there = ap (λ f. map.get (answer (saves_as table None f out.form keys) told).files file) at
+              ∙ subst (λ n. map.get (answer (saves_as table None (Some other) out.form keys) told).files n ≡ Some (written_in out.form keys)) (same_Some _ _ is) p.there;
         }
 
 session_step : FaultlessKeysets → BinaryBack → JsonBack → TalkIsTurns → SessionIsEdits → EditedIsKeyset → SessionsKeepStored → (table : Table) (name : List ℕ) (form : Format) (out : Place) (file : List ℕ) (told : Told) (before after : Written) (old : Keys)
-    → out.file ≡ Some file → IsDoneAnswer (answer (command_plan table (session name form out)) told)
+    → out.file ≡ Some file → IsDoneAnswer (answer (command_plan table (session None name form out)) told)
     → form ≡ before.form → map.get told.files name ≡ Some before.bytes → out.form ≡ after.form
-    → bytes_at out.file (answer (command_plan table (session name form out)) told).files (answer (command_plan table (session name form out)) told).output ≡ Some after.bytes
+    → bytes_at out.file (answer (command_plan table (session None name form out)) told).files (answer (command_plan table (session None name form out)) told).output ≡ Some after.bytes
     → AllByRecursion (λ b. b < 256) told.random → keyset_of before ≡ Some old → AreStored old
-    → Gives table (record { asked = session name form out; told = told }) old after
+    → Gives table (record { asked = session None name form out; told = told }) old after
 session_step law binary json turns sessions edited keeps table name form out file told before after old named done form_is read put_form put random is stored =
-    let l = load_done name form before.bytes old (holds_session table out) told read (ap (λ x. read_in x before.bytes) form_is ∙ is) done in
-    let whole : IsDoneAnswer (answer (holds_session table out old) told) = ap (λ (a : Answer). a.status) (sym l) ∙ done in
-    let free = free_done out.file (λ free. exchanges (talk table old) (saves out)) told whole in
-    let d = talk_done turns table out old told (ap (λ (a : Answer). a.status) (sym free) ∙ whole) in
-    let p = saved out d.last.keys d.left file named d.done in
+    let l = load_done name form before.bytes old (holds_session table None out) told read (ap (λ x. read_in x before.bytes) form_is ∙ is) done in
+    let whole : IsDoneAnswer (answer (holds_session table None out old) told) = ap (λ (a : Answer). a.status) (sym l) ∙ done in
+    let free = free_done out.file (λ free. exchanges (talk table old) (saves table None out)) told whole in
+    let d = talk_done turns table None out old told (ap (λ (a : Answer). a.status) (sym free) ∙ whole) in
+    let p = saved table out d.last.keys d.left file named d.done in
     let faultless = read_faultless before old is in
     let keyset : IsKeyset old = record { faultless = faultless; words = each_of old.records (λ r s. s.held.id) stored } in
     let files = ap (λ (a : Answer). a.files) l ∙ ap (λ (a : Answer). a.files) free ∙ d.goes_on in
-    given law binary json table (record { asked = session name form out; told = told }) old d.last.keys out after put_form put
-    (ap (λ f. bytes_at f (answer (command_plan table (session name form out)) told).files (answer (command_plan table (session name form out)) told).output) named ∙ ap (λ f. map.get f file) files ∙ p.there)
+    given law binary json table (record { asked = session None name form out; told = told }) old d.last.keys out after put_form put
+    (ap (λ f. bytes_at f (answer (command_plan table (session None name form out)) told).files (answer (command_plan table (session None name form out)) told).output) named ∙ ap (λ f. map.get f file) files ∙ p.there)
     p.within
     (edited old d.last.keys (sessions table old (asked_in told.input) told.random d.last d.is) keyset).faultless
     (keeps table old (asked_in told.input) told.random d.last random stored d.is)
@@ -302,65 +304,71 @@ by_asked : FaultlessKeysets → BinaryBack → JsonBack → EditsKeepKeysets →
     → bytes_at h.put.file (answer (command_plan table asked) told).files (answer (command_plan table asked) told).output ≡ Some after.bytes
     → AllByRecursion (λ b. b < 256) told.random → keyset_of before ≡ Some old → AreStored old
     → Gives table (record { asked = asked; told = told }) old after
-by_asked law binary json keeps keeps_stored turns sessions edited keep_sessions table (edit_keyset edit in' out) told before after old h e done form read put_form put random is stored =
+by_asked law binary json keeps keeps_stored turns sessions edited keep_sessions table (edit_keyset None edit in' out) told before after old h e done form read put_form put random is stored =
     let same = same_Some _ _ e in
     edit_step law binary json keeps keeps_stored table edit in' out told before after old done
     (ap (λ (x : Handing). x.taken.form) same ∙ form) (ap (λ (x : Handing). bytes_at x.taken.file told.files told.input) same ∙ read) (ap (λ (x : Handing). x.put.form) same ∙ put_form)
-    (ap (λ (x : Handing). bytes_at x.put.file (answer (command_plan table (edit_keyset edit in' out)) told).files (answer (command_plan table (edit_keyset edit in' out)) told).output) same ∙ put)
+    (ap (λ (x : Handing). bytes_at x.put.file (answer (command_plan table (edit_keyset None edit in' out)) told).files (answer (command_plan table (edit_keyset None edit in' out)) told).output) same ∙ put)
     random is stored
-by_asked law binary json keeps keeps_stored turns sessions edited keep_sessions table (convert_keyset in' out) told before after old h e done form read put_form put random is stored =
+by_asked law binary json keeps keeps_stored turns sessions edited keep_sessions table (convert_keyset None as_taken in' out) told before after old h e done form read put_form put random is stored =
     let same = same_Some _ _ e in
     convert_step law binary json table in' out told before after old done
     (ap (λ (x : Handing). x.taken.form) same ∙ form) (ap (λ (x : Handing). bytes_at x.taken.file told.files told.input) same ∙ read) (ap (λ (x : Handing). x.put.form) same ∙ put_form)
-    (ap (λ (x : Handing). bytes_at x.put.file (answer (command_plan table (convert_keyset in' out)) told).files (answer (command_plan table (convert_keyset in' out)) told).output) same ∙ put)
+    (ap (λ (x : Handing). bytes_at x.put.file (answer (command_plan table (convert_keyset None as_taken in' out)) told).files (answer (command_plan table (convert_keyset None as_taken in' out)) told).output) same ∙ put)
     is stored
-by_asked law binary json keeps keeps_stored turns sessions edited keep_sessions table (session name form out) told before after old h e done form_is read put_form put random is stored = by_file out.file refl e
+by_asked law binary json keeps keeps_stored turns sessions edited keep_sessions table (session None name form out) told before after old h e done form_is read put_form put random is stored = by_file out.file refl e
   where
-    by_file : (f : Option (List ℕ)) → out.file ≡ f → session_handing name form out f ≡ Some h → Gives table (record { asked = session name form out; told = told }) old after
+    by_file : (f : Option (List ℕ)) → out.file ≡ f → session_handing name form out f ≡ Some h → Gives table (record { asked = session None name form out; told = told }) old after
     by_file None named e = clash e
     by_file (Some file) named e =
         let same = same_Some _ _ e in
         session_step law binary json turns sessions edited keep_sessions table name form out file told before after old named done
         (ap (λ (x : Handing). x.taken.form) same ∙ form_is) (ap (λ (x : Handing). bytes_at x.taken.file told.files told.input) same ∙ read) (ap (λ (x : Handing). x.put.form) same ∙ put_form)
-        (ap (λ (x : Handing). bytes_at x.put.file (answer (command_plan table (session name form out)) told).files (answer (command_plan table (session name form out)) told).output) same ∙ put)
+        (ap (λ (x : Handing). bytes_at x.put.file (answer (command_plan table (session None name form out)) told).files (answer (command_plan table (session None name form out)) told).output) same ∙ put)
         random is stored
-by_asked law binary json keeps keeps_stored turns sessions edited keep_sessions table (create_keyset template out) told before after old h e done form read put_form put random is stored = clash e
-by_asked law binary json keeps keeps_stored turns sessions edited keep_sessions table (list_keyset in') told before after old h e done form read put_form put random is stored = clash e
+by_asked law binary json keeps keeps_stored turns sessions edited keep_sessions table (edit_keyset (Some master) edit in' out) told before after old h e done form read put_form put random is stored = clash e
+by_asked law binary json keeps keeps_stored turns sessions edited keep_sessions table (convert_keyset (Some master) how in' out) told before after old h e done form read put_form put random is stored = clash e
+by_asked law binary json keeps keeps_stored turns sessions edited keep_sessions table (convert_keyset None in_clear in' out) told before after old h e done form read put_form put random is stored = clash e
+by_asked law binary json keeps keeps_stored turns sessions edited keep_sessions table (convert_keyset None (under master) in' out) told before after old h e done form read put_form put random is stored = clash e
+by_asked law binary json keeps keeps_stored turns sessions edited keep_sessions table (session (Some master) name form' out) told before after old h e done form read put_form put random is stored = clash e
+by_asked law binary json keeps keeps_stored turns sessions edited keep_sessions table (create_keyset lock template out) told before after old h e done form read put_form put random is stored = clash e
+by_asked law binary json keeps keeps_stored turns sessions edited keep_sessions table (list_keyset lock in') told before after old h e done form read put_form put random is stored = clash e
 by_asked law binary json keeps keeps_stored turns sessions edited keep_sessions table list_key_templates told before after old h e done form read put_form put random is stored = clash e
-by_asked law binary json keeps keeps_stored turns sessions edited keep_sessions table (use_keyset name form' work out) told before after old h e done form read put_form put random is stored = clash e
-by_asked law binary json keeps keeps_stored turns sessions edited keep_sessions table (use_envelope name form' template work out) told before after old h e done form read put_form put random is stored = clash e
-by_asked law binary json keeps keeps_stored turns sessions edited keep_sessions table (seal_stream name form' ad) told before after old h e done form read put_form put random is stored = clash e
-by_asked law binary json keeps keeps_stored turns sessions edited keep_sessions table (open_stream name form' ad) told before after old h e done form read put_form put random is stored = clash e
-by_asked law binary json keeps keeps_stored turns sessions edited keep_sessions table (open_range name form' ad range out) told before after old h e done form read put_form put random is stored = clash e
+by_asked law binary json keeps keeps_stored turns sessions edited keep_sessions table (use_keyset lock name form' work out) told before after old h e done form read put_form put random is stored = clash e
+by_asked law binary json keeps keeps_stored turns sessions edited keep_sessions table (use_envelope lock name form' template work out) told before after old h e done form read put_form put random is stored = clash e
+by_asked law binary json keeps keeps_stored turns sessions edited keep_sessions table (seal_stream lock name form' ad) told before after old h e done form read put_form put random is stored = clash e
+by_asked law binary json keeps keeps_stored turns sessions edited keep_sessions table (open_stream lock name form' ad) told before after old h e done form read put_form put random is stored = clash e
+by_asked law binary json keeps keeps_stored turns sessions edited keep_sessions table (open_range lock name form' ad range out) told before after old h e done form read put_form put random is stored = clash e
 by_asked law binary json keeps keeps_stored turns sessions edited keep_sessions table (self_test seed lines) told before after old h e done form read put_form put random is stored = clash e
-by_asked law binary json keeps keeps_stored turns sessions edited keep_sessions table (wrap_keyset name form' in' out) told before after old h e done form read put_form put random is stored = clash e
-by_asked law binary json keeps keeps_stored turns sessions edited keep_sessions table (unwrap_keyset name form' in' out) told before after old h e done form read put_form put random is stored = clash e
 by_asked law binary json keeps keeps_stored turns sessions edited keep_sessions table (help topic) told before after old h e done form read put_form put random is stored = clash e
 by_asked law binary json keeps keeps_stored turns sessions edited keep_sessions table version told before after old h e done form read put_form put random is stored = clash e
 
 -- what it read is within the limit
 asked_within : (table : Table) (asked : Asked) (told : Told) (bytes : List ℕ) (h : Handing) → hands_on asked ≡ Some h → IsDoneAnswer (answer (command_plan table asked) told)
     → bytes_at h.taken.file told.files told.input ≡ Some bytes → length bytes ≤ keyset_limit
-asked_within table (edit_keyset edit in' out) told bytes h e done read =
+asked_within table (edit_keyset None edit in' out) told bytes h e done read =
     let f = found_edit edit (λ e. takes_keyset in' (λ keys. makes_keyset (step keys e) (puts_keyset out))) told done in
     taken_within in' bytes (λ keys. makes_keyset (step keys f.edit) (puts_keyset out)) told (ap (λ (x : Handing). bytes_at x.taken.file told.files told.input) (same_Some _ _ e) ∙ read) (ap (λ (a : Answer). a.status) (sym f.goes_on) ∙ done)
-asked_within table (convert_keyset in' out) told bytes h e done read = taken_within in' bytes (puts_keyset out) told (ap (λ (x : Handing). bytes_at x.taken.file told.files told.input) (same_Some _ _ e) ∙ read) done
-asked_within table (session name form out) told bytes h e done read = by_file out.file e
+asked_within table (convert_keyset None as_taken in' out) told bytes h e done read = taken_within in' bytes (puts_keyset out) told (ap (λ (x : Handing). bytes_at x.taken.file told.files told.input) (same_Some _ _ e) ∙ read) done
+asked_within table (session None name form out) told bytes h e done read = by_file out.file e
   where
     by_file : (f : Option (List ℕ)) → session_handing name form out f ≡ Some h → length bytes ≤ keyset_limit
     by_file None e = clash e
-    by_file (Some file) e = load_within name form bytes (holds_session table out) told (ap (λ (x : Handing). bytes_at x.taken.file told.files told.input) (same_Some _ _ e) ∙ read) done
-asked_within table (create_keyset template out) told bytes h e done read = clash e
-asked_within table (list_keyset in') told bytes h e done read = clash e
+    by_file (Some file) e = load_within name form bytes (holds_session table None out) told (ap (λ (x : Handing). bytes_at x.taken.file told.files told.input) (same_Some _ _ e) ∙ read) done
+asked_within table (edit_keyset (Some master) edit in' out) told bytes h e done read = clash e
+asked_within table (convert_keyset (Some master) how in' out) told bytes h e done read = clash e
+asked_within table (convert_keyset None in_clear in' out) told bytes h e done read = clash e
+asked_within table (convert_keyset None (under master) in' out) told bytes h e done read = clash e
+asked_within table (session (Some master) name form' out) told bytes h e done read = clash e
+asked_within table (create_keyset lock template out) told bytes h e done read = clash e
+asked_within table (list_keyset lock in') told bytes h e done read = clash e
 asked_within table list_key_templates told bytes h e done read = clash e
-asked_within table (use_keyset name form work out) told bytes h e done read = clash e
-asked_within table (use_envelope name form template work out) told bytes h e done read = clash e
-asked_within table (seal_stream name form ad) told bytes h e done read = clash e
-asked_within table (open_stream name form ad) told bytes h e done read = clash e
-asked_within table (open_range name form ad range out) told bytes h e done read = clash e
+asked_within table (use_keyset lock name form work out) told bytes h e done read = clash e
+asked_within table (use_envelope lock name form template work out) told bytes h e done read = clash e
+asked_within table (seal_stream lock name form ad) told bytes h e done read = clash e
+asked_within table (open_stream lock name form ad) told bytes h e done read = clash e
+asked_within table (open_range lock name form ad range out) told bytes h e done read = clash e
 asked_within table (self_test seed lines) told bytes h e done read = clash e
-asked_within table (wrap_keyset name form in' out) told bytes h e done read = clash e
-asked_within table (unwrap_keyset name form in' out) told bytes h e done read = clash e
 asked_within table (help topic) told bytes h e done read = clash e
 asked_within table version told bytes h e done read = clash e
 
@@ -378,24 +386,22 @@ run_step law binary json keeps keeps_stored turns sessions edited keep_sessions 
 -- what a run does is some edits
 pub done_edits : SessionIsEdits → (table : Table) (told : Told) (asked : Asked) (old new : Keys) → Does table told old new asked → IsEdited old new
 unfolding after
-done_edits sessions table told (edit_keyset edit in' out) old new does = record {
+done_edits sessions table told (edit_keyset lock edit in' out) old new does = record {
   edits = record { edit = does.edit; random = told.random } ∷ [];
   asked = (edit_template edit does.edit does.is, tt);
   last = rw does.steps (rw does.accepted refl);
 }
-done_edits sessions table told (convert_keyset in' out) old new does = record { edits = []; asked = tt; last = ap Some does }
-done_edits sessions table told (session name form out) old new does = subst (λ k. IsEdited old k) does.2 (sessions table old (asked_in told.input) told.random does.0 does.1)
-done_edits sessions table told (create_keyset template out) old new does = absurd does
-done_edits sessions table told (list_keyset in') old new does = absurd does
+done_edits sessions table told (convert_keyset lock how in' out) old new does = record { edits = []; asked = tt; last = ap Some does }
+done_edits sessions table told (session lock name form out) old new does = subst (λ k. IsEdited old k) does.2 (sessions table old (asked_in told.input) told.random does.0 does.1)
+done_edits sessions table told (create_keyset lock template out) old new does = absurd does
+done_edits sessions table told (list_keyset lock in') old new does = absurd does
 done_edits sessions table told list_key_templates old new does = absurd does
-done_edits sessions table told (use_keyset name form work out) old new does = absurd does
-done_edits sessions table told (use_envelope name form template work out) old new does = absurd does
-done_edits sessions table told (seal_stream name form ad) old new does = absurd does
-done_edits sessions table told (open_stream name form ad) old new does = absurd does
-done_edits sessions table told (open_range name form ad range out) old new does = absurd does
+done_edits sessions table told (use_keyset lock name form work out) old new does = absurd does
+done_edits sessions table told (use_envelope lock name form template work out) old new does = absurd does
+done_edits sessions table told (seal_stream lock name form ad) old new does = absurd does
+done_edits sessions table told (open_stream lock name form ad) old new does = absurd does
+done_edits sessions table told (open_range lock name form ad range out) old new does = absurd does
 done_edits sessions table told (self_test seed lines) old new does = absurd does
-done_edits sessions table told (wrap_keyset name form in' out) old new does = absurd does
-done_edits sessions table told (unwrap_keyset name form in' out) old new does = absurd does
 done_edits sessions table told (help topic) old new does = absurd does
 done_edits sessions table told version old new does = absurd does
 
@@ -409,16 +415,17 @@ pub no_edits : (old : Keys) → IsEdited old old
 unfolding after
 no_edits old = record { edits = []; asked = tt; last = refl }
 
-pub led : RunStep → WrapStep → SessionIsEdits → (runs : List Passage) (before after : Written) (old : Keys) → AreRuns standard_table runs before after → AllByRecursion PassesBytes runs → HoldsBytes before → keyset_of before ≡ Some old → length before.bytes ≤ keyset_limit → Led old after
+pub led : RunStep → LocksStep → SessionIsEdits → (runs : List Passage) (before after : Written) (old : Keys) → AreRuns standard_table runs before after → AllByRecursion PassesBytes runs → HoldsBytes before → keyset_of before ≡ Some old → length before.bytes ≤ keyset_limit → Led old after
 led law wrap sessions [] before after old are bytes holds is within = record {
   new = old;
   read = ap keyset_of (sym are) ∙ is;
   edited = no_edits old;
   within = subst (λ (w : Written). length w.bytes ≤ keyset_limit) are within;
 }
-led law wrap sessions (by_wrap wrap_run unwrap_run ∷ later) before after old (between, went, are) bytes holds is within =
-    let k = wrap wrap_run unwrap_run before between old went bytes.0 holds is in
-    led law wrap sessions later between after old are bytes.1 k.holds k.read k.within
+led law wrap sessions (by_wrap wrap_run locked unwrap_run ∷ later) before after old (between, went, are) bytes holds is within =
+    let k = wrap wrap_run locked unwrap_run before between old went bytes.0.0 bytes.0.1 holds is in
+    let rest = led law wrap sessions later between after k.new are bytes.1 k.keeps.holds k.keeps.read k.keeps.within in
+    record { new = rest.new; read = rest.read; within = rest.within; edited = edited_on old k.new rest.new k.edited rest.edited }
 led law wrap sessions (by_run run ∷ later) before after old (between, hands, are) bytes holds is within =
     let step' = law standard_table run before between old hands bytes.0 holds is in
     let rest = led law wrap sessions later between after step'.new are bytes.1 step'.holds step'.read step'.within in
@@ -438,7 +445,7 @@ pub record Ends (runs : List Passage) (before after : Written) (r : Record) (old
   pub read_again : keyset_of after ≡ Some new
   pub within : length after.bytes ≤ keyset_limit
 
-pub lead_ends : ReadKeysFit → RunStep → WrapStep → SessionIsEdits → (runs : List Passage) (before after : Written) (r : Record) → length before.bytes ≤ keyset_limit → (x : LeadOn runs before after r) → Ends runs before after r x.old x.new
+pub lead_ends : ReadKeysFit → RunStep → LocksStep → SessionIsEdits → (runs : List Passage) (before after : Written) (r : Record) → length before.bytes ≤ keyset_limit → (x : LeadOn runs before after r) → Ends runs before after r x.old x.new
 lead_ends fit law wrap sessions runs before after r within x =
     let l = led law wrap sessions runs before after x.old x.are x.bytes x.holds x.read within in
     record {
@@ -464,17 +471,22 @@ pub record Started (work : AskedWork) (old : Keys) (told : Told) (output : List 
   pub status' : IsDoneAnswer (answer (works standard_table old work told.input writes) (record told { input = [] }))
   pub gave : (answer (works standard_table old work told.input writes) (record told { input = [] })).output ≡ output
 
-pub started : (work : AskedWork) (written : Written) (old : Keys) (told : Told) (output : List ℕ) → keyset_of written ≡ Some old → WasDone work written told output → Started work old told output
-started work written old told output is was =
-    let out = was.out in
-    let u = used_done standard_table was.name written.form work (puts_output out) written.bytes old told was.lies is was.done in
+-- by what went on behind the keyset
+pub started_by : (work : AskedWork) (old : Keys) (told : Told) (output : List ℕ) (out : Output) {a : Answer} → UsedKeys standard_table old work (puts_output out) told a → IsDoneAnswer a → bytes_at out.file a.files a.output ≡ Some (shown out.hex output) → (out.hex ≡ true → AreBytes output)
+    → Started work old told output
+started_by work old told output out u is gave bytes =
     let left = record told { input = [] } in
     let steps = works standard_table old work told.input in
-    let done : IsDoneAnswer (answer (works standard_table old work told.input (puts_output out)) left) = ap (λ (a : Answer). a.status) (sym u.goes_on) ∙ was.done in
+    let done : IsDoneAnswer (answer (works standard_table old work told.input (puts_output out)) left) = ap (λ (a : Answer). a.status) (sym u.goes_on) ∙ is in
     let w = worked standard_table old work told.input (puts_output out) left done in
-    let same = made_is steps left out.hex out.file output w done (ap (λ (a : Answer). bytes_at out.file a.files a.output) (sym u.goes_on) ∙ was.gave) was.bytes in
+    let same = made_is steps left out.hex out.file output w done (ap (λ (a : Answer). bytes_at out.file a.files a.output) (sym u.goes_on) ∙ gave) bytes in
     let written' = made_written steps left output w same in
     record { fit = u.fit; fits = u.fits; status' = written'.0; gave = written'.1 }
+
+pub started : (work : AskedWork) (written : Written) (old : Keys) (told : Told) (output : List ℕ) → keyset_of written ≡ Some old → WasDone work written told output → Started work old told output
+started work written old told output is was =
+    let u = used_done standard_table was.name written.form work (puts_output was.out) written.bytes old told was.lies is was.done in
+    started_by work old told output was.out u was.done was.gave was.bytes
 
 -- the keyset that it was done over is within the limit
 pub done_within : (work : AskedWork) (written : Written) (told : Told) (output : List ℕ) → WasDone work written told output → length written.bytes ≤ keyset_limit

@@ -5,6 +5,7 @@ use Rattle.std.specs.FinMap as map
 use Rattle.std.proofs.lemmas.Bool.Decides.{nat_tests}
 use Rattle.std.proofs.lemmas.List.{length-take-le}
 use Rattle.keyset_model.specs.Keyset.{Keys}
+use Rattle.managers.specs.Table.{Table}
 use Rattle.segment_stream.proofs.CipherLemmas.{cipher_of-is_cipher}
 use Rattle.segment_stream.specs.Cipher.{SegmentCipher}
 use Rattle.segment_stream.specs.KeysModel.{KeysForStreams}
@@ -50,16 +51,16 @@ pub record LoadedKeys (keys : Keys) (next : KeysForStreams → Plan) (told : Tol
   pub there : primary_key keys ≡ Some primary
   pub goes_on : a ≡ answer (next (with_primary keys primary)) told
 
-pub keys_reached : (name : List ℕ) (form : Format) (bytes : List ℕ) (keys : Keys) (primary : StreamKey) (next : KeysForStreams → Plan) (told : Told) → map.get told.files name ≡ Some bytes → read_in form bytes ≡ Some keys → length bytes ≤ keyset_limit
-    → stream_unfit keys ≡ None → primary_key keys ≡ Some primary → answer (loads_stream_keys name form next) told ≡ answer (next (with_primary keys primary)) told
-keys_reached name form bytes keys primary next told there e within fit is =
+pub keys_reached : (table : Table) (name : List ℕ) (form : Format) (bytes : List ℕ) (keys : Keys) (primary : StreamKey) (next : KeysForStreams → Plan) (told : Told) → map.get told.files name ≡ Some bytes → read_in form bytes ≡ Some keys → length bytes ≤ keyset_limit
+    → stream_unfit keys ≡ None → primary_key keys ≡ Some primary → answer (loads_stream_keys table None name form next) told ≡ answer (next (with_primary keys primary)) told
+keys_reached table name form bytes keys primary next told there e within fit is =
     load_reached name form bytes keys (behind_keyset next) told there e within
     ∙ ap (λ u. answer (unless_unfit u (with_keys (keys_for keys) next)) told) fit
     ∙ ap (λ o. answer (with_keys (option_map (with_primary keys) o) next) told) is
 
-pub keys_loaded : (name : List ℕ) (form : Format) (bytes : List ℕ) (keys : Keys) (next : KeysForStreams → Plan) (told : Told) → map.get told.files name ≡ Some bytes → read_in form bytes ≡ Some keys → IsDoneAnswer (answer (loads_stream_keys name form next) told)
-    → LoadedKeys keys next told (answer (loads_stream_keys name form next) told)
-keys_loaded name form bytes keys next told there e done =
+pub keys_loaded : (table : Table) (name : List ℕ) (form : Format) (bytes : List ℕ) (keys : Keys) (next : KeysForStreams → Plan) (told : Told) → map.get told.files name ≡ Some bytes → read_in form bytes ≡ Some keys → IsDoneAnswer (answer (loads_stream_keys table None name form next) told)
+    → LoadedKeys keys next told (answer (loads_stream_keys table None name form next) told)
+keys_loaded table name form bytes keys next told there e done =
     let l = load_done name form bytes keys (behind_keyset next) told there e done in
     let done1 : IsDoneAnswer (answer (unless_unfit (stream_unfit keys) (with_keys (keys_for keys) next)) told) = ap (λ (a : Answer). a.status) (sym l) ∙ done in
     let fit = fit_done (stream_unfit keys) (with_keys (keys_for keys) next) told done1 in

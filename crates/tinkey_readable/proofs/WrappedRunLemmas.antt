@@ -6,7 +6,7 @@ use Rattle.std.proofs.lemmas.Bool.Decides.{nat_tests}
 use Rattle.std.proofs.lemmas.Option.{same_Some}
 use Rattle.key_msgs.specs.declared.primitive.Primitive.TheVariants.{Aead}
 use Rattle.keyset_json.specs.Writing.{JsonBack}
-use Rattle.keyset_model.specs.Keyset.{Keys, primary_of}
+use Rattle.keyset_model.specs.Keyset.{Keys, fault_of, primary_of}
 use Rattle.keyset_model.specs.WellFormed.{FaultlessKeysets}
 use Rattle.keyset_model.specs.Writing.{BinaryBack, binary_of}
 use Rattle.keyset_model.specs.declared.record.Record.{Record}
@@ -19,6 +19,7 @@ use Rattle.seal_wrap.proofs.SealedSizes.{then_some}
 use Rattle.tinkey_cmds.specs.Draws.{Drawn}
 use Rattle.tinkey_session.proofs.Options.{map_some}
 use Rattle.tinkey_session.proofs.UsableLemmas.{valid_key}
+use Rattle.tinkey_session.specs.HeldLaws.{AreStored}
 use Rattle.wrapped_prims.specs.Answers.{Sealed, seal_answer, seal_behind, seal_under}
 use Rattle.wrapped_prims.specs.Candidates.{prefix_bytes, prefix_of}
 use Rattle.wrapped_prims.specs.Fitness.{key_of_record, unfit}
@@ -27,12 +28,12 @@ use Rattle.tinkey_plans.specs.declared.status.Status.TheVariants as status
 use Rattle.tinkey_plans.specs.Commands.{command_plan}
 use Rattle.tinkey_plans.specs.Plan.{Answer, Plan, Told, answer, draw_answer, ends, refused}
 use Rattle.tinkey_plans.specs.Steps.{keyset_limit, puts, puts_keyset, takes_keyset, with_made, within_limit, writes_keyset, written_in}
-use Rattle.tinkey_plans.specs.Using.{handles, unless_unfit}
+use Rattle.tinkey_plans.specs.Handles.{handles, unless_unfit}
 use Rattle.tinkey_plans.specs.Wrapping.{as_wrapping, is_json, makes_wrapped, takes_wrapped, unwraps, with_unwrapped, wrapped_limit}
 use Rattle.tinkey_words.specs.Words.{Asked, Place, unwrap_keyset, wrap_keyset}
 use Rattle.tinkey_words.specs.declared.words.rows.Format.{Format}
 use Rattle.tinkey_words.specs.declared.words.rows.Format.TheVariants as formats
-use Rattle.tinkey_readable.specs.Runs.{DrawsBytes, HoldsBytes, IsFree, IsWithinIn, LiesIn, ReadIsStored, Run, WrapStep, Wraps, Written, bytes_at, keyset_of, read_in}
+use Rattle.tinkey_readable.specs.Runs.{DrawsBytes, HoldsBytes, IsFree, IsWithinIn, Keeps, LiesIn, ReadIsStored, Run, Unwraps, WrapStep, Wraps, Written, bytes_at, keyset_of, read_in}
 use Rattle.tinkey_readable.proofs.ReachLemmas.{IsDoneAnswer, behind, bytes_put, bytes_reached, load_done, load_within, loaded, loaded_done, put_done, taken_done, taken_within, unfit_done, went_done, went_on}
 use Rattle.tinkey_readable.proofs.RunLemmas.{each_of, json_back, kept, primary_word, read_faultless}
 use Rattle.tinkey_readable.proofs.WrittenBytesLemmas.{written_bytes}
@@ -72,13 +73,13 @@ text_reached None bytes next told there within =
 -- ---- wrapping
 
 -- the text that random bytes gave
-record MadeText (keys master : Keys) (form : Format) (next : List ℕ → Plan) (told : Told) : Type 0 where
-  wrapped : Wrapped
-  is : wrap_of keys master standard_table told.random (is_json form) ≡ Some wrapped
-  within : length wrapped.text ≤ wrapped_limit
-  goes_on : answer (makes_wrapped keys master standard_table form next) told ≡ answer (next wrapped.text) (record told { random = wrapped.left })
+pub record MadeText (keys master : Keys) (form : Format) (next : List ℕ → Plan) (told : Told) : Type 0 where
+  pub wrapped : Wrapped
+  pub is : wrap_of keys master standard_table told.random (is_json form) ≡ Some wrapped
+  pub within : length wrapped.text ≤ wrapped_limit
+  pub goes_on : answer (makes_wrapped keys master standard_table form next) told ≡ answer (next wrapped.text) (record told { random = wrapped.left })
 
-text_made : (keys master : Keys) (form : Format) (next : List ℕ → Plan) (told : Told) → IsDoneAnswer (answer (makes_wrapped keys master standard_table form next) told) → MadeText keys master form next told
+pub text_made : (keys master : Keys) (form : Format) (next : List ℕ → Plan) (told : Told) → IsDoneAnswer (answer (makes_wrapped keys master standard_table form next) told) → MadeText keys master form next told
 text_made keys master form next told done = by (wrap_of keys master standard_table told.random (is_json form)) refl done
   where
     a : Option Wrapped → Answer
@@ -158,7 +159,7 @@ wraps_done run master before text old keys x is_master is =
     (ap (λ asked. bytes_at h.put.file (a asked).files (a asked).output) (sym asked) ∙ d.put)
 
 -- the key under which a keyset was wrapped
-gives_key : (old : Keys) (r : Record) (plain ad random : List ℕ) (s : Sealed) → primary_of old ≡ Some r → seal_answer old standard_table plain ad random ≡ Some s → GivesKeyFor standard_table Aead r
+pub gives_key : (old : Keys) (r : Record) (plain ad random : List ℕ) (s : Sealed) → primary_of old ≡ Some r → seal_answer old standard_table plain ad random ≡ Some s → GivesKeyFor standard_table Aead r
 gives_key old r plain ad random s primary e =
     let first = then_some (seal_under standard_table plain ad random) (primary_of old) s e in
     let second = then_some (seal_behind (prefix_bytes (prefix_of first.0)) plain ad random) (key_of_record standard_table Aead first.0) s first.2 in
@@ -190,34 +191,36 @@ opens_plan in' out new = takes_wrapped in'.file (λ text. unwraps new standard_t
 pub given_keyset : (new : Keys) (form : Format) (text : List ℕ) (keys : Keys) (next : Keys → Plan) (told : Told) → unwrap_of new standard_table text (is_json form) ≡ Ok keys → answer (unwraps new standard_table form text next) told ≡ answer (next keys) told
 given_keyset new form text keys next told is = ap (λ (o : Result Keys Refusal). answer (with_unwrapped o next) told) is
 
+-- what such a run put out is the keyset
+pub unwrap_keeps : FaultlessKeysets → BinaryBack → JsonBack → (unwrap : Run) (later text after : Written) (over keys : Keys) → Unwraps standard_table unwrap later text after → keyset_of later ≡ Some over → unwrap_of over standard_table text.bytes (is_json text.form) ≡ Ok keys → fault_of keys ≡ None → AreStored keys → Keeps keys after
+unwrap_keeps law binary json unwrap later text after over keys x read gave faultless stored =
+    let in' = x.handing.taken in
+    let out = x.handing.put in
+    let told = unwrap.told in
+    let a : Asked → Answer = λ asked. answer (command_plan standard_table asked) told in
+    let done : IsDoneAnswer (a (unwrap_keyset x.name later.form in' out)) = ap (λ asked. (a asked).status) (sym x.asked) ∙ x.handed.done in
+    let next : Keys → Plan = λ m. handles standard_table Aead m (λ fit. opens_plan in' out m) in
+    let l = load_done x.name later.form later.bytes over next told x.lies read done in
+    let d : IsDoneAnswer (answer (unless_unfit (unfit over Aead standard_table) (opens_plan in' out over)) told) = ap (λ (a : Answer). a.status) (sym l) ∙ done in
+    let fit = unfit_done (unfit over Aead standard_table) (opens_plan in' out over) told d in
+    let f : answer (unless_unfit (unfit over Aead standard_table) (opens_plan in' out over)) told ≡ answer (opens_plan in' out over) told = ap (λ u. answer (unless_unfit u (opens_plan in' out over)) told) fit in
+    let t = text_done in'.file text.bytes (λ text. unwraps over standard_table in'.form text (puts_keyset out)) told x.handed.read (ap (λ (a : Answer). a.status) (sym (l ∙ f)) ∙ done) in
+    let behind' = behind in'.file told in
+    let g = given_keyset over in'.form text.bytes keys (puts_keyset out) behind' (ap (λ f. unwrap_of over standard_table text.bytes (is_json f)) x.handed.read_form ∙ gave) in
+    let whole = l ∙ f ∙ t ∙ g in
+    let p = put_done out keys behind' (ap (λ (a : Answer). a.status) (sym whole) ∙ done) in
+    kept law binary json keys out.form after
+    (bytes_at out.file (a unwrap.asked).files (a unwrap.asked).output)
+    x.handed.put_form x.handed.put
+    (ap (λ asked. bytes_at out.file (a asked).files (a asked).output) x.asked ∙ ap (λ (a : Answer). bytes_at out.file a.files a.output) whole ∙ p.there)
+    p.within faultless stored
+
 pub wrap_step : FaultlessKeysets → BinaryBack → JsonBack → ReadIsStored → WrapBackBytes → WrapStep
 wrap_step law binary json stored back wrap unwrap before after keys goes random holds is =
     let o = goes.opens in
     let w = wraps_done wrap goes.master before goes.text o.old keys goes.wraps o.read is in
     let gave = unwrapped law binary json stored back wrap goes.master before goes.text o.old o.new keys o.r o.prefix goes.wraps o.read is o.holds holds random o.primary o.prefixed o.same in
-    let x = goes.unwraps in
-    let in' = x.handing.taken in
-    let out = x.handing.put in
-    let told = unwrap.told in
-    let text = goes.text in
-    let a : Asked → Answer = λ asked. answer (command_plan standard_table asked) told in
-    let done : IsDoneAnswer (a (unwrap_keyset x.name goes.later.form in' out)) = ap (λ asked. (a asked).status) (sym x.asked) ∙ x.handed.done in
-    let next : Keys → Plan = λ m. handles standard_table Aead m (λ fit. opens_plan in' out m) in
-    let l = load_done x.name goes.later.form goes.later.bytes o.new next told x.lies o.read_again done in
-    let d : IsDoneAnswer (answer (unless_unfit (unfit o.new Aead standard_table) (opens_plan in' out o.new)) told) = ap (λ (a : Answer). a.status) (sym l) ∙ done in
-    let fit = unfit_done (unfit o.new Aead standard_table) (opens_plan in' out o.new) told d in
-    let f : answer (unless_unfit (unfit o.new Aead standard_table) (opens_plan in' out o.new)) told ≡ answer (opens_plan in' out o.new) told = ap (λ u. answer (unless_unfit u (opens_plan in' out o.new)) told) fit in
-    let t = text_done in'.file text.bytes (λ text. unwraps o.new standard_table in'.form text (puts_keyset out)) told x.handed.read (ap (λ (a : Answer). a.status) (sym (l ∙ f)) ∙ done) in
-    let behind' = behind in'.file told in
-    let g = given_keyset o.new in'.form text.bytes keys (puts_keyset out) behind' (ap (λ f. unwrap_of o.new standard_table text.bytes (is_json f)) x.handed.read_form ∙ gave) in
-    let whole = l ∙ f ∙ t ∙ g in
-    let p = put_done out keys behind' (ap (λ (a : Answer). a.status) (sym whole) ∙ done) in
-    let faultless = read_faultless before keys is in
-    kept law binary json keys out.form after
-    (bytes_at out.file (a unwrap.asked).files (a unwrap.asked).output)
-    x.handed.put_form x.handed.put
-    (ap (λ asked. bytes_at out.file (a asked).files (a asked).output) x.asked ∙ ap (λ (a : Answer). bytes_at out.file a.files a.output) whole ∙ p.there)
-    p.within faultless (stored before keys holds w.within is)
+    unwrap_keeps law binary json unwrap goes.later goes.text after o.new keys goes.unwraps o.read_again gave (read_faultless before keys is) (stored before keys holds w.within is)
 
 -- ---- what was wrapped can be unwrapped
 

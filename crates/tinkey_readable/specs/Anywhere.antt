@@ -2,17 +2,20 @@
 -- Nothing is said of how that keyset came to be.
 --
 --   Serves               a keyset that the command for this primitive accepts
+--   ServesUnder          one that lies under a master, and is accepted so
 --   WasMadeBy            what a run or a line of a session made under a key
 --   IsReadAnywhere       what opens or verifies it, over any keyset that has the key
 --   OpensAnywhere ..     the laws
-use Rattle.std.specs.Prelude.{◌≡◌, ℕ, ◌≤◌, List, [], length, Some, None}
+use Rattle.std.specs.Prelude.{◌≡◌, ℕ, ◌≤◌, List, [], length, Some, None, slice_get}
+use Rattle.std.specs.List.{AllByRecursion}
 use Rattle.key_msgs.specs.declared.primitive.Primitive.{Primitive}
 use Rattle.key_msgs.specs.declared.primitive.Primitive.TheVariants.{Aead}
 use Rattle.keyset_model.specs.Keyset.{Keys, primary_of}
 use Rattle.keyset_model.specs.declared.record.Record.{Record}
 use Rattle.managers.specs.Standard.{standard_table}
 use Rattle.segment_stream.specs.StreamKeys.{stream_unfit}
-use Rattle.tinkey_session.specs.Session.{Turn}
+use Rattle.tinkey_session.specs.Laws.{IsEdited}
+use Rattle.tinkey_session.specs.Session.{Turn, asked_in, turns}
 use Rattle.tinkey_session.specs.declared.reply.Reply.TheVariants.{Gives}
 use Rattle.wrapped_prims.specs.Candidates.{prefix_of}
 use Rattle.wrapped_prims.specs.Fitness.{unfit}
@@ -20,10 +23,12 @@ use Rattle.wrapped_prims.specs.Laws.{HasKey, HasSameKey}
 use Rattle.tinkey_plans.specs.Plan.{Told}
 use Rattle.tinkey_plans.specs.Steps.{keyset_limit}
 use Rattle.tinkey_plans.specs.Using.{limit_for}
+use Rattle.tinkey_plans.specs.Wrapping.{wrapped_limit}
 use Rattle.tinkey_readable.specs.EnvelopeRuns.{IsEnveloped, MakeOneType, WasEnveloped}
 use Rattle.tinkey_readable.specs.LineRuns.{HasTurn, asks, done_reply}
+use Rattle.tinkey_readable.specs.LockedRuns.{GivesUnder, IsDoneUnder, WasDoneUnder}
 use Rattle.tinkey_readable.specs.RangeRuns.{IsRanged}
-use Rattle.tinkey_readable.specs.Runs.{DrawsBytes, HoldsBytes, IsDone, IsUnwrapped, Run, WasDone, Wraps, Written, keyset_of}
+use Rattle.tinkey_readable.specs.Runs.{AreLocked, CreatesUnder, DrawsBytes, GoesUnder, HoldsBytes, IsCreated, IsDone, IsUnwrapped, Run, StillOpens, WasDone, Wraps, Written, keyset_of}
 use Rattle.tinkey_readable.specs.StreamRuns.{IsOpened, NoOtherBefore, OpensFirst, WasSealed}
 use Rattle.tinkey_words.specs.Words.{AskedWork, primitive_for, to_dopen, to_dseal, to_eopen, to_eseal, to_open, to_seal, to_tag, to_verify}
 
@@ -40,26 +45,81 @@ pub record ServesStreams (written : Written) (keys : Keys) : Type 0 where
   pub within : length written.bytes ≤ keyset_limit
   pub fit : stream_unfit keys ≡ None
 
+-- Under this master, which can serve as one, the text that lies here gives a keyset whose ENABLED records all
+-- serve the primitive, and it is within the limit of such texts.
+pub record ServesUnder (primitive : Primitive) (master text : Written) (keys : Keys) : Type 0 where
+  pub over : Keys
+  pub opens : Serves Aead master over
+  pub gives : GivesUnder over text keys
+  pub within : length text.bytes ≤ wrapped_limit
+  pub fit : unfit keys primitive standard_table ≡ None
+
+-- What went on under masters serves there, under a master that serves, where the first keyset served: it is
+-- that one after the edits that were accepted on the way.
+pub record ServesOn (primitive : Primitive) (later text : Written) (old : Keys) : Type 0 where
+  pub new : Keys
+  pub edited : IsEdited old new
+  pub serves : ServesUnder primitive later text new
+
+abbrev pub LocksServe : Primitive → Type 0
+LocksServe primitive = (wrap : Run) (locked : List Run) (before later text : Written) (old over : Keys)
+    → GoesUnder standard_table wrap locked before later text → DrawsBytes wrap
+    → AllByRecursion DrawsBytes locked → HoldsBytes before → keyset_of before ≡ Some old
+    → Serves Aead later over → unfit old primitive standard_table ≡ None
+    → ServesOn primitive later text old
+
+-- So it is of a keyset that was created under a master, and never lay in clear.
+abbrev pub CreatedServe : Primitive → Type 0
+CreatedServe primitive = (run : Run) (locked : List Run) (template : List ℕ)
+    (master first last later text : Written) (begun over : Keys)
+    → CreatesUnder standard_table run template master first → keyset_of master ≡ Some begun
+    → AreLocked standard_table locked master first last text → StillOpens last later
+    → DrawsBytes run → AllByRecursion DrawsBytes locked → Serves Aead later over
+    → (old : Keys) × IsCreated template run.told.random old
+    × (unfit old primitive standard_table ≡ None → ServesOn primitive later text old)
+
+-- a turn of a session over the keyset that this text gives under a master, of the lines and random bytes that
+-- are told
+pub record HasTurnUnder (told : Told) (master text : Written) (t : Turn) : Type 0 where
+  pub over : Keys
+  pub read : keyset_of master ≡ Some over
+  pub keys : Keys
+  pub gives : GivesUnder over text keys
+  pub place : ℕ
+  pub there : slice_get (turns standard_table keys (asked_in told.input) told.random) place ≡ Some t
+
 -- By this work this output was made of this input, by the key of this primary record: by a run of the
--- command that was Done, or by a line of a session, with or without a file for its keyset, and however it
--- ended behind that line. The line's input is within the limit of the command, as those of all lines that
--- are answered.
+-- command that was Done, over a keyset in clear or under a master, or by a line of a session, with or without
+-- a file for its keyset, and however it ended behind that line. The line's input is within the limit of the
+-- command, as those of all lines that are answered.
 pub data WasMadeBy (work : AskedWork) (input output : List ℕ) (r : Record) : Type 0 where
   by_run : (before : Written) (old : Keys) → keyset_of before ≡ Some old → (told : Told) →
       WasDone work before told output → told.input ≡ input → primary_of old ≡ Some r →
       WasMadeBy work input output r
+  by_locked : (master text : Written) (over old : Keys) → keyset_of master ≡ Some over →
+      GivesUnder over text old → (told : Told) → WasDoneUnder work master text told output →
+      told.input ≡ input → primary_of old ≡ Some r → WasMadeBy work input output r
   by_line : (before : Written) (told : Told) (t : Turn) → HasTurn told before t →
+      length input ≤ limit_for work → t.line ≡ asks work input → t.reply ≡ Gives output →
+      primary_of t.before ≡ Some r → WasMadeBy work input output r
+  by_locked_line : (master text : Written) (told : Told) (t : Turn) → HasTurnUnder told master text t →
       length input ≤ limit_for work → t.line ≡ asks work input → t.reply ≡ Gives output →
       primary_of t.before ≡ Some r → WasMadeBy work input output r
 
 -- This work on this input is done with this output over each keyset that serves it, while that has the
--- record's key as it is said here: by a run of the command, in whichever file the keyset lies, and by each
--- line of a session over any keyset.
+-- record's key as it is said here: by a run of the command, in whichever file the keyset lies, in clear or
+-- under a master, and by each line of a session over any keyset.
 pub record IsReadAnywhere (While : Record → Keys → Type 0) (work : AskedWork)
     (input output : List ℕ) (r : Record) : Type 0 where
   pub by_run : (written : Written) (keys : Keys) → Serves (primitive_for work) written keys
       → While r keys → IsDone work written input output
+  pub by_locked : (master text : Written) (keys : Keys)
+      → ServesUnder (primitive_for work) master text keys → While r keys
+      → IsDoneUnder work master text input output
   pub by_line : (written : Written) (told : Told) (t : Turn) → HasTurn told written t
+      → t.line ≡ asks work input → unfit t.before (primitive_for work) standard_table ≡ None
+      → While r t.before → t.reply ≡ done_reply work output
+  pub by_locked_line : (master text : Written) (told : Told) (t : Turn) → HasTurnUnder told master text t
       → t.line ≡ asks work input → unfit t.before (primitive_for work) standard_table ≡ None
       → While r t.before → t.reply ≡ done_reply work output
 
@@ -67,7 +127,13 @@ pub record IsReadAnywhere (While : Record → Keys → Type 0) (work : AskedWork
 pub record IsReadSomehowAnywhere (work : AskedWork) (input : List ℕ) (r : Record) : Type 0 where
   pub by_run : (written : Written) (keys : Keys) → Serves (primitive_for work) written keys
       → HasKey r keys → (other : List ℕ) × IsDone work written input other
+  pub by_locked : (master text : Written) (keys : Keys)
+      → ServesUnder (primitive_for work) master text keys → HasKey r keys
+      → (other : List ℕ) × IsDoneUnder work master text input other
   pub by_line : (written : Written) (told : Told) (t : Turn) → HasTurn told written t
+      → t.line ≡ asks work input → unfit t.before (primitive_for work) standard_table ≡ None
+      → HasKey r t.before → (other : List ℕ) × (t.reply ≡ done_reply work other)
+  pub by_locked_line : (master text : Written) (told : Told) (t : Turn) → HasTurnUnder told master text t
       → t.line ≡ asks work input → unfit t.before (primitive_for work) standard_table ≡ None
       → HasKey r t.before → (other : List ℕ) × (t.reply ≡ done_reply work other)
 

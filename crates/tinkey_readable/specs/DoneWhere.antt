@@ -38,7 +38,7 @@ use Rattle.tinkey_plans.specs.Steps.{keyset_limit, written_in}
 use Rattle.tinkey_plans.specs.Using.{limit_for}
 use Rattle.tinkey_plans.specs.Wrapping.{is_json, wrapped_limit}
 use Rattle.tinkey_words.specs.declared.words.rows.Format.{Format}
-use Rattle.tinkey_words.specs.Words.{AskedEdit, AskedEnvelope, AskedRange, AskedWork, Output, Place, convert_keyset, create_keyset, edit_keyset, list_keyset, open_range, open_stream, seal_stream, session, to_eopen, to_eseal, unwrap_keyset, use_envelope, use_keyset, wrap_keyset, to_seal, to_open, to_dseal, to_dopen, to_tag, to_verify, to_derive, primitive_for}
+use Rattle.tinkey_words.specs.Words.{AskedEdit, AskedEnvelope, AskedRange, AskedWork, Output, Place, as_taken, convert_keyset, create_keyset, edit_keyset, list_keyset, open_range, open_stream, seal_stream, session, to_eopen, to_eseal, unwrap_keyset, use_envelope, use_keyset, wrap_keyset, to_seal, to_open, to_dseal, to_dopen, to_tag, to_verify, to_derive, primitive_for}
 use Rattle.tinkey_readable.specs.Runs.{IsEdit, IsFree, bytes_at, read_in}
 
 -- a keyset lies in the file of this place, or where none is named, in the input: it is there, within its
@@ -84,16 +84,16 @@ pub record ConvertGoes (in' out : Place) (told : Told) : Type 0 where
 -- a keyset is edited, created, converted and listed exactly where that is so
 pub record EditsDone : Type 0 where
   pub edited : (table : Table) (asked : AskedEdit) (in' out : Place) (told : Told)
-      → ((answer (command_plan table (edit_keyset asked in' out)) told).status ≡ status.Done)
+      → ((answer (command_plan table (edit_keyset None asked in' out)) told).status ≡ status.Done)
       ↔ EditGoes asked in' out told
   pub created : (table : Table) (template : List ℕ) (out : Place) (told : Told)
-      → ((answer (command_plan table (create_keyset template out)) told).status ≡ status.Done)
+      → ((answer (command_plan table (create_keyset None template out)) told).status ≡ status.Done)
       ↔ CreateGoes template out told
   pub converted : (table : Table) (in' out : Place) (told : Told)
-      → ((answer (command_plan table (convert_keyset in' out)) told).status ≡ status.Done)
+      → ((answer (command_plan table (convert_keyset None as_taken in' out)) told).status ≡ status.Done)
       ↔ ConvertGoes in' out told
   pub listed : (table : Table) (in' : Place) (told : Told)
-      → ((answer (command_plan table (list_keyset in')) told).status ≡ status.Done)
+      → ((answer (command_plan table (list_keyset None in')) told).status ≡ status.Done)
       ↔ ((keys : Keys) × LiesThere in' told keys)
 
 -- ---- whole inputs
@@ -128,7 +128,7 @@ pub record WorkIsDone (table : Table) (name : List ℕ) (form : Format) (work : 
 abbrev pub WorksDone : Type 0
 WorksDone = (table : Table) (name : List ℕ) (form : Format) (work : AskedWork) (out : Output)
     (told : Told)
-    → ((answer (command_plan table (use_keyset name form work out)) told).status ≡ status.Done)
+    → ((answer (command_plan table (use_keyset None name form work out)) told).status ≡ status.Done)
     ↔ WorkIsDone table name form work out told
 
 -- ---- streams
@@ -158,10 +158,10 @@ pub record StreamOpens (name : List ℕ) (form : Format) (ad : List ℕ) (told :
 -- a stream is sealed, and opened, to its end exactly where that is so
 pub record StreamsDone : Type 0 where
   pub sealed : (table : Table) (name : List ℕ) (form : Format) (ad : List ℕ) (told : Told)
-      → ((answer (command_plan table (seal_stream name form ad)) told).status ≡ status.Done)
+      → ((answer (command_plan table (seal_stream None name form ad)) told).status ≡ status.Done)
       ↔ StreamSeals name form ad told
   pub opened : (table : Table) (name : List ℕ) (form : Format) (ad : List ℕ) (told : Told)
-      → ((answer (command_plan table (open_stream name form ad)) told).status ≡ status.Done)
+      → ((answer (command_plan table (open_stream None name form ad)) told).status ≡ status.Done)
       ↔ StreamOpens name form ad told
 
 -- ---- ranges
@@ -187,7 +187,7 @@ pub record RangeOpens (name : List ℕ) (form : Format) (ad : List ℕ) (range :
 abbrev pub RangesDone : Type 0
 RangesDone = (table : Table) (name : List ℕ) (form : Format) (ad : List ℕ) (range : AskedRange)
     (out : Option (List ℕ)) (told : Told)
-    → ((answer (command_plan table (open_range name form ad range out)) told).status ≡ status.Done)
+    → ((answer (command_plan table (open_range None name form ad range out)) told).status ≡ status.Done)
     ↔ RangeOpens name form ad range out told
 
 -- ---- sessions
@@ -211,7 +211,7 @@ pub record SessionGoes (table : Table) (name : List ℕ) (form : Format) (out : 
 -- a session is answered Done exactly where that is so
 abbrev pub SessionsDone : Type 0
 SessionsDone = (table : Table) (name : List ℕ) (form : Format) (out : Place) (told : Told)
-    → ((answer (command_plan table (session name form out)) told).status ≡ status.Done)
+    → ((answer (command_plan table (session None name form out)) told).status ≡ status.Done)
     ↔ SessionGoes table name form out told
 
 -- ---- envelopes
@@ -246,7 +246,7 @@ pub record EnvelopeIsDone (table : Table) (name : List ℕ) (form : Format) (tem
 abbrev pub EnvelopesDone : Type 0
 EnvelopesDone = (table : Table) (name : List ℕ) (form : Format) (template : List ℕ)
     (work : AskedEnvelope) (out : Option (List ℕ)) (told : Told)
-    → ((answer (command_plan table (use_envelope name form template work out)) told).status
+    → ((answer (command_plan table (use_envelope None name form template work out)) told).status
     ≡ status.Done) ↔ EnvelopeIsDone table name form template work out told
 
 -- ---- encrypted keysets

@@ -1,7 +1,7 @@
 -- Runs of eseal and eopen, with runs between them that hand the keyset on.
 --
 --   RunsOpenEnvelope   what was sealed in an envelope before runs opens after them
-use Rattle.std.specs.Prelude.{◌≡◌, ℕ, List, Option, Some, option_map}
+use Rattle.std.specs.Prelude.{◌≡◌, ℕ, List, Option, Some, None, option_map}
 use Rattle.key_msgs.specs.Templates.{row_named, type_made}
 use Rattle.keyset_model.specs.declared.record.Record.{Record}
 use Rattle.managers.specs.Standard.{standard_table}
@@ -18,7 +18,7 @@ use Rattle.tinkey_readable.specs.Runs.{IsFree, LeadOn, LiesIn, Passage, Written,
 abbrev pub envelope_answer : AskedEnvelope → (out : Option (List ℕ)) → (template : List ℕ) → Written
     → (name : List ℕ) → Told → Answer
 envelope_answer work out template written name told =
-    answer (command_plan standard_table (use_envelope name written.form template work out)) told
+    answer (command_plan standard_table (use_envelope None name written.form template work out)) told
 
 -- such work over a keyset was answered Done, and put this output, to standard output or into a new file
 pub record WasEnveloped (work : AskedEnvelope) (template : List ℕ) (written : Written) (told : Told)

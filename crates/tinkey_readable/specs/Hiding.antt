@@ -1,5 +1,5 @@
 -- What may be shown to others: a listing of a keyset, and what a run tells on standard error.
-use Rattle.std.specs.Prelude.{◌≡◌, List, [], ◌++◌, ℕ, Some}
+use Rattle.std.specs.Prelude.{◌≡◌, List, [], ◌++◌, ℕ, Some, None}
 use Rattle.keyset_model.specs.Keyset.{Keys}
 use Rattle.keyset_model.specs.Listing.{info_of}
 use Rattle.managers.specs.Table.{Table}
@@ -22,8 +22,8 @@ ListingHidesKeys = (keys other : Keys) → without_keys keys ≡ without_keys ot
 abbrev pub ListedAlike : Type 0
 ListedAlike = (table : Table) (in' from : Place) (told other : Told) (one two : Keys)
     → LiesThere in' told one → LiesThere from other two → without_keys one ≡ without_keys two
-    → ((answer (command_plan table (list_keyset in')) told).output
-    ≡ (answer (command_plan table (list_keyset from)) other).output)
+    → ((answer (command_plan table (list_keyset None in')) told).output
+    ≡ (answer (command_plan table (list_keyset None from)) other).output)
 
 -- the sink, which held these bytes before, took the first of this text, and all of it where no write
 -- failed

@@ -25,7 +25,8 @@ use Rattle.tinkey_plans.specs.Plan.{Told}
 use Rattle.tinkey_plans.specs.Promises.{Promised, Tells}
 use Rattle.tinkey_plans.specs.declared.status.Status.{Status}
 use Rattle.tinkey_plans.specs.declared.status.Status.TheVariants as status
-use Rattle.tinkey_readable.specs.Runs.{DrawsBytes, Handing, HoldsBytes, LiesIn, Run, StillOpens, Written, bytes_at, hands_on, keyset_of}
+use Rattle.tinkey_readable.specs.LockedRuns.{GivesUnder}
+use Rattle.tinkey_readable.specs.Runs.{DrawsBytes, Handing, HoldsBytes, LiesIn, LockedHanding, Run, StillOpens, Written, bytes_at, hands_on, hands_under, keyset_of}
 use Rattle.tinkey_words.specs.Words.{Asked, AskedEdit, Place, create_keyset, edit_keyset, session, unwrap_keyset, words_of, wrap_keyset}
 
 -- ---- runs as they took place
@@ -60,18 +61,44 @@ pub record PassesOn (run : Run) (before after : Written) : Type 0 where
   pub hands : hands_on run.asked ≡ Some handing
   pub passes : Passes run handing before after
 
--- such a run wrapped it under a master that lay in a file, and a later one unwrapped that text under a
--- master that still opens it
-pub record PassesWrapped (wrap unwrap : Run) (before after : Written) : Type 0 where
+-- a run took the text that lies there under one master, and put the one that lies here under another or the
+-- same, which is a keyset
+pub record PassesUnder (run : Run) (master text put after : Written) : Type 0 where
+  pub locked : LockedHanding
+  pub hands : hands_under run.asked ≡ Some locked
+  pub form : locked.lock.form ≡ master.form
+  pub lies : LiesIn master run.told locked.lock.file
+  pub new_form : locked.new.form ≡ put.form
+  pub new_lies : LiesIn put run.told locked.new.file
+  pub over : Keys
+  pub read : keyset_of put ≡ Some over
+  pub passes : Passes run locked.handing text after
+
+-- such runs, of which each took the text that the one before it put, under a master that still opened it
+abbrev pub HavePassed : List Run → (master text last after : Written) → Type 0
+HavePassed [] master text last after = (master ≡ last) × (text ≡ after)
+HavePassed (run ∷ later) master text last after =
+    (opening : Written) × (put : Written) × (between : Written) × StillOpens master opening
+    × PassesUnder run opening text put between × HavePassed later put between last after
+
+-- a run wrapped it under a master that lay in a file, others took it on under masters, and a later one unwrapped
+-- the last text under a master that still opens it
+pub record PassesWrapped (wrap : Run) (locked : List Run) (unwrap : Run) (before after : Written)
+    : Type 0 where
   pub master : Written
+  pub over : Keys
+  pub read : keyset_of master ≡ Some over
   pub name : List ℕ
   pub lies : LiesIn master wrap.told name
-  pub text : Written
+  pub first : Written
   pub handing : Handing
   pub asked : wrap.asked ≡ wrap_keyset name master.form handing.taken handing.put
-  pub passes : Passes wrap handing before text
+  pub passes : Passes wrap handing before first
+  pub last : Written
+  pub text : Written
+  pub are : HavePassed locked master first last text
   pub later : Written
-  pub opens : StillOpens master later
+  pub opens : StillOpens last later
   pub later_name : List ℕ
   pub later_lies : LiesIn later unwrap.told later_name
   pub later_handing : Handing
@@ -97,18 +124,19 @@ pub record StaysIn (before after : Written) : Type 0 where
   pub lies : Has new.store name after.bytes
   pub same_form : after.form ≡ before.form
 
--- What happens to a keyset: a run edits or converts it, or is a session that saves it; it goes wrapped from
--- a run to a later one; or there is any other run, of whatever words and with whatever status, and the
+-- What happens to a keyset: a run edits or converts it, or is a session that saves it; it goes wrapped
+-- from a run to a later one, and on under masters in between; or there is any other run, of whatever words and with whatever status, and the
 -- keyset is taken on from the file that it lay in.
 pub data Event : Type 0 where
   passed_on : (run : Run) → Event
-  passed_wrapped : (wrap unwrap : Run) → Event
+  passed_wrapped : (wrap : Run) (locked : List Run) (unwrap : Run) → Event
   passed_by : Event
 
 -- it led from one keyset to another
 abbrev pub HasLed : Event → (before after : Written) → Type 0
 HasLed (passed_on run) before after = PassesOn run before after
-HasLed (passed_wrapped wrap unwrap) before after = PassesWrapped wrap unwrap before after
+HasLed (passed_wrapped wrap locked unwrap) before after =
+    PassesWrapped wrap locked unwrap before after
 HasLed passed_by before after = StaysIn before after
 
 -- events, of which each takes the keyset that the one before it left
@@ -120,7 +148,8 @@ HaveLed (event ∷ later) before after =
 -- what is drawn on the way are bytes
 abbrev pub EventDraws : Event → Type 0
 EventDraws (passed_on run) = DrawsBytes run
-EventDraws (passed_wrapped wrap unwrap) = DrawsBytes wrap
+EventDraws (passed_wrapped wrap locked unwrap) =
+    DrawsBytes wrap × AllByRecursion DrawsBytes locked
 EventDraws passed_by = Unit {0}
 
 -- events led from this keyset on
@@ -134,23 +163,34 @@ pub record Course (events : List Event) (before after : Written) (old : Keys) : 
 
 -- the claim holds of the edit that is asked for, or of that of each accepted line of the session
 abbrev pub OfAsked : (Keys → AskedEdit → Type 0) → Keys → Told → Asked → Type 0
-OfAsked Claim keys told (edit_keyset edit in' out) = Claim keys edit
-OfAsked Claim keys told (session name form out) =
+OfAsked Claim keys told (edit_keyset lock edit in' out) = Claim keys edit
+OfAsked Claim keys told (session lock name form out) =
     EachAcceptedLine standard_table Claim keys (asked_in told.input) told.random
 OfAsked Claim keys told asked = Unit {0}
 
+-- it holds of what each of such runs did to the keyset that its text gave
+abbrev pub OfLocked : (Keys → AskedEdit → Type 0) → (runs : List Run)
+    → (master text last after : Written) → HavePassed runs master text last after → Type 0
+OfLocked Claim [] master text last after have = Unit {0}
+OfLocked Claim (run ∷ later) master text last after (opening, put, between, opens, passes, have) =
+    ((keys : Keys) → GivesUnder opens.new text keys → OfAsked Claim keys run.told run.asked)
+    × OfLocked Claim later put between last after have
+
 -- it holds of what an event did to the keyset that lies there; only what passes it on changes it
-abbrev pub OfEvent : (Keys → AskedEdit → Type 0) → (before : Written) → Event → Type 0
-OfEvent Claim before (passed_on run) =
+abbrev pub OfEvent : (Keys → AskedEdit → Type 0) → (event : Event) → (before after : Written)
+    → HasLed event before after → Type 0
+OfEvent Claim (passed_on run) before after has =
     (keys : Keys) → keyset_of before ≡ Some keys → OfAsked Claim keys run.told run.asked
-OfEvent Claim before event = Unit {0}
+OfEvent Claim (passed_wrapped wrap locked unwrap) before after has =
+    OfLocked Claim locked has.master has.first has.last has.text has.are
+OfEvent Claim passed_by before after has = Unit {0}
 
 -- it holds of each event, over the keyset that the one before it left
 abbrev pub OfEvents : (Keys → AskedEdit → Type 0) → (events : List Event) → (before after : Written)
     → HaveLed events before after → Type 0
 OfEvents Claim [] before after led = Unit {0}
 OfEvents Claim (event ∷ later) before after (between, has, led) =
-    OfEvent Claim before event × OfEvents Claim later between after led
+    OfEvent Claim event before between has × OfEvents Claim later between after led
 
 -- ---- the laws
 
@@ -197,7 +237,7 @@ DataStaysByCommands = (events : List Event) (before after : Written) (old : Keys
 -- has it, ENABLED and alone under its prefix.
 abbrev pub GivenBackByEnable : Type 0
 GivenBackByEnable = (run : Run) (before after : Written) (old : Keys) (r : Record)
-    (prefix : List ℕ) (in' out : Place) → run.asked ≡ edit_keyset (Enable r.id) in' out
+    (prefix : List ℕ) (in' out : Place) → run.asked ≡ edit_keyset None (Enable r.id) in' out
     → PassesOn run before after → DrawsBytes run → HoldsBytes before
     → keyset_of before ≡ Some old → HasDistinctIds old
     → prefix_of r ≡ Some prefix → HasData r old
@@ -206,7 +246,7 @@ GivenBackByEnable = (run : Run) (before after : Written) (old : Keys) (r : Recor
 -- What a run of create-keyset put out is a keyset whose ids are distinct.
 abbrev pub CreatedIdsAreDistinct : Type 0
 CreatedIdsAreDistinct = (run : Run) (template : List ℕ) (out : Place) (old new : World)
-    (after : Written) → run.asked ≡ create_keyset template out → TookPlace run old status.Done new
+    (after : Written) → run.asked ≡ create_keyset None template out → TookPlace run old status.Done new
     → DrawsBytes run → out.form ≡ after.form → IsPut out.file old new after.bytes
     → (keys : Keys) × (keyset_of after ≡ Some keys) × HasDistinctIds keys
 

@@ -2,7 +2,7 @@
 --
 --   IsRanged        ranges of a stream that end within a plaintext are its slices, and others are refused
 --   RunsOpenRange   so are those of what was sealed as a stream before runs, after them
-use Rattle.std.specs.Prelude.{◌≡◌, ℕ, ◌+◌, ◌<◌, ◌≤◌, List, length, take, drop, Option, Some}
+use Rattle.std.specs.Prelude.{◌≡◌, ℕ, ◌+◌, ◌<◌, ◌≤◌, List, length, take, drop, Option, Some, None}
 use Rattle.std.specs.FinMap as map
 use Rattle.keyset_model.specs.declared.record.Record.{Record}
 use Rattle.managers.specs.Standard.{standard_table}
@@ -18,7 +18,7 @@ use Rattle.tinkey_readable.specs.StreamRuns.{NoOtherBefore, WasSealed}
 abbrev pub srange_answer : (ad : List ℕ) → AskedRange → (out : Option (List ℕ)) → Written
     → (name : List ℕ) → Told → Answer
 srange_answer ad range out written name told =
-    answer (command_plan standard_table (open_range name written.form ad range out)) told
+    answer (command_plan standard_table (open_range None name written.form ad range out)) told
 
 -- the keyset lies in one file, and the stream in that of the range, whichever they are
 pub record LieIn (written : Written) (stream : List ℕ) (range : AskedRange) (told : Told)

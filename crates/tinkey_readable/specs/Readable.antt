@@ -3,7 +3,7 @@
 --   AreReadable   of turns: what one sealed or tagged, a later one opens or verifies
 --   IsReadable    of a run: where it is that of a session, however it ended, what it wrote are the
 --                 replies of such turns
-use Rattle.std.specs.Prelude.{◌≡◌, ◌≢◌, ℕ, ◌<◌, List, [], ◌++◌, length, map, Some, Ok, slice_get}
+use Rattle.std.specs.Prelude.{◌≡◌, ◌≢◌, ℕ, ◌<◌, List, [], ◌++◌, length, map, Some, None, Ok, slice_get}
 use Rattle.std.specs.FinMap as map
 use Rattle.keyset_model.specs.Keyset.{Keys, primary_of}
 use Rattle.keyset_model.specs.declared.record.Record.{Record}
@@ -84,7 +84,7 @@ pub record HasReplies (table : Table) (keys : Keys) (told : Told) (old : World) 
 pub record IsReadable (table : Table) (words : List (List ℕ)) (old : World) (s : Status)
     (new : World) : Type 0 where
   pub replies : (told : Told) (name bytes : List ℕ) (form : Format) (out : Place) (keys : Keys)
-      → Tells old told → words_of words ≡ Ok (session name form out)
+      → Tells old told → words_of words ≡ Ok (session None name form out)
       → map.get told.files name ≡ Some bytes → read_in form bytes ≡ Some keys
       → HasReplies table keys told old s new
 

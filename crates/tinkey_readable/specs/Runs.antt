@@ -6,6 +6,7 @@
 --   AreRuns        each reads what the one before put out, and is answered Done
 --   RunStep        what one run does to the keyset
 --   WrapStep       a keyset that was wrapped and unwrapped is the keyset
+--   LocksStep      one that went on under masters in between is it after the edits on the way
 --   RunsUnwrap     what was wrapped before runs over the master is unwrapped after them
 --   RunsOpen ..    what was sealed or tagged before runs opens or verifies after them
 use Rattle.std.specs.Prelude.{◌≡◌, ℕ, ◌<◌, ◌≤◌, Bool, true, false, List, [], ◌∷◌, length, Option, Some, None, Ok}
@@ -13,7 +14,7 @@ use Rattle.std.specs.FinMap as map
 use Rattle.std.specs.List.{AllByRecursion}
 use Rattle.std.specs.Option.{option_and_then}
 use Rattle.std.specs.Result.{result_ok}
-use Rattle.key_msgs.specs.Templates.{row_named}
+use Rattle.key_msgs.specs.Templates.{Row, row_named}
 use Rattle.keyset_json.specs.Reading.{reads_json}
 use Rattle.keyset_json.specs.Writing.{json_of}
 use Rattle.keyset_model.specs.Keyset.{Keys, primary_of}
@@ -22,8 +23,9 @@ use Rattle.keyset_model.specs.declared.record.Record.{Record}
 use Rattle.managers.specs.Standard.{standard_table}
 use Rattle.managers.specs.Table.{Table}
 use Rattle.tink_spec.specs.Files.{Files}
-use Rattle.tinkey_cmds.specs.Edits.{Edit, Stepped, edit_then, step}
+use Rattle.tinkey_cmds.specs.Edits.{Edit, Stepped, edit_then, first, step}
 use Rattle.tinkey_session.specs.HeldLaws.{AreBytes, AreStored}
+use Rattle.tinkey_session.specs.Laws.{IsEdited}
 use Rattle.tinkey_session.specs.Session.{Remains, asked_in, remains}
 use Rattle.wrapped_prims.specs.Candidates.{prefix_of}
 use Rattle.wrapped_prims.specs.Laws.{HasKey, HasSameKey}
@@ -34,7 +36,7 @@ use Rattle.tinkey_plans.specs.Commands.{command_plan}
 use Rattle.tinkey_plans.specs.Plan.{Answer, Told, answer}
 use Rattle.tinkey_plans.specs.Steps.{keyset_limit, written_in}
 use Rattle.tinkey_plans.specs.Using.{hex_line}
-use Rattle.tinkey_words.specs.Words.{Asked, AskedEdit, AskedWork, Output, Place, convert_keyset, edit_keyset, session, use_keyset, wrap_keyset, unwrap_keyset, to_seal, to_open, to_dseal, to_dopen, to_tag, to_verify}
+use Rattle.tinkey_words.specs.Words.{Asked, AskedEdit, AskedWork, Master, Output, Place, as_taken, convert_keyset, create_keyset, edit_keyset, session, under, use_keyset, wrap_keyset, unwrap_keyset, to_seal, to_open, to_dseal, to_dopen, to_tag, to_verify}
 
 -- the keyset that these bytes are, in this form
 abbrev pub read_in : Format → List ℕ → Option Keys
@@ -77,11 +79,11 @@ session_handing name form out None = None
 session_handing name form out (Some file) =
     Some (record { taken = record { file = Some name; form = form }; put = out })
 
--- the commands that edit a keyset, the one that converts it, and a session
+-- the commands that edit a keyset, the one that converts it, and a session, without a lock
 abbrev pub hands_on : Asked → Option Handing
-hands_on (edit_keyset edit in' out) = Some (record { taken = in'; put = out })
-hands_on (convert_keyset in' out) = Some (record { taken = in'; put = out })
-hands_on (session name form out) = session_handing name form out out.file
+hands_on (edit_keyset None edit in' out) = Some (record { taken = in'; put = out })
+hands_on (convert_keyset None as_taken in' out) = Some (record { taken = in'; put = out })
+hands_on (session None name form out) = session_handing name form out out.file
 hands_on _ = None
 
 -- a run: what is asked, and what the outside objects told
@@ -142,6 +144,91 @@ pub record StillOpens (master later : Written) : Type 0 where
   pub read_again : keyset_of later ≡ Some new
   pub same : HasSameKey r new
 
+-- ---- runs under masters
+
+-- where a command takes a keyset under the lock of a master, and where it puts one under a master, which may
+-- be the same
+pub record LockedHanding : Type 0 where
+  pub lock : Master
+  pub new : Master
+  pub handing : Handing
+
+-- a session under a lock puts a keyset where a file is named for it
+abbrev pub session_under : (lock : Master) → (name : List ℕ) → Format → Place
+    → (file : Option (List ℕ)) → Option LockedHanding
+session_under lock name form out None = None
+session_under lock name form out (Some file) = Some (record {
+  lock = lock;
+  new = lock;
+  handing = record { taken = record { file = Some name; form = form }; put = out };
+})
+
+-- the commands that edit a keyset under a lock, the one that converts it to another form or puts it under
+-- another master, and a session
+abbrev pub hands_under : Asked → Option LockedHanding
+hands_under (edit_keyset (Some lock) edit in' out) =
+    Some (record { lock = lock; new = lock; handing = record { taken = in'; put = out } })
+hands_under (convert_keyset (Some lock) as_taken in' out) =
+    Some (record { lock = lock; new = lock; handing = record { taken = in'; put = out } })
+hands_under (convert_keyset (Some lock) (under new) in' out) =
+    Some (record { lock = lock; new = new; handing = record { taken = in'; put = out } })
+hands_under (session (Some lock) name form out) = session_under lock name form out out.file
+hands_under _ = None
+
+-- a run took the text that lies there under one master, and put the one that lies here under another or the
+-- same, which is a keyset
+pub record HandsUnder (table : Table) (run : Run) (master text put after : Written) : Type 0 where
+  pub locked : LockedHanding
+  pub hands : hands_under run.asked ≡ Some locked
+  pub form : locked.lock.form ≡ master.form
+  pub lies : LiesIn master run.told locked.lock.file
+  pub new_form : locked.new.form ≡ put.form
+  pub new_lies : LiesIn put run.told locked.new.file
+  pub over : Keys
+  pub read : keyset_of put ≡ Some over
+  pub handed : Hands table run locked.handing text after
+
+-- such runs, of which each takes the text that the one before it put, under a master that still opens it
+abbrev pub AreLocked : Table → List Run → (master text last after : Written) → Type 0
+AreLocked table [] master text last after = (master ≡ last) × (text ≡ after)
+AreLocked table (run ∷ later) master text last after =
+    (opening : Written) × (put : Written) × (between : Written) × StillOpens master opening
+    × HandsUnder table run opening text put between × AreLocked table later put between last after
+
+-- One run wrapped a keyset, and others took it on under masters, so that it lies as this text, which this
+-- master still opens.
+pub record GoesUnder (table : Table) (wrap : Run) (locked : List Run) (before later text : Written)
+    : Type 0 where
+  pub master : Written
+  pub over : Keys
+  pub read : keyset_of master ≡ Some over
+  pub first : Written
+  pub wraps : Wraps table wrap master before first
+  pub last : Written
+  pub are : AreLocked table locked master first last text
+  pub opens : StillOpens last later
+
+-- a run created a keyset under the master that lies in a file of it, as this text
+pub record CreatesUnder (table : Table) (run : Run) (template : List ℕ) (master text : Written)
+    : Type 0 where
+  pub lock : Master
+  pub form : lock.form ≡ master.form
+  pub lies : LiesIn master run.told lock.file
+  pub out : Place
+  pub asked : run.asked ≡ create_keyset (Some lock) template out
+  pub done : (answer_of table run).status ≡ status.Done
+  pub put_form : out.form ≡ text.form
+  pub put : bytes_at out.file (answer_of table run).files (answer_of table run).output
+      ≡ Some text.bytes
+
+-- it went so, and another run unwrapped the last text
+pub record GoesLocked (table : Table) (wrap : Run) (locked : List Run) (unwrap : Run)
+    (before after : Written) : Type 0 where
+  pub later : Written
+  pub text : Written
+  pub goes : GoesUnder table wrap locked before later text
+  pub unwraps : Unwraps table unwrap later text after
+
 -- one run wrapped a keyset, and another one unwrapped that text, in its form, under a master that still
 -- opens it
 pub record GoesWrapped (table : Table) (wrap unwrap : Run) (before after : Written) : Type 0 where
@@ -152,15 +239,16 @@ pub record GoesWrapped (table : Table) (wrap unwrap : Run) (before after : Writt
   pub opens : StillOpens master later
   pub unwraps : Unwraps table unwrap later text after
 
--- what hands a keyset on: one run, or two that wrap it and later unwrap it
+-- what hands a keyset on: one run, or those that wrap it, take it on under masters, and later unwrap it
 pub data Passage : Type 0 where
   by_run : (run : Run) → Passage
-  by_wrap : (wrap unwrap : Run) → Passage
+  by_wrap : (wrap : Run) (locked : List Run) (unwrap : Run) → Passage
 
 -- it leads from one keyset to another
 abbrev pub LeadsTo : Table → Passage → (before after : Written) → Type 0
 LeadsTo table (by_run run) before after = HandsOn table run before after
-LeadsTo table (by_wrap wrap unwrap) before after = GoesWrapped table wrap unwrap before after
+LeadsTo table (by_wrap wrap locked unwrap) before after =
+    GoesLocked table wrap locked unwrap before after
 
 -- runs, of which each reads what the one before put out
 abbrev pub AreRuns : Table → List Passage → (before after : Written) → Type 0
@@ -175,7 +263,7 @@ DrawsBytes run = AllByRecursion (λ b. b < 256) run.told.random
 -- what is drawn on the way are bytes
 abbrev pub PassesBytes : Passage → Type 0
 PassesBytes (by_run run) = DrawsBytes run
-PassesBytes (by_wrap wrap unwrap) = DrawsBytes wrap
+PassesBytes (by_wrap wrap locked unwrap) = DrawsBytes wrap × AllByRecursion DrawsBytes locked
 
 -- ---- one run
 
@@ -191,11 +279,20 @@ pub record IsEdit (asked : AskedEdit) (random : List ℕ) (old new : Keys) : Typ
   pub steps : step old edit random ≡ Some stepped
   pub accepted : stepped.answer ≡ Ok new
 
--- what is asked does this to the keyset: its edit; nothing; or what its lines do, one after another
+-- the first keyset of the template, of random bytes
+pub record IsCreated (template random : List ℕ) (new : Keys) : Type 0 where
+  pub row : Row
+  pub named : row_named template ≡ Some row
+  pub stepped : Stepped
+  pub steps : first row random ≡ Some stepped
+  pub accepted : stepped.answer ≡ Ok new
+
+-- what is asked does this to the keyset, in clear or under a master: its edit; nothing; or what its lines do,
+-- one after another
 abbrev pub Does : Table → Told → (old new : Keys) → Asked → Type 0
-Does table told old new (edit_keyset edit in' out) = IsEdit edit told.random old new
-Does table told old new (convert_keyset in' out) = old ≡ new
-Does table told old new (session name form out) =
+Does table told old new (edit_keyset lock edit in' out) = IsEdit edit told.random old new
+Does table told old new (convert_keyset lock how in' out) = old ≡ new
+Does table told old new (session lock name form out) =
     (m : Remains) × (remains table old (asked_in told.input) told.random ≡ Some m) × (m.keys ≡ new)
 Does table told old new _ = ⊥
 
@@ -232,6 +329,20 @@ WrapStep = (wrap unwrap : Run) (before after : Written) (old : Keys)
     → GoesWrapped standard_table wrap unwrap before after → DrawsBytes wrap
     → HoldsBytes before → keyset_of before ≡ Some old
     → Keeps old after
+
+-- a keyset lies here that some edits of the old one gave
+pub record GivesEdited (old : Keys) (after : Written) : Type 0 where
+  pub new : Keys
+  pub edited : IsEdited old new
+  pub keeps : Keeps new after
+
+-- What went on under masters, from a run that wrapped it to one that unwrapped it, is the keyset that the
+-- first one read, after the edits that were accepted on the way, under the managers of the program.
+abbrev pub LocksStep : Type 0
+LocksStep = (wrap : Run) (locked : List Run) (unwrap : Run) (before after : Written) (old : Keys)
+    → GoesLocked standard_table wrap locked unwrap before after → DrawsBytes wrap
+    → AllByRecursion DrawsBytes locked → HoldsBytes before → keyset_of before ≡ Some old
+    → GivesEdited old after
 
 -- ---- many runs
 
@@ -281,7 +392,7 @@ RunsUnwrap = (runs : List Passage) (master later : Written) (r : Record) (prefix
 -- the answer of work by the keys of the keyset that lies in the file of this name, put here
 abbrev pub work_answer : AskedWork → Output → Written → (name : List ℕ) → Told → Answer
 work_answer work out written name told =
-    answer (command_plan standard_table (use_keyset name written.form work out)) told
+    answer (command_plan standard_table (use_keyset None name written.form work out)) told
 
 -- bytes as they are put: as they are, or as their line of hexadecimal
 abbrev pub shown : (hex : Bool) → List ℕ → List ℕ

@@ -3,7 +3,7 @@
 --   NoOtherBefore           no other key before that one opens the first segment of a stream
 --   RunsOpenStream          what was sealed as a stream before runs opens after them
 --   RunsOpenStreamPresent   its first segment opens, under that key or another one
-use Rattle.std.specs.Prelude.{◌≡◌, ℕ, List, take, true, Some, Ok, slice_get}
+use Rattle.std.specs.Prelude.{◌≡◌, ℕ, List, take, true, Some, None, Ok, slice_get}
 use Rattle.std.specs.List.{AllByRecursion, filter_map}
 use Rattle.keyset_model.specs.Keyset.{Keys}
 use Rattle.keyset_model.specs.declared.record.Record.{Record}
@@ -23,11 +23,11 @@ use Rattle.tinkey_readable.specs.Runs.{LeadOn, LiesIn, Passage, Written}
 -- the answer of sseal, and that of sopen, by the keys of the keyset that lies in the file of this name
 abbrev pub sseal_answer : (ad : List ℕ) → Written → (name : List ℕ) → Told → Answer
 sseal_answer ad written name told =
-    answer (command_plan standard_table (seal_stream name written.form ad)) told
+    answer (command_plan standard_table (seal_stream None name written.form ad)) told
 
 abbrev pub sopen_answer : (ad : List ℕ) → Written → (name : List ℕ) → Told → Answer
 sopen_answer ad written name told =
-    answer (command_plan standard_table (open_stream name written.form ad)) told
+    answer (command_plan standard_table (open_stream None name written.form ad)) told
 
 -- a run of sseal over a keyset was answered Done, and put out this stream
 pub record WasSealed (ad : List ℕ) (written : Written) (told : Told) (stream : List ℕ) : Type 0 where

@@ -1,8 +1,9 @@
 //! Laws of runs. These functions do nothing: their contracts are the laws.
 
+ghost use Rattle.key_msgs.specs.declared.primitive.Primitive.TheVariants.{Aead, Daead, Mac};
 ghost use Rattle.keyset_json.specs.Writing.{JsonBack};
 ghost use Rattle.keyset_model.specs.Writing.{BinaryBack};
-ghost use Rattle.tinkey_readable.specs.Anywhere.{DopensAnywhere, DopensSomehowAnywhere, OpensAnywhere, OpensEnvelopeAnywhere, OpensFirstAnywhere, OpensRangeAnywhere, OpensSomehowAnywhere, OpensStreamAnywhere, UnwrapsAnywhere, VerifiesAnywhere};
+ghost use Rattle.tinkey_readable.specs.Anywhere.{CreatedServe, DopensAnywhere, DopensSomehowAnywhere, LocksServe, OpensAnywhere, OpensEnvelopeAnywhere, OpensFirstAnywhere, OpensRangeAnywhere, OpensSomehowAnywhere, OpensStreamAnywhere, UnwrapsAnywhere, VerifiesAnywhere};
 ghost use Rattle.tinkey_readable.specs.DoneWhere.{EditsDone, EnvelopesDone, RangesDone, SessionsDone, StreamsDone, WorksDone, WrapsDone};
 ghost use Rattle.tinkey_readable.specs.EnvelopeRuns.{RunsOpenEnvelope};
 ghost use Rattle.tinkey_readable.specs.Hiding.{ListedAlike, ListingHidesKeys, ReportsGoByStatus};
@@ -11,7 +12,7 @@ ghost use Rattle.tinkey_readable.specs.KeptTexts.{ReadsAfterCommands, ReadsByIts
 ghost use Rattle.tinkey_readable.specs.LineRuns.{MadeDopens, MadeDopensPresent, MadeOpens, MadeOpensPresent, MadeVerifies};
 ghost use Rattle.tinkey_readable.specs.RangeRuns.{RunsOpenRange};
 ghost use Rattle.tinkey_readable.specs.Readable.{AnswersAreReadable, SessionsAreReadable};
-ghost use Rattle.tinkey_readable.specs.Runs.{ReadIsStored, RunStep, RunsDopen, RunsDopenPresent, RunsOpen, RunsOpenPresent, RunsUnwrap, RunsVerify, WrapStep};
+ghost use Rattle.tinkey_readable.specs.Runs.{LocksStep, ReadIsStored, RunStep, RunsDopen, RunsDopenPresent, RunsOpen, RunsOpenPresent, RunsUnwrap, RunsVerify, WrapStep};
 ghost use Rattle.tinkey_readable.specs.StreamRuns.{RunsOpenStream, RunsOpenStreamPresent};
 
 use keyset_json::laws::{json_back, json_is_stored};
@@ -76,6 +77,64 @@ pub fn wrap_step()
     wrap_back_bytes();
 }
 
+/// A keyset that one run wrapped under a master, any others took on under masters, and a last one unwrapped, is
+/// the keyset that the first one read, after the edits that were accepted on the way. Those in between edit it
+/// under a lock, convert it to another form, put it under another master, or are a session with a file for the
+/// last keyset; and each of them, as the last one, opens the text under a master that has the key that sealed
+/// it, ENABLED and alone under its prefix.
+pub fn locks_step()
+    ensures { LocksStep }
+{
+    faultless_keysets();
+    forms_back();
+    edits_keep_keysets();
+    stored_kept();
+    talk_is_turns();
+    session_is_edits();
+    edited_kept();
+    read_is_stored();
+    wrap_back_bytes();
+}
+
+/// A keyset that went on so, and lies under a master that serves, serves AEADs there, DAEADs or MACs, where the
+/// first one did: so commands with a lock are Done over it, and what was made under a key opens or verifies
+/// while the key is there, as kept_anywhere says it of each keyset that serves.
+pub fn locks_serve()
+    ensures aead { LocksServe Aead }
+    ensures daead { LocksServe Daead }
+    ensures mac { LocksServe Mac }
+{
+    faultless_keysets();
+    forms_back();
+    edits_keep_keysets();
+    stored_kept();
+    talk_is_turns();
+    session_is_edits();
+    edited_kept();
+    read_is_stored();
+    wrap_back_bytes();
+    read_keysets_fit();
+    sound_usable();
+}
+
+/// So does a keyset that was created under a master, and never lay in clear.
+pub fn created_serve()
+    ensures aead { CreatedServe Aead }
+    ensures daead { CreatedServe Daead }
+    ensures mac { CreatedServe Mac }
+{
+    faultless_keysets();
+    forms_back();
+    edits_keep_keysets();
+    stored_kept();
+    talk_is_turns();
+    session_is_edits();
+    edited_kept();
+    read_is_stored();
+    wrap_back_bytes();
+    sound_usable();
+}
+
 /// What was wrapped under a key with a prefix is unwrapped after any runs that hand the master on, to the
 /// keyset, while that key is ENABLED in the last master and alone under its prefix: a run that reads the
 /// text there is Done, where the name of its new file is free and, if JSON is asked for, that is within the
@@ -86,7 +145,7 @@ pub fn kept_wrapped()
 {
     kept_anywhere();
     run_step();
-    wrap_step();
+    locks_step();
     read_keysets_fit();
     session_is_edits();
     edited_kept();
@@ -100,8 +159,8 @@ pub fn files_stay()
 {}
 
 /// A key with a prefix that is ENABLED and alone under it stays so, with the same id, prefix, URL and value,
-/// over any list of runs with whatever outcome: edits, conversions, wrapping and unwrapping, sessions, and
-/// any others while the keyset lies in a file. No accepted edit and no accepted line of a session among them
+/// over any list of runs with whatever outcome: edits, conversions, wrapping and unwrapping, sessions, in clear
+/// or between the two under masters, and any others while the keyset lies in a file. No accepted edit and no accepted line of a session among them
 /// disables, destroys or deletes its id, or enables another key under its prefix.
 ///
 /// The runs are those of the top call, over objects that tell; what is drawn, and the first keyset's file,
@@ -110,9 +169,16 @@ pub fn kept_by_commands()
     ensures { KeptByCommands }
 {
     run_step();
-    wrap_step();
     read_is_stored();
     files_stay();
+    faultless_keysets();
+    forms_back();
+    edits_keep_keysets();
+    stored_kept();
+    talk_is_turns();
+    session_is_edits();
+    edited_kept();
+    wrap_back_bytes();
 }
 
 /// A keyset whose ids are distinct has distinct ids after any such runs, and create-keyset makes one. Of such
@@ -127,18 +193,23 @@ pub fn ids_stay_distinct()
     ensures back { GivenBackByEnable }
 {
     run_step();
-    wrap_step();
     read_is_stored();
+    files_stay();
     faultless_keysets();
     forms_back();
     edits_keep_keysets();
     stored_kept();
-    files_stay();
+    talk_is_turns();
+    session_is_edits();
+    edited_kept();
+    wrap_back_bytes();
 }
 
 /// What a run or a line of a session made under a key opens or verifies over every keyset that is accepted for
 /// the primitive and in which that key is ENABLED and alone under its prefix: a backup, a branch, another
-/// tool's copy. Nothing is asked of the runs in between. While the key is there, ENABLED, alone or not and of
+/// tool's copy. Nothing is asked of the runs in between. What was sealed, with an IV or without, or tagged, and
+/// what opens or verifies it, a run or a line, may each have its keyset in clear or under the lock of a
+/// master. While the key is there, ENABLED, alone or not and of
 /// whatever prefix type, what was sealed opens to some plaintext, and a tag verifies. Of a stream no other key
 /// before it may open the first segment, as nothing in a stream tells its key.
 ///
@@ -186,7 +257,7 @@ pub fn texts_stay_readable()
     ids_stay_distinct();
     kept_anywhere();
     run_step();
-    wrap_step();
+    locks_step();
     read_keysets_fit();
     session_is_edits();
     sound_usable();
@@ -194,7 +265,7 @@ pub fn texts_stay_readable()
 }
 
 /// What was sealed over a keyset opens after any runs that hand the keyset on, as it is or wrapped in
-/// between, with its associated data, to its plaintext, while the key that sealed is ENABLED in the last
+/// between and edited there under masters, with its associated data, to its plaintext, while the key that sealed is ENABLED in the last
 /// keyset and alone under its prefix. While the key is there, ENABLED, it opens to some plaintext, whatever
 /// the prefix type, and a tag verifies. What was made may lie in a new file, and a tag in hexadecimal; what
 /// opens may become a new file, where its name is free.
@@ -207,7 +278,7 @@ pub fn kept_runs()
 {
     kept_anywhere();
     run_step();
-    wrap_step();
+    locks_step();
     read_keysets_fit();
     session_is_edits();
     edited_kept();
@@ -222,7 +293,7 @@ pub fn kept_envelopes()
 {
     kept_anywhere();
     run_step();
-    wrap_step();
+    locks_step();
     read_keysets_fit();
     session_is_edits();
     edited_kept();
@@ -242,7 +313,7 @@ pub fn kept_streams()
 {
     kept_anywhere();
     run_step();
-    wrap_step();
+    locks_step();
     read_keysets_fit();
     session_is_edits();
     edited_kept();
@@ -257,7 +328,7 @@ pub fn kept_ranges()
 {
     kept_anywhere();
     run_step();
-    wrap_step();
+    locks_step();
     read_keysets_fit();
     session_is_edits();
     edited_kept();
@@ -276,7 +347,7 @@ pub fn kept_lines()
     kept_anywhere();
     talk_is_turns();
     run_step();
-    wrap_step();
+    locks_step();
     read_keysets_fit();
     session_is_edits();
     edited_kept();

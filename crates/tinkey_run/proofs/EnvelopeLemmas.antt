@@ -27,11 +27,12 @@ use Rattle.tinkey_plans.specs.declared.status.Status.TheVariants as status
 use Rattle.tinkey_plans.specs.Ends.{World, Ends, Settles, settled, draw_failed, draw_starved}
 use Rattle.tinkey_plans.specs.Envelopes.{as_enveloped, envelope_limit, envelope_output, envelopes, finds_dek, finds_scheme, seals_envelope}
 use Rattle.tinkey_plans.specs.Plan.{Plan, allocates, draws, envelopings}
-use Rattle.tinkey_plans.specs.Steps.{loads_keyset, reads_input, Passes}
-use Rattle.tinkey_plans.specs.Using.{handles}
+use Rattle.tinkey_plans.specs.Steps.{reads_input, Passes}
+use Rattle.tinkey_plans.specs.Handles.{handles}
+use Rattle.tinkey_plans.specs.Locks.{loads_locked}
 use Rattle.tinkey_plans.proofs.StepLemmas.{passes_then, ends_there}
 use Rattle.tinkey_words.specs.declared.words.rows.Format.{Format}
-use Rattle.tinkey_words.specs.Words.{AskedEnvelope, to_eseal}
+use Rattle.tinkey_words.specs.Words.{AskedEnvelope, Lock, to_eseal}
 use Rattle.wrapped_prims.specs.Answers.{Sealed, primary_key, seal_answer, seal_behind, seal_under}
 use Rattle.wrapped_prims.specs.Candidates.{prefix_of, prefix_bytes}
 use Rattle.wrapped_prims.specs.Fitness.{key_of_record}
@@ -254,41 +255,41 @@ abbrev pub with_data_keys : Table → Row → AskedEnvelope → Rest (List ℕ)
 with_data_keys table row work keys next = finds_scheme table row (λ scheme. reads_envelope table row work keys scheme next)
 
 -- and from the template on
-abbrev of_row : Table → List ℕ → Format → AskedEnvelope → Row → (List ℕ → Plan) → Plan
-of_row table name form work row next = serves table Aead name form (with_data_keys table row work) next
+abbrev of_row : Table → Lock → List ℕ → Format → AskedEnvelope → Row → (List ℕ → Plan) → Plan
+of_row table lock name form work row next = serves table Aead lock name form (with_data_keys table row work) next
 
 -- there is no such template
-pub envelope_no_template : (table : Table) (name : List ℕ) (form : Format) (template : List ℕ) (work : AskedEnvelope) (old new : World) (r : Result (List ℕ) Status) (s : Status) → IsErrAnd r (λ e. e ≡ s) → Passes {A = Row} (finds_dek template) old (Err s) new
-    → Passes (envelope_output table name form template work) old r new
-envelope_no_template table name form template work old new r s is one = ends_there (finds_dek template) (of_row table name form work) old new r s is one
+pub envelope_no_template : (table : Table) (lock : Lock) (name : List ℕ) (form : Format) (template : List ℕ) (work : AskedEnvelope) (old new : World) (r : Result (List ℕ) Status) (s : Status) → IsErrAnd r (λ e. e ≡ s) → Passes {A = Row} (finds_dek template) old (Err s) new
+    → Passes (envelope_output table lock name form template work) old r new
+envelope_no_template table lock name form template work old new r s is one = ends_there (finds_dek template) (of_row table lock name form work) old new r s is one
 
-pub envelope_no_keyset : (table : Table) (name : List ℕ) (form : Format) (template : List ℕ) (work : AskedEnvelope) (old new : World) (row : Row) (r : Result (List ℕ) Status) (s : Status) → Passes (finds_dek template) old (Ok row) old
-    → IsErrAnd r (λ e. e ≡ s) → Passes {A = Keys} (loads_keyset name form) old (Err s) new → Passes (envelope_output table name form template work) old r new
-envelope_no_keyset table name form template work old new row r s one is two =
-    passes_then (finds_dek template) (of_row table name form work) old old new row r one (no_keyset table Aead name form (with_data_keys table row work) old new r s is two)
+pub envelope_no_keyset : (table : Table) (lock : Lock) (name : List ℕ) (form : Format) (template : List ℕ) (work : AskedEnvelope) (old new : World) (row : Row) (r : Result (List ℕ) Status) (s : Status) → Passes (finds_dek template) old (Ok row) old
+    → IsErrAnd r (λ e. e ≡ s) → Passes {A = Keys} (loads_locked table lock name form) old (Err s) new → Passes (envelope_output table lock name form template work) old r new
+envelope_no_keyset table lock name form template work old new row r s one is two =
+    passes_then (finds_dek template) (of_row table lock name form work) old old new row r one (no_keyset table Aead lock name form (with_data_keys table row work) old new r s is two)
 
-pub envelope_no_handle : (table : Table) (name : List ℕ) (form : Format) (template : List ℕ) (work : AskedEnvelope) (old mid : World) (row : Row) (keys : Keys) (r : Result (List ℕ) Status) (s : Status) → Passes (finds_dek template) old (Ok row) old → Passes (loads_keyset name form) old (Ok keys) mid
-    → IsErrAnd r (λ e. e ≡ s) → ((next : Unit {0} → Plan) → Ends (handles table Aead keys next) mid s mid) → Passes (envelope_output table name form template work) old r mid
-envelope_no_handle table name form template work old mid row keys r s one two is three =
-    passes_then (finds_dek template) (of_row table name form work) old old mid row r one (no_handle table Aead name form (with_data_keys table row work) old mid keys Aead r s is refl two three)
+pub envelope_no_handle : (table : Table) (lock : Lock) (name : List ℕ) (form : Format) (template : List ℕ) (work : AskedEnvelope) (old mid : World) (row : Row) (keys : Keys) (r : Result (List ℕ) Status) (s : Status) → Passes (finds_dek template) old (Ok row) old → Passes (loads_locked table lock name form) old (Ok keys) mid
+    → IsErrAnd r (λ e. e ≡ s) → ((next : Unit {0} → Plan) → Ends (handles table Aead keys next) mid s mid) → Passes (envelope_output table lock name form template work) old r mid
+envelope_no_handle table lock name form template work old mid row keys r s one two is three =
+    passes_then (finds_dek template) (of_row table lock name form work) old old mid row r one (no_handle table Aead lock name form (with_data_keys table row work) old mid keys Aead r s is refl two three)
 
 -- there is a template, and a keyset whose records can serve, and the rest ended so
-pub envelope_with_handle : (table : Table) (name : List ℕ) (form : Format) (template : List ℕ) (work : AskedEnvelope) (old mid new : World) (row : Row) (keys : Keys) (r : Result (List ℕ) Status) → Passes (finds_dek template) old (Ok row) old → Passes (loads_keyset name form) old (Ok keys) mid
-    → Passes (handles table Aead keys) mid (Ok tt) mid → Passes (with_data_keys table row work keys) mid r new → Passes (envelope_output table name form template work) old r new
-envelope_with_handle table name form template work old mid new row keys r one two three four =
-    passes_then (finds_dek template) (of_row table name form work) old old new row r one (with_handle table Aead name form (with_data_keys table row work) old mid new keys Aead r refl two three four)
+pub envelope_with_handle : (table : Table) (lock : Lock) (name : List ℕ) (form : Format) (template : List ℕ) (work : AskedEnvelope) (old mid new : World) (row : Row) (keys : Keys) (r : Result (List ℕ) Status) → Passes (finds_dek template) old (Ok row) old → Passes (loads_locked table lock name form) old (Ok keys) mid
+    → Passes (handles table Aead keys) mid (Ok tt) mid → Passes (with_data_keys table row work keys) mid r new → Passes (envelope_output table lock name form template work) old r new
+envelope_with_handle table lock name form template work old mid new row keys r one two three four =
+    passes_then (finds_dek template) (of_row table lock name form work) old old new row r one (with_handle table Aead lock name form (with_data_keys table row work) old mid new keys Aead r refl two three four)
 
 -- the template's keys have no manager
-pub envelope_no_manager : (table : Table) (name : List ℕ) (form : Format) (template : List ℕ) (work : AskedEnvelope) (old mid : World) (row : Row) (keys : Keys) (r : Result (List ℕ) Status) (s : Status) → Passes (finds_dek template) old (Ok row) old → Passes (loads_keyset name form) old (Ok keys) mid
-    → Passes (handles table Aead keys) mid (Ok tt) mid → IsErrAnd r (λ e. e ≡ s) → Passes {A = Scheme} (finds_scheme table row) mid (Err s) mid → Passes (envelope_output table name form template work) old r mid
-envelope_no_manager table name form template work old mid row keys r s one two three is four =
-    envelope_with_handle table name form template work old mid mid row keys r one two three (ends_there (finds_scheme table row) (reads_envelope table row work keys) mid mid r s is four)
+pub envelope_no_manager : (table : Table) (lock : Lock) (name : List ℕ) (form : Format) (template : List ℕ) (work : AskedEnvelope) (old mid : World) (row : Row) (keys : Keys) (r : Result (List ℕ) Status) (s : Status) → Passes (finds_dek template) old (Ok row) old → Passes (loads_locked table lock name form) old (Ok keys) mid
+    → Passes (handles table Aead keys) mid (Ok tt) mid → IsErrAnd r (λ e. e ≡ s) → Passes {A = Scheme} (finds_scheme table row) mid (Err s) mid → Passes (envelope_output table lock name form template work) old r mid
+envelope_no_manager table lock name form template work old mid row keys r s one two three is four =
+    envelope_with_handle table lock name form template work old mid mid row keys r one two three (ends_there (finds_scheme table row) (reads_envelope table row work keys) mid mid r s is four)
 
 -- the input wasn't read
-pub envelope_no_input : (table : Table) (name : List ℕ) (form : Format) (template : List ℕ) (work : AskedEnvelope) (old mid new : World) (row : Row) (keys : Keys) (scheme : Scheme) (r : Result (List ℕ) Status) (s : Status) → Passes (finds_dek template) old (Ok row) old → Passes (loads_keyset name form) old (Ok keys) mid
-    → Passes (handles table Aead keys) mid (Ok tt) mid → Passes (finds_scheme table row) mid (Ok scheme) mid → IsErrAnd r (λ e. e ≡ s) → Passes {A = List ℕ} (reads_input (envelope_limit work)) mid (Err s) new → Passes (envelope_output table name form template work) old r new
-envelope_no_input table name form template work old mid new row keys scheme r s one two three four is five =
-    envelope_with_handle table name form template work old mid new row keys r one two three
+pub envelope_no_input : (table : Table) (lock : Lock) (name : List ℕ) (form : Format) (template : List ℕ) (work : AskedEnvelope) (old mid new : World) (row : Row) (keys : Keys) (scheme : Scheme) (r : Result (List ℕ) Status) (s : Status) → Passes (finds_dek template) old (Ok row) old → Passes (loads_locked table lock name form) old (Ok keys) mid
+    → Passes (handles table Aead keys) mid (Ok tt) mid → Passes (finds_scheme table row) mid (Ok scheme) mid → IsErrAnd r (λ e. e ≡ s) → Passes {A = List ℕ} (reads_input (envelope_limit work)) mid (Err s) new → Passes (envelope_output table lock name form template work) old r new
+envelope_no_input table lock name form template work old mid new row keys scheme r s one two three four is five =
+    envelope_with_handle table lock name form template work old mid new row keys r one two three
     (passes_then (finds_scheme table row) (reads_envelope table row work keys) mid mid new scheme r four (ends_there (reads_input (envelope_limit work)) (envelopes table keys scheme row work) mid new r s is five))
 
 -- it was, and the work ended so

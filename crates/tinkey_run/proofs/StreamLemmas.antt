@@ -31,7 +31,10 @@ use Rattle.tinkey_cmds.proofs.Drawings.{ran_out-fill}
 use Rattle.tinkey_words.specs.declared.words.rows.Format.{Format}
 use Rattle.tinkey_plans.specs.Ends.{World, Ends, OnlyStreams, IsLasting, pump_status, draw_failed, settled}
 use Rattle.tinkey_plans.specs.Plan.{Plan, allocates}
-use Rattle.tinkey_plans.specs.Steps.{loads_keyset, Passes}
+use Rattle.tinkey_plans.specs.Steps.{Passes}
+use Rattle.tinkey_plans.specs.Locks.{loads_locked}
+use Rattle.tinkey_words.specs.Words.{Lock}
+use Rattle.managers.specs.Table.{Table}
 use Rattle.tinkey_plans.specs.Streaming.{unless_unfit, keys_for, with_keys, loads_stream_keys, seals_stream, opens_stream, stream_keys_refusal}
 use Rattle.tinkey_plans.proofs.StepLemmas.{passes_then, ends_there}
 
@@ -41,8 +44,8 @@ abbrev fits : Keys → (KeysForStreams → Plan) → Plan
 fits keys next = allocates (unless_unfit (stream_unfit keys) (with_keys (keys_for keys) next))
 
 -- no keyset was loaded
-pub no_keyset : (name : List ℕ) (form : Format) (old new : World) (r : Result KeysForStreams Status) (s : Status) → IsErrAnd r (λ e. e ≡ s) → Passes {A = Keys} (loads_keyset name form) old (Err s) new → Passes (loads_stream_keys name form) old r new
-no_keyset name form old new r s is one = ends_there (loads_keyset name form) fits old new r s is one
+pub no_keyset : (table : Table) (lock : Lock) (name : List ℕ) (form : Format) (old new : World) (r : Result KeysForStreams Status) (s : Status) → IsErrAnd r (λ e. e ≡ s) → Passes {A = Keys} (loads_locked table lock name form) old (Err s) new → Passes (loads_stream_keys table lock name form) old r new
+no_keyset table lock name form old new r s is one = ends_there (loads_locked table lock name form) fits old new r s is one
 
 keys_are : (keys : Keys) (those : KeysForStreams) → AreOf those keys → keys_for keys ≡ Some those
 keys_are keys those are =
@@ -50,9 +53,9 @@ keys_are keys those are =
     ∙ ap (λ (all : List StreamKey). Some (record { primary = those.primary; keys = all })) (sym are.0)
 
 -- each record gives one
-pub with_stream_keys : (name : List ℕ) (form : Format) (old mid : World) (keys : Keys) (those : KeysForStreams) → stream_unfit keys ≡ None → AreOf those keys → Passes (loads_keyset name form) old (Ok keys) mid → Passes (loads_stream_keys name form) old (Ok those) mid
-with_stream_keys name form old mid keys those fit are one =
-    passes_then (loads_keyset name form) fits old mid mid keys (Ok those) one (λ next s last run. inl (rw (fit, keys_are keys those are) run))
+pub with_stream_keys : (table : Table) (lock : Lock) (name : List ℕ) (form : Format) (old mid : World) (keys : Keys) (those : KeysForStreams) → stream_unfit keys ≡ None → AreOf those keys → Passes (loads_locked table lock name form) old (Ok keys) mid → Passes (loads_stream_keys table lock name form) old (Ok those) mid
+with_stream_keys table lock name form old mid keys those fit are one =
+    passes_then (loads_locked table lock name form) fits old mid mid keys (Ok those) one (λ next s last run. inl (rw (fit, keys_are keys those are) run))
 
 unfit_ends : (keys : Keys) (fault : StreamKeysFault) (w : World) → IsUnfit fault (stream_unfit keys) → (next : KeysForStreams → Plan) → Ends (fits keys next) w (stream_keys_refusal fault) w
 unfit_ends keys (key_faults.NotStream i) w is next = rw is (inl (refl, refl))
@@ -60,9 +63,9 @@ unfit_ends keys (key_faults.BadKey i rule) w is next = rw is (inl (refl, refl))
 unfit_ends keys key_faults.NoMemory w is next = inr (refl, refl)
 
 -- some record gives none
-pub no_stream_keys : (name : List ℕ) (form : Format) (old mid : World) (keys : Keys) (fault : StreamKeysFault) → IsUnfit fault (stream_unfit keys) → Passes (loads_keyset name form) old (Ok keys) mid → Passes {A = KeysForStreams} (loads_stream_keys name form) old (Err (stream_keys_refusal fault)) mid
-no_stream_keys name form old mid keys fault is one =
-    passes_then (loads_keyset name form) fits old mid mid keys (Err (stream_keys_refusal fault)) one (unfit_ends keys fault mid is)
+pub no_stream_keys : (table : Table) (lock : Lock) (name : List ℕ) (form : Format) (old mid : World) (keys : Keys) (fault : StreamKeysFault) → IsUnfit fault (stream_unfit keys) → Passes (loads_locked table lock name form) old (Ok keys) mid → Passes {A = KeysForStreams} (loads_stream_keys table lock name form) old (Err (stream_keys_refusal fault)) mid
+no_stream_keys table lock name form old mid keys fault is one =
+    passes_then (loads_locked table lock name form) fits old mid mid keys (Err (stream_keys_refusal fault)) one (unfit_ends keys fault mid is)
 
 -- What is decided lasts.
 

@@ -27,12 +27,14 @@ use Rattle.tinkey_plans.specs.Ends.{World, Ends, settled, draw_failed}
 use Rattle.tinkey_cmds.specs.Draws.{Draw, Drawn}
 use Rattle.tinkey_cmds.specs.declared.command.CmdFault.{CmdFault}
 use Rattle.tinkey_plans.specs.Plan.{Plan, allocates, draws, sealings}
-use Rattle.tinkey_plans.specs.Steps.{loads_keyset, reads_input, Passes}
+use Rattle.tinkey_plans.specs.Steps.{reads_input, Passes}
 use Rattle.tinkey_words.specs.declared.words.rows.Format.{Format}
 use Rattle.tinkey_plans.proofs.StepLemmas.{passes_then, ends_there}
 use Rattle.std.specs.Result.{IsErrAnd}
-use Rattle.tinkey_plans.specs.Using.{handles, as_drawn, limit_for, with_opened, works, use_output}
-use Rattle.tinkey_words.specs.Words.{AskedWork, to_seal, primitive_for}
+use Rattle.tinkey_plans.specs.Handles.{handles}
+use Rattle.tinkey_plans.specs.Locks.{loads_locked}
+use Rattle.tinkey_plans.specs.Using.{as_drawn, limit_for, with_opened, works, use_output}
+use Rattle.tinkey_words.specs.Words.{AskedWork, Lock, to_seal, primitive_for}
 
 -- a step behind which memory isn't wanting
 pub behind_memory : {A : Type 0} (step : (A → Plan) → Plan) (old new : World) (r : Result A Status) → Passes step old r new → Passes (λ next. allocates (step next)) old r new
@@ -142,49 +144,49 @@ Rest B = Keys → (B → Plan) → Plan
 abbrev checks : {B : Type 0} → Table → Primitive → Rest B → Rest B
 checks table primitive rest keys next = handles table primitive keys (λ fit. rest keys next)
 
-abbrev pub serves : {B : Type 0} → Table → Primitive → (name : List ℕ) → Format → Rest B → (B → Plan) → Plan
-serves table primitive name form rest next = loads_keyset name form (λ keys. checks table primitive rest keys next)
+abbrev pub serves : {B : Type 0} → Table → Primitive → Lock → (name : List ℕ) → Format → Rest B → (B → Plan) → Plan
+serves table primitive lock name form rest next = loads_locked table lock name form (λ keys. checks table primitive rest keys next)
 
 -- no keyset was loaded
-pub no_keyset : {B : Type 0} (table : Table) (p : Primitive) (name : List ℕ) (form : Format) (rest : Rest B) (old new : World) (r : Result B Status) (s : Status) → IsErrAnd r (λ e. e ≡ s) → Passes {A = Keys} (loads_keyset name form) old (Err s) new → Passes (serves table p name form rest) old r new
-no_keyset table p name form rest old new r s is one = ends_there (loads_keyset name form) (checks table p rest) old new r s is one
+pub no_keyset : {B : Type 0} (table : Table) (p : Primitive) (lock : Lock) (name : List ℕ) (form : Format) (rest : Rest B) (old new : World) (r : Result B Status) (s : Status) → IsErrAnd r (λ e. e ≡ s) → Passes {A = Keys} (loads_locked table lock name form) old (Err s) new → Passes (serves table p lock name form rest) old r new
+no_keyset table p lock name form rest old new r s is one = ends_there (loads_locked table lock name form) (checks table p rest) old new r s is one
 
 -- its records can't serve
-pub no_handle : {B : Type 0} (table : Table) (p : Primitive) (name : List ℕ) (form : Format) (rest : Rest B) (old mid : World) (keys : Keys) (primitive : Primitive) (r : Result B Status) (s : Status) → IsErrAnd r (λ e. e ≡ s) → primitive ≡ p → Passes (loads_keyset name form) old (Ok keys) mid
-    → ((next : Unit {0} → Plan) → Ends (handles table primitive keys next) mid s mid) → Passes (serves table p name form rest) old r mid
-no_handle table p name form rest old mid keys primitive r s is same one two =
-    passes_then (loads_keyset name form) (checks table p rest) old mid mid keys r one
+pub no_handle : {B : Type 0} (table : Table) (p : Primitive) (lock : Lock) (name : List ℕ) (form : Format) (rest : Rest B) (old mid : World) (keys : Keys) (primitive : Primitive) (r : Result B Status) (s : Status) → IsErrAnd r (λ e. e ≡ s) → primitive ≡ p → Passes (loads_locked table lock name form) old (Ok keys) mid
+    → ((next : Unit {0} → Plan) → Ends (handles table primitive keys next) mid s mid) → Passes (serves table p lock name form rest) old r mid
+no_handle table p lock name form rest old mid keys primitive r s is same one two =
+    passes_then (loads_locked table lock name form) (checks table p rest) old mid mid keys r one
     (ends_there (handles table p keys) (λ fit. rest keys) mid mid r s is (λ next. subst (λ (p : Primitive). Ends (handles table p keys next) mid s mid) same (two next)))
 
 -- the records can serve, and the rest ended so
-pub with_handle : {B : Type 0} (table : Table) (p : Primitive) (name : List ℕ) (form : Format) (rest : Rest B) (old mid new : World) (keys : Keys) (primitive : Primitive) (r : Result B Status) → primitive ≡ p → Passes (loads_keyset name form) old (Ok keys) mid → Passes (handles table primitive keys) mid (Ok tt) mid
-    → Passes (rest keys) mid r new → Passes (serves table p name form rest) old r new
-with_handle table p name form rest old mid new keys primitive r same one two three =
-    passes_then (loads_keyset name form) (checks table p rest) old mid new keys r one
+pub with_handle : {B : Type 0} (table : Table) (p : Primitive) (lock : Lock) (name : List ℕ) (form : Format) (rest : Rest B) (old mid new : World) (keys : Keys) (primitive : Primitive) (r : Result B Status) → primitive ≡ p → Passes (loads_locked table lock name form) old (Ok keys) mid → Passes (handles table primitive keys) mid (Ok tt) mid
+    → Passes (rest keys) mid r new → Passes (serves table p lock name form rest) old r new
+with_handle table p lock name form rest old mid new keys primitive r same one two three =
+    passes_then (loads_locked table lock name form) (checks table p rest) old mid new keys r one
     (passes_then (handles table p keys) (λ fit. rest keys) mid mid new tt r (subst (λ (p : Primitive). Passes (handles table p keys) mid (Ok tt) mid) same two) three)
 
 -- the plan of work from the input on
 abbrev pub reads : Table → AskedWork → Rest (List ℕ)
 reads table work keys next = reads_input (limit_for work) (λ input. works table keys work input next)
 
-pub use_no_keyset : (table : Table) (name : List ℕ) (form : Format) (work : AskedWork) (old new : World) (r : Result (List ℕ) Status) (s : Status) → IsErrAnd r (λ e. e ≡ s) → Passes {A = Keys} (loads_keyset name form) old (Err s) new → Passes (use_output table name form work) old r new
-use_no_keyset table name form work old new r s is one = no_keyset table (primitive_for work) name form (reads table work) old new r s is one
+pub use_no_keyset : (table : Table) (lock : Lock) (name : List ℕ) (form : Format) (work : AskedWork) (old new : World) (r : Result (List ℕ) Status) (s : Status) → IsErrAnd r (λ e. e ≡ s) → Passes {A = Keys} (loads_locked table lock name form) old (Err s) new → Passes (use_output table lock name form work) old r new
+use_no_keyset table lock name form work old new r s is one = no_keyset table (primitive_for work) lock name form (reads table work) old new r s is one
 
-pub use_no_handle : (table : Table) (name : List ℕ) (form : Format) (work : AskedWork) (old mid : World) (keys : Keys) (primitive : Primitive) (r : Result (List ℕ) Status) (s : Status) → IsErrAnd r (λ e. e ≡ s) → primitive ≡ primitive_for work → Passes (loads_keyset name form) old (Ok keys) mid
-    → ((next : Unit {0} → Plan) → Ends (handles table primitive keys next) mid s mid) → Passes (use_output table name form work) old r mid
-use_no_handle table name form work old mid keys primitive r s is same one two = no_handle table (primitive_for work) name form (reads table work) old mid keys primitive r s is same one two
+pub use_no_handle : (table : Table) (lock : Lock) (name : List ℕ) (form : Format) (work : AskedWork) (old mid : World) (keys : Keys) (primitive : Primitive) (r : Result (List ℕ) Status) (s : Status) → IsErrAnd r (λ e. e ≡ s) → primitive ≡ primitive_for work → Passes (loads_locked table lock name form) old (Ok keys) mid
+    → ((next : Unit {0} → Plan) → Ends (handles table primitive keys next) mid s mid) → Passes (use_output table lock name form work) old r mid
+use_no_handle table lock name form work old mid keys primitive r s is same one two = no_handle table (primitive_for work) lock name form (reads table work) old mid keys primitive r s is same one two
 
-pub use_with_handle : (table : Table) (name : List ℕ) (form : Format) (work : AskedWork) (old mid new : World) (keys : Keys) (primitive : Primitive) (r : Result (List ℕ) Status) → primitive ≡ primitive_for work → Passes (loads_keyset name form) old (Ok keys) mid → Passes (handles table primitive keys) mid (Ok tt) mid
-    → Passes (reads table work keys) mid r new → Passes (use_output table name form work) old r new
-use_with_handle table name form work old mid new keys primitive r same one two three = with_handle table (primitive_for work) name form (reads table work) old mid new keys primitive r same one two three
+pub use_with_handle : (table : Table) (lock : Lock) (name : List ℕ) (form : Format) (work : AskedWork) (old mid new : World) (keys : Keys) (primitive : Primitive) (r : Result (List ℕ) Status) → primitive ≡ primitive_for work → Passes (loads_locked table lock name form) old (Ok keys) mid → Passes (handles table primitive keys) mid (Ok tt) mid
+    → Passes (reads table work keys) mid r new → Passes (use_output table lock name form work) old r new
+use_with_handle table lock name form work old mid new keys primitive r same one two three = with_handle table (primitive_for work) lock name form (reads table work) old mid new keys primitive r same one two three
 
 -- the input wasn't read
 no_input : (table : Table) (work : AskedWork) (old new : World) (keys : Keys) (r : Result (List ℕ) Status) (s : Status) → IsErrAnd r (λ e. e ≡ s) → Passes {A = List ℕ} (reads_input (limit_for work)) old (Err s) new → Passes (reads table work keys) old r new
 no_input table work old new keys r s is one = ends_there (reads_input (limit_for work)) (works table keys work) old new r s is one
 
-pub use_no_input : (table : Table) (name : List ℕ) (form : Format) (work : AskedWork) (old mid new : World) (keys : Keys) (primitive : Primitive) (r : Result (List ℕ) Status) (s : Status) → primitive ≡ primitive_for work → Passes (loads_keyset name form) old (Ok keys) mid → Passes (handles table primitive keys) mid (Ok tt) mid
-    → IsErrAnd r (λ e. e ≡ s) → Passes {A = List ℕ} (reads_input (limit_for work)) mid (Err s) new → Passes (use_output table name form work) old r new
-use_no_input table name form work old mid new keys primitive r s same one two is three = use_with_handle table name form work old mid new keys primitive r same one two (no_input table work mid new keys r s is three)
+pub use_no_input : (table : Table) (lock : Lock) (name : List ℕ) (form : Format) (work : AskedWork) (old mid new : World) (keys : Keys) (primitive : Primitive) (r : Result (List ℕ) Status) (s : Status) → primitive ≡ primitive_for work → Passes (loads_locked table lock name form) old (Ok keys) mid → Passes (handles table primitive keys) mid (Ok tt) mid
+    → IsErrAnd r (λ e. e ≡ s) → Passes {A = List ℕ} (reads_input (limit_for work)) mid (Err s) new → Passes (use_output table lock name form work) old r new
+use_no_input table lock name form work old mid new keys primitive r s same one two is three = use_with_handle table lock name form work old mid new keys primitive r same one two (no_input table work mid new keys r s is three)
 
 -- it was, and the work ended so
 pub with_input : (table other : Table) (work : AskedWork) (old mid new : World) (keys : Keys) (input : List ℕ) (r : Result (List ℕ) Status) → other ≡ table → Passes (reads_input (limit_for work)) old (Ok input) mid → Passes (works other keys work input) mid r new → Passes (reads table work keys) old r new

@@ -1,67 +1,161 @@
 //! create-keyset, and the commands that edit a keyset.
 
-ghost use Rattle.std.specs.Prelude.{◌≡◌, IfOk};
+ghost use Rattle.std.specs.Prelude.{◌≡◌, IfOk, Option, option_map};
 ghost use Rattle.std.specs.List.{AllByRecursion};
 ghost use Rattle.key_msgs.specs.Templates.{seen};
-ghost use Rattle.keyset_model.specs.Keyset.{IsShort};
+ghost use Rattle.keyset_model.specs.Keyset.{Keys, IsShort};
+ghost use Rattle.managers.specs.Table.{Table};
 ghost use Rattle.tinkey_cmds.specs.Edits.{first, step, seen_edit as seen_command};
-ghost use Rattle.tinkey_plans.specs.Ends.{World};
-ghost use Rattle.tinkey_plans.specs.Steps.{edit_refusal, finds_edit, makes_keyset, Passes, PassesAs};
-ghost use Rattle.tinkey_plans.specs.Commands.{create_output, edit_output};
-ghost use Rattle.tinkey_words.specs.Words.{seen_edit, seen_place};
+ghost use Rattle.tinkey_plans.specs.Ends.{World, world};
+ghost use Rattle.tinkey_plans.specs.Locks.{puts_under, takes_under, IsLock, IsSomeLock};
+ghost use Rattle.tinkey_plans.specs.Steps.{edit_refusal, finds_edit, makes_keyset, Finishes, Passes, PassesAs};
+ghost use Rattle.tinkey_plans.specs.Commands.{command_plan};
+ghost use Rattle.tinkey_words.specs.Words.{create_keyset, edit_keyset, seen_edit, seen_lock, seen_place};
 
-use crate::steps::{find_template, take_keyset};
+use crate::locks::{open_lock, put_under, take_under};
+use crate::steps::find_template;
 use key_msgs::Template;
 use keyset_model::Keyset;
+use managers::{KeyTable, Managers};
 use std::alloc::Global;
-use tink_base::{Entropy, Source, Store};
+use tink_base::{Entropy, Sink, Source, Store};
 use tinkey_cmds::{CmdError, Command, apply, create};
 use tinkey_plans::Status;
-use tinkey_words::Place;
+use tinkey_words::{Master, Place};
+use wrapped_prims::Handle;
 
-/// create-keyset: the keyset of one new key of the template of this name.
+/// create-keyset: the keyset of one new key of the template of this name, put in clear or under the lock.
 #[inline(never)]
-pub(crate) fn create_keyset<E: Entropy>(
+pub(crate) fn create_keyset<K: Sink, E: Entropy, D: Store>(
     alloc: Global,
+    managers: &Managers,
+    lock: Option<Master<'_>>,
     name: &str,
-    entropy: &mut E,
-) -> Result<Keyset, Status>
-    ensures passes { (w : World) → Passes (create_output name.now)
-        (record w { entropy = E.state entropy.old }) result
-        (record w { entropy = E.state entropy.new }) }
-    ensures short { IfOk result (λ keyset. AllByRecursion IsShort keyset.records) }
-{
-    let template = find_template(name)?;
-    create_of(alloc, &template, entropy)
-}
-
-/// The commands that edit a keyset: the keyset after the edit.
-#[inline(never)]
-pub(crate) fn edit_keyset<S: Source, E: Entropy, D: Store>(
-    alloc: Global,
-    edit: Command<&str>,
-    input: Place<'_>,
-    source: &mut S,
+    output: Place<'_>,
+    sink: &mut K,
     entropy: &mut E,
     store: &mut D,
-) -> Result<Keyset, Status>
-    ensures passes { (w : World) →
-        Passes (edit_output (seen_edit edit.entry) (seen_place input.entry))
+) -> Result<(), Status>
+    ensures { (w : World) → Finishes
+        (command_plan (⟦<Managers as KeyTable>⟧.table managers.now)
+        (create_keyset (seen_lock lock.entry) name.now (seen_place output.entry)))
         (record w {
-          source = S.state source.old;
+          sink = K.state sink.old;
           store = D.state store.old;
           entropy = E.state entropy.old;
         }) result
         (record w {
-          source = S.state source.new;
+          sink = K.state sink.new;
           store = D.state store.new;
           entropy = E.state entropy.new;
         }) }
-    ensures short { IfOk result (λ keyset. AllByRecursion IsShort keyset.records) }
 {
-    let command = find_edit(edit)?;
-    let keyset = take_keyset(alloc, input, source, store)?;
-    edit_of(alloc, &keyset, &command, entropy)
+    let template = find_template(name)?;
+    let lock = open_lock(alloc, managers, lock, store)?;
+    create_under(
+        alloc,
+        lock.as_ref(),
+        &template,
+        output,
+        sink,
+        entropy,
+        store,
+    )
+}
+
+/// The keyset of one new key, put in clear or under the lock.
+fn create_under<K: Sink, E: Entropy, D: Store>(
+    alloc: Global,
+    lock: Option<&Handle<'_>>,
+    template: &Template,
+    output: Place<'_>,
+    sink: &mut K,
+    entropy: &mut E,
+    store: &mut D,
+) -> Result<(), Status>
+    requires lock { IsSomeLock (option_map
+        (λ h. (⟦<Managers as KeyTable>⟧.table h.now.managers.now, h.now.held)) lock) }
+    ensures { (w : World) (table : Table) (master : Option Keys) → IsLock
+        (option_map (λ h. (⟦<Managers as KeyTable>⟧.table h.now.managers.now, h.now.held)) lock.entry)
+        table master → Finishes
+        (makes_keyset (first (seen template.now)) (puts_under table master (seen_place output.entry)))
+        (record w {
+          sink = K.state sink.old;
+          store = D.state store.old;
+          entropy = E.state entropy.old;
+        }) result
+        (record w {
+          sink = K.state sink.new;
+          store = D.state store.new;
+          entropy = E.state entropy.new;
+        }) }
+{
+    let keyset = create_of(alloc, template, entropy)?;
+    put_under(alloc, lock, output, &keyset, sink, entropy, store)
+}
+
+/// The commands that edit a keyset: one that is taken and put in clear or under the lock.
+#[inline(never)]
+pub(crate) fn edit_keyset<S: Source, K: Sink, E: Entropy, D: Store>(
+    alloc: Global,
+    managers: &Managers,
+    lock: Option<Master<'_>>,
+    edit: Command<&str>,
+    input: Place<'_>,
+    output: Place<'_>,
+    source: &mut S,
+    sink: &mut K,
+    entropy: &mut E,
+    store: &mut D,
+) -> Result<(), Status>
+    ensures { Finishes
+        (command_plan (⟦<Managers as KeyTable>⟧.table managers.now)
+        (edit_keyset (seen_lock lock.entry) (seen_edit edit.entry) (seen_place input.entry)
+        (seen_place output.entry)))
+        (world (S.state source.old) (K.state sink.old) (D.state store.old) (E.state entropy.old)) result
+        (world (S.state source.new) (K.state sink.new) (D.state store.new) (E.state entropy.new)) }
+{
+    let edit = find_edit(edit)?;
+    let lock = open_lock(alloc, managers, lock, store)?;
+    edit_under(
+        alloc,
+        lock.as_ref(),
+        &edit,
+        input,
+        output,
+        source,
+        sink,
+        entropy,
+        store,
+    )
+}
+
+/// The keyset at one place after an edit, put at another one, in clear or under the lock.
+fn edit_under<S: Source, K: Sink, E: Entropy, D: Store>(
+    alloc: Global,
+    lock: Option<&Handle<'_>>,
+    edit: &Command<Template>,
+    input: Place<'_>,
+    output: Place<'_>,
+    source: &mut S,
+    sink: &mut K,
+    entropy: &mut E,
+    store: &mut D,
+) -> Result<(), Status>
+    requires lock { IsSomeLock (option_map
+        (λ h. (⟦<Managers as KeyTable>⟧.table h.now.managers.now, h.now.held)) lock) }
+    ensures { (table : Table) (master : Option Keys) → IsLock
+        (option_map (λ h. (⟦<Managers as KeyTable>⟧.table h.now.managers.now, h.now.held)) lock.entry)
+        table master → Finishes
+        (takes_under table master (seen_place input.entry) (λ keys.
+        makes_keyset (step keys (seen_command edit.now))
+        (puts_under table master (seen_place output.entry))))
+        (world (S.state source.old) (K.state sink.old) (D.state store.old) (E.state entropy.old)) result
+        (world (S.state source.new) (K.state sink.new) (D.state store.new) (E.state entropy.new)) }
+{
+    let keyset = take_under(alloc, lock, input, source, store)?;
+    let edited = edit_of(alloc, &keyset, edit, entropy)?;
+    put_under(alloc, lock, output, &edited, sink, entropy, store)
 }
 
 /// The edit that the words ask for, with its template found.

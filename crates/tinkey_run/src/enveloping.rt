@@ -9,11 +9,12 @@ ghost use Rattle.wrapped_prims.specs.Making.{IsOver};
 ghost use Rattle.tinkey_plans.specs.Ends.{World};
 ghost use Rattle.tinkey_plans.specs.Envelopes.{envelope_limit, envelope_output, envelopes, finds_dek, finds_scheme};
 ghost use Rattle.tinkey_plans.specs.Steps.{Passes, PassesAs};
-ghost use Rattle.tinkey_plans.specs.Using.{IsServing};
-ghost use Rattle.tinkey_words.specs.Words.{seen_datum, seen_envelope, to_eseal, to_eopen};
+ghost use Rattle.tinkey_plans.specs.Handles.{IsServing};
+ghost use Rattle.tinkey_words.specs.Words.{seen_datum, seen_envelope, seen_lock, to_eseal, to_eopen};
 ghost use Rattle.tinkey_run.specs.Rooms.{envelope_room};
 
-use crate::steps::{find_template, load_keyset, read_input_behind};
+use crate::locks::load_locked;
+use crate::steps::{find_template, read_input_behind};
 use crate::using::{INPUT_LIMIT, SEALED_LIMIT, datum, handle_of, or_failed};
 use key_msgs::{Primitive, Template};
 use managers::{AeadManager, KeyManager, KeyTable, Managers};
@@ -21,7 +22,7 @@ use seal_wrap::{ENVELOPE_ROOM, EnvelopeFault, data_key, envelope_open, envelope_
 use std::alloc::Global;
 use tink_base::{Bytes, Entropy, Source, Store};
 use tinkey_plans::Status;
-use tinkey_words::{Datum, Envelope, Format};
+use tinkey_words::{Datum, Envelope, Format, Master};
 use wrapped_prims::Handle;
 
 /// Work on the whole input, by data keys of a template under the keys of the keyset in the file of this
@@ -30,6 +31,7 @@ use wrapped_prims::Handle;
 pub(crate) fn use_envelope<S: Source, E: Entropy, D: Store>(
     alloc: Global,
     managers: &Managers,
+    lock: Option<Master<'_>>,
     name: &str,
     form: Format,
     template: &str,
@@ -39,8 +41,8 @@ pub(crate) fn use_envelope<S: Source, E: Entropy, D: Store>(
     store: &mut D,
 ) -> Result<Bytes, Status>
     ensures { (w : World) → Passes
-        (envelope_output (⟦<Managers as KeyTable>⟧.table managers.now) name.now form template.now
-        (seen_envelope work.entry))
+        (envelope_output (⟦<Managers as KeyTable>⟧.table managers.now) (seen_lock lock.entry) name.now
+        form template.now (seen_envelope work.entry))
         (record w {
           source = S.state source.old;
           store = D.state store.old;
@@ -53,7 +55,7 @@ pub(crate) fn use_envelope<S: Source, E: Entropy, D: Store>(
         }) }
 {
     let template = find_dek(template)?;
-    let keyset = load_keyset(alloc, name, form, store)?;
+    let keyset = load_locked(alloc, managers, lock, name, form, store)?;
     let handle = handle_of(alloc, &keyset, managers, Primitive::Aead)?;
     let manager = find_manager(managers, &template)?;
     let input = read_input_behind(alloc, envelope_room(work), envelope_limit(work), source)?;

@@ -2,12 +2,12 @@
 
 ghost use Rattle.std.specs.Prelude.{◌≡◌, ◌≤◌, ◌++◌, List, ℕ, codes, length, IfOk};
 ghost use Rattle.std.specs.List.{AllByRecursion};
-ghost use Rattle.keyset_model.specs.Keyset.{Keys, IsShort};
+ghost use Rattle.keyset_model.specs.Keyset.{IsShort};
 ghost use Rattle.tinkey_plans.specs.Plan.{Plan, writes, creates};
-ghost use Rattle.tinkey_plans.specs.Ends.{Ends, World};
-ghost use Rattle.tinkey_plans.specs.Steps.{written_in, within_limit, writes_keyset, puts, puts_keyset, Passes};
+ghost use Rattle.tinkey_plans.specs.Ends.{World};
+ghost use Rattle.tinkey_plans.specs.Steps.{written_in, within_limit, writes_keyset, puts, Finishes, Passes};
 ghost use Rattle.tinkey_plans.specs.Using.{hex_line, shows};
-ghost use Rattle.tinkey_words.specs.Words.{seen_name, seen_place};
+ghost use Rattle.tinkey_words.specs.Words.{seen_name};
 ghost use Rattle.tinkey_plans.specs.declared.status.Status.TheVariants as status;
 
 use crate::steps::KEYSET_LIMIT;
@@ -16,7 +16,7 @@ use keyset_model::{Keyset, write_binary};
 use std::alloc::Global;
 use tink_base::{Bytes, Created, NoMemory, Sink, Store, StoreError, write_all};
 use tinkey_plans::Status;
-use tinkey_words::{Format, Place};
+use tinkey_words::Format;
 
 /// Puts out the bytes that a command gives, as its last step: into a new file, or where none is named,
 /// to the sink. Or hands on why there are none.
@@ -27,16 +27,16 @@ pub(crate) fn finish_output<K: Sink, D: Store>(
     sink: &mut K,
     store: &mut D,
     made: Result<Bytes, Status>,
-) -> Status
+) -> Result<(), Status>
     ensures { (step : (List ℕ → Plan) → Plan) (first w : World) →
         Passes step first made
         (record w { sink = K.state sink.old; store = D.state store.old }) →
-        Ends (step (puts (seen_name out.entry))) first result
+        Finishes (step (puts (seen_name out.entry))) first result
         (record w { sink = K.state sink.new; store = D.state store.new }) }
 {
     match made {
         Ok(bytes) => put(alloc, out, sink, store, bytes.as_slice()),
-        Err(status) => status,
+        Err(status) => Err(status),
     }
 }
 
@@ -77,39 +77,13 @@ fn line_of(alloc: Global, text: &[u8]) -> Result<Vec<u8>, NoMemory>
 }
 
 /// Writes the output.
-pub(crate) fn write_output<K: Sink>(sink: &mut K, output: &[u8]) -> Status
-    ensures { (w : World) → Ends (writes output.now)
+pub(crate) fn write_output<K: Sink>(sink: &mut K, output: &[u8]) -> Result<(), Status>
+    ensures { (w : World) → Finishes (writes output.now)
         (record w { sink = K.state sink.old }) result (record w { sink = K.state sink.new }) }
 {
     match write_all(sink, output) {
-        Ok(()) => Status::Done,
-        Err(_) => Status::WriteFault,
-    }
-}
-
-/// Puts out the keyset that a command gives, in its written form, as its last step: into a new
-/// file, or where none is named, to the sink. Or hands on why there is no keyset.
-#[inline(never)]
-pub(crate) fn finish_keyset<K: Sink, D: Store>(
-    alloc: Global,
-    out: Place<'_>,
-    sink: &mut K,
-    store: &mut D,
-    made: Result<Keyset, Status>,
-) -> Status
-    requires short { IfOk made (λ keyset. AllByRecursion IsShort keyset.records) }
-    ensures { (step : (Keys → Plan) → Plan) (first w : World) →
-        Passes step first made
-        (record w { sink = K.state sink.old; store = D.state store.old }) →
-        Ends (step (puts_keyset (seen_place out.entry))) first result
-        (record w { sink = K.state sink.new; store = D.state store.new }) }
-{
-    match made {
-        Ok(keyset) => match written(alloc, out.form, &keyset) {
-            Ok(bytes) => put(alloc, out.file, sink, store, bytes.as_slice()),
-            Err(status) => status,
-        },
-        Err(status) => status,
+        Ok(()) => Ok(()),
+        Err(_) => Err(Status::WriteFault),
     }
 }
 
@@ -149,14 +123,14 @@ pub(crate) fn within(bytes: Vec<u8>, limit: usize) -> Result<Bytes, Status>
 }
 
 /// Puts bytes into a new file of this name, or where none is named, to the sink.
-fn put<K: Sink, D: Store>(
+pub(crate) fn put<K: Sink, D: Store>(
     alloc: Global,
     out: Option<&str>,
     sink: &mut K,
     store: &mut D,
     bytes: &[u8],
-) -> Status
-    ensures { (w : World) → Ends (puts (seen_name out.entry) bytes.now)
+) -> Result<(), Status>
+    ensures { (w : World) → Finishes (puts (seen_name out.entry) bytes.now)
         (record w { sink = K.state sink.old; store = D.state store.old }) result
         (record w { sink = K.state sink.new; store = D.state store.new }) }
 {
@@ -172,18 +146,18 @@ pub(crate) fn create_file<D: Store>(
     name: &str,
     store: &mut D,
     bytes: &[u8],
-) -> Status
-    ensures { (w : World) → Ends (creates name.now bytes.now status.OutExists tt)
+) -> Result<(), Status>
+    ensures { (w : World) → Finishes (creates name.now bytes.now status.OutExists tt)
         (record w { store = D.state store.old }) result (record w { store = D.state store.new }) }
 {
     match store.create(alloc, name, bytes) {
         Ok(created) => match created {
-            Created::Made => Status::Done,
-            Created::Exists => Status::OutExists,
+            Created::Made => Ok(()),
+            Created::Exists => Err(Status::OutExists),
         },
         Err(e) => match e {
-            StoreError::Failed => Status::StoreFault,
-            StoreError::NoMemory => Status::NoMemory,
+            StoreError::Failed => Err(Status::StoreFault),
+            StoreError::NoMemory => Err(Status::NoMemory),
         },
     }
 }

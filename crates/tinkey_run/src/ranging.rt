@@ -10,21 +10,24 @@ ghost use Rattle.tinkey_plans.specs.Ends.{World, GaveWithin};
 ghost use Rattle.tinkey_plans.specs.Ranging.{opened_or, opens_stretch, range_output, range_status, stretch_for};
 ghost use Rattle.tinkey_plans.specs.Steps.{Passes};
 ghost use Rattle.tinkey_plans.specs.Stretch.{GivesAtMost, stretch_in};
-ghost use Rattle.tinkey_words.specs.Words.{seen_datum, seen_range};
+ghost use Rattle.tinkey_words.specs.Words.{seen_datum, seen_lock, seen_range};
 
 use crate::streaming::load_stream_keys;
 use crate::using::datum;
+use managers::{KeyTable, Managers};
 use segment_stream::StreamKeys;
 use std::alloc::Global;
 use stream_range::{RangeFault, StoreDevice, open_range};
 use tink_base::{Bytes, Store};
 use tinkey_plans::Status;
-use tinkey_words::{Datum, Format, Range};
+use tinkey_words::{Datum, Format, Master, Range};
 
 /// The plaintext of a range of the stream in a file, by the keys of the keyset in another one.
 #[inline(never)]
 pub(crate) fn open_stretch<D: Store>(
     alloc: Global,
+    managers: &Managers,
+    lock: Option<Master<'_>>,
     keyset: &str,
     form: Format,
     ad: Datum<'_>,
@@ -32,10 +35,11 @@ pub(crate) fn open_stretch<D: Store>(
     store: &mut D,
 ) -> Result<Bytes, Status>
     ensures { (w : World) → Passes
-        (range_output keyset.now form (seen_datum ad.entry) (seen_range range.entry))
+        (range_output (⟦<Managers as KeyTable>⟧.table managers.now) (seen_lock lock.entry) keyset.now form
+        (seen_datum ad.entry) (seen_range range.entry))
         (record w { store = D.state store.old }) result (record w { store = D.state store.new }) }
 {
-    let keys = load_stream_keys(alloc, keyset, form, store)?;
+    let keys = load_stream_keys(alloc, managers, lock, keyset, form, store)?;
     open_under(alloc, &keys, ad, range, store)
 }
 

@@ -1,80 +1,97 @@
 //! session: the lines of the input answered, and the last keyset saved.
 
-ghost use Rattle.std.specs.Prelude.{◌≡◌, Some, IfOk};
+ghost use Rattle.std.specs.Prelude.{◌≡◌, Option, Some, option_map};
 ghost use Rattle.std.specs.List.{AllByRecursion};
 ghost use Rattle.keyset_model.specs.Keyset.{Keys, IsShort};
-ghost use Rattle.tinkey_plans.specs.Ends.{Ends, World, talk_status, world};
-ghost use Rattle.tinkey_plans.specs.Plan.{Plan, exchanges};
+ghost use Rattle.managers.specs.Table.{Table};
+ghost use Rattle.tinkey_plans.specs.Ends.{World, talk_status, world};
+ghost use Rattle.tinkey_plans.specs.Locks.{takes_under, IsLock, IsSomeLock};
+ghost use Rattle.tinkey_plans.specs.Plan.{exchanges};
 ghost use Rattle.tinkey_session.specs.Talking.{talk as talking};
-ghost use Rattle.tinkey_plans.specs.Session.{finds_free, holds_session, saves, saves_as};
-ghost use Rattle.tinkey_plans.specs.Steps.{Passes};
-ghost use Rattle.tinkey_words.specs.Words.{seen_name, seen_place};
+ghost use Rattle.tinkey_plans.specs.Session.{finds_free, holds_session, saves, saves_as, session_plan};
+ghost use Rattle.tinkey_plans.specs.Steps.{Finishes, Passes};
+ghost use Rattle.tinkey_words.specs.Words.{seen_lock, seen_name, seen_place};
 
-use crate::output::{create_file, written};
+use crate::locks::{load_under, open_lock, written_under};
+use crate::output::create_file;
 use keyset_model::Keyset;
 use lookahead::Lookahead;
 use managers::{KeyTable, Managers};
 use std::alloc::Global;
-use tink_base::{Sink, Source, Store};
+use tink_base::{Entropy, Sink, Source, Store};
 use tinkey_plans::Status;
 use tinkey_session::TalkFault;
 use tinkey_session::talk::talk;
-use tinkey_words::{Format, Place};
+use tinkey_words::{Format, Master, Place};
+use wrapped_prims::Handle;
 
-/// session: answers the lines of the input over a keyset, and puts the last keyset into a new file,
-/// where one is named. Or hands on why there is no keyset.
+/// session: answers the lines of the input over the keyset in the file of this name, and puts the last
+/// keyset into a new file, if one is named. Both lie in clear, or under the lock.
 #[inline(never)]
 pub(crate) fn answer_lines<S: Source, K: Sink, E: Lookahead, D: Store>(
     alloc: Global,
     managers: &Managers,
-    keyset: Result<Keyset, Status>,
+    lock: Option<Master<'_>>,
+    keyset: &str,
+    form: Format,
     output: Place<'_>,
     source: &mut S,
     sink: &mut K,
     entropy: &mut E,
     store: &mut D,
-) -> Status
-    requires short { IfOk keyset (λ keyset. AllByRecursion IsShort keyset.records) }
-    ensures { (step : (Keys → Plan) → Plan) (first : World) → Passes step first keyset
-        (world (S.state source.old) (K.state sink.old) (D.state store.old) (E.state entropy.old)) →
-        Ends (step (holds_session
-        (⟦<Managers as KeyTable>⟧.table managers.now) (seen_place output.entry))) first result
-        (world (S.state source.new) (K.state sink.new) (D.state store.new) (E.state entropy.new)) }
-{
-    match keyset {
-        Ok(keyset) => answer_over(
-            alloc, managers, keyset, output, source, sink, entropy, store,
-        ),
-        Err(status) => status,
-    }
-}
-
-/// Answers the lines of the input over this keyset, and saves the last one, unless the name that it is to
-/// have is taken.
-fn answer_over<S: Source, K: Sink, E: Lookahead, D: Store>(
-    alloc: Global,
-    managers: &Managers,
-    keyset: Keyset,
-    output: Place<'_>,
-    source: &mut S,
-    sink: &mut K,
-    entropy: &mut E,
-    store: &mut D,
-) -> Status
-    requires short { AllByRecursion IsShort keyset.records }
-    ensures { Ends
-        (holds_session
-        (⟦<Managers as KeyTable>⟧.table managers.now) (seen_place output.entry) keyset)
+) -> Result<(), Status>
+    ensures { Finishes
+        (session_plan (⟦<Managers as KeyTable>⟧.table managers.now) (seen_lock lock.entry) keyset.now
+        form (seen_place output.entry))
         (world (S.state source.old) (K.state sink.old) (D.state store.old) (E.state entropy.old))
         result
         (world (S.state source.new) (K.state sink.new) (D.state store.new) (E.state entropy.new)) }
 {
-    match find_free(output.file, store) {
-        Ok(()) => answer_all(
-            alloc, managers, keyset, output, source, sink, entropy, store,
-        ),
-        Err(status) => status,
-    }
+    let lock = open_lock(alloc, managers, lock, store)?;
+    answer_under(
+        alloc,
+        managers,
+        lock.as_ref(),
+        keyset,
+        form,
+        output,
+        source,
+        sink,
+        entropy,
+        store,
+    )
+}
+
+/// The same under the lock. The name of the new file has to be free.
+fn answer_under<S: Source, K: Sink, E: Lookahead, D: Store>(
+    alloc: Global,
+    managers: &Managers,
+    lock: Option<&Handle<'_>>,
+    keyset: &str,
+    form: Format,
+    output: Place<'_>,
+    source: &mut S,
+    sink: &mut K,
+    entropy: &mut E,
+    store: &mut D,
+) -> Result<(), Status>
+    requires lock { IsSomeLock (option_map
+        (λ h. (⟦<Managers as KeyTable>⟧.table h.now.managers.now, h.now.held)) lock) }
+    ensures { (master : Option Keys) → IsLock
+        (option_map (λ h. (⟦<Managers as KeyTable>⟧.table h.now.managers.now, h.now.held)) lock.entry)
+        (⟦<Managers as KeyTable>⟧.table managers.now) master → Finishes
+        (takes_under (⟦<Managers as KeyTable>⟧.table managers.now) master
+        (record { file = Some keyset.now; form = form })
+        (holds_session (⟦<Managers as KeyTable>⟧.table managers.now) master (seen_place output.entry)))
+        (world (S.state source.old) (K.state sink.old) (D.state store.old) (E.state entropy.old))
+        result
+        (world (S.state source.new) (K.state sink.new) (D.state store.new) (E.state entropy.new)) }
+{
+    let keyset = load_under(alloc, lock, keyset, form, store)?;
+    find_free(output.file, store)?;
+    answer_all(
+        alloc, managers, lock, keyset, output, source, sink, entropy, store,
+    )
 }
 
 /// Looks up the name of a new file, where one is named: it has to be free.
@@ -96,23 +113,29 @@ fn find_free<D: Store>(file: Option<&str>, store: &mut D) -> Result<(), Status>
 fn answer_all<S: Source, K: Sink, E: Lookahead, D: Store>(
     alloc: Global,
     managers: &Managers,
+    lock: Option<&Handle<'_>>,
     keyset: Keyset,
     output: Place<'_>,
     source: &mut S,
     sink: &mut K,
     entropy: &mut E,
     store: &mut D,
-) -> Status
+) -> Result<(), Status>
+    requires lock { IsSomeLock (option_map
+        (λ h. (⟦<Managers as KeyTable>⟧.table h.now.managers.now, h.now.held)) lock) }
     requires short { AllByRecursion IsShort keyset.records }
-    ensures { Ends (exchanges
-        (talking (⟦<Managers as KeyTable>⟧.table managers.now) keyset) (saves (seen_place output.entry)))
+    ensures { (master : Option Keys) → IsLock
+        (option_map (λ h. (⟦<Managers as KeyTable>⟧.table h.now.managers.now, h.now.held)) lock.entry)
+        (⟦<Managers as KeyTable>⟧.table managers.now) master → Finishes
+        (exchanges (talking (⟦<Managers as KeyTable>⟧.table managers.now) keyset)
+        (saves (⟦<Managers as KeyTable>⟧.table managers.now) master (seen_place output.entry)))
         (world (S.state source.old) (K.state sink.old) (D.state store.old) (E.state entropy.old))
         result
         (world (S.state source.new) (K.state sink.new) (D.state store.new) (E.state entropy.new)) }
 {
     match talk(alloc, keyset, managers, source, sink, entropy) {
-        Ok(last) => save(alloc, output, store, &last),
-        Err(fault) => ended(fault),
+        Ok(last) => save(alloc, lock, output, &last, entropy, store),
+        Err(fault) => Err(ended(fault)),
     }
 }
 
@@ -130,32 +153,49 @@ fn ended(fault: TalkFault) -> Status
     }
 }
 
-/// Puts a keyset into a new file, where one is named.
-fn save<D: Store>(alloc: Global, output: Place<'_>, store: &mut D, keyset: &Keyset) -> Status
+/// Puts a keyset into a new file, in clear or under the lock, if one is named.
+fn save<E: Entropy, D: Store>(
+    alloc: Global,
+    lock: Option<&Handle<'_>>,
+    output: Place<'_>,
+    keyset: &Keyset,
+    entropy: &mut E,
+    store: &mut D,
+) -> Result<(), Status>
+    requires lock { IsSomeLock (option_map
+        (λ h. (⟦<Managers as KeyTable>⟧.table h.now.managers.now, h.now.held)) lock) }
     requires short { AllByRecursion IsShort keyset.now.records }
-    ensures { (w : World) → Ends (saves (seen_place output.entry) keyset.now)
-        (record w { store = D.state store.old }) result (record w { store = D.state store.new }) }
+    ensures { (w : World) (table : Table) (master : Option Keys) → IsLock
+        (option_map (λ h. (⟦<Managers as KeyTable>⟧.table h.now.managers.now, h.now.held)) lock.entry)
+        table master → Finishes (saves table master (seen_place output.entry) keyset.now)
+        (record w { entropy = E.state entropy.old; store = D.state store.old }) result
+        (record w { entropy = E.state entropy.new; store = D.state store.new }) }
 {
     match output.file {
-        Some(name) => save_as(alloc, name, output.form, store, keyset),
-        None => Status::Done,
+        Some(name) => save_as(alloc, lock, name, output.form, keyset, entropy, store),
+        None => Ok(()),
     }
 }
 
 /// Puts a keyset into a new file of this name, in this form.
-fn save_as<D: Store>(
+fn save_as<E: Entropy, D: Store>(
     alloc: Global,
+    lock: Option<&Handle<'_>>,
     name: &str,
     form: Format,
-    store: &mut D,
     keyset: &Keyset,
-) -> Status
+    entropy: &mut E,
+    store: &mut D,
+) -> Result<(), Status>
+    requires lock { IsSomeLock (option_map
+        (λ h. (⟦<Managers as KeyTable>⟧.table h.now.managers.now, h.now.held)) lock) }
     requires short { AllByRecursion IsShort keyset.now.records }
-    ensures { (w : World) → Ends (saves_as (Some name.now) form keyset.now)
-        (record w { store = D.state store.old }) result (record w { store = D.state store.new }) }
+    ensures { (w : World) (table : Table) (master : Option Keys) → IsLock
+        (option_map (λ h. (⟦<Managers as KeyTable>⟧.table h.now.managers.now, h.now.held)) lock.entry)
+        table master → Finishes (saves_as table master (Some name.now) form keyset.now)
+        (record w { entropy = E.state entropy.old; store = D.state store.old }) result
+        (record w { entropy = E.state entropy.new; store = D.state store.new }) }
 {
-    match written(alloc, form, keyset) {
-        Ok(bytes) => create_file(alloc, name, store, bytes.as_slice()),
-        Err(status) => status,
-    }
+    let bytes = written_under(alloc, lock, form, keyset, entropy)?;
+    create_file(alloc, name, store, bytes.as_slice())
 }

@@ -6,8 +6,8 @@ ghost use Rattle.std.specs.List.{AllByRecursion};
 ghost use Rattle.key_msgs.specs.Templates.{seen};
 ghost use Rattle.keyset_model.specs.Keyset.{IsShort};
 ghost use Rattle.tinkey_plans.specs.Ends.{World};
-ghost use Rattle.tinkey_words.specs.Words.{seen_place};
-ghost use Rattle.tinkey_plans.specs.Steps.{refusal_of, json_refusal_of, keyset_in, loads_bytes, reads_bytes, loads_keyset, reads_keyset, takes_keyset, reads_input, finds_template, Passes, PassesAs};
+ghost use Rattle.tinkey_words.specs.Words.{seen_name};
+ghost use Rattle.tinkey_plans.specs.Steps.{refusal_of, json_refusal_of, keyset_in, loads_bytes, reads_bytes, takes_bytes, loads_keyset, reads_input, finds_template, Passes, PassesAs};
 
 use key_msgs::{Template, TemplateFault, template_named};
 use keyset_json::{JsonError, read_json};
@@ -15,29 +15,10 @@ use keyset_model::{Keyset, ReadError, read_binary};
 use std::alloc::Global;
 use tink_base::{Bytes, Loaded, ReadAllFault, Source, Store, StoreError, read_all, read_behind};
 use tinkey_plans::Status;
-use tinkey_words::{Format, Place};
+use tinkey_words::Format;
 
 /// How many bytes a keyset may have.
 pub(crate) const KEYSET_LIMIT: usize = 1_048_576;
-
-/// The keyset in a file, or where none is named, the one that the whole input is.
-#[inline(never)]
-pub(crate) fn take_keyset<S: Source, D: Store>(
-    alloc: Global,
-    place: Place<'_>,
-    source: &mut S,
-    store: &mut D,
-) -> Result<Keyset, Status>
-    ensures passes { (w : World) → Passes (takes_keyset (seen_place place.entry))
-        (record w { source = S.state source.old; store = D.state store.old }) result
-        (record w { source = S.state source.new; store = D.state store.new }) }
-    ensures short { IfOk result (λ keyset. AllByRecursion IsShort keyset.records) }
-{
-    match place.file {
-        Some(name) => load_keyset(alloc, name, place.form, store),
-        None => read_keyset(alloc, place.form, source),
-    }
-}
 
 /// The keyset in the file of this name.
 #[inline(never)]
@@ -79,23 +60,28 @@ pub(crate) fn load_bytes<D: Store>(
     }
 }
 
-/// The keyset that the whole input is.
-fn read_keyset<S: Source>(alloc: Global, form: Format, source: &mut S) -> Result<Keyset, Status>
-    ensures passes { (w : World) → Passes (reads_keyset form)
-        (record w { source = S.state source.old }) result
-        (record w { source = S.state source.new }) }
-    ensures short { IfOk result (λ keyset. AllByRecursion IsShort keyset.records) }
+/// The bytes of a keyset in a file, or if none is named, those of the whole input: at most `limit`.
+pub(crate) fn take_bytes<S: Source, D: Store>(
+    alloc: Global,
+    file: Option<&str>,
+    limit: usize,
+    source: &mut S,
+    store: &mut D,
+) -> Result<Bytes, Status>
+    requires limit_bound { limit ≤ 2 ^ 30 }
+    ensures passes { (w : World) → Passes (takes_bytes limit (seen_name file.entry))
+        (record w { source = S.state source.old; store = D.state store.old }) result
+        (record w { source = S.state source.new; store = D.state store.new }) }
+    ensures within { IfOk result (λ bytes. length bytes ≤ limit) }
 {
-    let bytes = read_bytes(alloc, KEYSET_LIMIT, source)?;
-    keyset_of(alloc, form, bytes.as_slice())
+    match file {
+        Some(name) => load_bytes(alloc, name, limit, store),
+        None => read_bytes(alloc, limit, source),
+    }
 }
 
 /// The bytes of the whole input, of which there are at most `limit`, that of a keyset.
-pub(crate) fn read_bytes<S: Source>(
-    alloc: Global,
-    limit: usize,
-    source: &mut S,
-) -> Result<Bytes, Status>
+fn read_bytes<S: Source>(alloc: Global, limit: usize, source: &mut S) -> Result<Bytes, Status>
     requires limit_bound { limit ≤ 2 ^ 30 }
     ensures passes { (w : World) → Passes (reads_bytes limit)
         (record w { source = S.state source.old }) result
@@ -113,7 +99,7 @@ pub(crate) fn read_bytes<S: Source>(
 }
 
 /// The keyset of these bytes, in this form.
-fn keyset_of(alloc: Global, form: Format, bytes: &[u8]) -> Result<Keyset, Status>
+pub(crate) fn keyset_of(alloc: Global, form: Format, bytes: &[u8]) -> Result<Keyset, Status>
     requires size_bound { length bytes.now ≤ 2 ^ 20 }
     ensures passes { (w : World) → Passes (keyset_in form bytes.now) w result w }
     ensures short { IfOk result (λ keyset. AllByRecursion IsShort keyset.records) }

@@ -3,35 +3,40 @@
 ghost use Rattle.std.specs.Prelude.{◌≡◌, IfOk};
 ghost use Rattle.segment_stream.specs.KeysModel.{AreSound, KeysForStreams};
 ghost use Rattle.segment_stream.specs.PumpModels.{pump_result};
-ghost use Rattle.tinkey_plans.specs.Ends.{Ends, World, pump_status};
+ghost use Rattle.tinkey_plans.specs.Ends.{World, pump_status};
 ghost use Rattle.tinkey_plans.specs.Plan.{Plan};
-ghost use Rattle.tinkey_plans.specs.Steps.{Passes};
+ghost use Rattle.tinkey_plans.specs.Steps.{Finishes, Passes, status_of};
 ghost use Rattle.tinkey_plans.specs.Streaming.{loads_stream_keys, seals_stream, opens_stream, stream_keys_refusal};
-ghost use Rattle.tinkey_words.specs.Words.{seen_datum};
+ghost use Rattle.tinkey_words.specs.Words.{seen_datum, seen_lock};
 
-use crate::steps::load_keyset;
+use crate::locks::load_locked;
 use crate::using::datum;
+use managers::{KeyTable, Managers};
 use segment_stream::{
     OpenPumpFault, Opener, SealPumpFault, Sealer, SealerFault, StreamKeys, StreamKeysFault,
 };
 use std::alloc::Global;
 use tink_base::{Entropy, Sink, Source, Store};
 use tinkey_plans::Status;
-use tinkey_words::{Datum, Format};
+use tinkey_words::{Datum, Format, Master};
 
 /// The keys for streams of the keyset in the file of this name.
 #[inline(never)]
 pub(crate) fn load_stream_keys<D: Store>(
     alloc: Global,
+    managers: &Managers,
+    lock: Option<Master<'_>>,
     name: &str,
     form: Format,
     store: &mut D,
 ) -> Result<StreamKeys, Status>
-    ensures passes { (w : World) → Passes (loads_stream_keys name.now form)
+    ensures passes { (w : World) → Passes
+        (loads_stream_keys (⟦<Managers as KeyTable>⟧.table managers.now) (seen_lock lock.entry) name.now
+        form)
         (record w { store = D.state store.old }) result (record w { store = D.state store.new }) }
     ensures sound { IfOk result AreSound }
 {
-    let keyset = load_keyset(alloc, name, form, store)?;
+    let keyset = load_locked(alloc, managers, lock, name, form, store)?;
     match StreamKeys::new(alloc, &keyset) {
         Ok(keys) => Ok(keys),
         Err(fault) => Err(refusal(fault)),
@@ -58,7 +63,7 @@ pub(crate) fn seal_stream<S: Source, K: Sink, E: Entropy>(
     source: &mut S,
     sink: &mut K,
     entropy: &mut E,
-) -> Status
+) -> Result<(), Status>
     requires sound { IfOk keys AreSound }
     ensures { (step : (KeysForStreams → Plan) → Plan) (first w : World) →
         Passes step first keys
@@ -67,7 +72,7 @@ pub(crate) fn seal_stream<S: Source, K: Sink, E: Entropy>(
           sink = K.state sink.old;
           entropy = E.state entropy.old;
         }) →
-        Ends (step (λ keys. seals_stream keys (seen_datum ad.entry))) first result
+        Finishes (step (λ keys. seals_stream keys (seen_datum ad.entry))) first result
         (record w {
           source = S.state source.new;
           sink = K.state sink.new;
@@ -76,7 +81,7 @@ pub(crate) fn seal_stream<S: Source, K: Sink, E: Entropy>(
 {
     match keys {
         Ok(keys) => seal_under(alloc, &keys, ad, source, sink, entropy),
-        Err(status) => status,
+        Err(status) => Err(status),
     }
 }
 
@@ -88,9 +93,9 @@ fn seal_under<S: Source, K: Sink, E: Entropy>(
     source: &mut S,
     sink: &mut K,
     entropy: &mut E,
-) -> Status
+) -> Result<(), Status>
     requires sound { AreSound keys.now }
-    ensures { (w : World) → Ends (seals_stream keys.now (seen_datum ad.entry))
+    ensures { (w : World) → Finishes (seals_stream keys.now (seen_datum ad.entry))
         (record w {
           source = S.state source.old;
           sink = K.state sink.old;
@@ -103,12 +108,12 @@ fn seal_under<S: Source, K: Sink, E: Entropy>(
         }) }
 {
     let Ok(ad) = datum(alloc, ad) else {
-        return Status::NoMemory;
+        return Err(Status::NoMemory);
     };
     match Sealer::new(alloc, keys, ad.as_slice(), entropy) {
         Ok(sealer) => sealed(sealer.pump(source, sink)),
-        Err(SealerFault::EntropyFault) => Status::EntropyFault,
-        Err(SealerFault::NoMemory) => Status::NoMemory,
+        Err(SealerFault::EntropyFault) => Err(Status::EntropyFault),
+        Err(SealerFault::NoMemory) => Err(Status::NoMemory),
     }
 }
 
@@ -120,17 +125,17 @@ pub(crate) fn open_stream<S: Source, K: Sink>(
     ad: Datum<'_>,
     source: &mut S,
     sink: &mut K,
-) -> Status
+) -> Result<(), Status>
     requires sound { IfOk keys AreSound }
     ensures { (step : (KeysForStreams → Plan) → Plan) (first w : World) →
         Passes step first keys
         (record w { source = S.state source.old; sink = K.state sink.old }) →
-        Ends (step (λ keys. opens_stream keys (seen_datum ad.entry))) first result
+        Finishes (step (λ keys. opens_stream keys (seen_datum ad.entry))) first result
         (record w { source = S.state source.new; sink = K.state sink.new }) }
 {
     match keys {
         Ok(keys) => open_under(alloc, &keys, ad, source, sink),
-        Err(status) => status,
+        Err(status) => Err(status),
     }
 }
 
@@ -141,42 +146,42 @@ fn open_under<S: Source, K: Sink>(
     ad: Datum<'_>,
     source: &mut S,
     sink: &mut K,
-) -> Status
+) -> Result<(), Status>
     requires sound { AreSound keys.now }
-    ensures { (w : World) → Ends (opens_stream keys.now (seen_datum ad.entry))
+    ensures { (w : World) → Finishes (opens_stream keys.now (seen_datum ad.entry))
         (record w { source = S.state source.old; sink = K.state sink.old }) result
         (record w { source = S.state source.new; sink = K.state sink.new }) }
 {
     let Ok(ad) = datum(alloc, ad) else {
-        return Status::NoMemory;
+        return Err(Status::NoMemory);
     };
     match Opener::new(alloc, keys, ad.as_slice()) {
         Ok(opener) => opened(opener.pump(source, sink)),
-        Err(_) => Status::NoMemory,
+        Err(_) => Err(Status::NoMemory),
     }
 }
 
 /// The status of a pass that seals.
-fn sealed(pass: Result<(), SealPumpFault>) -> Status
-    ensures { result ≡ pump_status (pump_result pass) }
+fn sealed(pass: Result<(), SealPumpFault>) -> Result<(), Status>
+    ensures { status_of result ≡ pump_status (pump_result pass) }
 {
     match pass {
-        Ok(()) => Status::Done,
-        Err(SealPumpFault::ReadFault) => Status::ReadFault,
-        Err(SealPumpFault::WriteFault) => Status::WriteFault,
-        Err(SealPumpFault::TooManySegments) => Status::TooManySegments,
+        Ok(()) => Ok(()),
+        Err(SealPumpFault::ReadFault) => Err(Status::ReadFault),
+        Err(SealPumpFault::WriteFault) => Err(Status::WriteFault),
+        Err(SealPumpFault::TooManySegments) => Err(Status::TooManySegments),
     }
 }
 
 /// The status of a pass that opens.
-fn opened(pass: Result<(), OpenPumpFault>) -> Status
-    ensures { result ≡ pump_status pass }
+fn opened(pass: Result<(), OpenPumpFault>) -> Result<(), Status>
+    ensures { status_of result ≡ pump_status pass }
 {
     match pass {
-        Ok(()) => Status::Done,
-        Err(OpenPumpFault::ReadFault) => Status::ReadFault,
-        Err(OpenPumpFault::WriteFault) => Status::WriteFault,
-        Err(OpenPumpFault::TooManySegments) => Status::TooManySegments,
-        Err(OpenPumpFault::StreamFailed(number)) => Status::StreamFailed(number),
+        Ok(()) => Ok(()),
+        Err(OpenPumpFault::ReadFault) => Err(Status::ReadFault),
+        Err(OpenPumpFault::WriteFault) => Err(Status::WriteFault),
+        Err(OpenPumpFault::TooManySegments) => Err(Status::TooManySegments),
+        Err(OpenPumpFault::StreamFailed(number)) => Err(Status::StreamFailed(number)),
     }
 }

@@ -2,9 +2,10 @@
 
 ghost use Rattle.std.specs.Prelude.{◌++◌, OnOk, OnErr, codes};
 ghost use Rattle.tink_spec.specs.Outside.{Took, TookPrefix, Stood, Rose};
-ghost use Rattle.tinkey_plans.specs.Ends.{Ends, World};
+ghost use Rattle.tinkey_plans.specs.Ends.{World};
 ghost use Rattle.tinkey_plans.specs.Commands.{template_names};
 ghost use Rattle.tinkey_plans.specs.Plan.{writes};
+ghost use Rattle.tinkey_plans.specs.Steps.{Finishes};
 
 use key_msgs::template_at;
 use tink_base::{Failed, Sink, write_all};
@@ -12,13 +13,13 @@ use tinkey_plans::Status;
 
 /// list-key-templates: the names of the templates, one a line. No memory is taken.
 #[inline(never)]
-pub(crate) fn list_templates<K: Sink>(sink: &mut K) -> Status
-    ensures { (w : World) → Ends (writes template_names)
+pub(crate) fn list_templates<K: Sink>(sink: &mut K) -> Result<(), Status>
+    ensures { (w : World) → Finishes (writes template_names)
         (record w { sink = K.state sink.old }) result (record w { sink = K.state sink.new }) }
 {
     match write_names(sink) {
-        Ok(()) => Status::Done,
-        Err(_) => Status::WriteFault,
+        Ok(()) => Ok(()),
+        Err(_) => Err(Status::WriteFault),
     }
 }
 

@@ -7,20 +7,20 @@ ghost use Rattle.tinkey_plans.specs.Commands.{asked_plan, plan_of, command_plan}
 ghost use Rattle.tinkey_plans.specs.Promises.{Promised};
 ghost use Rattle.tinkey_readable.specs.Readable.{IsReadable};
 ghost use Rattle.tinkey_plans.specs.Status.{Reports};
+ghost use Rattle.tinkey_plans.specs.Steps.{Finishes, status_of};
 ghost use Rattle.tinkey_words.specs.Words.{seen_command};
 
+use crate::converting::convert_keyset;
 use crate::edits::{create_keyset, edit_keyset};
 use crate::enveloping::use_envelope;
 use crate::list::list_keyset;
-use crate::output::{finish_keyset, finish_output, shown, write_output};
+use crate::output::{finish_output, shown, write_output};
 use crate::ranging::open_stretch;
 use crate::self_testing::tell_self_test;
 use crate::session::answer_lines;
-use crate::steps::{load_keyset, take_keyset};
 use crate::streaming::{load_stream_keys, open_stream, seal_stream};
 use crate::templates::list_templates;
 use crate::using::use_keyset;
-use crate::wrapping::{unwrap_keyset, wrap_keyset};
 use lookahead::Lookahead;
 use managers::{KeyTable, Managers};
 use std::alloc::Global;
@@ -37,11 +37,11 @@ use tinkey_words::{Misuse, Request, parse};
 /// what was taken and written; `stands` says what the sink holds after any status; `complete` says
 /// that the status is a stated one where nothing fails and memory suffices; `ends`, from which they
 /// follow, has each way in which a run may end. `line` is the diagnostic line. `readable` is of sessions
-/// over objects that tell: what was written are the replies to the first lines of the input, to all of
-/// them at `Done`, and at a write fault the first bytes of these. Over the table of the program, what a
-/// line sealed under a key with an output prefix, a later one opens to its plaintext, with its associated
-/// data, while that key is ENABLED and alone under its prefix; while it is there, ENABLED, to some
-/// plaintext, whatever its prefix type, and a tag verifies.
+/// over a keyset in clear, over objects that tell: what was written are the replies to the first lines of
+/// the input, to all of them at `Done`, and at a write fault the first bytes of these. Over the table of
+/// the program, what a line sealed under a key with an output prefix, a later one opens to its plaintext,
+/// with its associated data, while that key is ENABLED and alone under its prefix; while it is there,
+/// ENABLED, to some plaintext, whatever its prefix type, and a tag verifies.
 pub fn run<S: Source, K: Sink, G: Sink, E: Lookahead, D: Store>(
     alloc: Global,
     words: &[String],
@@ -84,8 +84,18 @@ fn do_words<S: Source, K: Sink, E: Lookahead, D: Store>(
         (world (S.state source.new) (K.state sink.new) (D.state store.new) (E.state entropy.new)) }
 {
     match parse(words) {
-        Ok(command) => dispatch(alloc, command, managers, source, sink, entropy, store),
+        Ok(command) => status_of(dispatch(alloc, command, managers, source, sink, entropy, store)),
         Err(misuse) => unasked(words, misuse),
+    }
+}
+
+/// The status of a command that was done, or why it wasn't.
+fn status_of(done: Result<(), Status>) -> Status
+    ensures { result ≡ status_of done }
+{
+    match done {
+        Ok(()) => Status::Done,
+        Err(status) => status,
     }
 }
 
@@ -110,48 +120,56 @@ fn dispatch<S: Source, K: Sink, E: Lookahead, D: Store>(
     sink: &mut K,
     entropy: &mut E,
     store: &mut D,
-) -> Status
-    ensures { Ends
+) -> Result<(), Status>
+    ensures { Finishes
         (command_plan (⟦<Managers as KeyTable>⟧.table managers.now) (seen_command command.entry))
         (world (S.state source.old) (K.state sink.old) (D.state store.old) (E.state entropy.old)) result
         (world (S.state source.new) (K.state sink.new) (D.state store.new) (E.state entropy.new)) }
 {
     match command {
-        Request::CreateKeyset { template, output } => finish_keyset(
-            alloc,
+        Request::CreateKeyset {
+            lock,
+            template,
             output,
-            sink,
-            store,
-            create_keyset(alloc, template, entropy),
+        } => create_keyset(
+            alloc, managers, lock, template, output, sink, entropy, store,
         ),
         Request::EditKeyset {
+            lock,
             edit,
             input,
             output,
-        } => {
-            let edited = edit_keyset(alloc, edit, input, source, entropy, store);
-            finish_keyset(alloc, output, sink, store, edited)
-        }
-        Request::ListKeyset { input } => {
-            let listing = list_keyset(alloc, input, source, store);
+        } => edit_keyset(
+            alloc, managers, lock, edit, input, output, source, sink, entropy, store,
+        ),
+        Request::ListKeyset { lock, input } => {
+            let listing = list_keyset(alloc, managers, lock, input, source, store);
             finish_output(alloc, None, sink, store, listing)
         }
-        Request::ConvertKeyset { input, output } => {
-            let taken = take_keyset(alloc, input, source, store);
-            finish_keyset(alloc, output, sink, store, taken)
-        }
+        Request::ConvertKeyset {
+            lock,
+            new,
+            input,
+            output,
+        } => convert_keyset(
+            alloc, managers, lock, new, input, output, source, sink, entropy, store,
+        ),
         Request::ListKeyTemplates => list_templates(sink),
         Request::UseKeyset {
+            lock,
             keyset,
             form,
             work,
             output,
         } => {
-            let done = use_keyset(alloc, managers, keyset, form, work, source, entropy, store);
+            let done = use_keyset(
+                alloc, managers, lock, keyset, form, work, source, entropy, store,
+            );
             let done = shown(alloc, output.hex, done);
             finish_output(alloc, output.file, sink, store, done)
         }
         Request::UseEnvelope {
+            lock,
             keyset,
             form,
             template,
@@ -159,26 +177,37 @@ fn dispatch<S: Source, K: Sink, E: Lookahead, D: Store>(
             output,
         } => {
             let done = use_envelope(
-                alloc, managers, keyset, form, template, work, source, entropy, store,
+                alloc, managers, lock, keyset, form, template, work, source, entropy, store,
             );
             finish_output(alloc, output, sink, store, done)
         }
-        Request::SealStream { keyset, form, ad } => {
-            let keys = load_stream_keys(alloc, keyset, form, store);
+        Request::SealStream {
+            lock,
+            keyset,
+            form,
+            ad,
+        } => {
+            let keys = load_stream_keys(alloc, managers, lock, keyset, form, store);
             seal_stream(alloc, keys, ad, source, sink, entropy)
         }
-        Request::OpenStream { keyset, form, ad } => {
-            let keys = load_stream_keys(alloc, keyset, form, store);
+        Request::OpenStream {
+            lock,
+            keyset,
+            form,
+            ad,
+        } => {
+            let keys = load_stream_keys(alloc, managers, lock, keyset, form, store);
             open_stream(alloc, keys, ad, source, sink)
         }
         Request::OpenRange {
+            lock,
             keyset,
             form,
             ad,
             range,
             output,
         } => {
-            let opened = open_stretch(alloc, keyset, form, ad, range, store);
+            let opened = open_stretch(alloc, managers, lock, keyset, form, ad, range, store);
             finish_output(alloc, output, sink, store, opened)
         }
         Request::SelfTest { seed, lines } => {
@@ -186,43 +215,13 @@ fn dispatch<S: Source, K: Sink, E: Lookahead, D: Store>(
             finish_output(alloc, None, sink, store, told)
         }
         Request::Session {
+            lock,
             keyset,
             form,
             output,
-        } => {
-            let keyset = load_keyset(alloc, keyset, form, store);
-            answer_lines(
-                alloc, managers, keyset, output, source, sink, entropy, store,
-            )
-        }
-        Request::WrapKeyset {
-            master,
-            form,
-            input,
-            output,
-        } => {
-            let wrapped = wrap_keyset(
-                alloc,
-                managers,
-                master,
-                form,
-                input,
-                output.form,
-                source,
-                entropy,
-                store,
-            );
-            finish_output(alloc, output.file, sink, store, wrapped)
-        }
-        Request::UnwrapKeyset {
-            master,
-            form,
-            input,
-            output,
-        } => {
-            let unwrapped = unwrap_keyset(alloc, managers, master, form, input, source, store);
-            finish_keyset(alloc, output, sink, store, unwrapped)
-        }
+        } => answer_lines(
+            alloc, managers, lock, keyset, form, output, source, sink, entropy, store,
+        ),
         Request::Help { topic } => write_output(sink, help_text(topic).as_bytes()),
         Request::Version => write_output(sink, version_text().as_bytes()),
     }

@@ -7,10 +7,12 @@ ghost use Rattle.wrapped_prims.specs.Rooms.{dseal_room, seal_room};
 ghost use Rattle.tinkey_run.specs.Rooms.{room_for};
 ghost use Rattle.tinkey_plans.specs.Ends.{World};
 ghost use Rattle.tinkey_plans.specs.Steps.{Passes, PassesAs};
-ghost use Rattle.tinkey_plans.specs.Using.{handles, handle_refusal, limit_for, use_output, with_opened, IsServing, Works};
-ghost use Rattle.tinkey_words.specs.Words.{primitive_for, datum_as, datum_of_hex, seen_datum, seen_work, to_seal, to_open, to_dseal, to_dopen, to_tag, to_verify, to_derive};
+ghost use Rattle.tinkey_plans.specs.Handles.{handles, handle_refusal, IsServing};
+ghost use Rattle.tinkey_plans.specs.Using.{limit_for, use_output, with_opened, Works};
+ghost use Rattle.tinkey_words.specs.Words.{primitive_for, datum_as, datum_of_hex, seen_datum, seen_lock, seen_work, to_seal, to_open, to_dseal, to_dopen, to_tag, to_verify, to_derive};
 
-use crate::steps::{load_keyset, read_input_behind};
+use crate::locks::load_locked;
+use crate::steps::read_input_behind;
 use hex::FromHexError;
 use key_msgs::Primitive;
 use keyset_model::Keyset;
@@ -18,7 +20,7 @@ use managers::{KeyTable, Managers};
 use std::alloc::Global;
 use tink_base::{Bytes, Entropy, NoMemory, Source, Store, Trials};
 use tinkey_plans::Status;
-use tinkey_words::{DATUM_LIMIT, Datum, Format, Work};
+use tinkey_words::{DATUM_LIMIT, Datum, Format, Master, Work};
 use wrapped_prims::{DeriveFault, Handle, HandleFault, SealFault};
 
 /// How many bytes a whole input may have.
@@ -33,6 +35,7 @@ pub(crate) const SEALED_LIMIT: usize = INPUT_LIMIT + 1024;
 pub(crate) fn use_keyset<S: Source, E: Entropy, D: Store>(
     alloc: Global,
     managers: &Managers,
+    lock: Option<Master<'_>>,
     name: &str,
     form: Format,
     work: Work<'_>,
@@ -41,7 +44,7 @@ pub(crate) fn use_keyset<S: Source, E: Entropy, D: Store>(
     store: &mut D,
 ) -> Result<Bytes, Status>
     ensures { (w : World) → Passes
-        (use_output (⟦<Managers as KeyTable>⟧.table managers.now) name.now form
+        (use_output (⟦<Managers as KeyTable>⟧.table managers.now) (seen_lock lock.entry) name.now form
         (seen_work work.entry))
         (record w {
           source = S.state source.old;
@@ -54,7 +57,7 @@ pub(crate) fn use_keyset<S: Source, E: Entropy, D: Store>(
           entropy = E.state entropy.new;
         }) }
 {
-    let keyset = load_keyset(alloc, name, form, store)?;
+    let keyset = load_locked(alloc, managers, lock, name, form, store)?;
     let handle = handle_of(alloc, &keyset, managers, primitive_for(work))?;
     let room = room_for(&handle, work);
     let input = read_input_behind(alloc, room, limit_for(work), source)?;

@@ -1,6 +1,6 @@
-//! Encrypted keysets: wrap-keyset and unwrap-keyset.
+//! Keysets sealed under a master, and opened.
 
-ghost use Rattle.std.specs.Prelude.{◌≡◌, ◌≤◌, ◌^◌, length, IfOk, option_map};
+ghost use Rattle.std.specs.Prelude.{◌≡◌, ◌≤◌, ◌^◌, length, IfOk};
 ghost use Rattle.std.specs.List.{AllByRecursion};
 ghost use Rattle.key_msgs.specs.declared.primitive.Primitive.TheVariants.{Aead};
 ghost use Rattle.keyset_model.specs.Keyset.{Keys, IsShort};
@@ -8,63 +8,24 @@ ghost use Rattle.keyset_model.specs.Writing.{binary_of};
 ghost use Rattle.wrapped_prims.specs.Making.{IsOver};
 ghost use Rattle.tinkey_plans.specs.Ends.{World};
 ghost use Rattle.tinkey_plans.specs.Steps.{Passes};
-ghost use Rattle.tinkey_plans.specs.Using.{IsServing};
-ghost use Rattle.tinkey_plans.specs.Wrapping.{is_json, makes_wrapped, takes_wrapped, unwrap_output, unwrap_refusal, unwraps, wrap_output};
-ghost use Rattle.tinkey_words.specs.Words.{seen_name, seen_place};
+ghost use Rattle.tinkey_plans.specs.Handles.{IsServing};
+ghost use Rattle.tinkey_plans.specs.Wrapping.{is_json, makes_wrapped, unwrap_refusal, unwraps};
 
-use crate::output::{within, written};
-use crate::steps::{load_bytes, load_keyset, read_bytes, take_keyset};
-use crate::using::handle_of;
-use key_msgs::Primitive;
+use crate::output::within;
 use keyset_model::Keyset;
 use managers::{KeyTable, Managers};
-use seal_wrap::{UnwrapFault, WrapFault, unwrap_keyset as unwrap, wrap};
+use seal_wrap::{UnwrapFault, WrapFault, unwrap_keyset, wrap};
 use std::alloc::Global;
-use tink_base::{Bytes, Entropy, Source, Store};
+use tink_base::{Bytes, Entropy};
 use tinkey_plans::Status;
-use tinkey_words::{Format, Place};
+use tinkey_words::Format;
 use wrapped_prims::Handle;
 
 /// How many bytes a wrapped keyset may have.
-const WRAPPED_LIMIT: usize = 4_194_304;
-
-/// wrap-keyset: the text of a keyset that is sealed under the master, the keyset in the file of this
-/// name, in the form of the output.
-#[inline(never)]
-pub(crate) fn wrap_keyset<S: Source, E: Entropy, D: Store>(
-    alloc: Global,
-    managers: &Managers,
-    master: &str,
-    form: Format,
-    input: Place<'_>,
-    out: Format,
-    source: &mut S,
-    entropy: &mut E,
-    store: &mut D,
-) -> Result<Bytes, Status>
-    ensures { (w : World) → Passes
-        (wrap_output (⟦<Managers as KeyTable>⟧.table managers.now) master.now form
-        (seen_place input.entry) out)
-        (record w {
-          source = S.state source.old;
-          store = D.state store.old;
-          entropy = E.state entropy.old;
-        }) result
-        (record w {
-          source = S.state source.new;
-          store = D.state store.new;
-          entropy = E.state entropy.new;
-        }) }
-{
-    let master = load_keyset(alloc, master, form, store)?;
-    let handle = handle_of(alloc, &master, managers, Primitive::Aead)?;
-    let keyset = take_keyset(alloc, input, source, store)?;
-    written(alloc, Format::Binary, &keyset)?;
-    wrap_under(alloc, &handle, &keyset, out, entropy)
-}
+pub(crate) const WRAPPED_LIMIT: usize = 4_194_304;
 
 /// The text of the keyset, sealed under the handle's keyset.
-fn wrap_under<E: Entropy>(
+pub(crate) fn wrap_under<E: Entropy>(
     alloc: Global,
     handle: &Handle<'_>,
     keyset: &Keyset,
@@ -87,50 +48,8 @@ fn wrap_under<E: Entropy>(
     }
 }
 
-/// unwrap-keyset: the keyset that the text gives under the master, the keyset in the file of this name.
-#[inline(never)]
-pub(crate) fn unwrap_keyset<S: Source, D: Store>(
-    alloc: Global,
-    managers: &Managers,
-    master: &str,
-    form: Format,
-    input: Place<'_>,
-    source: &mut S,
-    store: &mut D,
-) -> Result<Keyset, Status>
-    ensures passes { (w : World) → Passes
-        (unwrap_output (⟦<Managers as KeyTable>⟧.table managers.now) master.now form
-        (seen_place input.entry))
-        (record w { source = S.state source.old; store = D.state store.old }) result
-        (record w { source = S.state source.new; store = D.state store.new }) }
-    ensures short { IfOk result (λ keyset. AllByRecursion IsShort keyset.records) }
-{
-    let master = load_keyset(alloc, master, form, store)?;
-    let handle = handle_of(alloc, &master, managers, Primitive::Aead)?;
-    let text = take_wrapped(alloc, input.file, source, store)?;
-    unwrap_under(alloc, &handle, text.as_slice(), input.form)
-}
-
-/// The wrapped text in a file, or where none is named, the whole input.
-fn take_wrapped<S: Source, D: Store>(
-    alloc: Global,
-    file: Option<&str>,
-    source: &mut S,
-    store: &mut D,
-) -> Result<Bytes, Status>
-    ensures passes { (w : World) → Passes (takes_wrapped (seen_name file.entry))
-        (record w { source = S.state source.old; store = D.state store.old }) result
-        (record w { source = S.state source.new; store = D.state store.new }) }
-    ensures within { IfOk result (λ text. length text ≤ WRAPPED_LIMIT) }
-{
-    match file {
-        Some(name) => load_bytes(alloc, name, WRAPPED_LIMIT, store),
-        None => read_bytes(alloc, WRAPPED_LIMIT, source),
-    }
-}
-
 /// The keyset of the text, opened under the handle's keyset.
-fn unwrap_under(
+pub(crate) fn unwrap_under(
     alloc: Global,
     handle: &Handle<'_>,
     text: &[u8],
@@ -145,7 +64,7 @@ fn unwrap_under(
         text.now) w result w }
     ensures short { IfOk result (λ keyset. AllByRecursion IsShort keyset.records) }
 {
-    match unwrap(alloc, handle, text, is_json(form)) {
+    match unwrap_keyset(alloc, handle, text, is_json(form)) {
         Ok(keyset) => Ok(keyset),
         Err(fault) => Err(refusal(fault)),
     }

@@ -94,13 +94,15 @@ is_found options.Seed = record { word = refl; plain = refl; place = refl }
 is_found options.Lines = record { word = refl; plain = refl; place = refl }
 is_found options.Master = record { word = refl; plain = refl; place = refl }
 is_found options.MasterFormat = record { word = refl; plain = refl; place = refl }
+is_found options.NewMaster = record { word = refl; plain = refl; place = refl }
+is_found options.NewMasterFormat = record { word = refl; plain = refl; place = refl }
 is_found options.DekTemplate = record { word = refl; plain = refl; place = refl }
 is_found options.File = record { word = refl; plain = refl; place = refl }
 is_found options.From = record { word = refl; plain = refl; place = refl }
 is_found options.Hex = record { word = refl; plain = refl; place = refl }
 
 -- how long its word is
-pub option_short : (name : OptionName) → length (option_row name).word ≤ 15
+pub option_short : (name : OptionName) → length (option_row name).word ≤ 19
 option_short options.KeyTemplate = omega arith
 option_short options.KeyId = omega arith
 option_short options.In = omega arith
@@ -117,6 +119,8 @@ option_short options.Seed = omega arith
 option_short options.Lines = omega arith
 option_short options.Master = omega arith
 option_short options.MasterFormat = omega arith
+option_short options.NewMaster = omega arith
+option_short options.NewMasterFormat = omega arith
 option_short options.DekTemplate = omega arith
 option_short options.File = omega arith
 option_short options.From = omega arith
@@ -143,6 +147,8 @@ are_rivals options.Seed b is = absurd (cc)
 are_rivals options.Lines b is = absurd (cc)
 are_rivals options.Master b is = absurd (cc)
 are_rivals options.MasterFormat b is = absurd (cc)
+are_rivals options.NewMaster b is = absurd (cc)
+are_rivals options.NewMasterFormat b is = absurd (cc)
 are_rivals options.DekTemplate b is = absurd (cc)
 are_rivals options.File b is = absurd (cc)
 are_rivals options.From b is = absurd (cc)
@@ -195,6 +201,8 @@ flag_form options.Seed command = refl
 flag_form options.Lines command = refl
 flag_form options.Master command = refl
 flag_form options.MasterFormat command = refl
+flag_form options.NewMaster command = refl
+flag_form options.NewMasterFormat command = refl
 flag_form options.DekTemplate command = refl
 flag_form options.File command = refl
 flag_form options.From command = refl

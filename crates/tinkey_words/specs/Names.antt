@@ -30,40 +30,46 @@ abbrev pub create_keyset_requires : List OptionName
 create_keyset_requires = options.KeyTemplate ∷ []
 
 abbrev pub create_keyset_may : List OptionName
-create_keyset_may = options.Out ∷ options.OutFormat ∷ []
+create_keyset_may = options.Out ∷ options.OutFormat ∷ options.Master ∷ options.MasterFormat ∷ []
 
 abbrev pub add_key_may : List OptionName
-add_key_may = options.In ∷ options.InFormat ∷ options.Out ∷ options.OutFormat ∷ []
+add_key_may = options.In ∷ options.InFormat ∷ options.Out ∷ options.OutFormat ∷ options.Master
+    ∷ options.MasterFormat ∷ []
 
 abbrev pub promote_key_requires : List OptionName
 promote_key_requires = options.KeyId ∷ []
 
 abbrev pub list_keyset_may : List OptionName
-list_keyset_may = options.In ∷ options.InFormat ∷ []
+list_keyset_may = options.In ∷ options.InFormat ∷ options.Master ∷ options.MasterFormat ∷ []
+
+abbrev pub convert_keyset_may : List OptionName
+convert_keyset_may = options.In ∷ options.InFormat ∷ options.Out ∷ options.OutFormat ∷ options.Master
+    ∷ options.MasterFormat ∷ options.NewMaster ∷ options.NewMasterFormat ∷ []
 
 abbrev pub seal_requires : List OptionName
 seal_requires = options.Keyset ∷ []
 
 abbrev pub seal_may : List OptionName
-seal_may = options.KeysetFormat ∷ options.Ad ∷ options.AdHex ∷ options.Out ∷ []
+seal_may = options.KeysetFormat ∷ options.Ad ∷ options.AdHex ∷ options.Out ∷ options.Master
+    ∷ options.MasterFormat ∷ []
 
 abbrev pub sseal_may : List OptionName
-sseal_may = options.KeysetFormat ∷ options.Ad ∷ options.AdHex ∷ []
+sseal_may = options.KeysetFormat ∷ options.Ad ∷ options.AdHex ∷ options.Master ∷ options.MasterFormat ∷ []
 
 abbrev pub tag_may : List OptionName
-tag_may = options.KeysetFormat ∷ options.Out ∷ options.Hex ∷ []
+tag_may = options.KeysetFormat ∷ options.Out ∷ options.Hex ∷ options.Master ∷ options.MasterFormat ∷ []
 
 abbrev pub verify_requires : List OptionName
 verify_requires = options.Keyset ∷ options.TagHex ∷ []
 
 abbrev pub verify_may : List OptionName
-verify_may = options.KeysetFormat ∷ []
+verify_may = options.KeysetFormat ∷ options.Master ∷ options.MasterFormat ∷ []
 
 abbrev pub derive_requires : List OptionName
 derive_requires = options.Keyset ∷ options.Length ∷ []
 
 abbrev pub session_may : List OptionName
-session_may = options.KeysetFormat ∷ options.Out ∷ options.OutFormat ∷ []
+session_may = options.KeysetFormat ∷ options.Out ∷ options.OutFormat ∷ options.Master ∷ options.MasterFormat ∷ []
 
 abbrev pub selftest_requires : List OptionName
 selftest_requires = options.Seed ∷ []
@@ -94,7 +100,7 @@ row_of commands.DisableKey = row (codes "disable-key") promote_key_requires add_
 row_of commands.DestroyKey = row (codes "destroy-key") promote_key_requires add_key_may
 row_of commands.DeleteKey = row (codes "delete-key") promote_key_requires add_key_may
 row_of commands.ListKeyset = row (codes "list-keyset") [] list_keyset_may
-row_of commands.ConvertKeyset = row (codes "convert-keyset") [] add_key_may
+row_of commands.ConvertKeyset = row (codes "convert-keyset") [] convert_keyset_may
 row_of commands.ListKeyTemplates = row (codes "list-key-templates") [] []
 row_of commands.Seal = row (codes "seal") seal_requires seal_may
 row_of commands.Open = row (codes "open") seal_requires seal_may
@@ -154,10 +160,12 @@ option_row options.Seed = option 12 (codes "--seed") forms.Number
 option_row options.Lines = option 13 (codes "--lines") forms.LineCount
 option_row options.Master = option 14 (codes "--master") forms.FileName
 option_row options.MasterFormat = option 15 (codes "--master-format") forms.Format
-option_row options.DekTemplate = option 16 (codes "--dek-template") forms.Text
-option_row options.File = option 17 (codes "--file") forms.FileName
-option_row options.From = option 18 (codes "--from") forms.Offset
-option_row options.Hex = option 19 (codes "--hex") forms.Flag
+option_row options.NewMaster = option 16 (codes "--new-master") forms.FileName
+option_row options.NewMasterFormat = option 17 (codes "--new-master-format") forms.Format
+option_row options.DekTemplate = option 18 (codes "--dek-template") forms.Text
+option_row options.File = option 19 (codes "--file") forms.FileName
+option_row options.From = option 20 (codes "--from") forms.Offset
+option_row options.Hex = option 21 (codes "--hex") forms.Flag
 
 -- all options, in the order of their places
 abbrev pub all_options : List OptionName
@@ -165,7 +173,8 @@ all_options =
     options.KeyTemplate ∷ options.KeyId ∷ options.In ∷ options.InFormat ∷ options.Out
     ∷ options.OutFormat ∷ options.Keyset ∷ options.KeysetFormat ∷ options.Ad ∷ options.AdHex
     ∷ options.TagHex ∷ options.Length ∷ options.Seed ∷ options.Lines ∷ options.Master
-    ∷ options.MasterFormat ∷ options.DekTemplate ∷ options.File ∷ options.From ∷ options.Hex ∷ []
+    ∷ options.MasterFormat ∷ options.NewMaster ∷ options.NewMasterFormat ∷ options.DekTemplate
+    ∷ options.File ∷ options.From ∷ options.Hex ∷ []
 
 -- the option that must not stand beside this one, which gives the same thing
 abbrev pub rival : OptionName → Option OptionName

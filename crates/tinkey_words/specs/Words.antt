@@ -23,6 +23,9 @@ use Rattle.tinkey_words.specs.declared.words.Request.TheVariants as asks
 use Rattle.tinkey_words.specs.declared.words.Options.{Options as CodeOptions}
 use Rattle.tinkey_words.specs.declared.words.Place.{Place as CodePlace}
 use Rattle.tinkey_words.specs.declared.words.range.Range.{Range as CodeRange}
+use Rattle.tinkey_words.specs.declared.words.lock.Master.{Master as CodeMaster}
+use Rattle.tinkey_words.specs.declared.words.lock.NewLock.{NewLock as CodeNewLock}
+use Rattle.tinkey_words.specs.declared.words.lock.NewLock.TheVariants as locks
 use Rattle.tinkey_words.specs.declared.words.Output.{Output as CodeOutput}
 use Rattle.tinkey_words.specs.declared.words.Datum.{Datum}
 use Rattle.tinkey_words.specs.declared.words.Datum.TheVariants as data'
@@ -84,6 +87,22 @@ pub record Place : Type 0 where
   pub file : Option (List ℕ)
   pub form : Format
 
+-- the master of other keysets: the keyset in the file of this name, in this form
+pub record Master : Type 0 where
+  pub file : List ℕ
+  pub form : Format
+
+-- the master under which a keyset lies sealed, or none, and it lies in clear
+abbrev pub Lock : Type 0
+Lock = Option Master
+
+-- how a keyset is put: under the master that it was taken under, or in clear as that was; in clear; or
+-- under this master
+pub data NewLock : Type 0 where
+  as_taken : NewLock
+  in_clear : NewLock
+  under : (master : Master) → NewLock
+
 -- where the bytes that work by keys gives are put, as a place but in no form of keysets: as they are, or
 -- in hexadecimal
 pub record Output : Type 0 where
@@ -101,40 +120,48 @@ pub record AskedRange : Type 0 where
   pub from : ℕ
   pub size : ℕ
 
--- what the words ask for, without where they lie in memory
+-- what the words ask for, without where they lie in memory. Where there is a lock, it is that of the keyset
+-- that is taken, and of the one that is put.
 pub data Asked : Type 0 where
   -- a new keyset of one key, by the template of this name
-  create_keyset : (template : List ℕ) (out : Place) → Asked
+  create_keyset : (lock : Lock) (template : List ℕ) (out : Place) → Asked
   -- a keyset, changed
-  edit_keyset : (edit : AskedEdit) (in' out : Place) → Asked
+  edit_keyset : (lock : Lock) (edit : AskedEdit) (in' out : Place) → Asked
   -- the listing of a keyset
-  list_keyset : (in' : Place) → Asked
-  -- a keyset, in another place
-  convert_keyset : (in' out : Place) → Asked
+  list_keyset : (lock : Lock) (in' : Place) → Asked
+  -- a keyset, in another place, and where it is asked for under another master or in clear
+  convert_keyset : (lock : Lock) (new : NewLock) (in' out : Place) → Asked
   -- the names of the templates
   list_key_templates : Asked
   -- work on the input, by the keys of the keyset in the file of this name, and where it is put
-  use_keyset : (keyset : List ℕ) (form : Format) (work : AskedWork) (out : Output) → Asked
+  use_keyset : (lock : Lock) (keyset : List ℕ) (form : Format) (work : AskedWork) (out : Output)
+      → Asked
   -- the same by data keys, which are of the template of this name, under such keys
-  use_envelope : (keyset : List ℕ) (form : Format) (template : List ℕ) (work : AskedEnvelope)
-      (out : Option (List ℕ)) → Asked
+  use_envelope : (lock : Lock) (keyset : List ℕ) (form : Format) (template : List ℕ)
+      (work : AskedEnvelope) (out : Option (List ℕ)) → Asked
   -- the input as a stream, sealed or opened by such a keyset, with this associated data
-  seal_stream : (keyset : List ℕ) (form : Format) (ad : List ℕ) → Asked
-  open_stream : (keyset : List ℕ) (form : Format) (ad : List ℕ) → Asked
+  seal_stream : (lock : Lock) (keyset : List ℕ) (form : Format) (ad : List ℕ) → Asked
+  open_stream : (lock : Lock) (keyset : List ℕ) (form : Format) (ad : List ℕ) → Asked
   -- a range of the stream in a file, opened by such a keyset, with this associated data, and the new file
   -- that it becomes
-  open_range : (keyset : List ℕ) (form : Format) (ad : List ℕ) (range : AskedRange)
+  open_range : (lock : Lock) (keyset : List ℕ) (form : Format) (ad : List ℕ) (range : AskedRange)
       (out : Option (List ℕ)) → Asked
-  -- a keyset, sealed under the keyset in the file of this name, its master; or one that was so, opened
-  wrap_keyset : (master : List ℕ) (form : Format) (in' out : Place) → Asked
-  unwrap_keyset : (master : List ℕ) (form : Format) (in' out : Place) → Asked
   -- the lines of the input, answered over such a keyset, and where the last keyset is put
-  session : (keyset : List ℕ) (form : Format) (out : Place) → Asked
+  session : (lock : Lock) (keyset : List ℕ) (form : Format) (out : Place) → Asked
   -- so many lines of a session, made from a number, and what becomes of them
   self_test : (seed lines : ℕ) → Asked
   -- what a topic has to say, and the version
   help : (topic : Topic) → Asked
   version : Asked
+
+-- A keyset is sealed under the master in the file of this name; and one that was so is opened.
+abbrev pub wrap_keyset : (master : List ℕ) (form : Format) (in' out : Place) → Asked
+wrap_keyset master form in' out =
+    convert_keyset None (under (record { file = master; form = form })) in' out
+
+abbrev pub unwrap_keyset : (master : List ℕ) (form : Format) (in' out : Place) → Asked
+unwrap_keyset master form in' out =
+    convert_keyset (Some (record { file = master; form = form })) in_clear in' out
 
 -- the values that were given, by option
 abbrev pub Values : Type 0
@@ -214,24 +241,42 @@ taken_from values = record { file = values options.In; form = form_in (values op
 abbrev pub put_to : Values → Place
 put_to values = record { file = values options.Out; form = form_in (values options.OutFormat) }
 
+-- the master in the file of this name, where one is given, in the form that this value gives
+abbrev pub lock_of : Option (List ℕ) → (form : Option (List ℕ)) → Lock
+lock_of None form = None
+lock_of (Some file) form = Some (record { file = file; form = form_in form })
+
+-- the master of the keysets of a command
+abbrev pub lock : Values → Lock
+lock values = lock_of (values options.Master) (values options.MasterFormat)
+
+-- the same, or where it isn't given, none
+abbrev pub relocked : Lock → NewLock
+relocked None = as_taken
+relocked (Some master) = under master
+
+-- the master of a keyset that is put elsewhere
+abbrev pub new_lock : Values → NewLock
+new_lock values = relocked (lock_of (values options.NewMaster) (values options.NewMasterFormat))
+
 -- where the bytes of work by keys are put
 abbrev pub output_in : Values → Output
 output_in values = record { file = values options.Out; hex = is_some (values options.Hex) }
 
 -- a keyset that is changed so
 abbrev pub edited : AskedEdit → Values → Asked
-edited edit values = edit_keyset edit (taken_from values) (put_to values)
+edited edit values = edit_keyset (lock values) edit (taken_from values) (put_to values)
 
 -- work by the keys of a keyset
 abbrev pub worked : AskedWork → Values → Asked
 worked work values =
-    use_keyset (text (values options.Keyset)) (form_in (values options.KeysetFormat)) work
-    (output_in values)
+    use_keyset (lock values) (text (values options.Keyset)) (form_in (values options.KeysetFormat))
+    work (output_in values)
 
 -- work by data keys
 abbrev pub enveloped : AskedEnvelope → Values → Asked
 enveloped work values =
-    use_envelope (text (values options.Keyset)) (form_in (values options.KeysetFormat))
+    use_envelope (lock values) (text (values options.Keyset)) (form_in (values options.KeysetFormat))
     (text (values options.DekTemplate)) work (values options.Out)
 
 -- a length of a range; one that is too long is none
@@ -248,7 +293,8 @@ range values = record {
 
 -- what each command asks with these values of its options
 abbrev pub asked_with : CommandName → Values → Asked
-asked_with commands.CreateKeyset values = create_keyset (template values) (put_to values)
+asked_with commands.CreateKeyset values =
+    create_keyset (lock values) (template values) (put_to values)
 asked_with commands.AddKey values = edited (edits.Add (template values)) values
 asked_with commands.RotateKeyset values = edited (edits.Rotate (template values)) values
 asked_with commands.PromoteKey values = edited (edits.Promote (id values)) values
@@ -256,17 +302,20 @@ asked_with commands.EnableKey values = edited (edits.Enable (id values)) values
 asked_with commands.DisableKey values = edited (edits.Disable (id values)) values
 asked_with commands.DestroyKey values = edited (edits.Destroy (id values)) values
 asked_with commands.DeleteKey values = edited (edits.Delete (id values)) values
-asked_with commands.ListKeyset values = list_keyset (taken_from values)
-asked_with commands.ConvertKeyset values = convert_keyset (taken_from values) (put_to values)
+asked_with commands.ListKeyset values = list_keyset (lock values) (taken_from values)
+asked_with commands.ConvertKeyset values =
+    convert_keyset (lock values) (new_lock values) (taken_from values) (put_to values)
 asked_with commands.ListKeyTemplates values = list_key_templates
 asked_with commands.Seal values = worked (to_seal (ad values)) values
 asked_with commands.Open values = worked (to_open (ad values)) values
 asked_with commands.Dseal values = worked (to_dseal (ad values)) values
 asked_with commands.Dopen values = worked (to_dopen (ad values)) values
 asked_with commands.Sseal values =
-    seal_stream (text (values options.Keyset)) (form_in (values options.KeysetFormat)) (ad values)
+    seal_stream (lock values) (text (values options.Keyset)) (form_in (values options.KeysetFormat))
+    (ad values)
 asked_with commands.Sopen values =
-    open_stream (text (values options.Keyset)) (form_in (values options.KeysetFormat)) (ad values)
+    open_stream (lock values) (text (values options.Keyset)) (form_in (values options.KeysetFormat))
+    (ad values)
 asked_with commands.Tag values = worked to_tag values
 asked_with commands.Verify values =
     worked (to_verify (datum_of_hex (text (values options.TagHex)))) values
@@ -274,18 +323,17 @@ asked_with commands.Derive values = worked (to_derive (number (values options.Le
 asked_with commands.Selftest values =
     self_test (number (values options.Seed)) (lines_in (values options.Lines))
 asked_with commands.Session values =
-    session (text (values options.Keyset)) (form_in (values options.KeysetFormat)) (put_to values)
+    session (lock values) (text (values options.Keyset)) (form_in (values options.KeysetFormat))
+    (put_to values)
 asked_with commands.WrapKeyset values =
-    wrap_keyset (text (values options.Master)) (form_in (values options.MasterFormat))
-    (taken_from values) (put_to values)
+    convert_keyset None (relocked (lock values)) (taken_from values) (put_to values)
 asked_with commands.UnwrapKeyset values =
-    unwrap_keyset (text (values options.Master)) (form_in (values options.MasterFormat))
-    (taken_from values) (put_to values)
+    convert_keyset (lock values) in_clear (taken_from values) (put_to values)
 asked_with commands.Eseal values = enveloped (to_eseal (ad values)) values
 asked_with commands.Eopen values = enveloped (to_eopen (ad values)) values
 asked_with commands.Srange values =
-    open_range (text (values options.Keyset)) (form_in (values options.KeysetFormat)) (ad values)
-    (range values) (values options.Out)
+    open_range (lock values) (text (values options.Keyset)) (form_in (values options.KeysetFormat))
+    (ad values) (range values) (values options.Out)
 
 -- The words, one after another.
 
@@ -501,6 +549,20 @@ seen_name name = option_map (λ name. name.now) name
 abbrev pub seen_place : CodePlace → Place
 seen_place place = record { file = seen_name place.file; form = place.form }
 
+-- a master
+abbrev pub seen_master : CodeMaster → Master
+seen_master master = record { file = master.file.now; form = master.form }
+
+-- a lock, or none
+abbrev pub seen_lock : Option CodeMaster → Lock
+seen_lock lock = option_map seen_master lock
+
+-- how a keyset is put
+abbrev pub seen_new_lock : CodeNewLock → NewLock
+seen_new_lock locks.AsTaken = as_taken
+seen_new_lock locks.InClear = in_clear
+seen_new_lock (locks.Under master) = under (seen_master master)
+
 -- a place of bytes
 abbrev pub seen_output : CodeOutput → Output
 seen_output output = record { file = seen_name output.file; hex = output.hex }
@@ -531,27 +593,27 @@ seen_range r = record { file = r.file.now; from = r.from; size = r.length }
 
 -- what a command asks, with its names and data as bytes
 abbrev pub seen_command : Request → Asked
-seen_command (asks.CreateKeyset template output) = create_keyset template.now (seen_place output)
-seen_command (asks.EditKeyset edit input output) =
-    edit_keyset (seen_edit edit) (seen_place input) (seen_place output)
-seen_command (asks.ListKeyset input) = list_keyset (seen_place input)
-seen_command (asks.ConvertKeyset input output) =
-    convert_keyset (seen_place input) (seen_place output)
+seen_command (asks.CreateKeyset lock template output) =
+    create_keyset (seen_lock lock) template.now (seen_place output)
+seen_command (asks.EditKeyset lock edit input output) =
+    edit_keyset (seen_lock lock) (seen_edit edit) (seen_place input) (seen_place output)
+seen_command (asks.ListKeyset lock input) = list_keyset (seen_lock lock) (seen_place input)
+seen_command (asks.ConvertKeyset lock new input output) =
+    convert_keyset (seen_lock lock) (seen_new_lock new) (seen_place input) (seen_place output)
 seen_command asks.ListKeyTemplates = list_key_templates
-seen_command (asks.UseKeyset keyset form work output) =
-    use_keyset keyset.now form (seen_work work) (seen_output output)
-seen_command (asks.SealStream keyset form ad) = seal_stream keyset.now form (seen_datum ad)
-seen_command (asks.OpenStream keyset form ad) = open_stream keyset.now form (seen_datum ad)
-seen_command (asks.Session keyset form output) = session keyset.now form (seen_place output)
+seen_command (asks.UseKeyset lock keyset form work output) =
+    use_keyset (seen_lock lock) keyset.now form (seen_work work) (seen_output output)
+seen_command (asks.SealStream lock keyset form ad) =
+    seal_stream (seen_lock lock) keyset.now form (seen_datum ad)
+seen_command (asks.OpenStream lock keyset form ad) =
+    open_stream (seen_lock lock) keyset.now form (seen_datum ad)
+seen_command (asks.OpenRange lock keyset form ad range output) =
+    open_range (seen_lock lock) keyset.now form (seen_datum ad) (seen_range range) (seen_name output)
+seen_command (asks.Session lock keyset form output) =
+    session (seen_lock lock) keyset.now form (seen_place output)
 seen_command (asks.SelfTest seed lines) = self_test seed lines
-seen_command (asks.WrapKeyset master form input output) =
-    wrap_keyset master.now form (seen_place input) (seen_place output)
-seen_command (asks.UnwrapKeyset master form input output) =
-    unwrap_keyset master.now form (seen_place input) (seen_place output)
-seen_command (asks.UseEnvelope keyset form template work output) =
-    use_envelope keyset.now form template.now (seen_envelope work) (seen_name output)
-seen_command (asks.OpenRange keyset form ad range output) =
-    open_range keyset.now form (seen_datum ad) (seen_range range) (seen_name output)
+seen_command (asks.UseEnvelope lock keyset form template work output) =
+    use_envelope (seen_lock lock) keyset.now form template.now (seen_envelope work) (seen_name output)
 seen_command (asks.Help topic) = help topic
 seen_command asks.Version = version
 

@@ -4,9 +4,10 @@ ghost use Rattle.std.specs.Prelude.{◌≡◌, ◌<◌, ◌≤◌, ◌^◌, Some
 ghost use Rattle.tinkey_words.specs.Names.{option_row};
 ghost use Rattle.tinkey_words.specs.Rows.{option_of, is_flag};
 ghost use Rattle.tinkey_words.specs.declared.words.names.OptionName.TheVariants.{Lines};
-ghost use Rattle.tinkey_words.specs.Words.{words_of, by_itself, command_words, help_words, topic_words, with_options, topic_of, given_in, lines_in, next_word, option_word, own_value, misvalued, is_barred, bar, unbarred, new_option, with_value, no_options, lacking, complete, asked_with, text, number, id, template, ad, edited, enveloped, worked, seen_command, seen_datum, seen_edit, seen_envelope, seen_name, seen_options, seen_range, seen_work, offset, range, range_length, Reads, form_in, taken_from, put_to, seen_place, alone, output_in, seen_output};
+ghost use Rattle.tinkey_words.specs.Words.{words_of, by_itself, command_words, help_words, topic_words, with_options, topic_of, given_in, lines_in, next_word, option_word, own_value, misvalued, is_barred, bar, unbarred, new_option, with_value, no_options, lacking, complete, asked_with, text, number, id, template, ad, edited, enveloped, worked, seen_command, seen_datum, seen_edit, seen_envelope, seen_name, seen_options, seen_range, seen_work, offset, range, range_length, Reads, form_in, taken_from, put_to, seen_place, alone, output_in, seen_output, convert_keyset, lock, lock_of, new_lock, relocked, seen_lock, seen_new_lock};
 
 mod help;
+mod lock;
 mod misuse;
 mod names;
 mod range;
@@ -14,6 +15,7 @@ mod rows;
 
 pub use help::Topic;
 use help::{First, first_named, is_help_flag, topic_named};
+pub use lock::{Master, NewLock};
 use misuse::misuse_at;
 pub use misuse::{Misfit, Misuse};
 use names::OPTION_COUNT;
@@ -32,6 +34,8 @@ const KNOWN_LINES: u32 = 1000;
 pub enum Request<'a> {
     /// Make a keyset of one new key.
     CreateKeyset {
+        /// The master of the keyset, if it lies under one.
+        lock: Option<Master<'a>>,
         /// The name of the template of the key.
         template: &'a str,
         /// Where the keyset is put.
@@ -39,6 +43,8 @@ pub enum Request<'a> {
     },
     /// Change a keyset.
     EditKeyset {
+        /// The master of the keysets, if they lie under one.
+        lock: Option<Master<'a>>,
         /// The change.
         edit: Edit<&'a str>,
         /// Where the keyset is taken from.
@@ -48,11 +54,17 @@ pub enum Request<'a> {
     },
     /// List a keyset.
     ListKeyset {
+        /// The master of the keyset, if it lies under one.
+        lock: Option<Master<'a>>,
         /// Where the keyset is taken from.
         input: Place<'a>,
     },
-    /// Put a keyset elsewhere, or in another form.
+    /// Put a keyset elsewhere, in another form, or under another master.
     ConvertKeyset {
+        /// The master of the keyset that is taken, if it lies under one.
+        lock: Option<Master<'a>>,
+        /// Under which one it is put.
+        new: NewLock<'a>,
         /// Where the keyset is taken from.
         input: Place<'a>,
         /// Where it is put.
@@ -62,6 +74,8 @@ pub enum Request<'a> {
     ListKeyTemplates,
     /// Work on the input, by the keys of a keyset.
     UseKeyset {
+        /// The master of the keyset, if it lies under one.
+        lock: Option<Master<'a>>,
         /// The file of the keyset.
         keyset: &'a str,
         /// The form of the keyset.
@@ -73,6 +87,8 @@ pub enum Request<'a> {
     },
     /// Seal the input as a stream.
     SealStream {
+        /// The master of the keyset, if it lies under one.
+        lock: Option<Master<'a>>,
         /// The file of the keyset.
         keyset: &'a str,
         /// The form of the keyset.
@@ -82,6 +98,8 @@ pub enum Request<'a> {
     },
     /// Open the input as a stream.
     OpenStream {
+        /// The master of the keyset, if it lies under one.
+        lock: Option<Master<'a>>,
         /// The file of the keyset.
         keyset: &'a str,
         /// The form of the keyset.
@@ -91,6 +109,8 @@ pub enum Request<'a> {
     },
     /// Open a range of the stream in a file.
     OpenRange {
+        /// The master of the keyset, if it lies under one.
+        lock: Option<Master<'a>>,
         /// The file of the keyset.
         keyset: &'a str,
         /// The form of the keyset.
@@ -104,6 +124,8 @@ pub enum Request<'a> {
     },
     /// Answer the lines of the input over a keyset.
     Session {
+        /// The master of the keysets, if they lie under one.
+        lock: Option<Master<'a>>,
         /// The file of the keyset.
         keyset: &'a str,
         /// The form of the keyset.
@@ -118,30 +140,10 @@ pub enum Request<'a> {
         /// How many lines there are.
         lines: u32,
     },
-    /// Seal a keyset under another one, the master.
-    WrapKeyset {
-        /// The file of the master.
-        master: &'a str,
-        /// The form of the master.
-        form: Format,
-        /// Where the keyset is taken from.
-        input: Place<'a>,
-        /// Where the sealed one is put, and in which form.
-        output: Place<'a>,
-    },
-    /// Open a keyset that was sealed so.
-    UnwrapKeyset {
-        /// The file of the master.
-        master: &'a str,
-        /// The form of the master.
-        form: Format,
-        /// Where the sealed keyset is taken from, and its form.
-        input: Place<'a>,
-        /// Where the keyset is put.
-        output: Place<'a>,
-    },
     /// Work on the input, by data keys under the keys of a keyset.
     UseEnvelope {
+        /// The master of the keyset, if it lies under one.
+        lock: Option<Master<'a>>,
         /// The file of the keyset.
         keyset: &'a str,
         /// The form of the keyset.
@@ -337,6 +339,7 @@ fn command_with<'a>(command: CommandName, given: &Options<'a>) -> Request<'a>
 {
     match command {
         CommandName::CreateKeyset => Request::CreateKeyset {
+            lock: given.lock(),
             template: given.template(),
             output: given.put_to(),
         },
@@ -348,23 +351,23 @@ fn command_with<'a>(command: CommandName, given: &Options<'a>) -> Request<'a>
         CommandName::DestroyKey => given.edited(Edit::Destroy(given.id())),
         CommandName::DeleteKey => given.edited(Edit::Delete(given.id())),
         CommandName::ListKeyset => Request::ListKeyset {
+            lock: given.lock(),
             input: given.taken_from(),
         },
-        CommandName::ConvertKeyset => Request::ConvertKeyset {
-            input: given.taken_from(),
-            output: given.put_to(),
-        },
+        CommandName::ConvertKeyset => given.converted(given.lock(), given.new_lock()),
         CommandName::ListKeyTemplates => Request::ListKeyTemplates,
         CommandName::Seal => given.worked(Work::Seal(given.ad())),
         CommandName::Open => given.worked(Work::Open(given.ad())),
         CommandName::Dseal => given.worked(Work::Dseal(given.ad())),
         CommandName::Dopen => given.worked(Work::Dopen(given.ad())),
         CommandName::Sseal => Request::SealStream {
+            lock: given.lock(),
             keyset: given.text(OptionName::Keyset),
             form: given.form(OptionName::KeysetFormat),
             ad: given.ad(),
         },
         CommandName::Sopen => Request::OpenStream {
+            lock: given.lock(),
             keyset: given.text(OptionName::Keyset),
             form: given.form(OptionName::KeysetFormat),
             ad: given.ad(),
@@ -375,6 +378,7 @@ fn command_with<'a>(command: CommandName, given: &Options<'a>) -> Request<'a>
         )))),
         CommandName::Derive => given.worked(Work::Derive(given.number(OptionName::Length))),
         CommandName::Session => Request::Session {
+            lock: given.lock(),
             keyset: given.text(OptionName::Keyset),
             form: given.form(OptionName::KeysetFormat),
             output: given.put_to(),
@@ -383,21 +387,12 @@ fn command_with<'a>(command: CommandName, given: &Options<'a>) -> Request<'a>
             seed: given.number(OptionName::Seed),
             lines: given.lines(),
         },
-        CommandName::WrapKeyset => Request::WrapKeyset {
-            master: given.text(OptionName::Master),
-            form: given.form(OptionName::MasterFormat),
-            input: given.taken_from(),
-            output: given.put_to(),
-        },
-        CommandName::UnwrapKeyset => Request::UnwrapKeyset {
-            master: given.text(OptionName::Master),
-            form: given.form(OptionName::MasterFormat),
-            input: given.taken_from(),
-            output: given.put_to(),
-        },
+        CommandName::WrapKeyset => given.converted(None, relocked(given.lock())),
+        CommandName::UnwrapKeyset => given.converted(given.lock(), NewLock::InClear),
         CommandName::Eseal => given.enveloped(Envelope::Seal(given.ad())),
         CommandName::Eopen => given.enveloped(Envelope::Open(given.ad())),
         CommandName::Srange => Request::OpenRange {
+            lock: given.lock(),
             keyset: given.text(OptionName::Keyset),
             form: given.form(OptionName::KeysetFormat),
             ad: given.ad(),
@@ -514,6 +509,34 @@ impl<'a> Options<'a> {
         }
     }
 
+    /// The master in the file of one option, where it is given, in the form of another.
+    fn lock_of(&self, file: OptionName, form: OptionName) -> Option<Master<'a>>
+        ensures { seen_lock result ≡ lock_of ((seen_options self.now).values file)
+            ((seen_options self.now).values form) }
+    {
+        match self.value(file) {
+            Some(file) => Some(Master {
+                file,
+                form: self.form(form),
+            }),
+            None => None,
+        }
+    }
+
+    /// The master of the keysets of the command.
+    fn lock(&self) -> Option<Master<'a>>
+        ensures { seen_lock result ≡ lock (seen_options self.now).values }
+    {
+        self.lock_of(OptionName::Master, OptionName::MasterFormat)
+    }
+
+    /// The master of a keyset that is put elsewhere.
+    fn new_lock(&self) -> NewLock<'a>
+        ensures { seen_new_lock result ≡ new_lock (seen_options self.now).values }
+    {
+        relocked(self.lock_of(OptionName::NewMaster, OptionName::NewMasterFormat))
+    }
+
     /// Where the bytes of work by keys are put.
     fn output(&self) -> Output<'a>
         ensures { seen_output result ≡ output_in (seen_options self.now).values }
@@ -540,6 +563,7 @@ impl<'a> Options<'a> {
             ≡ worked (seen_work work.entry) (seen_options self.now).values }
     {
         Request::UseKeyset {
+            lock: self.lock(),
             keyset: self.text(OptionName::Keyset),
             form: self.form(OptionName::KeysetFormat),
             work,
@@ -553,6 +577,7 @@ impl<'a> Options<'a> {
             ≡ enveloped (seen_envelope work.entry) (seen_options self.now).values }
     {
         Request::UseEnvelope {
+            lock: self.lock(),
             keyset: self.text(OptionName::Keyset),
             form: self.form(OptionName::KeysetFormat),
             template: self.text(OptionName::DekTemplate),
@@ -584,16 +609,40 @@ impl<'a> Options<'a> {
         }
     }
 
+    /// A keyset that is put elsewhere, taken and put so.
+    fn converted(&self, lock: Option<Master<'a>>, new: NewLock<'a>) -> Request<'a>
+        ensures { seen_command result ≡ convert_keyset (seen_lock lock.entry) (seen_new_lock new.entry)
+            (taken_from (seen_options self.now).values) (put_to (seen_options self.now).values) }
+    {
+        Request::ConvertKeyset {
+            lock,
+            new,
+            input: self.taken_from(),
+            output: self.put_to(),
+        }
+    }
+
     /// A keyset that is changed so.
     fn edited(&self, edit: Edit<&'a str>) -> Request<'a>
         ensures { seen_command result
             ≡ edited (seen_edit edit.entry) (seen_options self.now).values }
     {
         Request::EditKeyset {
+            lock: self.lock(),
             edit,
             input: self.taken_from(),
             output: self.put_to(),
         }
+    }
+}
+
+/// Under this master, or where there is none, as it was taken.
+fn relocked(lock: Option<Master<'_>>) -> NewLock<'_>
+    ensures { seen_new_lock result ≡ relocked (seen_lock lock.entry) }
+{
+    match lock {
+        Some(master) => NewLock::Under(master),
+        None => NewLock::AsTaken,
     }
 }
 

@@ -95,10 +95,14 @@ pub enum OptionName {
     Seed,
     /// `--lines`, how many lines it has.
     Lines,
-    /// `--master`, the file of the keyset under which another one is sealed.
+    /// `--master`, the file of the master, the keyset that others are sealed under.
     Master,
-    /// `--master-format`, the form of that keyset.
+    /// `--master-format`, the form of the master.
     MasterFormat,
+    /// `--new-master`, the file of the master that the keyset is put under.
+    NewMaster,
+    /// `--new-master-format`, the form of that master.
+    NewMasterFormat,
     /// `--dek-template`, the template of the data key.
     DekTemplate,
     /// `--file`, the file of the stream.
@@ -113,7 +117,7 @@ pub enum OptionName {
 const COMMAND_COUNT: usize = 27;
 
 /// How many options there are.
-pub const OPTION_COUNT: usize = 20;
+pub const OPTION_COUNT: usize = 22;
 
 /// A command's word, the options that it requires, and those that it may have.
 #[derive(Clone, Copy)]
@@ -160,7 +164,7 @@ impl CommandName {
             CommandName::DestroyKey => row("destroy-key", &PROMOTE_KEY_REQUIRES, &ADD_KEY_MAY),
             CommandName::DeleteKey => row("delete-key", &PROMOTE_KEY_REQUIRES, &ADD_KEY_MAY),
             CommandName::ListKeyset => row("list-keyset", &[], &LIST_KEYSET_MAY),
-            CommandName::ConvertKeyset => row("convert-keyset", &[], &ADD_KEY_MAY),
+            CommandName::ConvertKeyset => row("convert-keyset", &[], &CONVERT_KEYSET_MAY),
             CommandName::ListKeyTemplates => row("list-key-templates", &[], &[]),
             CommandName::Seal => row("seal", &SEAL_REQUIRES, &SEAL_MAY),
             CommandName::Open => row("open", &SEAL_REQUIRES, &SEAL_MAY),
@@ -189,42 +193,85 @@ impl CommandName {
 // What commands require or may have, named after the first one that it is so of.
 const CREATE_KEYSET_REQUIRES: [OptionName; 1] = [OptionName::KeyTemplate];
 
-const CREATE_KEYSET_MAY: [OptionName; 2] = [OptionName::Out, OptionName::OutFormat];
+const CREATE_KEYSET_MAY: [OptionName; 4] = [
+    OptionName::Out,
+    OptionName::OutFormat,
+    OptionName::Master,
+    OptionName::MasterFormat,
+];
 
-const ADD_KEY_MAY: [OptionName; 4] = [
+const ADD_KEY_MAY: [OptionName; 6] = [
     OptionName::In,
     OptionName::InFormat,
     OptionName::Out,
     OptionName::OutFormat,
+    OptionName::Master,
+    OptionName::MasterFormat,
 ];
 
 const PROMOTE_KEY_REQUIRES: [OptionName; 1] = [OptionName::KeyId];
 
-const LIST_KEYSET_MAY: [OptionName; 2] = [OptionName::In, OptionName::InFormat];
+const LIST_KEYSET_MAY: [OptionName; 4] = [
+    OptionName::In,
+    OptionName::InFormat,
+    OptionName::Master,
+    OptionName::MasterFormat,
+];
+
+const CONVERT_KEYSET_MAY: [OptionName; 8] = [
+    OptionName::In,
+    OptionName::InFormat,
+    OptionName::Out,
+    OptionName::OutFormat,
+    OptionName::Master,
+    OptionName::MasterFormat,
+    OptionName::NewMaster,
+    OptionName::NewMasterFormat,
+];
 
 const SEAL_REQUIRES: [OptionName; 1] = [OptionName::Keyset];
 
-const SEAL_MAY: [OptionName; 4] = [
+const SEAL_MAY: [OptionName; 6] = [
     OptionName::KeysetFormat,
     OptionName::Ad,
     OptionName::AdHex,
     OptionName::Out,
+    OptionName::Master,
+    OptionName::MasterFormat,
 ];
 
-const SSEAL_MAY: [OptionName; 3] = [OptionName::KeysetFormat, OptionName::Ad, OptionName::AdHex];
+const SSEAL_MAY: [OptionName; 5] = [
+    OptionName::KeysetFormat,
+    OptionName::Ad,
+    OptionName::AdHex,
+    OptionName::Master,
+    OptionName::MasterFormat,
+];
 
-const TAG_MAY: [OptionName; 3] = [OptionName::KeysetFormat, OptionName::Out, OptionName::Hex];
+const TAG_MAY: [OptionName; 5] = [
+    OptionName::KeysetFormat,
+    OptionName::Out,
+    OptionName::Hex,
+    OptionName::Master,
+    OptionName::MasterFormat,
+];
 
 const VERIFY_REQUIRES: [OptionName; 2] = [OptionName::Keyset, OptionName::TagHex];
 
-const VERIFY_MAY: [OptionName; 1] = [OptionName::KeysetFormat];
+const VERIFY_MAY: [OptionName; 3] = [
+    OptionName::KeysetFormat,
+    OptionName::Master,
+    OptionName::MasterFormat,
+];
 
 const DERIVE_REQUIRES: [OptionName; 2] = [OptionName::Keyset, OptionName::Length];
 
-const SESSION_MAY: [OptionName; 3] = [
+const SESSION_MAY: [OptionName; 5] = [
     OptionName::KeysetFormat,
     OptionName::Out,
     OptionName::OutFormat,
+    OptionName::Master,
+    OptionName::MasterFormat,
 ];
 
 const SELFTEST_REQUIRES: [OptionName; 1] = [OptionName::Seed];
@@ -294,6 +341,8 @@ impl OptionName {
             OptionName::Lines => option("--lines", Form::LineCount),
             OptionName::Master => option("--master", Form::FileName),
             OptionName::MasterFormat => option("--master-format", Form::Format),
+            OptionName::NewMaster => option("--new-master", Form::FileName),
+            OptionName::NewMasterFormat => option("--new-master-format", Form::Format),
             OptionName::DekTemplate => option("--dek-template", Form::Text),
             OptionName::File => option("--file", Form::FileName),
             OptionName::From => option("--from", Form::Offset),
@@ -397,6 +446,8 @@ pub const OPTIONS: [OptionName; OPTION_COUNT] = [
     OptionName::Lines,
     OptionName::Master,
     OptionName::MasterFormat,
+    OptionName::NewMaster,
+    OptionName::NewMasterFormat,
     OptionName::DekTemplate,
     OptionName::File,
     OptionName::From,

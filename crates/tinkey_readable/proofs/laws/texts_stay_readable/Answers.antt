@@ -20,6 +20,6 @@ returns c =
       unwraps = c.kept_anywhere.ensures.unwraps;
     } in
     record {
-      commands = reads_after_commands c.read_keysets_fit.ensures c.run_step.ensures c.wrap_step.ensures c.session_is_edits.ensures.last e a c.kept_by_commands.ensures;
-      by_id = reads_by_its_id_alone c.read_keysets_fit.ensures c.run_step.ensures c.wrap_step.ensures c.session_is_edits.ensures.last e a c.ids_stay_distinct.ensures.kept;
+      commands = reads_after_commands c.read_keysets_fit.ensures c.run_step.ensures c.locks_step.ensures c.session_is_edits.ensures.last e a c.kept_by_commands.ensures;
+      by_id = reads_by_its_id_alone c.read_keysets_fit.ensures c.run_step.ensures c.locks_step.ensures c.session_is_edits.ensures.last e a c.ids_stay_distinct.ensures.kept;
     }

@@ -1,38 +1,33 @@
-use Rattle.keyset_model.specs.Keyset.{Keys}
-use Rattle.tinkey_cmds.specs.Edits.{Edit, step, seen_edit as seen_command}
-use Rattle.tinkey_plans.specs.Plan.{Plan}
-use Rattle.tinkey_plans.specs.Steps.{takes_keyset, finds_edit, makes_keyset}
-use Rattle.tinkey_words.specs.Words.{Place, seen_edit, seen_place}
-use Rattle.tinkey_plans.proofs.StepLemmas.{passes_then, passes_then_as, ends_there}
+use Rattle.std.proofs.Common.{sym, subst}
+use Rattle.tinkey_cmds.specs.Edits.{Edit, seen_edit as seen_command}
+use Rattle.tinkey_plans.specs.Ends.{world}
+use Rattle.tinkey_plans.specs.Locks.{IsSomeLock}
+use Rattle.tinkey_plans.specs.Steps.{finds_edit}
+use Rattle.tinkey_words.specs.Words.{seen_edit, seen_lock, seen_place}
+use Rattle.tinkey_run.proofs.LockLemmas.{edits_under, edits_with, finished_there, finishes_then_as, lent, lent_lock, lock_ends, lock_then}
 use Rattle.tinkey_run.proofs.edits.edit_keyset.Goals as goal
 
--- the plan from the edit on, and from the keyset on
-abbrev makes : Edit → Keys → (Keys → Plan) → Plan
-makes edit keys = makes_keyset (step keys edit)
+pub returns-in_err-edit : goal.returns-in_err-edit
+returns-in_err-edit g c =
+    let old = world (g.S.Source.state c.args.source.now) (g.K.Sink.state c.args.sink.now) (g.D.Store.state c.args.store.now) (g.E.Entropy.state c.args.entropy.now) in
+    finished_there {A = Edit} (finds_edit (seen_edit c.args.edit)) (edits_with _ (seen_lock c.args.lock) (seen_place c.args.input) (seen_place c.args.output)) old old _ _ c.from_residual.ensures.1 (c.in_err-edit.ensures old)
 
-abbrev takes : Place → Edit → (Keys → Plan) → Plan
-takes in' edit next = takes_keyset in' (λ keys. makes edit keys next)
+pub returns-in_err-lock : goal.returns-in_err-lock
+returns-in_err-lock g c =
+    let old = world (g.S.Source.state c.args.source.now) (g.K.Sink.state c.args.sink.now) (g.D.Store.state c.args.store.now) (g.E.Entropy.state c.args.entropy.now) in
+    let new = record old { store = g.D.Store.state c.open_lock.new.store } in
+    let edit = seen_command c.in_ok-edit.edit in
+    finishes_then_as seen_command (finds_edit (seen_edit c.args.edit)) (edits_with _ (seen_lock c.args.lock) (seen_place c.args.input) (seen_place c.args.output)) old old new c.in_ok-edit.edit c.from_residual-in_err-lock.result (c.in_ok-edit.ensures old)
+    (lock_ends (seen_lock c.args.lock) (λ table. edits_under table (seen_place c.args.input) (seen_place c.args.output) edit) c.from_residual-in_err-lock.result c.from_residual-in_err-lock.ensures.1 (c.in_err-lock.ensures.passes old))
 
-pub returns-in_err-command-clause-passes : goal.returns-in_err-command-clause-passes
-returns-in_err-command-clause-passes g c = λ w.
-    let old = record w { source = g.S.Source.state c.args.source.now; store = g.D.Store.state c.args.store.now; entropy = g.E.Entropy.state c.args.entropy.now } in
-    ends_there {A = Edit} (finds_edit (seen_edit c.args.edit)) (takes (seen_place c.args.input)) old old _ _ c.from_residual.ensures.1 (c.in_err-command.ensures old)
+pub edit_under-requires : goal.edit_under-requires
+edit_under-requires g c = record { lock = subst IsSomeLock (sym (lent _ _ _ c.as_ref.ensures.value)) c.in_ok-lock.ensures.some }
 
-pub returns-in_err-keyset-clause-passes : goal.returns-in_err-keyset-clause-passes
-returns-in_err-keyset-clause-passes g c = λ w.
-    let in' = seen_place c.args.input in
-    let old = record w { source = g.S.Source.state c.args.source.now; store = g.D.Store.state c.args.store.now; entropy = g.E.Entropy.state c.args.entropy.now } in
-    let new = record old { source = g.S.Source.state c.take_keyset.new.source; store = g.D.Store.state c.take_keyset.new.store } in
-    let edit = seen_command c.in_ok-command.command in
-    passes_then_as seen_command (finds_edit (seen_edit c.args.edit)) (takes in') old old new c.in_ok-command.command _ (c.in_ok-command.ensures old)
-    (ends_there (takes_keyset in') (makes edit) old new _ _ c.from_residual-in_err-keyset.ensures.1 (c.in_err-keyset.ensures.passes old))
-
-pub returns-clause-passes : goal.returns-clause-passes
-returns-clause-passes g c = λ w.
-    let in' = seen_place c.args.input in
-    let old = record w { source = g.S.Source.state c.args.source.now; store = g.D.Store.state c.args.store.now; entropy = g.E.Entropy.state c.args.entropy.now } in
-    let mid = record old { source = g.S.Source.state c.take_keyset.new.source; store = g.D.Store.state c.take_keyset.new.store } in
-    let new = record mid { entropy = g.E.Entropy.state c.edit_of.new.entropy } in
-    let edit = seen_command c.in_ok-command.command in
-    passes_then_as seen_command (finds_edit (seen_edit c.args.edit)) (takes in') old old new c.in_ok-command.command _ (c.in_ok-command.ensures old)
-    (passes_then (takes_keyset in') (makes edit) old mid new c.in_ok-keyset.keyset _ (c.in_ok-keyset.ensures.passes old) (c.edit_of.ensures.passes mid))
+pub returns : goal.returns
+returns g c =
+    let old = world (g.S.Source.state c.args.source.now) (g.K.Sink.state c.args.sink.now) (g.D.Store.state c.args.store.now) (g.E.Entropy.state c.args.entropy.now) in
+    let new = world (g.S.Source.state c.edit_under.new.source) (g.K.Sink.state c.edit_under.new.sink) (g.D.Store.state c.edit_under.new.store) (g.E.Entropy.state c.edit_under.new.entropy) in
+    let edit = seen_command c.in_ok-edit.edit in
+    finishes_then_as seen_command (finds_edit (seen_edit c.args.edit)) (edits_with _ (seen_lock c.args.lock) (seen_place c.args.input) (seen_place c.args.output)) old old new c.in_ok-edit.edit c.edit_under.result (c.in_ok-edit.ensures old)
+    (lock_then (seen_lock c.args.lock) (λ table. edits_under table (seen_place c.args.input) (seen_place c.args.output) edit) new c.edit_under.result (c.in_ok-lock.ensures.passes old)
+    (λ master is. c.edit_under.ensures _ master (lent_lock (lent _ _ _ c.as_ref.ensures.value) is)))

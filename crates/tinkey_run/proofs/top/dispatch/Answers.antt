@@ -1,35 +1,29 @@
 use Rattle.std.proofs.Common.{◌∙◌}
-use Rattle.tinkey_plans.specs.Commands.{create_output, edit_output, list_keyset_output}
+use Rattle.tinkey_plans.specs.Commands.{list_keyset_output}
 use Rattle.tinkey_plans.specs.Ends.{world}
 use Rattle.tinkey_plans.specs.Envelopes.{envelope_output}
 use Rattle.tinkey_plans.specs.Ranging.{range_output}
 use Rattle.tinkey_plans.specs.SelfTesting.{self_test_output}
-use Rattle.tinkey_plans.specs.Steps.{loads_keyset, takes_keyset}
 use Rattle.tinkey_plans.specs.Streaming.{loads_stream_keys}
 use Rattle.tinkey_plans.specs.Using.{shows, use_output}
-use Rattle.tinkey_plans.specs.Wrapping.{unwrap_output, wrap_output}
-use Rattle.tinkey_words.specs.Words.{seen_datum, seen_edit, seen_envelope, seen_place, seen_range, seen_work}
+use Rattle.tinkey_words.specs.Words.{seen_datum, seen_envelope, seen_lock, seen_place, seen_range, seen_work}
 use Rattle.tinkey_run.proofs.top.dispatch.Goals as goal
 
 pub returns-in-CreateKeyset : goal.returns-in-CreateKeyset
 returns-in-CreateKeyset g c =
     let w = world (g.S.Source.state c.args.source.now) (g.K.Sink.state c.args.sink.now) (g.D.Store.state c.args.store.now) (g.E.Entropy.state c.args.entropy.now) in
-    rw c.in-CreateKeyset.is (c.finish_keyset.ensures (create_output c.in-CreateKeyset.template.now) w (record w { entropy = g.E.Entropy.state c.create_keyset.new.entropy }) (c.create_keyset.ensures.passes w))
+    rw c.in-CreateKeyset.is (c.create_keyset.ensures w)
 
 pub returns-in-EditKeyset : goal.returns-in-EditKeyset
-returns-in-EditKeyset g c =
-    let w = world (g.S.Source.state c.args.source.now) (g.K.Sink.state c.args.sink.now) (g.D.Store.state c.args.store.now) (g.E.Entropy.state c.args.entropy.now) in
-    rw c.in-EditKeyset.is (c.finish_keyset-in-EditKeyset.ensures (edit_output (seen_edit c.in-EditKeyset.edit) (seen_place c.in-EditKeyset.input)) w (record w { source = g.S.Source.state c.edit_keyset-edited.new.source; entropy = g.E.Entropy.state c.edit_keyset-edited.new.entropy; store = g.D.Store.state c.edit_keyset-edited.new.store }) (c.edit_keyset-edited.ensures.passes w))
+returns-in-EditKeyset g c = rw c.in-EditKeyset.is c.edit_keyset.ensures
 
 pub returns-in-ListKeyset : goal.returns-in-ListKeyset
 returns-in-ListKeyset g c =
     let w = world (g.S.Source.state c.args.source.now) (g.K.Sink.state c.args.sink.now) (g.D.Store.state c.args.store.now) (g.E.Entropy.state c.args.entropy.now) in
-    rw c.in-ListKeyset.is (c.finish_output.ensures (list_keyset_output (seen_place c.in-ListKeyset.input)) w (record w { source = g.S.Source.state c.list_keyset-listing.new.source; store = g.D.Store.state c.list_keyset-listing.new.store }) (c.list_keyset-listing.ensures w))
+    rw c.in-ListKeyset.is (c.finish_output.ensures (list_keyset_output _ (seen_lock c.in-ListKeyset.lock) (seen_place c.in-ListKeyset.input)) w (record w { source = g.S.Source.state c.list_keyset-listing.new.source; store = g.D.Store.state c.list_keyset-listing.new.store }) (c.list_keyset-listing.ensures w))
 
 pub returns-in-ConvertKeyset : goal.returns-in-ConvertKeyset
-returns-in-ConvertKeyset g c =
-    let w = world (g.S.Source.state c.args.source.now) (g.K.Sink.state c.args.sink.now) (g.D.Store.state c.args.store.now) (g.E.Entropy.state c.args.entropy.now) in
-    rw c.in-ConvertKeyset.is (c.finish_keyset-in-ConvertKeyset.ensures (takes_keyset (seen_place c.in-ConvertKeyset.input)) w (record w { source = g.S.Source.state c.take_keyset-taken.new.source; store = g.D.Store.state c.take_keyset-taken.new.store }) (c.take_keyset-taken.ensures.passes w))
+returns-in-ConvertKeyset g c = rw c.in-ConvertKeyset.is c.convert_keyset.ensures
 
 pub returns-in-ListKeyTemplates : goal.returns-in-ListKeyTemplates
 returns-in-ListKeyTemplates g c =
@@ -41,7 +35,7 @@ returns-in-UseKeyset g c =
     let w = world (g.S.Source.state c.args.source.now) (g.K.Sink.state c.args.sink.now) (g.D.Store.state c.args.store.now) (g.E.Entropy.state c.args.entropy.now) in
     let new = record w { source = g.S.Source.state c.use_keyset-done.new.source; entropy = g.E.Entropy.state c.use_keyset-done.new.entropy; store = g.D.Store.state c.use_keyset-done.new.store } in
     let x = c.in-UseKeyset in
-    let step = use_output _ x.keyset.now x.form (seen_work x.work) in
+    let step = use_output _ (seen_lock x.lock) x.keyset.now x.form (seen_work x.work) in
     rw x.is (c.finish_output-in-UseKeyset.ensures (λ next. step (λ bytes. shows x.output.hex bytes next)) w new (c.shown-done.ensures step w new (c.use_keyset-done.ensures w)))
 
 pub returns-in-UseEnvelope : goal.returns-in-UseEnvelope
@@ -49,47 +43,33 @@ returns-in-UseEnvelope g c =
     let w = world (g.S.Source.state c.args.source.now) (g.K.Sink.state c.args.sink.now) (g.D.Store.state c.args.store.now) (g.E.Entropy.state c.args.entropy.now) in
     let x = c.in-UseEnvelope in
     let new = record w { source = g.S.Source.state c.use_envelope-done.new.source; entropy = g.E.Entropy.state c.use_envelope-done.new.entropy; store = g.D.Store.state c.use_envelope-done.new.store } in
-    rw x.is (c.finish_output-in-UseEnvelope.ensures (envelope_output _ x.keyset.now x.form x.template.now (seen_envelope x.work)) w new (c.use_envelope-done.ensures w))
+    rw x.is (c.finish_output-in-UseEnvelope.ensures (envelope_output _ (seen_lock x.lock) x.keyset.now x.form x.template.now (seen_envelope x.work)) w new (c.use_envelope-done.ensures w))
 
 pub returns-in-SealStream : goal.returns-in-SealStream
 returns-in-SealStream g c =
     let w = world (g.S.Source.state c.args.source.now) (g.K.Sink.state c.args.sink.now) (g.D.Store.state c.args.store.now) (g.E.Entropy.state c.args.entropy.now) in
-    rw c.in-SealStream.is (c.seal_stream.ensures (loads_stream_keys c.in-SealStream.keyset.now c.in-SealStream.form) w (record w { store = g.D.Store.state c.load_stream_keys-keys.new.store }) (c.load_stream_keys-keys.ensures.passes w))
+    let x = c.in-SealStream in
+    rw x.is (c.seal_stream.ensures (loads_stream_keys _ (seen_lock x.lock) x.keyset.now x.form) w (record w { store = g.D.Store.state c.load_stream_keys-keys.new.store }) (c.load_stream_keys-keys.ensures.passes w))
 
 pub returns-in-OpenStream : goal.returns-in-OpenStream
 returns-in-OpenStream g c =
     let w = world (g.S.Source.state c.args.source.now) (g.K.Sink.state c.args.sink.now) (g.D.Store.state c.args.store.now) (g.E.Entropy.state c.args.entropy.now) in
-    rw c.in-OpenStream.is (c.open_stream.ensures (loads_stream_keys c.in-OpenStream.keyset.now c.in-OpenStream.form) w (record w { store = g.D.Store.state c.load_stream_keys-keys-in-OpenStream.new.store }) (c.load_stream_keys-keys-in-OpenStream.ensures.passes w))
+    let x = c.in-OpenStream in
+    rw x.is (c.open_stream.ensures (loads_stream_keys _ (seen_lock x.lock) x.keyset.now x.form) w (record w { store = g.D.Store.state c.load_stream_keys-keys-in-OpenStream.new.store }) (c.load_stream_keys-keys-in-OpenStream.ensures.passes w))
 
 pub returns-in-OpenRange : goal.returns-in-OpenRange
 returns-in-OpenRange g c =
     let w = world (g.S.Source.state c.args.source.now) (g.K.Sink.state c.args.sink.now) (g.D.Store.state c.args.store.now) (g.E.Entropy.state c.args.entropy.now) in
     let x = c.in-OpenRange in
-    rw x.is (c.finish_output-in-OpenRange.ensures (range_output x.keyset.now x.form (seen_datum x.ad) (seen_range x.range)) w (record w { store = g.D.Store.state c.open_stretch-opened.new.store }) (c.open_stretch-opened.ensures w))
+    rw x.is (c.finish_output-in-OpenRange.ensures (range_output _ (seen_lock x.lock) x.keyset.now x.form (seen_datum x.ad) (seen_range x.range)) w (record w { store = g.D.Store.state c.open_stretch-opened.new.store }) (c.open_stretch-opened.ensures w))
 
 pub returns-in-Session : goal.returns-in-Session
-returns-in-Session g c =
-    let w = world (g.S.Source.state c.args.source.now) (g.K.Sink.state c.args.sink.now) (g.D.Store.state c.args.store.now) (g.E.Entropy.state c.args.entropy.now) in
-    rw c.in-Session.is (c.answer_lines.ensures (loads_keyset c.in-Session.keyset.now c.in-Session.form) w (c.load_keyset-keyset.ensures.passes w))
+returns-in-Session g c = rw c.in-Session.is c.answer_lines.ensures
 
 pub returns-in-SelfTest : goal.returns-in-SelfTest
 returns-in-SelfTest g c =
     let w = world (g.S.Source.state c.args.source.now) (g.K.Sink.state c.args.sink.now) (g.D.Store.state c.args.store.now) (g.E.Entropy.state c.args.entropy.now) in
     rw c.in-SelfTest.is (c.finish_output-in-SelfTest.ensures (self_test_output _ c.in-SelfTest.seed c.in-SelfTest.lines) w w (c.tell_self_test-told.ensures w))
-
-pub returns-in-WrapKeyset : goal.returns-in-WrapKeyset
-returns-in-WrapKeyset g c =
-    let w = world (g.S.Source.state c.args.source.now) (g.K.Sink.state c.args.sink.now) (g.D.Store.state c.args.store.now) (g.E.Entropy.state c.args.entropy.now) in
-    let x = c.in-WrapKeyset in
-    let new = record w { source = g.S.Source.state c.wrap_keyset-wrapped.new.source; entropy = g.E.Entropy.state c.wrap_keyset-wrapped.new.entropy; store = g.D.Store.state c.wrap_keyset-wrapped.new.store } in
-    rw x.is (c.finish_output-in-WrapKeyset.ensures (wrap_output _ x.master.now x.form (seen_place x.input) x.output.form) w new (c.wrap_keyset-wrapped.ensures w))
-
-pub returns-in-UnwrapKeyset : goal.returns-in-UnwrapKeyset
-returns-in-UnwrapKeyset g c =
-    let w = world (g.S.Source.state c.args.source.now) (g.K.Sink.state c.args.sink.now) (g.D.Store.state c.args.store.now) (g.E.Entropy.state c.args.entropy.now) in
-    let x = c.in-UnwrapKeyset in
-    let new = record w { source = g.S.Source.state c.unwrap_keyset-unwrapped.new.source; store = g.D.Store.state c.unwrap_keyset-unwrapped.new.store } in
-    rw x.is (c.finish_keyset-in-UnwrapKeyset.ensures (unwrap_output _ x.master.now x.form (seen_place x.input)) w new (c.unwrap_keyset-unwrapped.ensures.passes w))
 
 pub returns-in-Help : goal.returns-in-Help
 returns-in-Help g c =

@@ -1,4 +1,4 @@
-use Rattle.tinkey_run.proofs.wrapping.take_wrapped.Goals as goal
+use Rattle.tinkey_run.proofs.steps.take_bytes.Goals as goal
 
 pub returns-in-Some-clause-passes : goal.returns-in-Some-clause-passes
 returns-in-Some-clause-passes g c = λ w. rw c.in-Some.is (c.load_bytes.ensures.passes (record w { source = g.S.Source.state c.args.source.now }))

@@ -1,0 +1,24 @@
+use Rattle.key_msgs.specs.declared.primitive.Primitive.TheVariants.{Aead, Daead, Mac}
+use Rattle.tinkey_readable.proofs.LockedRunLemmas.{StepLaws, locks_serve}
+use Rattle.tinkey_readable.proofs.laws.locks_serve.Goals as goal
+
+pub returns : goal.returns
+returns c =
+    let l : StepLaws = record {
+      faultless = c.faultless_keysets.ensures;
+      binary = c.forms_back.ensures.binary;
+      json = c.forms_back.ensures.json;
+      stored = c.read_is_stored.ensures;
+      back = c.wrap_back_bytes.ensures;
+      keeps = c.edits_keep_keysets.ensures.edits;
+      keeps_stored = c.stored_kept.ensures.edits;
+      turns = c.talk_is_turns.ensures;
+      sessions = c.session_is_edits.ensures.last;
+      edited = c.edited_kept.ensures.keysets;
+      keep_sessions = c.stored_kept.ensures.sessions;
+    } in
+    record {
+      aead = locks_serve Aead c.sound_usable.ensures.aead c.edited_kept.ensures.sound c.read_keysets_fit.ensures l;
+      daead = locks_serve Daead c.sound_usable.ensures.daead c.edited_kept.ensures.sound c.read_keysets_fit.ensures l;
+      mac = locks_serve Mac c.sound_usable.ensures.mac c.edited_kept.ensures.sound c.read_keysets_fit.ensures l;
+    }

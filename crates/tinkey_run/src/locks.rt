@@ -1,0 +1,247 @@
+//! Keysets in clear, or under the lock of a master: how each command takes one, and puts one.
+
+ghost use Rattle.std.specs.Prelude.{◌≡◌, ◌≤◌, ◌^◌, length, IfOk, IfSome, Option, Some, option_map};
+ghost use Rattle.std.specs.List.{AllByRecursion};
+ghost use Rattle.key_msgs.specs.declared.primitive.Primitive.TheVariants.{Aead};
+ghost use Rattle.keyset_model.specs.Keyset.{Keys, IsShort};
+ghost use Rattle.managers.specs.Table.{Table};
+ghost use Rattle.wrapped_prims.specs.Making.{IsOver};
+ghost use Rattle.tinkey_plans.specs.Ends.{World};
+ghost use Rattle.tinkey_plans.specs.Handles.{IsServing};
+ghost use Rattle.tinkey_plans.specs.Locks.{keyset_under, limit_under, loads_locked, opens_lock, opens_master, puts_under, takes_locked, takes_under, writes_under, IsLock, IsSomeLock, PassesLock};
+ghost use Rattle.tinkey_plans.specs.Steps.{Finishes, Passes};
+ghost use Rattle.tinkey_words.specs.Words.{seen_lock, seen_master, seen_place};
+
+use crate::output::{put, written};
+use crate::steps::{KEYSET_LIMIT, keyset_of, load_bytes, load_keyset, take_bytes};
+use crate::using::handle_of;
+use crate::wrapping::{WRAPPED_LIMIT, unwrap_under, wrap_under};
+use key_msgs::Primitive;
+use keyset_model::Keyset;
+use managers::{KeyTable, Managers};
+use std::alloc::Global;
+use tink_base::{Bytes, Entropy, Sink, Source, Store};
+use tinkey_plans::Status;
+use tinkey_words::{Format, Master, Place};
+use wrapped_prims::Handle;
+
+/// The handle of a lock's master, or none if there is no lock.
+#[inline(never)]
+pub(crate) fn open_lock<'m, D: Store>(
+    alloc: Global,
+    managers: &'m Managers,
+    lock: Option<Master<'_>>,
+    store: &mut D,
+) -> Result<Option<Handle<'m>>, Status>
+    ensures passes { (w : World) → PassesLock
+        (λ lock. option_map (λ h. (⟦<Managers as KeyTable>⟧.table h.managers.now, h.held)) lock)
+        (⟦<Managers as KeyTable>⟧.table managers.now)
+        (opens_lock (⟦<Managers as KeyTable>⟧.table managers.now) (seen_lock lock.entry))
+        (record w { store = D.state store.old }) result (record w { store = D.state store.new }) }
+    ensures some { IfOk result (λ lock. IsSomeLock
+        (option_map (λ h. (⟦<Managers as KeyTable>⟧.table h.managers.now, h.held)) lock)) }
+{
+    match lock {
+        Some(master) => {
+            let handle = open_master(alloc, managers, master, store)?;
+            Ok(Some(handle))
+        }
+        None => Ok(None),
+    }
+}
+
+/// The handle of this master's keyset.
+pub(crate) fn open_master<'m, D: Store>(
+    alloc: Global,
+    managers: &'m Managers,
+    master: Master<'_>,
+    store: &mut D,
+) -> Result<Handle<'m>, Status>
+    ensures passes { (w : World) → PassesLock
+        (λ h. Some (⟦<Managers as KeyTable>⟧.table h.managers.now, h.held))
+        (⟦<Managers as KeyTable>⟧.table managers.now)
+        (opens_master (⟦<Managers as KeyTable>⟧.table managers.now) (seen_master master.entry))
+        (record w { store = D.state store.old }) result (record w { store = D.state store.new }) }
+    ensures some { IfOk result (λ h. IsSomeLock
+        (Some (⟦<Managers as KeyTable>⟧.table h.managers.now, h.held))) }
+{
+    let keyset = load_keyset(alloc, master.file, master.form, store)?;
+    handle_of(alloc, &keyset, managers, Primitive::Aead)
+}
+
+/// How many bytes may be read as a keyset, or as one that is sealed under a master.
+fn limit_under(lock: Option<&Handle<'_>>) -> usize
+    ensures limit { (table : Table) (master : Option Keys) → IsLock
+        (option_map (λ h. (⟦<Managers as KeyTable>⟧.table h.now.managers.now, h.now.held)) lock.entry)
+        table master → result ≡ limit_under master }
+    ensures bound { result ≤ 2 ^ 30 }
+{
+    match lock {
+        Some(_) => WRAPPED_LIMIT,
+        None => KEYSET_LIMIT,
+    }
+}
+
+/// The keyset that these bytes are, or that they give under the lock's master.
+fn keyset_under(
+    alloc: Global,
+    lock: Option<&Handle<'_>>,
+    form: Format,
+    bytes: &[u8],
+) -> Result<Keyset, Status>
+    requires lock { IsSomeLock (option_map
+        (λ h. (⟦<Managers as KeyTable>⟧.table h.now.managers.now, h.now.held)) lock) }
+    requires within { (master : Option Keys) (table : Table) → IsLock
+        (option_map (λ h. (⟦<Managers as KeyTable>⟧.table h.now.managers.now, h.now.held)) lock)
+        table master → length bytes.now ≤ limit_under master }
+    ensures passes { (w : World) (table : Table) (master : Option Keys) → IsLock
+        (option_map (λ h. (⟦<Managers as KeyTable>⟧.table h.now.managers.now, h.now.held)) lock.entry)
+        table master → Passes (keyset_under table master form bytes.now) w result w }
+    ensures short { IfOk result (λ keyset. AllByRecursion IsShort keyset.records) }
+{
+    match lock {
+        Some(master) => unwrap_under(alloc, master, bytes, form),
+        None => keyset_of(alloc, form, bytes),
+    }
+}
+
+/// The keyset at this place, in clear or under the lock.
+#[inline(never)]
+pub(crate) fn take_under<S: Source, D: Store>(
+    alloc: Global,
+    lock: Option<&Handle<'_>>,
+    place: Place<'_>,
+    source: &mut S,
+    store: &mut D,
+) -> Result<Keyset, Status>
+    requires lock { IsSomeLock (option_map
+        (λ h. (⟦<Managers as KeyTable>⟧.table h.now.managers.now, h.now.held)) lock) }
+    ensures passes { (w : World) (table : Table) (master : Option Keys) → IsLock
+        (option_map (λ h. (⟦<Managers as KeyTable>⟧.table h.now.managers.now, h.now.held)) lock.entry)
+        table master → Passes (takes_under table master (seen_place place.entry))
+        (record w { source = S.state source.old; store = D.state store.old }) result
+        (record w { source = S.state source.new; store = D.state store.new }) }
+    ensures short { IfOk result (λ keyset. AllByRecursion IsShort keyset.records) }
+{
+    let bytes = take_bytes(alloc, place.file, limit_under(lock), source, store)?;
+    keyset_under(alloc, lock, place.form, bytes.as_slice())
+}
+
+/// The keyset in the file of this name, in clear or under the lock.
+#[inline(never)]
+pub(crate) fn load_under<D: Store>(
+    alloc: Global,
+    lock: Option<&Handle<'_>>,
+    name: &str,
+    form: Format,
+    store: &mut D,
+) -> Result<Keyset, Status>
+    requires lock { IsSomeLock (option_map
+        (λ h. (⟦<Managers as KeyTable>⟧.table h.now.managers.now, h.now.held)) lock) }
+    ensures passes { (w : World) (table : Table) (master : Option Keys) → IsLock
+        (option_map (λ h. (⟦<Managers as KeyTable>⟧.table h.now.managers.now, h.now.held)) lock.entry)
+        table master → Passes (takes_under table master (record { file = Some name.now; form = form }))
+        (record w { store = D.state store.old }) result (record w { store = D.state store.new }) }
+    ensures short { IfOk result (λ keyset. AllByRecursion IsShort keyset.records) }
+{
+    let bytes = load_bytes(alloc, name, limit_under(lock), store)?;
+    keyset_under(alloc, lock, form, bytes.as_slice())
+}
+
+/// The keyset at this place, in clear or under a lock that is opened first.
+#[inline(never)]
+pub(crate) fn take_locked<S: Source, D: Store>(
+    alloc: Global,
+    managers: &Managers,
+    lock: Option<Master<'_>>,
+    place: Place<'_>,
+    source: &mut S,
+    store: &mut D,
+) -> Result<Keyset, Status>
+    ensures passes { (w : World) → Passes
+        (takes_locked (⟦<Managers as KeyTable>⟧.table managers.now) (seen_lock lock.entry)
+        (seen_place place.entry))
+        (record w { source = S.state source.old; store = D.state store.old }) result
+        (record w { source = S.state source.new; store = D.state store.new }) }
+    ensures short { IfOk result (λ keyset. AllByRecursion IsShort keyset.records) }
+{
+    let lock = open_lock(alloc, managers, lock, store)?;
+    take_under(alloc, lock.as_ref(), place, source, store)
+}
+
+/// The keyset in the file of this name, in clear or under a lock that is opened first.
+#[inline(never)]
+pub(crate) fn load_locked<D: Store>(
+    alloc: Global,
+    managers: &Managers,
+    lock: Option<Master<'_>>,
+    name: &str,
+    form: Format,
+    store: &mut D,
+) -> Result<Keyset, Status>
+    ensures passes { (w : World) → Passes
+        (loads_locked (⟦<Managers as KeyTable>⟧.table managers.now) (seen_lock lock.entry) name.now
+        form) (record w { store = D.state store.old }) result
+        (record w { store = D.state store.new }) }
+    ensures short { IfOk result (λ keyset. AllByRecursion IsShort keyset.records) }
+{
+    let lock = open_lock(alloc, managers, lock, store)?;
+    load_under(alloc, lock.as_ref(), name, form, store)
+}
+
+/// The keyset as it is put: in this form, in clear or under the lock.
+pub(crate) fn written_under<E: Entropy>(
+    alloc: Global,
+    lock: Option<&Handle<'_>>,
+    form: Format,
+    keyset: &Keyset,
+    entropy: &mut E,
+) -> Result<Bytes, Status>
+    requires lock { IsSomeLock (option_map
+        (λ h. (⟦<Managers as KeyTable>⟧.table h.now.managers.now, h.now.held)) lock) }
+    requires short { AllByRecursion IsShort keyset.now.records }
+    ensures { (w : World) (table : Table) (master : Option Keys) → IsLock
+        (option_map (λ h. (⟦<Managers as KeyTable>⟧.table h.now.managers.now, h.now.held)) lock.entry)
+        table master → Passes (writes_under table master form keyset.now)
+        (record w { entropy = E.state entropy.old }) result (record w { entropy = E.state entropy.new }) }
+{
+    match lock {
+        Some(master) => {
+            written(alloc, Format::Binary, keyset)?;
+            wrap_under(alloc, master, keyset, form, entropy)
+        }
+        None => written(alloc, form, keyset),
+    }
+}
+
+/// Puts a keyset, in clear or under the lock, into a new file, or if none is named, to the sink.
+#[inline(never)]
+pub(crate) fn put_under<K: Sink, E: Entropy, D: Store>(
+    alloc: Global,
+    lock: Option<&Handle<'_>>,
+    out: Place<'_>,
+    keyset: &Keyset,
+    sink: &mut K,
+    entropy: &mut E,
+    store: &mut D,
+) -> Result<(), Status>
+    requires lock { IsSomeLock (option_map
+        (λ h. (⟦<Managers as KeyTable>⟧.table h.now.managers.now, h.now.held)) lock) }
+    requires short { AllByRecursion IsShort keyset.now.records }
+    ensures { (w : World) (table : Table) (master : Option Keys) → IsLock
+        (option_map (λ h. (⟦<Managers as KeyTable>⟧.table h.now.managers.now, h.now.held)) lock.entry)
+        table master → Finishes (puts_under table master (seen_place out.entry) keyset.now)
+        (record w {
+          sink = K.state sink.old;
+          store = D.state store.old;
+          entropy = E.state entropy.old;
+        }) result
+        (record w {
+          sink = K.state sink.new;
+          store = D.state store.new;
+          entropy = E.state entropy.new;
+        }) }
+{
+    let bytes = written_under(alloc, lock, out.form, keyset, entropy)?;
+    put(alloc, out.file, sink, store, bytes.as_slice())
+}
