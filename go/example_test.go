@@ -1,0 +1,59 @@
+package tinkey_test
+
+import (
+	"errors"
+	"fmt"
+	"log"
+	"os"
+	"sync/atomic"
+
+	"tinkey"
+)
+
+func Example() {
+	text, err := os.ReadFile("../examples/aes128-gcm.json")
+	if err != nil {
+		log.Fatal(err)
+	}
+	keys, err := tinkey.NewAead(text)
+	if err != nil {
+		log.Fatal(err)
+	}
+	defer keys.Close()
+
+	sealed, err := keys.Encrypt([]byte("attack at dawn"), []byte("associated data"))
+	if err != nil {
+		log.Fatal(err)
+	}
+	opened, err := keys.Decrypt(sealed, []byte("associated data"))
+	fmt.Printf("%d bytes, which open to %q\n", len(sealed), opened)
+
+	_, err = keys.Decrypt(sealed, []byte("other data"))
+	fmt.Println(errors.Is(err, tinkey.ErrRefused), err)
+	// Output:
+	// 47 bytes, which open to "attack at dawn"
+	// true tinkey: nothing opens these bytes, or the tag isn't the body's
+}
+
+// A service takes up a new keyset while others call: the old handle is freed after the last call on it.
+func Example_newKeyset() {
+	var current atomic.Pointer[tinkey.Aead]
+	load := func(name string) error {
+		text, err := os.ReadFile(name)
+		if err != nil {
+			return err
+		}
+		keys, err := tinkey.NewAead(text)
+		if err != nil {
+			return err // the old keyset stays in use
+		}
+		current.Store(keys)
+		return nil
+	}
+	if err := load("../examples/aes128-gcm.json"); err != nil {
+		log.Fatal(err)
+	}
+	sealed, err := current.Load().Encrypt([]byte("attack at dawn"), nil)
+	fmt.Println(len(sealed), err, load("no such file") != nil)
+	// Output: 47 <nil> true
+}

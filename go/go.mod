@@ -1,0 +1,3 @@
+module tinkey
+
+go 1.19
