@@ -23,7 +23,7 @@ help:
 	@echo 'make try                 list an example keyset in about a minute, with nothing proved'
 	@echo 'make bench               time the kernels and the program beside OpenSSL'
 	@echo 'make install             copy ./tinkey, its manual page and completions under PREFIX=/usr/local'
-	@echo 'make install-lib         copy the library, its header and the packages for Python, Go and Rust'
+	@echo 'make install-lib         copy the library, its header, manual page and packages'
 	@echo 'make uninstall           remove what these two copied'
 
 # Proves the program and the crates below it side by side, leaves it as ./tinkey, and lists the example's keyset.
@@ -83,6 +83,7 @@ install-lib:
 	ln -sf libtinkey.so.0 $(LIB)/libtinkey.so
 	install -d $(LIB)/pkgconfig
 	sed 's|^prefix=.*|prefix=$(PREFIX)|' lib/tinkey.pc > $(LIB)/pkgconfig/tinkey.pc
+	install -D -m 644 docs/tinkey.3 $(SHARE)/man/man3/tinkey.3
 	install -D -m 644 python/tinkey.py $(SHARE)/tinkey/python/tinkey.py
 	install -D -m 644 -t $(SHARE)/tinkey/go go/go.mod go/tinkey.go
 	install -D -m 644 -t $(SHARE)/tinkey/rust rust/Cargo.toml rust/build.rs
@@ -91,7 +92,7 @@ install-lib:
 # Removes the same files again.
 uninstall:
 	rm -f $(DESTDIR)$(PREFIX)/include/tinkey.h $(LIB)/libtinkey.a $(LIB)/libtinkey.so.0 $(LIB)/libtinkey.so \
-	    $(LIB)/pkgconfig/tinkey.pc $(SHARE)/tinkey/python/tinkey.py \
+	    $(LIB)/pkgconfig/tinkey.pc $(SHARE)/man/man3/tinkey.3 $(SHARE)/tinkey/python/tinkey.py \
 	    $(SHARE)/tinkey/go/go.mod $(SHARE)/tinkey/go/tinkey.go \
 	    $(SHARE)/tinkey/rust/Cargo.toml $(SHARE)/tinkey/rust/build.rs $(SHARE)/tinkey/rust/src/lib.rs
 	rm -f $(BIN)/tinkey $(SHARE)/man/man1/tinkey.1 \
