@@ -95,6 +95,8 @@ uninstall:
 	    $(LIB)/pkgconfig/tinkey.pc $(SHARE)/man/man3/tinkey.3 $(SHARE)/tinkey/python/tinkey.py \
 	    $(SHARE)/tinkey/go/go.mod $(SHARE)/tinkey/go/tinkey.go \
 	    $(SHARE)/tinkey/rust/Cargo.toml $(SHARE)/tinkey/rust/build.rs $(SHARE)/tinkey/rust/src/lib.rs
+	@rmdir $(SHARE)/tinkey/python $(SHARE)/tinkey/go $(SHARE)/tinkey/rust/src $(SHARE)/tinkey/rust $(SHARE)/tinkey \
+	    2> /dev/null || true
 	rm -f $(BIN)/tinkey $(SHARE)/man/man1/tinkey.1 \
 	    $(SHARE)/bash-completion/completions/tinkey $(SHARE)/zsh/site-functions/_tinkey \
 	    $(SHARE)/fish/vendor_completions.d/tinkey.fish
