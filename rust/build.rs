@@ -1,5 +1,5 @@
 //! Finds libtinkey: in the folder that the environment variable TINKEY_LIB_DIR names, or else by pkg-config.
-use std::{env, process::Command};
+use std::{env, path::Path, process::Command};
 
 fn main() {
     for name in ["TINKEY_LIB_DIR", "PKG_CONFIG", "PKG_CONFIG_PATH"] {
@@ -19,6 +19,10 @@ fn main() {
     for word in String::from_utf8_lossy(&said.stdout).split_whitespace() {
         if let Some(folder) = word.strip_prefix("-L") {
             println!("cargo:rustc-link-search=native={folder}");
+            let archive = format!("{folder}/libtinkey.a");
+            if Path::new(&archive).exists() {
+                println!("cargo:rerun-if-changed={archive}");
+            }
         } else if let Some(library) = word.strip_prefix("-l") {
             println!("cargo:rustc-link-lib={library}");
         }
