@@ -9,8 +9,9 @@
 //! # Ok::<(), Box<dyn std::error::Error>>(())
 //! ```
 //!
-//! A handle has the keys of one keyset for one primitive, and lets them go when it is dropped. What is proved of the
-//! library, and what isn't, is told at the head of its header, tinkey.h. This crate is tested alone.
+//! A handle has the keys of one keyset for one primitive, and lets them go when it is dropped. Its methods have the
+//! names of Tink's for Rust. What is proved of the library, and what isn't, is told at the head of tinkey.h. This crate
+//! is tested alone.
 //!
 //! Handles are `Send` and `Sync`. Calls on one handle run one at a time, so give each busy thread a handle of its own.
 //! The forked child of a process with threads makes its own handles.
@@ -293,7 +294,7 @@ impl Mac {
 
 impl Prf {
     /// So many bytes from the input under the primary key, or [`Error::TooLong`] if the key gives fewer.
-    pub fn compute(&self, input: &[u8], output_length: usize) -> Result<Vec<u8>, Error> {
+    pub fn compute_prf(&self, input: &[u8], output_length: usize) -> Result<Vec<u8>, Error> {
         self.0.made(output_length, |keys, out, size| {
             *size = output_length;
             // SAFETY: the pointers and lengths are those of a slice and of the output.

@@ -69,7 +69,7 @@ fn answers_are_those_of_tink() {
             "dopen" => Daead::from_binary(keyset).unwrap().decrypt_deterministically(&input, &ad),
             "dseal" => Daead::from_binary(keyset).unwrap().encrypt_deterministically(&input, &ad),
             "tag" => Mac::from_binary(keyset).unwrap().compute_mac(&input),
-            _ => Prf::from_binary(keyset).unwrap().compute(&input, row.fields["length"].parse().unwrap()),
+            _ => Prf::from_binary(keyset).unwrap().compute_prf(&input, row.fields["length"].parse().unwrap()),
         };
         let refusal = if row.words[0] == "derive" { Error::TooLong } else { Error::Refused };
         let want = if row.fails() { Err(refusal) } else { Ok(row.bytes("output")) };
@@ -129,7 +129,7 @@ fn encrypted_keysets_give_the_status_of_their_row() {
             "seal" => Aead::from_encrypted(&encrypted, form, &row.keyset, master_form)
                 .and_then(|keys| keys.encrypt(&input, b"")),
             _ => Prf::from_encrypted(&encrypted, form, &row.keyset, master_form)
-                .and_then(|keys| keys.compute(&input, 16)),
+                .and_then(|keys| keys.compute_prf(&input, 16)),
         };
         match row.words[3].parse().unwrap() {
             0 => assert_eq!(got, Ok(row.bytes("output")), "{}", row.fields["shows"]),
