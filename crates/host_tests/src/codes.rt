@@ -75,7 +75,7 @@ const RUNS: [&str; 9] = [
     "a read that fails | list-keyset --in-format binary | fails | 5 | tinkey: read fault |",
     "a byte too many | list-keyset --in-format binary | long | 6 | tinkey: keyset too long |",
     "memory refused | tag --keyset k --keyset-format binary | no memory | 7 | tinkey: out of memory |",
-    "a word that isn't UTF-8 | ff | | 8 | |",
+    "a word that isn't UTF-8 | ff | | 8 | tinkey: usage: word 0\ntinkey: a word is UTF-8 text: see tinkey help |",
 ];
 
 /// The input of a row.

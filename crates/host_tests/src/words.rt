@@ -54,23 +54,26 @@ fn tells_each_word_whole_and_in_order(rt: HostRuntime) -> Result<(), Fail> {
     Ok(())
 }
 
-const NOT_TEXT: [&str; 4] = [
-    "a word alone | 74, ff",
-    "the last word | 74, 61, 62, c3",
-    "a word before others | 74, 80, 61",
-    "a long one | 74, ff*300",
+// The place counts from 0, after the name.
+const NOT_TEXT: [&str; 6] = [
+    "a word alone | 74, ff | 0",
+    "the last word | 74, 61, 62, c3 | 2",
+    "a word before others | 74, 80, 61 | 0",
+    "a long one | 74, ff*300 | 0",
+    "the first of two | 74, 61, 80, 62, ff | 1",
+    "a word, where the name isn't text either | ff, 61, 80 | 1",
 ];
 
 fn assert_not_text(alloc: Global, row: &str) -> Result<(), Fail> {
     let line = in_digits(alloc, cell(row, 1)?)?;
     match words(&line, alloc) {
-        Err(NoWords::NotText) => Ok(()),
+        Err(NoWords::NotText(place)) => counts(row, place, cell(row, 2)?.parse::<usize>()?),
         _ => Err(Fail::new(row)),
     }
 }
 
 #[test]
-fn tells_no_words_where_one_is_not_text(rt: HostRuntime) -> Result<(), Fail> {
+fn names_the_first_word_that_is_not_text(rt: HostRuntime) -> Result<(), Fail> {
     for row in &NOT_TEXT {
         assert_not_text(rt.alloc(), row)?;
     }

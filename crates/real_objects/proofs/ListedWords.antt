@@ -1,6 +1,10 @@
 -- The words of a command line, one after another.
-use Rattle.std.proofs.Common.{◌≡◌, sym, ◌∙◌, ap, subst, ℕ, zero, suc, ◌+◌, ◌-◌, ◌≤◌, List, [], ◌∷◌, ◌++◌, length, take, drop, map, Some, None, IfSome, Option, Err, IsErrOf, slice_get, String, string_bytes, arith}
-use Rattle.real_objects.specs.Words.{IsFound, IsNotText, HasNotText}
+use Rattle.std.proofs.Common.{◌≡◌, sym, ◌∙◌, ap, subst, ℕ, zero, suc, ◌+◌, ◌-◌, ◌≤◌, ◌<◌, List, [], ◌∷◌, ◌++◌, length, take, drop, map, Some, None, IfSome, Option, slice_get, String, string_bytes, arith}
+use Rattle.std.specs.Str.{IsUtf8}
+use Rattle.std.proofs.lemmas.Str.{IsUtf8-string_bytes}
+use Rattle.real_objects.specs.Words.{IsCause, IsCauseAt, IsFound, IsNotText}
+use Rattle.real_objects.specs.declared.args.NoWords.{NoWords}
+use Rattle.real_objects.specs.declared.args.NoWords.TheVariants as whys
 use Rattle.std.proofs.Math.Seq.{take-suc}
 use Rattle.std.proofs.lemmas.Option.{slice_get_within, get_or_from_slice_get}
 use Rattle.std.proofs.lemmas.List.{take_all, length-drop, map-append}
@@ -36,11 +40,39 @@ all_words (Some t) place done found is none so_far =
     let behind : length t ≤ place = subst (λ f. IsFound t place f) none is in
     so_far ∙ take_all (place - 1) (drop 1 t) (omega (arith, behind, length-drop 1 t))
 
-no_text_there : (told : Option (List (List ℕ))) (place : ℕ) → 1 ≤ place → IfSome told (λ t. IsNotText t place) → IfSome told HasNotText
-no_text_there None place after not = tt
-no_text_there (Some t) place after not = record { place = place; after_the_name = after; at = not }
+-- the words among these texts are UTF-8
+pub texts_are_utf8 : {A : Type 0} (done : List (String A)) (words : List (List ℕ)) (n k : ℕ) (word : List ℕ) → map string_bytes done ≡ take n words → k < n → slice_get words k ≡ Some word → IsUtf8 word
+texts_are_utf8 done [] n k word are below there = cc
+texts_are_utf8 done (x ∷ words) zero k word are below there = absurd (omega (arith, below))
+texts_are_utf8 [] (x ∷ words) (suc n) k word are below there = cc
+texts_are_utf8 (text ∷ done) (x ∷ words) (suc n) zero word are below there =
+    let same : string_bytes text ≡ word = cc in
+    subst IsUtf8 same (IsUtf8-string_bytes text)
+texts_are_utf8 (text ∷ done) (x ∷ words) (suc n) (suc k) word are below there =
+    let less : k < n = omega (arith, below) in
+    let tail : map string_bytes done ≡ take n words = cc in
+    texts_are_utf8 done words n k word tail less there
 
--- why there is no word there is why there are no words
-pub no_words : {T U E : Type 0} (told : Option (List (List ℕ))) (place : ℕ) (why not_text : E) → 1 ≤ place → (IsErrOf {T = T} (Err why) not_text → IfSome told (λ t. IsNotText t place)) → IsErrOf {T = U} (Err why) not_text → IfSome told HasNotText
-no_words told place why not_text after there is =
-    let same : why ≡ not_text = cc in no_text_there told place after (there (ap Err same))
+-- the same of those after the program's name
+texts_before : {A : Type 0} (words : List (List ℕ)) (place : ℕ) (done : List (String A)) → map string_bytes done ≡ take place (drop 1 words) → (k : ℕ) (word : List ℕ) → 1 ≤ k → k ≤ place → slice_get words k ≡ Some word → IsUtf8 word
+texts_before [] place done are k word after within there = cc
+texts_before (x ∷ words) place done are zero word after within there = absurd (omega (arith, after))
+texts_before (x ∷ words) place done are (suc k) word after within there =
+    let below : k < place = omega (arith, within) in
+    texts_are_utf8 done words place k word are below there
+
+-- why there is no word of a place is why there are no words, where those before it are texts
+pub no_words : {A : Type 0} (told : Option (List (List ℕ))) (at : ℕ) (done : List (String A)) → IfSome told (λ t. map string_bytes done ≡ take (at - 1) (drop 1 t)) → (why : NoWords) → IfSome told (λ t. IsCauseAt t at why) → IfSome told (λ t. IsCause t why)
+no_words None at done are why there = tt
+no_words (Some t) at done are whys.NoMemory there = tt
+no_words (Some t) at done are (whys.NotText place) there =
+    let same : at - 1 ≡ place = omega (arith, there.0) in
+    record {
+      at = subst (IsNotText t) there.0 there.1;
+      before = texts_before t place done (are ∙ ap (λ n. take n (drop 1 t)) same);
+    }
+
+-- want of memory needs no cause among the words
+pub no_memory : (told : Option (List (List ℕ))) → IfSome told (λ t. IsCause t whys.NoMemory)
+no_memory None = tt
+no_memory (Some t) = tt

@@ -1,8 +1,8 @@
 //! The words of the command line.
 
-ghost use Rattle.std.specs.Prelude.{◌≡◌, ◌≤◌, ℕ, List, Option, Some, None, length, take, drop, map, slice_get, string_bytes, vec_len, IfOk, IfSome, IfNone, IsErrOf};
+ghost use Rattle.std.specs.Prelude.{◌≡◌, ◌≤◌, ℕ, List, Option, Some, None, length, take, drop, map, slice_get, string_bytes, vec_len, IfOk, IfErr, IfSome, IfNone, IsErrOf};
 ghost use Rattle.std.specs.Str.{IsUtf8};
-ghost use Rattle.real_objects.specs.Words.{IsFound, IsNotText, HasNotText};
+ghost use Rattle.real_objects.specs.Words.{IsFound, IsCause, IsCauseAt};
 
 use std::alloc::Global;
 use std::env::FillError;
@@ -34,8 +34,8 @@ impl Arguments for HostRuntime {
 /// Why the words can't be told.
 #[derive(Clone, Copy, Debug, PartialEq, Eq)]
 pub enum NoWords {
-    /// One of them isn't UTF-8.
-    NotText,
+    /// The word of this place is the first that isn't UTF-8. Places count from 0, after the program's name.
+    NotText(usize),
     /// Memory was refused.
     NoMemory,
 }
@@ -44,10 +44,13 @@ pub enum NoWords {
 const ROOM: usize = 256;
 
 /// The words after the program's name, whatever bytes the name has.
+///
+/// `NotText` comes only if one of them isn't UTF-8, and names the first such word. If memory is refused
+/// for a word before it, `NoMemory` comes.
 pub fn words<A: Arguments>(from: &A, alloc: Global) -> Result<Vec<String>, NoWords>
     ensures all { IfOk result (λ words. IfSome (A.told from.now)
         (λ told. map string_bytes words.items ≡ drop 1 told)) }
-    ensures not_text { IsErrOf result NoWords.NotText → IfSome (A.told from.now) HasNotText }
+    ensures cause { IfErr result (λ why. IfSome (A.told from.now) (λ told. IsCause told why)) }
 {
     let mut words = Vec::new(alloc);
     let mut room = match vec![in alloc; 0u8; ROOM] {
@@ -67,22 +70,23 @@ pub fn words<A: Arguments>(from: &A, alloc: Global) -> Result<Vec<String>, NoWor
     Err(NoWords::NoMemory)
 }
 
-/// The word of this place, where there is one.
+/// The word of this place, which is 1 or more, if there is one.
 fn word<A: Arguments>(
     from: &A,
     alloc: Global,
     place: usize,
     room: &mut Vec<u8>,
 ) -> Result<Option<String>, NoWords>
+    requires after_the_name { 1 ≤ place }
     ensures found { IfOk result (λ found. IfSome (A.told from.now)
         (λ told. IsFound told place found)) }
-    ensures not_text { IsErrOf result NoWords.NotText → IfSome (A.told from.now)
-        (λ told. IsNotText told place) }
+    ensures cause { IfErr result (λ why. IfSome (A.told from.now) (λ told. IsCauseAt told place why)) }
 {
     match fetch(from, place, room) {
         Ok(Some(length)) => match text(alloc, &room[..length]) {
-            Ok(text) => Ok(Some(text)),
-            Err(why) => Err(why),
+            Ok(Some(text)) => Ok(Some(text)),
+            Ok(None) => Err(NoWords::NotText(place - 1)),
+            Err(NoMemory) => Err(NoWords::NoMemory),
         },
         Ok(None) => Ok(None),
         Err(NoMemory) => Err(NoWords::NoMemory),
@@ -116,17 +120,17 @@ fn fetch<A: Arguments>(
     Err(NoMemory)
 }
 
-/// The text of these bytes.
-fn text(alloc: Global, bytes: &[u8]) -> Result<String, NoWords>
-    ensures text { IfOk result (λ text. string_bytes text ≡ bytes.now) }
-    ensures not_text { IsErrOf result NoWords.NotText → ¬ (IsUtf8 bytes.now) }
-    ensures no_memory { IsErrOf result NoWords.NoMemory → IsUtf8 bytes.now }
+/// The text of these bytes, or `None` if they aren't UTF-8.
+fn text(alloc: Global, bytes: &[u8]) -> Result<Option<String>, NoMemory>
+    ensures text { IfOk result (λ text. IfSome text (λ it. string_bytes it ≡ bytes.now)) }
+    ensures not_text { IfOk result (λ text. IfNone text (¬ (IsUtf8 bytes.now))) }
+    ensures no_memory { IfErr result (λ _. IsUtf8 bytes.now) }
 {
     match str::from_utf8(bytes) {
         Ok(text) => match String::from_str(alloc, text) {
-            Ok(text) => Ok(text),
-            Err(_) => Err(NoWords::NoMemory),
+            Ok(text) => Ok(Some(text)),
+            Err(_) => Err(NoMemory),
         },
-        Err(_) => Err(NoWords::NotText),
+        Err(_) => Ok(None),
     }
 }

@@ -1,7 +1,7 @@
 -- What the program does with its words, its streams and its files.
 use Rattle.std.specs.Prelude.{◌≡◌, ℕ, List, [], ◌++◌, drop, Option, Some, IfSome, Result, Ok, Err}
 use Rattle.managers.specs.Standard.{standard_table}
-use Rattle.real_objects.specs.Words.{HasNotText}
+use Rattle.real_objects.specs.Words.{IsFirstNotText}
 use Rattle.tink_base.specs.declared.faults.NoMemory.{NoMemory}
 use Rattle.tink_spec.specs.Files.{Files}
 use Rattle.tink_spec.specs.Outside.{SinkState, RoseOnce, Took}
@@ -9,7 +9,8 @@ use Rattle.tinkey_plans.specs.Commands.{plan_of}
 use Rattle.tinkey_plans.specs.Ends.{World, world}
 use Rattle.tinkey_plans.specs.Plan.{Plan, Answer, allocates}
 use Rattle.tinkey_plans.specs.Promises.{Promised}
-use Rattle.tinkey_plans.specs.Status.{code_of, Reports}
+use Rattle.tinkey_host.specs.NotText.{not_text_lines}
+use Rattle.tinkey_plans.specs.Status.{code_of, Reports, Wrote}
 use Rattle.tinkey_plans.specs.declared.status.Status.{Status}
 use Rattle.tinkey_plans.specs.declared.status.Status.TheVariants as statuses
 
@@ -35,11 +36,12 @@ pub record HasRun (words : List (List ℕ)) (old new : World) (before after : Si
   pub line : Reports status before after
 
 -- How a command line was obeyed, whose words are known or not, the program's name first: the other
--- words were run; or one of them isn't UTF-8, or memory for them was refused, and all is as it was.
+-- words were run; or one of them isn't UTF-8, and the first such word was reported; or memory for them was
+-- refused, and that was reported. But for what was reported all is as it was then.
 pub data HasObeyed (told : Option (List (List ℕ))) (old new : World) (before after : SinkState) (code : ℕ) : Type 0 where
   has_run : (words : List (List ℕ)) → IfSome told (λ t. words ≡ drop 1 t) → HasRun words old new before after code → HasObeyed told old new before after code
-  not_text : code ≡ 8 → IfSome told HasNotText → old ≡ new → before ≡ after → HasObeyed told old new before after code
-  no_memory : code ≡ 7 → old ≡ new → before ≡ after → HasObeyed told old new before after code
+  not_text : (place : ℕ) → code ≡ 8 → IfSome told (λ t. IsFirstNotText t place) → old ≡ new → Wrote (not_text_lines place) before after → HasObeyed told old new before after code
+  no_memory : code ≡ 7 → old ≡ new → Reports statuses.NoMemory before after → HasObeyed told old new before after code
 
 -- How a command line was obeyed whose first sink was asked, in the end, for a fault that it kept back: as it was
 -- obeyed; or that ended well, and then the sink told one, which is a write fault, though it took each byte.

@@ -3,6 +3,7 @@
 #![tactic(auto)]
 
 mod left;
+mod not_text;
 mod over_streams;
 mod standard;
 mod top;

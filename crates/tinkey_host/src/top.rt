@@ -7,6 +7,7 @@ ghost use Rattle.tinkey_plans.specs.Ends.{world};
 ghost use Rattle.tinkey_host.specs.Program.{HasRun, HasObeyed, HasEnded};
 
 use crate::left::tell_left;
+use crate::not_text::report_not_text;
 use crate::standard::start;
 use lookahead::Lookahead;
 use real_objects::{
@@ -19,11 +20,8 @@ use tink_base::{Failed, Sink, Source, Store};
 use tinkey_plans::report;
 use tinkey_run::{Status, starve};
 
-/// The exit code where memory for the words is refused, as where a run's memory is.
-const OUT_OF_MEMORY: u8 = 7;
-
-/// The exit code where a word isn't UTF-8.
-const NO_WORDS: u8 = 8;
+/// The exit code if a word isn't UTF-8.
+const NOT_TEXT: u8 = 8;
 
 /// Obeys the words after the program's name, over standard input, output and error, the system's
 /// random bytes and the files. A file that couldn't be removed is told on standard error behind that.
@@ -93,8 +91,9 @@ where
 
 /// Obeys the words of a command line but the first, the program's name, over these objects.
 ///
-/// The answer is 8 where one of these words isn't UTF-8, and 7 where memory for them is refused;
-/// nothing is done then. In all other cases it is the exit code of the run.
+/// If one of these words isn't UTF-8, `diag` reports the place of the first, and the answer is 8. If memory
+/// for them is refused, `diag` reports that as a run does, and the answer is 7. Nothing else is done then. In
+/// all other cases the answer is the exit code of the run.
 pub fn obey_listed<A: Arguments, S: Source, K: Sink, G: Sink, E: Lookahead, D: Store>(
     from: &A,
     alloc: Global,
@@ -111,8 +110,11 @@ pub fn obey_listed<A: Arguments, S: Source, K: Sink, G: Sink, E: Lookahead, D: S
 {
     match words(from, alloc) {
         Ok(words) => obey(alloc, &words, source, sink, diag, entropy, store),
-        Err(NoWords::NotText) => ExitCode::from(NO_WORDS),
-        Err(NoWords::NoMemory) => ExitCode::from(OUT_OF_MEMORY),
+        Err(NoWords::NotText(place)) => {
+            report_not_text(diag, place);
+            ExitCode::from(NOT_TEXT)
+        }
+        Err(NoWords::NoMemory) => ExitCode::from(starve(diag).code()),
     }
 }
 

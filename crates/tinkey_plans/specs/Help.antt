@@ -194,7 +194,7 @@ exit_text =
     ++ codes "7  out of memory\n"
     ++ codes "     Memory was refused. No new file was made; what a stream or a session had written before\n"
     ++ codes "     is valid.\n\n"
-    ++ codes "8  a word of the command isn't text (UTF-8), and no line\n\n"
+    ++ codes "8  a word of the command isn't text (UTF-8)\n\n"
     ++ codes "127  the processor lacks what the program was built for, as x86-64-v3: make run\n"
     ++ codes "     CPU=x86-64-v2 makes one for nearly every processor. The line is the toolchain's; the\n"
     ++ codes "     build for plain x86-64 that it may advise is refused here.\n"

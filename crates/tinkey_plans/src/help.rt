@@ -481,7 +481,7 @@ A command that fails prints a line on standard error and ends with an exit code.
      Memory was refused. No new file was made; what a stream or a session had written before
      is valid.
 
-8  a word of the command isn't text (UTF-8), and no line
+8  a word of the command isn't text (UTF-8)
 
 127  the processor lacks what the program was built for, as x86-64-v3: make run
      CPU=x86-64-v2 makes one for nearly every processor. The line is the toolchain's; the

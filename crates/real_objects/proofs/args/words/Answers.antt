@@ -1,4 +1,4 @@
-use Rattle.real_objects.proofs.ListedWords.{first_words, one_more_word, all_words, no_words}
+use Rattle.real_objects.proofs.ListedWords.{first_words, one_more_word, all_words, no_words, no_memory}
 use Rattle.real_objects.proofs.args.words.Goals as goal
 
 pub loop-place-init : goal.loop-place-init
@@ -7,8 +7,11 @@ loop-place-init g c = first_words (g.A.Arguments.told c.args.from.now) c.new-wor
 pub returns-in-Ok-None-clause-all : goal.returns-in-Ok-None-clause-all
 returns-in-Ok-None-clause-all g c = all_words (g.A.Arguments.told c.args.from.now) c.loop-place.place _ _ c.in-Ok-None.ensures.found c.in-Ok-None.field-0-is c.loop-place.invariant
 
-pub returns-in-Err-word-clause-not_text : goal.returns-in-Err-word-clause-not_text
-returns-in-Err-word-clause-not_text g c = no_words (g.A.Arguments.told c.args.from.now) c.loop-place.place _ _ c.loop-place.auto.place c.in-Err-word.ensures.not_text
+pub returns-in-Err-word-clause-cause : goal.returns-in-Err-word-clause-cause
+returns-in-Err-word-clause-cause g c = no_words (g.A.Arguments.told c.args.from.now) c.loop-place.place _ c.loop-place.invariant _ c.in-Err-word.ensures.cause
 
 pub loop-place-preserved : goal.loop-place-preserved
 loop-place-preserved g c = one_more_word (g.A.Arguments.told c.args.from.now) c.loop-place.place _ _ _ c.loop-place.auto.place c.loop-place.invariant _ c.in-Ok-Some.ensures.found c.in-Ok-Some.field-0-is c.in-Ok-push.ensures.items
+
+pub returns-clause-cause : goal.returns-clause-cause
+returns-clause-cause g c = no_memory (g.A.Arguments.told c.args.from.now)
