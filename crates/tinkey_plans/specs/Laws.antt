@@ -10,6 +10,7 @@ use Rattle.managers.specs.Standard.{standard_table}
 use Rattle.managers.specs.Table.{Table}
 use Rattle.segment_stream.specs.KeysModel.{KeysForStreams}
 use Rattle.segment_stream.specs.StreamKeys.{largest_of, stream_unfit}
+use Rattle.seal_wrap.specs.Unwrapped.{unwrap_of}
 use Rattle.tink_spec.specs.Files.{Holds, StoreState}
 use Rattle.tink_spec.specs.Outside.{Took, TookPrefix}
 use Rattle.tinkey_cmds.specs.Edits.{id_of}
@@ -30,6 +31,7 @@ use Rattle.tinkey_plans.specs.Ranging.{stretch_for}
 use Rattle.tinkey_plans.specs.Steps.{keyset_limit}
 use Rattle.tinkey_plans.specs.Streaming.{keys_for}
 use Rattle.tinkey_plans.specs.Stretch.{GivesAtMost}
+use Rattle.tinkey_plans.specs.Wrapping.{is_json, wrapped_limit}
 use Rattle.tinkey_words.specs.declared.words.rows.Format.{Format}
 use Rattle.tinkey_words.specs.declared.words.rows.Format.TheVariants as formats
 use Rattle.tinkey_words.specs.Words.{Asked, AskedEnvelope, AskedRange, Lock, seal_stream, open_stream, open_range, self_test, session, use_envelope, words_of}
@@ -91,34 +93,54 @@ abbrev pub IsKeysetIn : Format → List ℕ → Keys → Type 0
 IsKeysetIn formats.Json bytes keys = reads_json bytes ≡ Ok keys
 IsKeysetIn formats.Binary bytes keys = reads_binary bytes ≡ Ok keys
 
--- the keys for streams of the keyset in the file of this name
-pub record KeysLieIn (store : StoreState) (name : List ℕ) (form : Format) (keys : KeysForStreams)
-    : Type 0 where
+-- the keyset of a lock lies in its file; without a lock there is none
+abbrev pub MasterLiesIn : StoreState → Lock → (master : Option Keys) → Type 0
+MasterLiesIn store None None = Unit {0}
+MasterLiesIn store (Some lock) (Some master) = (bytes : List ℕ)
+    × Holds store lock.file (Some bytes) × IsKeysetIn lock.form bytes master
+MasterLiesIn store _ _ = ⊥
+
+-- the bytes are this keyset, in this form, or give it under a master
+abbrev pub GivesKeysetIn : Table → (master : Option Keys) → Format → List ℕ → Keys → Type 0
+GivesKeysetIn table None form bytes keys = IsKeysetIn form bytes keys
+GivesKeysetIn table (Some master) form bytes keys = unwrap_of master table bytes (is_json form) ≡ Ok keys
+
+-- the keys for streams of the keyset in the file of this name, in clear or behind its lock
+pub record KeysLieIn (table : Table) (store : StoreState) (lock : Lock) (name : List ℕ) (form : Format)
+    (keys : KeysForStreams) : Type 0 where
+  pub master : Option Keys
+  pub opens : MasterLiesIn store lock master
   pub bytes : List ℕ
   pub holds : Holds store name (Some bytes)
   pub keyset : Keys
-  pub read : IsKeysetIn form bytes keyset
+  pub gives : GivesKeysetIn table master form bytes keyset
   pub are : keys_for keyset ≡ Some keys
 
--- The store has given at most the greatest keyset and what the range takes: two segments of the largest
--- size, and as many as cover it under the key chosen; where it ends behind the plaintext, two alone.
-pub record RangeGave (name : List ℕ) (form : Format) (ad : List ℕ) (range : AskedRange)
-    (old : StoreState) (s : Status) (new : StoreState) : Type 0 where
+-- how many bytes the greatest keyset has, or behind a lock, the greatest master and the greatest text
+abbrev pub limit_behind : Lock → ℕ
+limit_behind None = keyset_limit
+limit_behind (Some lock) = keyset_limit + wrapped_limit
+
+-- The store has given at most the greatest keyset, with its master if it has one, and what the range takes:
+-- two segments of the largest size, and as many as cover it under the key chosen; where it ends behind the
+-- plaintext, two alone.
+pub record RangeGave (table : Table) (lock : Lock) (name : List ℕ) (form : Format) (ad : List ℕ)
+    (range : AskedRange) (old : StoreState) (s : Status) (new : StoreState) : Type 0 where
   pub keys : KeysForStreams
-  pub lie : KeysLieIn old name form keys
+  pub lie : KeysLieIn table old lock name form keys
   pub most : ℕ
   pub least : GivesAtMost old.files (stretch_for keys ad range) most
   pub past : s ≡ status.PastEnd → most ≤ 2 * largest_of keys.keys
-  pub within : GaveWithin old new (keyset_limit + most)
+  pub within : GaveWithin old new (limit_behind lock + most)
 
--- A run of srange reads no more than that, whatever fails; without keys for streams, the keyset alone, and of
--- one that is too long one byte more than its limit.
+-- A run of srange reads no more than that, whatever fails; without keys for streams, the keyset and its master
+-- alone, and of one that is too long one byte more than its limit.
 abbrev pub RangesReadLittle : Type 0
-RangesReadLittle = (table : Table) (words : List (List ℕ)) (name : List ℕ) (form : Format) (ad : List ℕ)
-    (range : AskedRange) (out : Option (List ℕ)) (old : World) (s : Status) (new : World)
-    → words_of words ≡ Ok (open_range None name form ad range out) → Ends (plan_of table words) old s new
-    → GaveWithin old.store new.store (keyset_limit + 1)
-    ⊎ RangeGave name form ad range old.store s new.store
+RangesReadLittle = (table : Table) (words : List (List ℕ)) (lock : Lock) (name : List ℕ) (form : Format)
+    (ad : List ℕ) (range : AskedRange) (out : Option (List ℕ)) (old : World) (s : Status) (new : World)
+    → words_of words ≡ Ok (open_range lock name form ad range out) → Ends (plan_of table words) old s new
+    → GaveWithin old.store new.store (limit_behind lock + 1)
+    ⊎ RangeGave table lock name form ad range old.store s new.store
 
 -- ---- the self-test
 

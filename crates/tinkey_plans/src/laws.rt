@@ -46,9 +46,10 @@ pub fn data_keys_come()
     standard_data_keys();
 }
 
-/// A run of `srange` is given at most the bytes of a keyset within its limit and of a range: two segments of
-/// the largest size under the keyset's keys, and as many as cover the range under the key chosen; two alone
-/// where the range ends behind the plaintext. Without keys for streams it is given the keyset alone.
+/// A run of `srange` is given at most the bytes of a keyset within its limit, with those of its master if it
+/// has one, and of a range: two segments of the largest size under the keyset's keys, and as many as cover the
+/// range under the key chosen; two alone where the range ends behind the plaintext. Without keys for streams
+/// it is given the keyset and its master alone.
 pub fn ranges_read_little()
     ensures { RangesReadLittle }
 {}
