@@ -16,6 +16,7 @@ use Rattle.seal_wrap.specs.Enveloped.{open_envelope_of}
 use Rattle.seal_wrap.specs.Laws.{WrapBackBytes}
 use Rattle.seal_wrap.specs.Sealings.{DsealingsFit, SealingsFit}
 use Rattle.seal_wrap.specs.Unwrapped.{unwrap_of}
+use Rattle.segment_stream.specs.KeysModel.{KeysForStreams}
 use Rattle.segment_stream.specs.Laws.{RangeIsSlice, StreamBack}
 use Rattle.segment_stream.specs.Range.{past_end}
 use Rattle.segment_stream.specs.Segments.{cipher_of}
@@ -34,16 +35,17 @@ use Rattle.wrapped_prims.specs.Laws.{HasKey, IsKeyset}
 use Rattle.tinkey_plans.proofs.EnvelopeLemmas.{row_known}
 use Rattle.tinkey_plans.specs.Envelopes.{envelopes}
 use Rattle.tinkey_plans.specs.Laws.{FitKeysetsAnswer}
-use Rattle.tinkey_plans.specs.Plan.{Answer, Told, answer, writes}
+use Rattle.tinkey_plans.specs.Plan.{Answer, Plan, Told, answer, writes}
 use Rattle.tinkey_plans.specs.Ranging.{opens_stretch}
 use Rattle.tinkey_plans.specs.Steps.{input_limit, puts, puts_keyset, sealed_limit}
-use Rattle.tinkey_plans.specs.Streaming.{opens_stream, seals_stream}
+use Rattle.tinkey_plans.specs.Streaming.{loads_stream_keys, opens_stream, seals_stream}
 use Rattle.tinkey_plans.specs.Handles.{handles, unless_unfit}
 use Rattle.tinkey_plans.specs.Using.{limit_for}
 use Rattle.tinkey_plans.specs.Wrapping.{is_json, unwraps}
-use Rattle.tinkey_readable.proofs.EnvelopeRunLemmas.{aead_scheme, gives_key_for, sealed_by as enveloped_by, used_done, used_reached, used_within}
+use Rattle.tinkey_readable.proofs.EnvelopeRunLemmas.{aead_scheme, gives_key_for, sealed_by as enveloped_by, used_done, used_reached}
 use Rattle.tinkey_readable.proofs.LineRunLemmas.{Answers, MakesSeal, computed_gave, dopen_answers, gave, open_answers, same_bytes, verify_answers}
-use Rattle.tinkey_readable.proofs.LockLemmas.{finished_under, given_is_keyset, started_under}
+use Rattle.tinkey_readable.proofs.LockLemmas.{finished_under, given_is_keyset as sealed_is_keyset, started_under}
+use Rattle.tinkey_readable.proofs.LyingLemmas.{given_is_keyset, same_lying, taken_behind}
 use Rattle.tinkey_readable.proofs.PutLemmas.{envelope_worked, made_is, made_put, made_written}
 use Rattle.tinkey_readable.proofs.RangeRunLemmas.{puts_reached, range_past, range_within, stretch_reached}
 use Rattle.tinkey_readable.proofs.ReachLemmas.{IsDoneAnswer, behind, bytes_put, load_reached, put_done}
@@ -51,10 +53,11 @@ use Rattle.tinkey_readable.proofs.RunLemmas.{Started, done_within, dsealed_by, d
 use Rattle.tinkey_readable.proofs.StreamKeyLemmas.{first_under, fit_sound, opens_under, primary_gives, primary_key_there, sound_key}
 use Rattle.tinkey_readable.proofs.StreamRunLemmas.{chosen_so, keys_loaded, keys_reached, opened_so, opens_alone, sealed_by as stream_by, with_primary}
 use Rattle.tinkey_readable.proofs.WrappedRunLemmas.{behind_files, form_within, given_keyset, opens_plan, put_reached, text_reached, unwrapped, wraps_done}
-use Rattle.tinkey_readable.specs.Anywhere.{DopensAnywhere, DopensSomehowAnywhere, IsReadAnywhere, IsReadSomehowAnywhere, OpensAnywhere, OpensEnvelopeAnywhere, OpensFirstAnywhere, OpensRangeAnywhere, OpensSomehowAnywhere, OpensStreamAnywhere, ServesStreams, UnwrapsAnywhere, VerifiesAnywhere, WasMadeBy, by_line, by_locked, by_locked_line, by_run}
+use Rattle.tinkey_readable.specs.Anywhere.{DopensAnywhere, DopensSomehowAnywhere, IsReadAnywhere, IsReadSomehowAnywhere, IsTaken, OpensAnywhere, OpensEnvelopeAnywhere, OpensFirstAnywhere, OpensRangeAnywhere, OpensSomehowAnywhere, OpensStreamAnywhere, ServesStreams, UnwrapsAnywhere, VerifiesAnywhere, WasMadeBy, by_line, by_locked, by_locked_line, by_run}
 use Rattle.tinkey_readable.specs.LineRuns.{asks, done_reply}
 use Rattle.tinkey_readable.specs.LockedRuns.{IsDoneUnder}
-use Rattle.tinkey_readable.specs.Runs.{IsDone, IsFree, ReadIsStored, Written, bytes_at, keyset_of}
+use Rattle.tinkey_readable.specs.Lying.{Lies, LiesAs, Lying, lock_in}
+use Rattle.tinkey_readable.specs.Runs.{IsDone, IsFree, ReadIsStored, bytes_at}
 use Rattle.tinkey_readable.specs.StreamRuns.{WasSealed}
 use Rattle.tinkey_words.specs.Words.{AskedWork, primitive_for, to_dopen, to_dseal, to_eopen, to_eseal, to_open, to_seal, to_tag, to_verify}
 
@@ -94,7 +97,7 @@ maker fit work input output r Makes of_run of_line (by_locked master text over o
       old = old;
       primary = primary;
       short = subst (λ i. length i ≤ limit_for work) same b.fits;
-      makes = of_run old told (given_is_keyset over text old gives) b same;
+      makes = of_run old told (sealed_is_keyset over text old gives) b same;
     }
 maker fit work input output r Makes of_run of_line (by_line before told t has short line reply primary) = line_maker work input output r Makes of_line has.keys told has.place t has.there short line reply primary
 maker fit work input output r Makes of_run of_line (by_locked_line master text told t has short line reply primary) = line_maker work input output r Makes of_line has.keys told has.place t has.there short line reply primary
@@ -212,30 +215,41 @@ record MadeStream (r : Record) (ad stream plain : List ℕ) : Type 0 where
   gives : stream_key_of r ≡ Ok key
   alone : stream_answer (cipher_of ad key ∷ []) stream ≡ (plain, None)
 
-stream_maker : StreamBack → (before : Written) (old : Keys) (r : Record) (ad stream : List ℕ) (told : Told) → keyset_of before ≡ Some old → primary_of old ≡ Some r → WasSealed ad before told stream → MadeStream r ad stream told.input
-stream_maker back before old r ad stream told read primary was =
-    let u = keys_loaded standard_table was.name before.form before.bytes old (λ k. seals_stream k ad) told was.lies read was.done in
-    let s = stream_by (with_primary old u.primary) ad told stream (ap (λ (a : Answer). a.status) (sym u.goes_on) ∙ was.done) (ap (λ (a : Answer). a.output) (sym u.goes_on) ∙ was.gave) in
-    let gives : stream_key_of r ≡ Ok u.primary = primary_gives old r u.primary primary u.there in
+stream_maker : StreamBack → (before : Lying) (old : Keys) (r : Record) (ad stream : List ℕ) (told : Told) → Lies before old → primary_of old ≡ Some r → WasSealed ad before told stream → MadeStream r ad stream told.input
+stream_maker back before old r ad stream told lies primary was =
+    let u = keys_loaded standard_table (lock_in before.master was.lock) was.name before.text.form (λ k. seals_stream k ad) told was.done in
+    let same = same_lying before old u.keys told was.lock was.name lies was.lies u.lies in
+    let s = stream_by (with_primary u.keys u.primary) ad told stream (ap (λ (a : Answer). a.status) (sym u.goes_on) ∙ was.done) (ap (λ (a : Answer). a.output) (sym u.goes_on) ∙ was.gave) in
+    let gives : stream_key_of r ≡ Ok u.primary = primary_gives old r u.primary primary (ap primary_key (sym same) ∙ u.there) in
     record { key = u.primary; gives = gives; alone = opens_alone back u.primary ad told stream (sound_key r u.primary gives) s }
 
+-- a keyset that is taken is one
+taken_keyset : ReadKeysFit → (other : Lying) (keys : Keys) → IsTaken other keys → IsKeyset keys
+taken_keyset fit other keys taken = given_is_keyset fit standard_table taken.master other.text.form other.text.bytes keys taken.gives taken.within
+
 -- a keyset that serves streams has a primary key for them
-primary_there : ReadKeysFit → (other : Written) (keys : Keys) → ServesStreams other keys → (key : StreamKey) × (primary_key keys ≡ Some key)
-primary_there fit other keys serves = primary_key_there keys (fit_sound keys (read_keyset fit other.form other.bytes keys serves.within serves.read) serves.fit)
+primary_there : ReadKeysFit → (other : Lying) (keys : Keys) → ServesStreams other keys → (key : StreamKey) × (primary_key keys ≡ Some key)
+primary_there fit other keys serves = primary_key_there keys (fit_sound keys (taken_keyset fit other keys serves.taken) serves.fit)
+
+-- the steps behind its keys are reached
+served_reached : (other : Lying) (keys : Keys) (primary : StreamKey) (next : KeysForStreams → Plan) (told : Told) (lock name : List ℕ) → ServesStreams other keys → primary_key keys ≡ Some primary → LiesAs other told lock name
+    → answer (loads_stream_keys standard_table (lock_in other.master lock) name other.text.form next) told ≡ answer (next (with_primary keys primary)) told
+served_reached other keys primary next told lock name serves is there =
+    keys_reached standard_table (lock_in other.master lock) name other.text.form keys primary next told (taken_behind other keys told lock name serves.taken there) serves.fit is
 
 pub opens_stream_anywhere : StreamBack → ReadKeysFit → OpensStreamAnywhere
-opens_stream_anywhere back fit before other old keys r ad stream told read primary was serves has only =
-    let m = stream_maker back before old r ad stream told read primary was in
+opens_stream_anywhere back fit before other old keys r ad stream told lies primary was serves has only =
+    let m = stream_maker back before old r ad stream told lies primary was in
     let p = primary_there fit other keys serves in
     let opens = opens_under keys r m.key ad stream told.input has m.gives only m.alone in
-    λ t name lies input.
-    let reached' = keys_reached standard_table name other.form other.bytes keys p.0 (λ k. opens_stream k ad) t lies serves.read serves.within serves.fit p.1 in
+    λ t lock name there input.
+    let reached' = served_reached other keys p.0 (λ k. opens_stream k ad) t lock name serves p.1 there in
     let g = opened_so (with_primary keys p.0) ad t stream told.input input opens.answer in
     (ap (λ (a : Answer). a.status) reached' ∙ g.0, ap (λ (a : Answer). a.output) reached' ∙ g.1)
 
 pub opens_first_anywhere : StreamBack → ReadKeysFit → OpensFirstAnywhere
-opens_first_anywhere back fit before other old keys r ad stream told read primary was serves has =
-    let m = stream_maker back before old r ad stream told read primary was in
+opens_first_anywhere back fit before other old keys r ad stream told lies primary was serves has =
+    let m = stream_maker back before old r ad stream told lies primary was in
     let p = primary_there fit other keys serves in
     let f = first_under keys r m.key ad stream told.input has m.gives m.alone in
     record {
@@ -243,49 +257,52 @@ opens_first_anywhere back fit before other old keys r ad stream told read primar
       place = f.place;
       there = f.there;
       first = f.first;
-      answers = λ t name lies input.
-          keys_reached standard_table name other.form other.bytes keys p.0 (λ k. opens_stream k ad) t lies serves.read serves.within serves.fit p.1
+      answers = λ t lock name there input.
+          served_reached other keys p.0 (λ k. opens_stream k ad) t lock name serves p.1 there
           ∙ chosen_so (with_primary keys p.0) f.key ad t stream input f.choice;
     }
 
 pub opens_range_anywhere : StreamBack → RangeIsSlice → ReadKeysFit → OpensRangeAnywhere
-opens_range_anywhere back slice fit before other old keys r ad stream told read primary was serves has only =
-    let m = stream_maker back before old r ad stream told read primary was in
+opens_range_anywhere back slice fit before other old keys r ad stream told lies primary was serves has only =
+    let m = stream_maker back before old r ad stream told lies primary was in
     let p = primary_there fit other keys serves in
     let opens = opens_under keys r m.key ad stream told.input has m.gives only m.alone in
     let with' = with_primary keys p.0 in
     record {
-      within = λ t name range out lie free within.
-          let reached' = keys_reached standard_table name other.form other.bytes keys p.0 (λ k. opens_stretch k ad range (puts out)) t lie.keyset serves.read serves.within serves.fit p.1 in
+      within = λ t lock name range out lie free within.
+          let reached' = served_reached other keys p.0 (λ k. opens_stretch k ad range (puts out)) t lock name serves p.1 lie.keyset in
           let plain : List ℕ = take range.size (drop range.from told.input) in
           let e = reached' ∙ stretch_reached with' ad stream range out t (Ok plain) lie.sealed (range_within slice keys ad stream told.input range.from range.size opens within) in
           let done = puts_reached out plain t free in
           (ap (λ (a : Answer). a.status) e ∙ done, ap (λ (a : Answer). bytes_at out a.files a.output) e ∙ bytes_put out plain t done);
-      past = λ t name range out lie behind'.
-          let reached' = keys_reached standard_table name other.form other.bytes keys p.0 (λ k. opens_stretch k ad range (puts out)) t lie.keyset serves.read serves.within serves.fit p.1 in
+      past = λ t lock name range out lie behind'.
+          let reached' = served_reached other keys p.0 (λ k. opens_stretch k ad range (puts out)) t lock name serves p.1 lie.keyset in
           reached' ∙ stretch_reached with' ad stream range out t (Err past_end) lie.sealed (range_past slice keys ad stream told.input range.from range.size opens behind');
     }
 
 -- ---- envelopes
 
 pub opens_envelope_anywhere : EnvelopeBack → EnvelopesFit → DataKeysAreServed → ReadKeysFit → OpensEnvelopeAnywhere
-opens_envelope_anywhere back sizes served fit before other old keys r prefix template again ad sealed told read primary is was one_type serves same =
-    let within = used_within standard_table was.name before.form template (to_eseal ad) (puts was.out) before.bytes told was.lies was.done in
-    let keyset = read_keyset fit before.form before.bytes old within read in
-    let u = used_done standard_table was.name before.form template (to_eseal ad) (puts was.out) before.bytes old told was.lies read was.done in
-    let sealing = envelopes standard_table old u.scheme u.row (to_eseal ad) told.input in
+opens_envelope_anywhere back sizes served fit before other old keys r prefix template again ad sealed told lies primary is was one_type serves same =
+    let lock = lock_in before.master was.lock in
+    let u = used_done standard_table lock was.name before.text.form template (to_eseal ad) (puts was.out) told was.done in
+    let from = u.keys in
+    let here : from ≡ old = same_lying before old from told was.lock was.name lies was.lies u.lies in
+    let keyset = given_is_keyset fit standard_table u.lies.master before.text.form u.lies.lies.bytes from u.lies.lies.gives u.lies.lies.within in
+    let primary' : primary_of from ≡ Some r = ap (λ k. primary_of k) here ∙ primary in
+    let sealing = envelopes standard_table from u.scheme u.row (to_eseal ad) told.input in
     let left = record told { input = [] } in
-    let done : IsDoneAnswer (answer (envelopes standard_table old u.scheme u.row (to_eseal ad) told.input (puts was.out)) (record told { input = [] })) = ap (λ (a : Answer). a.status) (sym u.goes_on) ∙ was.done in
-    let w = envelope_worked standard_table old u.scheme u.row (to_eseal ad) told.input (puts was.out) left done in
+    let done : IsDoneAnswer (answer (envelopes standard_table from u.scheme u.row (to_eseal ad) told.input (puts was.out)) (record told { input = [] })) = ap (λ (a : Answer). a.status) (sym u.goes_on) ∙ was.done in
+    let w = envelope_worked standard_table from u.scheme u.row (to_eseal ad) told.input (puts was.out) left done in
     let made = made_is sealing left false was.out sealed w done (ap (λ (a : Answer). bytes_at was.out a.files a.output) (sym u.goes_on) ∙ was.gave) (λ hex. absurd (cc)) in
     let gone = made_written sealing left sealed w made in
-    let s = enveloped_by old u.scheme u.row ad told sealed gone.0 gone.1 in
+    let s = enveloped_by from u.scheme u.row ad told sealed gone.0 gone.1 in
     let row : IsDataKeyRow u.row = record { known = row_known template u.row u.named; aead = u.aead } in
-    let opened = back standard_table u.scheme u.row old keys r prefix told.input ad told.random sealed s.0 row (aead_scheme served u.row u.scheme u.aead u.served) primary is (gives_key_for old r u.fit keyset primary) same s.1 in
-    let short : length sealed ≤ sealed_limit = omega (arith, sizes standard_table u.scheme u.row old told.input ad told.random sealed s.0 row s.1, u.fits) in
+    let opened = back standard_table u.scheme u.row from keys r prefix told.input ad told.random sealed s.0 row (aead_scheme served u.row u.scheme u.aead u.served) primary' is (gives_key_for from r u.fit keyset primary') same s.1 in
+    let short : length sealed ≤ sealed_limit = omega (arith, sizes standard_table u.scheme u.row from told.input ad told.random sealed s.0 row s.1, u.fits) in
     let found = map_some type_made (row_named again) (type_made u.row) (sym one_type ∙ ap (option_map type_made) u.named) in
-    λ t name out lies input free.
-    let r' = used_reached standard_table name other.form again found.0 u.scheme (to_eopen ad) (puts out) other.bytes keys t found.1 (ap primitive_of_type found.2 ∙ u.aead) (ap (λ made. scheme_at standard_table Aead (url_of_type made)) found.2 ∙ u.served) lies serves.read serves.within serves.fit (subst (λ i. length i ≤ sealed_limit) (sym input) short) in
+    λ t file name out there input free.
+    let r' = used_reached standard_table (lock_in other.master file) name other.text.form again found.0 u.scheme (to_eopen ad) (puts out) keys t found.1 (ap primitive_of_type found.2 ∙ u.aead) (ap (λ made. scheme_at standard_table Aead (url_of_type made)) found.2 ∙ u.served) (taken_behind other keys t file name serves.taken there) serves.fit (subst (λ i. length i ≤ sealed_limit) (sym input) short) in
     let g = opens_so (open_envelope_of keys standard_table u.scheme t.input ad) told.input (record t { input = [] }) (ap (λ i. open_envelope_of keys standard_table u.scheme i ad) input ∙ opened) in
     let opening = envelope_worked standard_table keys u.scheme found.0 (to_eopen ad) t.input writes (record t { input = [] }) g.0 in
     let p = made_put (envelopes standard_table keys u.scheme found.0 (to_eopen ad) t.input) (record t { input = [] }) false out told.input opening g.1 free in

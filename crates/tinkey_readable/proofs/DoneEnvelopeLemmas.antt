@@ -14,11 +14,12 @@ use Rattle.tinkey_plans.specs.Plan.{Answer, Plan, Told, answer, draw_answer, ref
 use Rattle.tinkey_plans.specs.Steps.{puts, with_made}
 use Rattle.tinkey_plans.specs.Using.{with_opened}
 use Rattle.tinkey_words.specs.declared.words.rows.Format.{Format}
-use Rattle.tinkey_words.specs.Words.{AskedEnvelope, to_eopen, to_eseal, use_envelope}
+use Rattle.tinkey_words.specs.Words.{AskedEnvelope, Lock, to_eopen, to_eseal, use_envelope}
 use Rattle.tinkey_readable.specs.DoneWhere.{EnvelopeGoes, EnvelopeIsDone, EnvelopesDone}
 use Rattle.tinkey_readable.specs.Runs.{IsFree}
-use Rattle.tinkey_readable.proofs.DoneWhereLemmas.{loads_there, name_free, opened_goes}
-use Rattle.tinkey_readable.proofs.EnvelopeRunLemmas.{behind_dek, behind_keys, dek_done, used_done, used_reached}
+use Rattle.tinkey_readable.proofs.DoneWhereLemmas.{opened_goes}
+use Rattle.tinkey_readable.proofs.EnvelopeRunLemmas.{used_done, used_reached}
+use Rattle.tinkey_readable.proofs.LyingLemmas.{name_free}
 use Rattle.tinkey_readable.proofs.PutLemmas.{envelope_worked, made_put}
 use Rattle.tinkey_readable.proofs.ReachLemmas.{IsDoneAnswer}
 
@@ -46,38 +47,34 @@ done_of : (table : Table) (keys : Keys) (scheme : Scheme) (row : Row) (work : As
 done_of table keys scheme row (to_eseal ad) input told goes = ap (λ o. (sealed_so writes told o).status) goes.2
 done_of table keys scheme row (to_eopen ad) input told goes = ap (λ o. (answer (with_opened o writes) told).status) goes.1
 
-envelope_is : (table : Table) (name : List ℕ) (form : Format) (template : List ℕ) (work : AskedEnvelope) (out : Option (List ℕ)) (told : Told) → IsDoneAnswer (answer (command_plan table (use_envelope None name form template work out)) told) → EnvelopeIsDone table name form template work out told
-envelope_is table name form template work out told is =
-    let d = dek_done template (behind_dek table name form work (puts out)) told is in
-    let k = loads_there name form (behind_keys table d.row work (puts out)) told (ap (λ (a : Answer). a.status) (sym d.goes_on) ∙ is) in
-    let l = k.1 in
-    let u = used_done table name form template work (puts out) l.bytes k.0 told l.there l.read is in
+envelope_is : (table : Table) (lock : Lock) (name : List ℕ) (form : Format) (template : List ℕ) (work : AskedEnvelope) (out : Option (List ℕ)) (told : Told) → IsDoneAnswer (answer (command_plan table (use_envelope lock name form template work out)) told) → EnvelopeIsDone table lock name form template work out told
+envelope_is table lock name form template work out told is =
+    let u = used_done table lock name form template work (puts out) told is in
     let left = record told { input = [] } in
-    let worked : IsDoneAnswer (answer (envelopes table k.0 u.scheme u.row work told.input (puts out)) left) = ap (λ (a : Answer). a.status) (sym u.goes_on) ∙ is in
-    let w = envelope_worked table k.0 u.scheme u.row work told.input (puts out) left worked in
+    let worked : IsDoneAnswer (answer (envelopes table u.keys u.scheme u.row work told.input (puts out)) left) = ap (λ (a : Answer). a.status) (sym u.goes_on) ∙ is in
+    let w = envelope_worked table u.keys u.scheme u.row work told.input (puts out) left worked in
     record {
       row = u.row;
       named = u.named;
       aead = u.aead;
       scheme = u.scheme;
       served = u.served;
-      keys = k.0;
-      lies = l;
+      keys = u.keys;
+      lies = u.lies;
       fit = u.fit;
       short = u.fits;
-      goes = goes_of table k.0 u.scheme u.row work told.input (puts out) left worked;
+      goes = goes_of table u.keys u.scheme u.row work told.input (puts out) left worked;
       free = subst (IsFree out) w.files (name_free out w.made w.left (ap (λ (a : Answer). a.status) (sym (w.is (puts out))) ∙ worked));
     }
 
-envelope_comes : (table : Table) (name : List ℕ) (form : Format) (template : List ℕ) (work : AskedEnvelope) (out : Option (List ℕ)) (told : Told) → EnvelopeIsDone table name form template work out told → IsDoneAnswer (answer (command_plan table (use_envelope None name form template work out)) told)
-envelope_comes table name form template work out told x =
-    let l = x.lies in
+envelope_comes : (table : Table) (lock : Lock) (name : List ℕ) (form : Format) (template : List ℕ) (work : AskedEnvelope) (out : Option (List ℕ)) (told : Told) → EnvelopeIsDone table lock name form template work out told → IsDoneAnswer (answer (command_plan table (use_envelope lock name form template work out)) told)
+envelope_comes table lock name form template work out told x =
     let left = record told { input = [] } in
-    let reached = used_reached table name form template x.row x.scheme work (puts out) l.bytes x.keys told x.named x.aead x.served l.there l.read l.within x.fit x.short in
+    let reached = used_reached table lock name form template x.row x.scheme work (puts out) x.keys told x.named x.aead x.served x.lies x.fit x.short in
     let steps = envelopes table x.keys x.scheme x.row work told.input in
     let w = envelope_worked table x.keys x.scheme x.row work told.input writes left (done_of table x.keys x.scheme x.row work told.input left x.goes) in
     let p = made_put steps left false out (answer (steps writes) left).output w refl x.free in
     ap (λ (a : Answer). a.status) reached ∙ p.0
 
 pub envelopes_done : EnvelopesDone
-envelopes_done table name form template work out told = (envelope_is table name form template work out told, envelope_comes table name form template work out told)
+envelopes_done table lock name form template work out told = (envelope_is table lock name form template work out told, envelope_comes table lock name form template work out told)

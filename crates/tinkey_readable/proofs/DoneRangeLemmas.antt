@@ -12,13 +12,13 @@ use Rattle.tinkey_plans.specs.Ranging.{opens_stretch, stretch_for, with_stretch}
 use Rattle.tinkey_plans.specs.Steps.{puts}
 use Rattle.tinkey_plans.specs.Stretch.{Opened, stretch_in}
 use Rattle.tinkey_words.specs.declared.words.rows.Format.{Format}
-use Rattle.tinkey_words.specs.Words.{AskedRange, open_range}
+use Rattle.tinkey_words.specs.Words.{AskedRange, Lock, open_range}
 use Rattle.tinkey_readable.specs.DoneWhere.{RangeOpens, RangesDone}
 use Rattle.tinkey_readable.specs.Runs.{IsFree}
-use Rattle.tinkey_readable.proofs.DoneWhereLemmas.{loads_there, name_free}
+use Rattle.tinkey_readable.proofs.LyingLemmas.{name_free}
 use Rattle.tinkey_readable.proofs.RangeRunLemmas.{puts_reached, stretch_reached}
 use Rattle.tinkey_readable.proofs.ReachLemmas.{IsDoneAnswer}
-use Rattle.tinkey_readable.proofs.StreamRunLemmas.{behind_keyset, keys_loaded, keys_reached, with_primary}
+use Rattle.tinkey_readable.proofs.StreamRunLemmas.{keys_loaded, keys_reached, with_primary}
 
 -- the stream and the plaintext, where what follows the keys is done
 record Stretched (keys : KeysForStreams) (ad : List ℕ) (range : AskedRange) (out : Option (List ℕ)) (told : Told) : Type 0 where
@@ -40,21 +40,18 @@ stretched keys ad range out told done = by_file (map.get told.files range.file) 
     by_file None holds done = absurd (cc)
     by_file (Some stream) holds done = by_range stream (stretch_in (stretch_for keys ad range) stream) holds refl done
 
-range_is : (table : Table) (name : List ℕ) (form : Format) (ad : List ℕ) (range : AskedRange) (out : Option (List ℕ)) (told : Told) → IsDoneAnswer (answer (command_plan table (open_range None name form ad range out)) told) → RangeOpens name form ad range out told
-range_is table name form ad range out told is =
-    let k = loads_there name form (behind_keyset (λ s. opens_stretch s ad range (puts out))) told is in
-    let l = k.1 in
-    let u = keys_loaded table name form l.bytes k.0 (λ s. opens_stretch s ad range (puts out)) told l.there l.read is in
-    let s = stretched (with_primary k.0 u.primary) ad range out told (ap (λ (a : Answer). a.status) (sym u.goes_on) ∙ is) in
-    record { keys = k.0; lies = l; fit = u.fit; primary = u.primary; there = u.there; stream = s.stream; holds = s.holds; plain = s.plain; opens = s.opens; free = s.free }
+range_is : (table : Table) (lock : Lock) (name : List ℕ) (form : Format) (ad : List ℕ) (range : AskedRange) (out : Option (List ℕ)) (told : Told) → IsDoneAnswer (answer (command_plan table (open_range lock name form ad range out)) told) → RangeOpens table lock name form ad range out told
+range_is table lock name form ad range out told is =
+    let u = keys_loaded table lock name form (λ s. opens_stretch s ad range (puts out)) told is in
+    let s = stretched (with_primary u.keys u.primary) ad range out told (ap (λ (a : Answer). a.status) (sym u.goes_on) ∙ is) in
+    record { keys = u.keys; lies = u.lies; fit = u.fit; primary = u.primary; there = u.there; stream = s.stream; holds = s.holds; plain = s.plain; opens = s.opens; free = s.free }
 
-range_comes : (table : Table) (name : List ℕ) (form : Format) (ad : List ℕ) (range : AskedRange) (out : Option (List ℕ)) (told : Told) → RangeOpens name form ad range out told → IsDoneAnswer (answer (command_plan table (open_range None name form ad range out)) told)
-range_comes table name form ad range out told x =
-    let l = x.lies in
+range_comes : (table : Table) (lock : Lock) (name : List ℕ) (form : Format) (ad : List ℕ) (range : AskedRange) (out : Option (List ℕ)) (told : Told) → RangeOpens table lock name form ad range out told → IsDoneAnswer (answer (command_plan table (open_range lock name form ad range out)) told)
+range_comes table lock name form ad range out told x =
     let keys = with_primary x.keys x.primary in
-    let reached = keys_reached table name form l.bytes x.keys x.primary (λ s. opens_stretch s ad range (puts out)) told l.there l.read l.within x.fit x.there in
+    let reached = keys_reached table lock name form x.keys x.primary (λ s. opens_stretch s ad range (puts out)) told x.lies x.fit x.there in
     let stretch = stretch_reached keys ad x.stream range out told (Ok x.plain) x.holds x.opens in
     ap (λ (a : Answer). a.status) (reached ∙ stretch) ∙ puts_reached out x.plain told x.free
 
 pub ranges_done : RangesDone
-ranges_done table name form ad range out told = (range_is table name form ad range out told, range_comes table name form ad range out told)
+ranges_done table lock name form ad range out told = (range_is table lock name form ad range out told, range_comes table lock name form ad range out told)

@@ -15,11 +15,10 @@ use Rattle.tinkey_plans.specs.Plan.{Answer, Told, answer, draw_answer, pump_answ
 use Rattle.tinkey_plans.specs.Steps.{with_made}
 use Rattle.tinkey_plans.specs.Streaming.{opens_stream, seals_stream}
 use Rattle.tinkey_words.specs.declared.words.rows.Format.{Format}
-use Rattle.tinkey_words.specs.Words.{open_stream, seal_stream}
+use Rattle.tinkey_words.specs.Words.{Lock, open_stream, seal_stream}
 use Rattle.tinkey_readable.specs.DoneWhere.{StreamOpens, StreamSeals, StreamsDone}
-use Rattle.tinkey_readable.proofs.DoneWhereLemmas.{loads_there}
 use Rattle.tinkey_readable.proofs.ReachLemmas.{IsDoneAnswer}
-use Rattle.tinkey_readable.proofs.StreamRunLemmas.{behind_keyset, keys_loaded, keys_reached, with_primary}
+use Rattle.tinkey_readable.proofs.StreamRunLemmas.{keys_loaded, keys_reached, with_primary}
 
 -- ---- sealing
 
@@ -68,35 +67,29 @@ opens_done keys ad told none = ap (λ o. (pump_answer (opening_any (ciphers_of a
 
 -- ---- the whole
 
-seal_is : (table : Table) (name : List ℕ) (form : Format) (ad : List ℕ) (told : Told) → IsDoneAnswer (answer (command_plan table (seal_stream None name form ad)) told) → StreamSeals name form ad told
-seal_is table name form ad told is =
-    let k = loads_there name form (behind_keyset (λ s. seals_stream s ad)) told is in
-    let l = k.1 in
-    let u = keys_loaded table name form l.bytes k.0 (λ s. seals_stream s ad) told l.there l.read is in
-    let s = seals_where (with_primary k.0 u.primary) ad told (ap (λ (a : Answer). a.status) (sym u.goes_on) ∙ is) in
-    record { keys = k.0; lies = l; fit = u.fit; primary = u.primary; there = u.there; enough = s.0; few = s.1 }
+seal_is : (table : Table) (lock : Lock) (name : List ℕ) (form : Format) (ad : List ℕ) (told : Told) → IsDoneAnswer (answer (command_plan table (seal_stream lock name form ad)) told) → StreamSeals table lock name form ad told
+seal_is table lock name form ad told is =
+    let u = keys_loaded table lock name form (λ s. seals_stream s ad) told is in
+    let s = seals_where (with_primary u.keys u.primary) ad told (ap (λ (a : Answer). a.status) (sym u.goes_on) ∙ is) in
+    record { keys = u.keys; lies = u.lies; fit = u.fit; primary = u.primary; there = u.there; enough = s.0; few = s.1 }
 
-seal_comes : (table : Table) (name : List ℕ) (form : Format) (ad : List ℕ) (told : Told) → StreamSeals name form ad told → IsDoneAnswer (answer (command_plan table (seal_stream None name form ad)) told)
-seal_comes table name form ad told x =
-    let l = x.lies in
-    ap (λ (a : Answer). a.status) (keys_reached table name form l.bytes x.keys x.primary (λ s. seals_stream s ad) told l.there l.read l.within x.fit x.there)
+seal_comes : (table : Table) (lock : Lock) (name : List ℕ) (form : Format) (ad : List ℕ) (told : Told) → StreamSeals table lock name form ad told → IsDoneAnswer (answer (command_plan table (seal_stream lock name form ad)) told)
+seal_comes table lock name form ad told x =
+    ap (λ (a : Answer). a.status) (keys_reached table lock name form x.keys x.primary (λ s. seals_stream s ad) told x.lies x.fit x.there)
     ∙ seals_done (with_primary x.keys x.primary) ad told x.enough x.few
 
-open_is : (table : Table) (name : List ℕ) (form : Format) (ad : List ℕ) (told : Told) → IsDoneAnswer (answer (command_plan table (open_stream None name form ad)) told) → StreamOpens name form ad told
-open_is table name form ad told is =
-    let k = loads_there name form (behind_keyset (λ s. opens_stream s ad)) told is in
-    let l = k.1 in
-    let u = keys_loaded table name form l.bytes k.0 (λ s. opens_stream s ad) told l.there l.read is in
-    record { keys = k.0; lies = l; fit = u.fit; primary = u.primary; there = u.there; opens = opens_where (with_primary k.0 u.primary) ad told (ap (λ (a : Answer). a.status) (sym u.goes_on) ∙ is) }
+open_is : (table : Table) (lock : Lock) (name : List ℕ) (form : Format) (ad : List ℕ) (told : Told) → IsDoneAnswer (answer (command_plan table (open_stream lock name form ad)) told) → StreamOpens table lock name form ad told
+open_is table lock name form ad told is =
+    let u = keys_loaded table lock name form (λ s. opens_stream s ad) told is in
+    record { keys = u.keys; lies = u.lies; fit = u.fit; primary = u.primary; there = u.there; opens = opens_where (with_primary u.keys u.primary) ad told (ap (λ (a : Answer). a.status) (sym u.goes_on) ∙ is) }
 
-open_comes : (table : Table) (name : List ℕ) (form : Format) (ad : List ℕ) (told : Told) → StreamOpens name form ad told → IsDoneAnswer (answer (command_plan table (open_stream None name form ad)) told)
-open_comes table name form ad told x =
-    let l = x.lies in
-    ap (λ (a : Answer). a.status) (keys_reached table name form l.bytes x.keys x.primary (λ s. opens_stream s ad) told l.there l.read l.within x.fit x.there)
+open_comes : (table : Table) (lock : Lock) (name : List ℕ) (form : Format) (ad : List ℕ) (told : Told) → StreamOpens table lock name form ad told → IsDoneAnswer (answer (command_plan table (open_stream lock name form ad)) told)
+open_comes table lock name form ad told x =
+    ap (λ (a : Answer). a.status) (keys_reached table lock name form x.keys x.primary (λ s. opens_stream s ad) told x.lies x.fit x.there)
     ∙ opens_done (with_primary x.keys x.primary) ad told x.opens
 
 pub streams_done : StreamsDone
 streams_done = record {
-  sealed = λ table name form ad told. (seal_is table name form ad told, seal_comes table name form ad told);
-  opened = λ table name form ad told. (open_is table name form ad told, open_comes table name form ad told);
+  sealed = λ table lock name form ad told. (seal_is table lock name form ad told, seal_comes table lock name form ad told);
+  opened = λ table lock name form ad told. (open_is table lock name form ad told, open_comes table lock name form ad told);
 }

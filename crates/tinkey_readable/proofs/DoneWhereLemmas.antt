@@ -1,101 +1,34 @@
 -- Where edits and work by keys are answered Done.
-use Rattle.std.proofs.Common.{arith, ◌≡◌, ◌∙◌, sym, refl, ap, subst, ℕ, ◌+◌, ◌≤◌, Bool, true, false, List, [], length, nat_le, Option, Some, None, option_map, Result, Ok, Err}
-use Rattle.std.specs.Prelude.{IsSome, drop, if◌then◌else◌}
-use Rattle.std.specs.FinMap as map
-use Rattle.std.specs.Result.{result_ok}
-use Rattle.std.proofs.lemmas.Bool.Decides.{nat_tests}
+use Rattle.std.proofs.Common.{◌≡◌, ◌∙◌, sym, refl, ap, subst, ℕ, ◌≤◌, Bool, true, false, List, [], length, Option, Some, None, option_map, Result, Ok, Err}
+use Rattle.std.specs.Prelude.{IsSome}
 use Rattle.std.proofs.lemmas.Option.{same_Some}
-use Rattle.key_msgs.specs.Templates.{row_named}
-use Rattle.keyset_json.specs.Reading.{reads_json}
-use Rattle.keyset_json.specs.Reading as json
+use Rattle.key_msgs.specs.Templates.{Row, row_named}
 use Rattle.keyset_model.specs.Keyset.{Keys}
 use Rattle.keyset_model.specs.Listing.{info_of}
-use Rattle.keyset_model.specs.Reading.{reads_binary}
-use Rattle.keyset_model.specs.Reading as binary
 use Rattle.managers.specs.Table.{Table}
 use Rattle.managers.specs.Uses.{iv_size}
 use Rattle.tinkey_cmds.specs.Draws.{Draw, Drawn}
-use Rattle.tinkey_cmds.specs.Edits.{Edit, Stepped, first, step}
+use Rattle.tinkey_cmds.specs.Edits.{Edit, first, step}
 use Rattle.tinkey_cmds.specs.Edits as edits
 use Rattle.tinkey_session.proofs.Options.{no_truth, then_some}
 use Rattle.wrapped_prims.specs.Answers.{Sealed, derive_answer, dopen_answer, open_answer, seal_answer, verify_answer}
-use Rattle.wrapped_prims.specs.Fitness.{unfit}
 use Rattle.tinkey_plans.specs.declared.status.Status.TheVariants as status
 use Rattle.tinkey_plans.specs.Commands.{command_plan}
 use Rattle.tinkey_plans.specs.Going.{FitKeysetsSeal}
+use Rattle.tinkey_plans.specs.Handles.{handles, unless_unfit}
 use Rattle.tinkey_plans.specs.Laws.{FitKeysetsAnswer, IsFit}
-use Rattle.tinkey_plans.specs.Plan.{Answer, Plan, Told, answer, create_answer, draw_answer, ends, load_answer, refused, writes}
-use Rattle.tinkey_plans.specs.Steps.{finds_edit, finds_template, keyset_at, keyset_in, keyset_limit, loads_keyset, makes_keyset, puts, puts_keyset, reads_input, reads_keyset, takes_keyset, with_json, with_keyset, with_made, with_row, works_out, written_in}
-use Rattle.tinkey_plans.specs.Handles.{handles}
+use Rattle.tinkey_plans.specs.Locks.{opens_lock, opens_new_lock, puts_under, takes_under}
+use Rattle.tinkey_plans.specs.Plan.{Answer, Plan, Told, answer, draw_answer, refused, writes}
+use Rattle.tinkey_plans.specs.Steps.{finds_edit, makes_keyset, puts, with_made, with_row, works_out}
 use Rattle.tinkey_plans.specs.Using.{as_drawn, hex_line, limit_for, puts_output, shows, with_derived, with_opened, with_verified, works}
-use Rattle.tinkey_words.specs.declared.words.rows.Format.{Format}
-use Rattle.tinkey_words.specs.declared.words.rows.Format.TheVariants as formats
-use Rattle.tinkey_words.specs.Words.{AskedEdit, AskedWork, Place, use_keyset, to_seal, to_open, to_dseal, to_dopen, to_tag, to_verify, to_derive, primitive_for}
-use Rattle.tinkey_readable.specs.DoneWhere.{ConvertGoes, CreateGoes, EditGoes, EditsDone, LiesThere, WorkGoes, WorkIsDone, WorksDone}
-use Rattle.tinkey_readable.specs.Runs.{IsFree, bytes_at, edit_of, read_in}
+use Rattle.tinkey_words.specs.Words.{AskedEdit, AskedWork, Lock, NewLock, Output, Place, convert_keyset, create_keyset, edit_keyset, use_keyset, to_seal, to_open, to_dseal, to_dopen, to_tag, to_verify, to_derive, primitive_for}
+use Rattle.tinkey_readable.specs.DoneWhere.{ConvertGoes, CreateGoes, EditGoes, EditsDone, WorkGoes, WorkIsDone, WorksDone}
+use Rattle.tinkey_readable.specs.Lying.{FitsThere}
+use Rattle.tinkey_readable.specs.Runs.{IsFree, edit_of}
+use Rattle.tinkey_readable.proofs.LyingLemmas.{behind_faultless, behind_reached, behind_there, loads_reached, loads_there, lock_reached, lock_there, name_free, new_lock_reached, new_lock_there, put_comes, put_there, takes_reached, takes_there}
 use Rattle.tinkey_readable.proofs.PutLemmas.{made_put, worked}
-use Rattle.tinkey_readable.proofs.ReachLemmas.{IsDoneAnswer, behind, found_edit, found_row, keyset_reached, load_reached, load_within, loaded, made_done, put_done, taken_within, used_done, used_reached, went_done, went_on}
-use Rattle.tinkey_readable.proofs.RunLemmas.{read_faultless}
-use Rattle.tinkey_readable.proofs.WrappedRunLemmas.{behind_files, behind_random, put_reached}
-
--- ---- a keyset
-
-read_there : (form : Format) (bytes : List ℕ) (next : Keys → Plan) (told : Told) → IsDoneAnswer (answer (keyset_in form bytes next) told) → (keys : Keys) × (read_in form bytes ≡ Some keys)
-read_there formats.Json bytes next told done = by (reads_json bytes) done
-  where
-    by : (r : Result Keys json.Refusal) → IsDoneAnswer (answer (with_json r next) told) → (keys : Keys) × (result_ok r ≡ Some keys)
-    by (Ok keys) done = (keys, refl)
-    by (Err json.NotJson) done = absurd (cc)
-    by (Err (json.Shape path)) done = absurd (cc)
-    by (Err (json.Fault fault)) done = absurd (cc)
-read_there formats.Binary bytes next told done = by (reads_binary bytes) done
-  where
-    by : (r : Result Keys binary.Refusal) → IsDoneAnswer (answer (with_keyset r next) told) → (keys : Keys) × (result_ok r ≡ Some keys)
-    by (Ok keys) done = (keys, refl)
-    by (Err (binary.Wire at)) done = absurd (cc)
-    by (Err (binary.Fault fault)) done = absurd (cc)
-
-pub loads_there : (name : List ℕ) (form : Format) (next : Keys → Plan) (told : Told) → IsDoneAnswer (answer (loads_keyset name form next) told) → (keys : Keys) × LiesThere (record { file = Some name; form = form }) told keys
-loads_there name form next told done = by (map.get told.files name) refl done
-  where
-    go : List ℕ → Answer
-    go b = answer (keyset_in form b next) told
-
-    by : (found : Option (List ℕ)) → map.get told.files name ≡ found → IsDoneAnswer (load_answer found keyset_limit (refused told status.InMissing) (refused told status.KeysetTooLong) go) → (keys : Keys) × LiesThere (record { file = Some name; form = form }) told keys
-    by None is gone = absurd (cc)
-    by (Some bytes) is gone =
-        let within = load_within name form bytes next told is done in
-        let went = loaded (map.get told.files name) bytes keyset_limit (refused told status.InMissing) (refused told status.KeysetTooLong) go is within in
-        let k = read_there form bytes next told (ap (λ (a : Answer). a.status) (sym went) ∙ done) in
-        (k.0, record { bytes = bytes; there = is; within = within; read = k.1 })
-
-reads_there : (form : Format) (next : Keys → Plan) (told : Told) → IsDoneAnswer (answer (reads_keyset form next) told) → (keys : Keys) × LiesThere (record { file = None; form = form }) told keys
-reads_there form next told done =
-    let went = went_done (nat_le (length told.input) keyset_limit) (answer (keyset_in form told.input next) (record told { input = [] })) (record (refused told status.KeysetTooLong) { input = Some (drop (keyset_limit + 1) told.input) }) (λ h. absurd (cc)) done in
-    let k = read_there form told.input next (record told { input = [] }) (ap (λ (a : Answer). a.status) (sym went) ∙ done) in
-    (k.0, record { bytes = told.input; there = refl; within = taken_within (record { file = None; form = form }) told.input next told refl done; read = k.1 })
-
-pub takes_there : (place : Place) (next : Keys → Plan) (told : Told) → IsDoneAnswer (answer (takes_keyset place next) told) → (keys : Keys) × LiesThere place told keys
-takes_there place next told done =
-    let k = by place.file done in
-    let l = k.1 in
-    (k.0, record { bytes = l.bytes; there = l.there; within = l.within; read = l.read })
-  where
-    by : (file : Option (List ℕ)) → IsDoneAnswer (answer (keyset_at file place.form next) told) → (keys : Keys) × LiesThere (record { file = file; form = place.form }) told keys
-    by (Some name) done = loads_there name place.form next told done
-    by None done = reads_there place.form next told done
-
-pub takes_reached : (place : Place) (keys : Keys) (next : Keys → Plan) (told : Told) → LiesThere place told keys → answer (takes_keyset place next) told ≡ answer (next keys) (behind place.file told)
-takes_reached place keys next told lies = by place.file lies.there
-  where
-    by : (file : Option (List ℕ)) → bytes_at file told.files told.input ≡ Some lies.bytes → answer (keyset_at file place.form next) told ≡ answer (next keys) (behind file told)
-    by (Some name) there = load_reached name place.form lies.bytes keys next told there lies.read lies.within
-    by None there =
-        let same : told.input ≡ lies.bytes = same_Some _ _ there in
-        let within : length told.input ≤ keyset_limit = subst (λ b. length b ≤ keyset_limit) (sym same) lies.within in
-        let test : nat_le (length told.input) keyset_limit ≡ true = grind (arith, nat_tests, within) in
-        went_on (nat_le (length told.input) keyset_limit) (answer (keyset_in place.form told.input next) (record told { input = [] })) (record (refused told status.KeysetTooLong) { input = Some (drop (keyset_limit + 1) told.input) }) test
-        ∙ keyset_reached place.form told.input keys next (record told { input = [] }) (ap (read_in place.form) same ∙ lies.read)
+use Rattle.tinkey_readable.proofs.ReachLemmas.{IsDoneAnswer, behind, found_edit, found_row, input_reached, made_done, use_done, work_behind}
+use Rattle.tinkey_readable.proofs.WrappedRunLemmas.{behind_files, behind_random}
 
 -- ---- edits
 
@@ -117,101 +50,134 @@ makes_reached give next told drawn new gave is =
     ap (λ o. draw_answer o (refused told status.EntropyFault) (λ (x : Drawn Keys). answer (with_made x.answer next) (record told { random = x.left }))) gave
     ∙ ap (λ r. answer (with_made r next) (record told { random = drawn.left })) is
 
--- bytes that were put, and the name was free
-pub name_free : (file : Option (List ℕ)) (bytes : List ℕ) (told : Told) → IsDoneAnswer (answer (puts file bytes) told) → IsFree file told.files
-name_free None bytes told done = tt
-name_free (Some name) bytes told done = by (map.get told.files name) done
-  where
-    by : (found : Option (List ℕ)) → IsDoneAnswer (create_answer found told name bytes (refused told status.OutExists)) → found ≡ None
-    by None done = refl
-    by (Some x) done = absurd (cc)
+abbrev edits_behind : Table → (in' out : Place) → Edit → Option Keys → Plan
+edits_behind table in' out edit master = takes_under table master in' (λ keys. makes_keyset (step keys edit) (puts_under table master out))
 
-pub keyset_free : (out : Place) (keys : Keys) (told : Told) → IsDoneAnswer (answer (puts_keyset out keys) told) → IsFree out.file told.files
-keyset_free out keys told done = name_free out.file (written_in out.form keys) told (ap (λ (a : Answer). a.status) (sym whole) ∙ done)
-  where
-    within : length (written_in out.form keys) ≤ keyset_limit
-    within = (put_done out keys told done).within
-
-    test : nat_le (length (written_in out.form keys)) keyset_limit ≡ true
-    test = let is = within in grind (arith, nat_tests, is)
-
-    whole : answer (puts_keyset out keys) told ≡ answer (puts out.file (written_in out.form keys)) told
-    whole = ap (λ (b : Bool). answer (if b then puts out.file (written_in out.form keys) else ends status.KeysetTooLong tt) told) test
-
-edit_goes : (table : Table) (asked : AskedEdit) (in' out : Place) (told : Told) → IsDoneAnswer (answer (finds_edit asked (λ e. takes_keyset in' (λ keys. makes_keyset (step keys e) (puts_keyset out)))) told) → EditGoes asked in' out told
-edit_goes table asked in' out told done =
-    let f = found_edit asked (λ e. takes_keyset in' (λ keys. makes_keyset (step keys e) (puts_keyset out))) told done in
-    let next : Keys → Plan = λ keys. makes_keyset (step keys f.edit) (puts_keyset out) in
-    let d : IsDoneAnswer (answer (takes_keyset in' next) told) = ap (λ (a : Answer). a.status) (sym f.goes_on) ∙ done in
-    let k = takes_there in' next told d in
-    let t = takes_reached in' k.0 next told k.1 in
+pub edit_goes : (table : Table) (lock : Lock) (asked : AskedEdit) (in' out : Place) (told : Told) → IsDoneAnswer (answer (command_plan table (edit_keyset lock asked in' out)) told) → EditGoes table lock asked in' out told
+edit_goes table lock asked in' out told done =
+    let f = found_edit asked (λ e. opens_lock table lock (edits_behind table in' out e)) told done in
+    let d1 : IsDoneAnswer (answer (opens_lock table lock (edits_behind table in' out f.edit)) told) = ap (λ (a : Answer). a.status) (sym f.goes_on) ∙ done in
+    let o = lock_there table lock (edits_behind table in' out f.edit) told d1 in
+    let opened = lock_reached table lock o.0 (edits_behind table in' out f.edit) told o.1 in
+    let next : Keys → Plan = λ keys. makes_keyset (step keys f.edit) (puts_under table o.0 out) in
+    let d2 : IsDoneAnswer (answer (takes_under table o.0 in' next) told) = ap (λ (a : Answer). a.status) (sym opened) ∙ d1 in
+    let k = takes_there table o.0 in' next told d2 in
+    let t = takes_reached table o.0 in' k.0 next told k.1 in
     let behind' = behind in'.file told in
-    let m = made_done (step k.0 f.edit) (puts_keyset out) behind' (ap (λ (a : Answer). a.status) (sym t) ∙ d) in
+    let m = made_done (step k.0 f.edit) (puts_under table o.0 out) behind' (ap (λ (a : Answer). a.status) (sym t) ∙ d2) in
     let left = record behind' { random = m.drawn.left } in
-    let put : IsDoneAnswer (answer (puts_keyset out m.new) left) = ap (λ (a : Answer). a.status) (sym (f.goes_on ∙ t ∙ m.goes_on)) ∙ done in
+    let put = put_there table o.0 out m.new left (ap (λ (a : Answer). a.status) (sym (f.goes_on ∙ opened ∙ t ∙ m.goes_on)) ∙ done) in
     record {
+      master = o.0;
+      opens = o.1;
       old = k.0;
       lies = k.1;
       new = m.new;
       accepted = record { edit = f.edit; is = f.is; stepped = m.drawn; steps = ap (step k.0 f.edit) (sym (behind_random in'.file told)) ∙ m.gave; accepted = m.made };
-      within = (put_done out m.new left put).within;
-      free = subst (IsFree out.file) (behind_files in'.file told) (keyset_free out m.new left put);
+      fits = put.0;
+      free = subst (IsFree out.file) (behind_files in'.file told) put.1;
     }
 
-edit_done : (table : Table) (asked : AskedEdit) (in' out : Place) (told : Told) → EditGoes asked in' out told → IsDoneAnswer (answer (finds_edit asked (λ e. takes_keyset in' (λ keys. makes_keyset (step keys e) (puts_keyset out)))) told)
-edit_done table asked in' out told x =
+-- the keyset that it makes is put
+pub edit_answers : (table : Table) (lock : Lock) (asked : AskedEdit) (in' out : Place) (told : Told) (x : EditGoes table lock asked in' out told)
+    → answer (command_plan table (edit_keyset lock asked in' out)) told ≡ answer (puts_under table x.master out x.new) (record (behind in'.file told) { random = x.accepted.stepped.left })
+edit_answers table lock asked in' out told x =
     let a = x.accepted in
-    let next : Edit → Keys → Plan = λ e keys. makes_keyset (step keys e) (puts_keyset out) in
-    let f = edit_reached asked a.edit (λ e. takes_keyset in' (next e)) told a.is in
-    let t = takes_reached in' x.old (next a.edit) told x.lies in
-    let behind' = behind in'.file told in
-    let m = makes_reached (step x.old a.edit) (puts_keyset out) behind' a.stepped x.new (ap (step x.old a.edit) (behind_random in'.file told) ∙ a.steps) a.accepted in
-    ap (λ (y : Answer). y.status) (f ∙ t ∙ m)
-    ∙ put_reached out x.new (record behind' { random = a.stepped.left }) x.within (subst (IsFree out.file) (sym (behind_files in'.file told)) x.free)
+    let f = edit_reached asked a.edit (λ e. opens_lock table lock (edits_behind table in' out e)) told a.is in
+    let o = lock_reached table lock x.master (edits_behind table in' out a.edit) told x.opens in
+    let t = takes_reached table x.master in' x.old (λ keys. makes_keyset (step keys a.edit) (puts_under table x.master out)) told x.lies in
+    f ∙ o ∙ t ∙ makes_reached (step x.old a.edit) (puts_under table x.master out) (behind in'.file told) a.stepped x.new (ap (step x.old a.edit) (behind_random in'.file told) ∙ a.steps) a.accepted
+
+edit_done : (table : Table) (lock : Lock) (asked : AskedEdit) (in' out : Place) (told : Told) → EditGoes table lock asked in' out told → IsDoneAnswer (answer (command_plan table (edit_keyset lock asked in' out)) told)
+edit_done table lock asked in' out told x =
+    ap (λ (y : Answer). y.status) (edit_answers table lock asked in' out told x)
+    ∙ put_comes table x.master out x.new (record (behind in'.file told) { random = x.accepted.stepped.left }) x.fits (subst (IsFree out.file) (sym (behind_files in'.file told)) x.free)
 
 -- the first keyset
-create_goes : (table : Table) (template : List ℕ) (out : Place) (told : Told) → IsDoneAnswer (answer (finds_template template (λ row. makes_keyset (first row) (puts_keyset out))) told) → CreateGoes template out told
-create_goes table template out told done =
-    let f = found_row (row_named template) template (λ row. makes_keyset (first row) (puts_keyset out)) told done in
-    let m = made_done (first f.0) (puts_keyset out) told (ap (λ (a : Answer). a.status) (sym f.2) ∙ done) in
-    let left = record told { random = m.drawn.left } in
-    let put : IsDoneAnswer (answer (puts_keyset out m.new) left) = ap (λ (a : Answer). a.status) (sym (f.2 ∙ m.goes_on)) ∙ done in
-    record { row = f.0; named = f.1; stepped = m.drawn; steps = m.gave; new = m.new; accepted = m.made; within = (put_done out m.new left put).within; free = keyset_free out m.new left put }
+abbrev creates_behind : Table → Place → Row → Option Keys → Plan
+creates_behind table out row master = makes_keyset (first row) (puts_under table master out)
 
-create_done : (table : Table) (template : List ℕ) (out : Place) (told : Told) → CreateGoes template out told → IsDoneAnswer (answer (finds_template template (λ row. makes_keyset (first row) (puts_keyset out))) told)
-create_done table template out told x =
-    ap (λ o. (answer (with_row o template (λ row. makes_keyset (first row) (puts_keyset out))) told).status) x.named
-    ∙ ap (λ (a : Answer). a.status) (makes_reached (first x.row) (puts_keyset out) told x.stepped x.new x.steps x.accepted)
-    ∙ put_reached out x.new (record told { random = x.stepped.left }) x.within x.free
+pub create_goes : (table : Table) (lock : Lock) (template : List ℕ) (out : Place) (told : Told) → IsDoneAnswer (answer (command_plan table (create_keyset lock template out)) told) → CreateGoes table lock template out told
+create_goes table lock template out told done =
+    let f = found_row (row_named template) template (λ row. opens_lock table lock (creates_behind table out row)) told done in
+    let d1 : IsDoneAnswer (answer (opens_lock table lock (creates_behind table out f.0)) told) = ap (λ (a : Answer). a.status) (sym f.2) ∙ done in
+    let o = lock_there table lock (creates_behind table out f.0) told d1 in
+    let opened = lock_reached table lock o.0 (creates_behind table out f.0) told o.1 in
+    let m = made_done (first f.0) (puts_under table o.0 out) told (ap (λ (a : Answer). a.status) (sym opened) ∙ d1) in
+    let put = put_there table o.0 out m.new (record told { random = m.drawn.left }) (ap (λ (a : Answer). a.status) (sym (f.2 ∙ opened ∙ m.goes_on)) ∙ done) in
+    record {
+      master = o.0;
+      opens = o.1;
+      new = m.new;
+      created = record { row = f.0; named = f.1; stepped = m.drawn; steps = m.gave; accepted = m.made };
+      fits = put.0;
+      free = put.1;
+    }
 
--- another form
-convert_goes : (table : Table) (in' out : Place) (told : Told) → IsDoneAnswer (answer (takes_keyset in' (puts_keyset out)) told) → ConvertGoes in' out told
-convert_goes table in' out told done =
-    let k = takes_there in' (puts_keyset out) told done in
+pub create_answers : (table : Table) (lock : Lock) (template : List ℕ) (out : Place) (told : Told) (x : CreateGoes table lock template out told)
+    → answer (command_plan table (create_keyset lock template out)) told ≡ answer (puts_under table x.master out x.new) (record told { random = x.created.stepped.left })
+create_answers table lock template out told x =
+    let c = x.created in
+    ap (λ o. answer (with_row o template (λ row. opens_lock table lock (creates_behind table out row))) told) c.named
+    ∙ lock_reached table lock x.master (creates_behind table out c.row) told x.opens
+    ∙ makes_reached (first c.row) (puts_under table x.master out) told c.stepped x.new c.steps c.accepted
+
+create_done : (table : Table) (lock : Lock) (template : List ℕ) (out : Place) (told : Told) → CreateGoes table lock template out told → IsDoneAnswer (answer (command_plan table (create_keyset lock template out)) told)
+create_done table lock template out told x =
+    ap (λ (a : Answer). a.status) (create_answers table lock template out told x)
+    ∙ put_comes table x.master out x.new (record told { random = x.created.stepped.left }) x.fits x.free
+
+-- another form or another master
+abbrev converts_behind : Table → (in' out : Place) → (taken put : Option Keys) → Plan
+converts_behind table in' out taken put = takes_under table taken in' (puts_under table put out)
+
+pub convert_goes : (table : Table) (lock : Lock) (new : NewLock) (in' out : Place) (told : Told) → IsDoneAnswer (answer (command_plan table (convert_keyset lock new in' out)) told) → ConvertGoes table lock new in' out told
+convert_goes table lock new in' out told done =
+    let relocks : Option Keys → Plan = λ taken. opens_new_lock table new taken (converts_behind table in' out taken) in
+    let o = lock_there table lock relocks told done in
+    let opened = lock_reached table lock o.0 relocks told o.1 in
+    let d1 : IsDoneAnswer (answer (relocks o.0) told) = ap (λ (a : Answer). a.status) (sym opened) ∙ done in
+    let n = new_lock_there table new o.0 (converts_behind table in' out o.0) told d1 in
+    let relocked = new_lock_reached table new o.0 n.0 (converts_behind table in' out o.0) told n.1 in
+    let d2 : IsDoneAnswer (answer (converts_behind table in' out o.0 n.0) told) = ap (λ (a : Answer). a.status) (sym relocked) ∙ d1 in
+    let k = takes_there table o.0 in' (puts_under table n.0 out) told d2 in
     let behind' = behind in'.file told in
-    let put : IsDoneAnswer (answer (puts_keyset out k.0) behind') = ap (λ (a : Answer). a.status) (sym (takes_reached in' k.0 (puts_keyset out) told k.1)) ∙ done in
-    record { keys = k.0; lies = k.1; within = (put_done out k.0 behind' put).within; free = subst (IsFree out.file) (behind_files in'.file told) (keyset_free out k.0 behind' put) }
+    let put = put_there table n.0 out k.0 behind' (ap (λ (a : Answer). a.status) (sym (takes_reached table o.0 in' k.0 (puts_under table n.0 out) told k.1)) ∙ d2) in
+    record {
+      taken = o.0;
+      opens = o.1;
+      put = n.0;
+      opens_new = n.1;
+      keys = k.0;
+      lies = k.1;
+      fits = subst (FitsThere table n.0 out.form k.0) (behind_random in'.file told) put.0;
+      free = subst (IsFree out.file) (behind_files in'.file told) put.1;
+    }
 
-convert_done : (table : Table) (in' out : Place) (told : Told) → ConvertGoes in' out told → IsDoneAnswer (answer (takes_keyset in' (puts_keyset out)) told)
-convert_done table in' out told x =
-    ap (λ (a : Answer). a.status) (takes_reached in' x.keys (puts_keyset out) told x.lies)
-    ∙ put_reached out x.keys (behind in'.file told) x.within (subst (IsFree out.file) (sym (behind_files in'.file told)) x.free)
+pub convert_answers : (table : Table) (lock : Lock) (new : NewLock) (in' out : Place) (told : Told) (x : ConvertGoes table lock new in' out told)
+    → answer (command_plan table (convert_keyset lock new in' out)) told ≡ answer (puts_under table x.put out x.keys) (behind in'.file told)
+convert_answers table lock new in' out told x =
+    lock_reached table lock x.taken (λ taken. opens_new_lock table new taken (converts_behind table in' out taken)) told x.opens
+    ∙ new_lock_reached table new x.taken x.put (converts_behind table in' out x.taken) told x.opens_new
+    ∙ takes_reached table x.taken in' x.keys (puts_under table x.put out) told x.lies
+
+convert_done : (table : Table) (lock : Lock) (new : NewLock) (in' out : Place) (told : Told) → ConvertGoes table lock new in' out told → IsDoneAnswer (answer (command_plan table (convert_keyset lock new in' out)) told)
+convert_done table lock new in' out told x =
+    ap (λ (a : Answer). a.status) (convert_answers table lock new in' out told x)
+    ∙ put_comes table x.put out x.keys (behind in'.file told) (subst (FitsThere table x.put out.form x.keys) (sym (behind_random in'.file told)) x.fits) (subst (IsFree out.file) (sym (behind_files in'.file told)) x.free)
 
 abbrev lists : Keys → Plan
 lists keys = works_out (info_of keys) writes
 
 pub edits_done : EditsDone
 edits_done = record {
-  edited = λ table asked in' out told. (edit_goes table asked in' out told, edit_done table asked in' out told);
-  created = λ table template out told. (create_goes table template out told, create_done table template out told);
-  converted = λ table in' out told. (convert_goes table in' out told, convert_done table in' out told);
-  listed = λ table in' told. (takes_there in' lists told, λ x. ap (λ (a : Answer). a.status) (takes_reached in' x.0 lists told x.1));
+  edited = λ table lock asked in' out told. (edit_goes table lock asked in' out told, edit_done table lock asked in' out told);
+  created = λ table lock template out told. (create_goes table lock template out told, create_done table lock template out told);
+  converted = λ table lock new in' out told. (convert_goes table lock new in' out told, convert_done table lock new in' out told);
+  listed = λ table lock in' told. (behind_there table lock in' lists told, λ x. ap (λ (a : Answer). a.status) (behind_reached table lock in' x.0 lists told x.1));
 }
 
 -- ---- work on a whole input
-
-fit_of : (table : Table) (form : Format) (bytes : List ℕ) (keys : Keys) (work : AskedWork) → read_in form bytes ≡ Some keys → unfit keys (primitive_for work) table ≡ None → IsFit table (primitive_for work) keys
-fit_of table form bytes keys work read fit = record { faultless = read_faultless (record { bytes = bytes; form = form }) keys read; fit = fit }
 
 pub opened_goes : (o : Option (List ℕ)) (next : List ℕ → Plan) (told : Told) → IsDoneAnswer (answer (with_opened o next) told) → (plain : List ℕ) × (o ≡ Some plain)
 opened_goes (Some plain) next told done = (plain, refl)
@@ -263,36 +229,45 @@ shown_free : (hex : Bool) (file : Option (List ℕ)) (bytes : List ℕ) (told : 
 shown_free false file bytes told done = name_free file bytes told done
 shown_free true file bytes told done = name_free file (hex_line bytes) told done
 
+-- the steps behind the keyset
+abbrev uses : Table → AskedWork → Output → Keys → Plan
+uses table work out keys = handles table (primitive_for work) keys (λ fit. work_behind table keys work (puts_output out))
+
 pub works_done : FitKeysetsAnswer → FitKeysetsSeal → WorksDone
-works_done answers seals table name form work out told = (goes, done)
+works_done answers seals table lock name form work out told = (goes, done)
   where
     a : Answer
-    a = answer (command_plan table (use_keyset None name form work out)) told
+    a = answer (command_plan table (use_keyset lock name form work out)) told
 
     left : Told
     left = record told { input = [] }
 
-    goes : IsDoneAnswer a → WorkIsDone table name form work out told
+    place : Place
+    place = record { file = Some name; form = form }
+
+    goes : IsDoneAnswer a → WorkIsDone table lock name form work out told
     goes is =
-        let k = loads_there name form (λ keys. handles table (primitive_for work) keys (λ fit. reads_input (limit_for work) (λ input. works table keys work input (puts_output out)))) told is in
-        let l = k.1 in
-        let u = used_done table name form work (puts_output out) l.bytes k.0 told l.there l.read is in
-        let worked' : IsDoneAnswer (answer (works table k.0 work told.input (puts_output out)) left) = ap (λ (x : Answer). x.status) (sym u.goes_on) ∙ is in
+        let k = loads_there table lock name form (uses table work out) told is in
+        let r = loads_reached table lock name form k.0 (uses table work out) told k.1 in
+        let u = use_done table work (puts_output out) k.0 told (ap (λ (x : Answer). x.status) (sym r) ∙ is) in
+        let worked' : IsDoneAnswer (answer (works table k.0 work told.input (puts_output out)) left) = ap (λ (x : Answer). x.status) (sym (r ∙ u.goes_on)) ∙ is in
         let w = worked table k.0 work told.input (puts_output out) left worked' in
         record {
           keys = k.0;
-          lies = l;
+          lies = k.1;
           fit = u.fit;
           short = u.fits;
-          goes = work_goes answers seals table k.0 work told.input (puts_output out) left (fit_of table form l.bytes k.0 work l.read u.fit) worked';
+          goes = work_goes answers seals table k.0 work told.input (puts_output out) left (record { faultless = behind_faultless table lock place told k.0 k.1; fit = u.fit }) worked';
           free = subst (IsFree out.file) w.files (shown_free out.hex out.file w.made w.left (ap (λ (x : Answer). x.status) (sym (w.is (puts_output out))) ∙ worked'));
         }
 
-    done : WorkIsDone table name form work out told → IsDoneAnswer a
+    done : WorkIsDone table lock name form work out told → IsDoneAnswer a
     done x =
-        let l = x.lies in
-        let r = used_reached table name form work (puts_output out) l.bytes x.keys told l.there l.read l.within x.fit x.short in
-        let d = work_done seals table x.keys work told.input left (fit_of table form l.bytes x.keys work l.read x.fit) x.goes in
+        let next : List ℕ → Plan = λ input. works table x.keys work input (puts_output out) in
+        let r = loads_reached table lock name form x.keys (uses table work out) told x.lies
+        ∙ ap (λ u. answer (unless_unfit u (work_behind table x.keys work (puts_output out))) told) x.fit
+        ∙ input_reached (limit_for work) next told x.short in
+        let d = work_done seals table x.keys work told.input left (record { faultless = behind_faultless table lock place told x.keys x.lies; fit = x.fit }) x.goes in
         let w = worked table x.keys work told.input writes left d in
         let p = made_put (works table x.keys work told.input) left out.hex out.file (answer (works table x.keys work told.input writes) left).output w refl x.free in
         ap (λ (y : Answer). y.status) r ∙ p.0

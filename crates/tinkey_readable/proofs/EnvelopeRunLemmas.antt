@@ -1,7 +1,6 @@
 -- Envelopes that were sealed before runs, and opened after them.
 use Rattle.std.proofs.Common.{◌≡◌, ◌∙◌, sym, refl, ap, subst, ℕ, ◌≤◌, Bool, true, false, List, [], length, Option, Some, None, Result, Ok, Err}
 use Rattle.std.specs.Prelude.{if◌then◌else◌, option_map}
-use Rattle.std.specs.FinMap as map
 use Rattle.std.proofs.lemmas.Option.{same_Some}
 use Rattle.key_msgs.specs.KeyTypes.{primitive_of_type}
 use Rattle.key_msgs.specs.Templates.{Row, is_asymmetric, row_named, type_made}
@@ -23,13 +22,15 @@ use Rattle.tinkey_plans.proofs.AnswerLemmas.{has_key}
 use Rattle.wrapped_prims.specs.Laws.{GivesKeyFor, IsKeyset}
 use Rattle.tinkey_plans.specs.declared.status.Status.TheVariants as status
 use Rattle.tinkey_words.specs.declared.words.rows.Format.{Format}
-use Rattle.tinkey_words.specs.Words.{AskedEnvelope, to_eseal}
+use Rattle.tinkey_words.specs.Words.{AskedEnvelope, Lock, to_eseal}
+use Rattle.tinkey_plans.specs.Locks.{loads_locked}
 use Rattle.tinkey_plans.specs.Envelopes.{as_enveloped, envelope_limit, envelope_output, envelopes, finds_dek, finds_scheme, with_aead, with_enveloped, with_scheme}
 use Rattle.tinkey_plans.specs.Plan.{Answer, Plan, Told, answer, draw_answer, ends, refused, writes}
-use Rattle.tinkey_plans.specs.Steps.{keyset_limit, loads_keyset, reads_input, with_made, with_row}
+use Rattle.tinkey_plans.specs.Steps.{reads_input, with_made, with_row}
 use Rattle.tinkey_plans.specs.Handles.{handles, unless_unfit}
-use Rattle.tinkey_readable.specs.Runs.{read_in}
-use Rattle.tinkey_readable.proofs.ReachLemmas.{IsDoneAnswer, load_done, load_reached, load_within, input_done, input_reached, input_within, unfit_done}
+use Rattle.tinkey_readable.specs.Lying.{LiesBehind}
+use Rattle.tinkey_readable.proofs.LyingLemmas.{loads_reached, loads_there}
+use Rattle.tinkey_readable.proofs.ReachLemmas.{IsDoneAnswer, input_done, input_reached, input_within, unfit_done}
 
 -- ---- the template of data keys
 
@@ -45,7 +46,7 @@ dek_reached name row next told is aead =
     ap (λ o. answer (with_row o name (λ r. with_aead (primitive_of_type (type_made r)) (next r))) told) is
     ∙ ap (λ p. answer (with_aead p (next row)) told) aead
 
-pub dek_done : (name : List ℕ) (next : Row → Plan) (told : Told) → IsDoneAnswer (answer (finds_dek name next) told) → FoundDek name next told
+dek_done : (name : List ℕ) (next : Row → Plan) (told : Told) → IsDoneAnswer (answer (finds_dek name next) told) → FoundDek name next told
 dek_done name next told done = by (row_named name) refl done
   where
     by_aead : (row : Row) (p : Primitive) → row_named name ≡ Some row → primitive_of_type (type_made row) ≡ p → IsDoneAnswer (answer (with_aead p (next row)) told) → FoundDek name next told
@@ -79,15 +80,15 @@ aead_scheme served row scheme aead is =
 -- ---- the whole
 
 -- the plan from the template on, and from the keyset on
-abbrev pub behind_keys : Table → Row → AskedEnvelope → (List ℕ → Plan) → Keys → Plan
+abbrev behind_keys : Table → Row → AskedEnvelope → (List ℕ → Plan) → Keys → Plan
 behind_keys table row work next keys =
     handles table Aead keys (λ fit.
     finds_scheme table row (λ scheme.
     reads_input (envelope_limit work) (λ input.
     envelopes table keys scheme row work input next)))
 
-abbrev pub behind_dek : Table → (name : List ℕ) → Format → AskedEnvelope → (List ℕ → Plan) → Row → Plan
-behind_dek table name form work next row = loads_keyset name form (behind_keys table row work next)
+abbrev behind_dek : Table → Lock → (name : List ℕ) → Format → AskedEnvelope → (List ℕ → Plan) → Row → Plan
+behind_dek table lock name form work next row = loads_locked table lock name form (behind_keys table row work next)
 
 abbrev behind_fit : Table → Row → AskedEnvelope → (List ℕ → Plan) → Keys → Plan
 behind_fit table row work next keys =
@@ -99,22 +100,26 @@ abbrev behind_scheme : Table → Row → AskedEnvelope → (List ℕ → Plan) �
 behind_scheme table row work next keys scheme =
     reads_input (envelope_limit work) (λ input. envelopes table keys scheme row work input next)
 
-pub record UsedEnvelope (table : Table) (keys : Keys) (template : List ℕ) (work : AskedEnvelope) (next : List ℕ → Plan) (told : Told) (a : Answer) : Type 0 where
+pub record UsedEnvelope (table : Table) (lock : Lock) (name : List ℕ) (form : Format) (template : List ℕ) (work : AskedEnvelope) (next : List ℕ → Plan) (told : Told) (a : Answer) : Type 0 where
   pub row : Row
   pub named : row_named template ≡ Some row
   pub aead : IsAead row
+  pub keys : Keys
+  pub lies : LiesBehind table lock (record { file = Some name; form = form }) told keys
   pub fit : unfit keys Aead table ≡ None
   pub scheme : Scheme
   pub served : scheme_at table Aead (url_made row) ≡ Some scheme
   pub fits : length told.input ≤ envelope_limit work
   pub goes_on : a ≡ answer (envelopes table keys scheme row work told.input next) (record told { input = [] })
 
-pub used_done : (table : Table) (name : List ℕ) (form : Format) (template : List ℕ) (work : AskedEnvelope) (next : List ℕ → Plan) (bytes : List ℕ) (keys : Keys) (told : Told) → map.get told.files name ≡ Some bytes → read_in form bytes ≡ Some keys → IsDoneAnswer (answer (envelope_output table None name form template work next) told)
-    → UsedEnvelope table keys template work next told (answer (envelope_output table None name form template work next) told)
-used_done table name form template work next bytes keys told there e done =
-    let d = dek_done template (behind_dek table name form work next) told done in
-    let done1 : IsDoneAnswer (answer (behind_dek table name form work next d.row) told) = ap (λ (a : Answer). a.status) (sym d.goes_on) ∙ done in
-    let l = load_done name form bytes keys (behind_keys table d.row work next) told there e done1 in
+pub used_done : (table : Table) (lock : Lock) (name : List ℕ) (form : Format) (template : List ℕ) (work : AskedEnvelope) (next : List ℕ → Plan) (told : Told) → IsDoneAnswer (answer (envelope_output table lock name form template work next) told)
+    → UsedEnvelope table lock name form template work next told (answer (envelope_output table lock name form template work next) told)
+used_done table lock name form template work next told done =
+    let d = dek_done template (behind_dek table lock name form work next) told done in
+    let done1 : IsDoneAnswer (answer (behind_dek table lock name form work next d.row) told) = ap (λ (a : Answer). a.status) (sym d.goes_on) ∙ done in
+    let k = loads_there table lock name form (behind_keys table d.row work next) told done1 in
+    let keys = k.0 in
+    let l = loads_reached table lock name form keys (behind_keys table d.row work next) told k.1 in
     let done2 : IsDoneAnswer (answer (unless_unfit (unfit keys Aead table) (behind_fit table d.row work next keys)) told) = ap (λ (a : Answer). a.status) (sym l) ∙ done1 in
     let fit = unfit_done (unfit keys Aead table) (behind_fit table d.row work next keys) told done2 in
     let f : answer (unless_unfit (unfit keys Aead table) (behind_fit table d.row work next keys)) told ≡ answer (behind_fit table d.row work next keys) told = ap (λ u. answer (unless_unfit u (behind_fit table d.row work next keys)) told) fit in
@@ -126,6 +131,8 @@ used_done table name form template work next bytes keys told there e done =
       row = d.row;
       named = d.is;
       aead = d.aead;
+      keys = keys;
+      lies = k.1;
       fit = fit;
       scheme = s.0;
       served = s.1;
@@ -133,17 +140,12 @@ used_done table name form template work next bytes keys told there e done =
       goes_on = d.goes_on ∙ l ∙ f ∙ g ∙ input_done (envelope_limit work) (λ input. envelopes table keys s.0 d.row work input next) told done4;
     }
 
-pub used_within : (table : Table) (name : List ℕ) (form : Format) (template : List ℕ) (work : AskedEnvelope) (next : List ℕ → Plan) (bytes : List ℕ) (told : Told) → map.get told.files name ≡ Some bytes → IsDoneAnswer (answer (envelope_output table None name form template work next) told) → length bytes ≤ keyset_limit
-used_within table name form template work next bytes told there done =
-    let d = dek_done template (behind_dek table name form work next) told done in
-    load_within name form bytes (behind_keys table d.row work next) told there (ap (λ (a : Answer). a.status) (sym d.goes_on) ∙ done)
-
-pub used_reached : (table : Table) (name : List ℕ) (form : Format) (template : List ℕ) (row : Row) (scheme : Scheme) (work : AskedEnvelope) (next : List ℕ → Plan) (bytes : List ℕ) (keys : Keys) (told : Told) → row_named template ≡ Some row → IsAead row → scheme_at table Aead (url_made row) ≡ Some scheme
-    → map.get told.files name ≡ Some bytes → read_in form bytes ≡ Some keys → length bytes ≤ keyset_limit → unfit keys Aead table ≡ None → length told.input ≤ envelope_limit work
-    → answer (envelope_output table None name form template work next) told ≡ answer (envelopes table keys scheme row work told.input next) (record told { input = [] })
-used_reached table name form template row scheme work next bytes keys told named aead served there e within fit fits =
-    dek_reached template row (behind_dek table name form work next) told named aead
-    ∙ load_reached name form bytes keys (behind_keys table row work next) told there e within
+pub used_reached : (table : Table) (lock : Lock) (name : List ℕ) (form : Format) (template : List ℕ) (row : Row) (scheme : Scheme) (work : AskedEnvelope) (next : List ℕ → Plan) (keys : Keys) (told : Told) → row_named template ≡ Some row → IsAead row → scheme_at table Aead (url_made row) ≡ Some scheme
+    → LiesBehind table lock (record { file = Some name; form = form }) told keys → unfit keys Aead table ≡ None → length told.input ≤ envelope_limit work
+    → answer (envelope_output table lock name form template work next) told ≡ answer (envelopes table keys scheme row work told.input next) (record told { input = [] })
+used_reached table lock name form template row scheme work next keys told named aead served lies fit fits =
+    dek_reached template row (behind_dek table lock name form work next) told named aead
+    ∙ loads_reached table lock name form keys (behind_keys table row work next) told lies
     ∙ ap (λ u. answer (unless_unfit u (behind_fit table row work next keys)) told) fit
     ∙ ap (λ o. answer (with_scheme o (behind_scheme table row work next keys)) told) served
     ∙ input_reached (envelope_limit work) (λ input. envelopes table keys scheme row work input next) told fits

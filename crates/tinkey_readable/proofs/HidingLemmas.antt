@@ -12,7 +12,7 @@ use Rattle.tinkey_plans.specs.Plan.{Plan, writes}
 use Rattle.tinkey_plans.specs.Status.{Reports, behind_line, line_of, write_failed, wrote}
 use Rattle.tinkey_plans.specs.Steps.{works_out}
 use Rattle.tinkey_plans.specs.declared.status.Status.{Status}
-use Rattle.tinkey_readable.proofs.DoneWhereLemmas.{takes_reached}
+use Rattle.tinkey_readable.proofs.LyingLemmas.{behind_reached}
 use Rattle.tinkey_readable.specs.Hiding.{ListedAlike, ListingHidesKeys, ReportsGoByStatus, TookOf}
 
 lines-without_key : (r : Record) → record_lines (without_key r) ≡ record_lines r
@@ -35,10 +35,10 @@ abbrev lists : Keys → Plan
 lists keys = works_out (info_of keys) writes
 
 pub listed_alike : ListedAlike
-listed_alike table in' from told other one two lies there same =
-    ap (λ a. a.output) (takes_reached in' one lists told lies)
+listed_alike table lock behind' in' from told other one two lies there same =
+    ap (λ a. a.output) (behind_reached table lock in' one lists told lies)
     ∙ listing_hides_keys one two same
-    ∙ sym (ap (λ a. a.output) (takes_reached from two lists other there))
+    ∙ sym (ap (λ a. a.output) (behind_reached table behind' from two lists other there))
 
 reported : (s : Status) (old new : SinkState) (before : List ℕ) → old.written ≡ Some before → Reports s old new → TookOf (line_of s ++ behind_line s) old new before
 reported s old new before is (wrote took) = record {

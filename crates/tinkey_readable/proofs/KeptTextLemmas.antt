@@ -16,11 +16,13 @@ use Rattle.wrapped_prims.specs.Fitness.{unfit}
 use Rattle.wrapped_prims.specs.Laws.{HasSameKey, IsKeyset}
 use Rattle.tinkey_plans.specs.Steps.{keyset_limit}
 use Rattle.tinkey_readable.proofs.KeptRunLemmas.{alone_is_there, goes_of, hands_on_of, same_written}
+use Rattle.tinkey_readable.proofs.LyingLemmas.{clear_taken}
 use Rattle.tinkey_readable.proofs.RunLemmas.{Led, done_edits, no_edits, read_keyset, still_fit}
 use Rattle.tinkey_readable.proofs.StreamKeyLemmas.{fit_sound, sound_fit}
 use Rattle.tinkey_readable.specs.Anywhere.{DopensAnywhere, OpensAnywhere, OpensEnvelopeAnywhere, OpensRangeAnywhere, OpensStreamAnywhere, Serves, ServesStreams, UnwrapsAnywhere, VerifiesAnywhere}
 use Rattle.tinkey_readable.specs.KeptRuns.{Course, Event, EventDraws, HaveLed, KeptByCommands, KeptByItsIdAlone, LiesAlone, passed_by, passed_on, passed_wrapped}
 use Rattle.tinkey_readable.specs.KeptTexts.{ReadsAfterCommands, ReadsByItsIdAlone, StillReads}
+use Rattle.tinkey_readable.specs.Lying.{clear}
 use Rattle.tinkey_readable.specs.Runs.{HoldsBytes, LocksStep, RunStep, Written, keyset_of}
 
 -- ---- what events lead to
@@ -55,7 +57,7 @@ pub record StillServes (old : Keys) (after : Written) (keys : Keys) : Type 0 whe
   pub aead : unfit old Aead standard_table ≡ None → Serves Aead after keys
   pub daead : unfit old Daead standard_table ≡ None → Serves Daead after keys
   pub mac : unfit old Mac standard_table ≡ None → Serves Mac after keys
-  pub streams : stream_unfit old ≡ None → ServesStreams after keys
+  pub streams : stream_unfit old ≡ None → ServesStreams (clear after) keys
 
 pub record EditLaws : Type 0 where
   pub aead : SoundIsUsable Aead
@@ -69,7 +71,7 @@ still_serves e old after is l = record {
   aead = λ fit. record { read = l.read; within = l.within; fit = still_fit Aead e.aead e.sound e.keyset old l.new is l.edited fit };
   daead = λ fit. record { read = l.read; within = l.within; fit = still_fit Daead e.daead e.sound e.keyset old l.new is l.edited fit };
   mac = λ fit. record { read = l.read; within = l.within; fit = still_fit Mac e.mac e.sound e.keyset old l.new is l.edited fit };
-  streams = λ fit. record { read = l.read; within = l.within; fit = sound_fit l.new (e.sound Stream old l.new l.edited (fit_sound old is fit)) };
+  streams = λ fit. record { taken = clear_taken after l.new l.read l.within; fit = sound_fit l.new (e.sound Stream old l.new l.edited (fit_sound old is fit)) };
 }
 
 -- ---- what is read there
@@ -89,10 +91,11 @@ reads_there a old keys r prefix after has read key serves = record {
   dopens = λ fit ad plain sealed made. (a.dopens ad plain sealed prefix r has made).by_run after keys (serves.daead fit) key;
   verifies = λ fit tag body made. (a.verifies tag body r made).by_run after keys (serves.mac fit) (alone_is_there r keys key);
   streams = λ fit before first found ad stream told is primary was there at only.
-      let serves' = subst (ServesStreams after) (same_Some _ _ (sym read ∙ there)) (serves.streams fit) in
-      (a.opens_stream before after first found r ad stream told is primary was serves' at only, a.opens_range before after first found r ad stream told is primary was serves' at only);
+      let serves' = subst (ServesStreams (clear after)) (same_Some _ _ (sym read ∙ there)) (serves.streams fit) in
+      (a.opens_stream before (clear after) first found r ad stream told is primary was serves' at only, a.opens_range before (clear after) first found r ad stream told is primary was serves' at only);
   envelopes = λ fit before first template again ad sealed told is primary was one_type.
-      a.opens_envelope before after first keys r prefix template again ad sealed told is primary has was one_type (serves.aead fit) key;
+      let s = serves.aead fit in
+      a.opens_envelope before (clear after) first keys r prefix template again ad sealed told is primary has was one_type (record { taken = clear_taken after keys s.read s.within; fit = s.fit }) key;
   unwraps = λ fit master first holds is primary wrap before text wrapped x random holds_too is_too.
       a.unwraps master after first keys r prefix holds is primary has wrap before text wrapped x random holds_too is_too (serves.aead fit) key;
 }

@@ -5,7 +5,6 @@ pub mod DoneRangeLemmas
 pub mod DoneSessionLemmas
 pub mod DoneStreamLemmas
 pub mod DoneWhereLemmas
-pub mod DoneWrapLemmas
 pub mod EndedLemmas
 pub mod EnvelopeRunLemmas
 pub mod FileLemmas
@@ -16,6 +15,7 @@ pub mod LineCaseLemmas
 pub mod LineRunLemmas
 pub mod LockLemmas
 pub mod LockedRunLemmas
+pub mod LyingLemmas
 pub mod PutLemmas
 pub mod ReachLemmas
 pub mod ReadableLemmas

@@ -1,5 +1,5 @@
 -- Work by the keys of a keyset that lies under the lock of a master.
-use Rattle.std.proofs.Common.{◌≡◌, ◌∙◌, sym, ap, subst, ℕ, ◌≤◌, [], List, length, Option, Some, None, Result, Ok, Err}
+use Rattle.std.proofs.Common.{◌≡◌, ◌∙◌, sym, ap, subst, ℕ, ◌≤◌, Bool, [], List, length, Option, Some, None, Result, Ok, Err}
 use Rattle.std.specs.FinMap as map
 use Rattle.key_msgs.specs.declared.primitive.Primitive.TheVariants.{Aead}
 use Rattle.keyset_model.specs.Keyset.{Keys}
@@ -40,14 +40,17 @@ opened_read : (found : Option (List ℕ)) (keys : Keys) → unwrapping.◌>>=◌
 opened_read None keys is = absurd (cc)
 opened_read (Some plain) keys is = (plain, inside_read (reads_binary plain) keys is)
 
-sealed_read : (master : Keys) (sealed : Result (List ℕ) Refusal) (keys : Keys) → unwrapping.◌>>=◌ sealed (open_keyset master standard_table) ≡ Ok keys → (plain : List ℕ) × (reads_binary plain ≡ Ok keys)
-sealed_read master (Ok sealed) keys is = opened_read (open_answer master standard_table sealed []) keys is
-sealed_read master (Err refusal) keys is = absurd (cc)
+sealed_read : (table : Table) (master : Keys) (sealed : Result (List ℕ) Refusal) (keys : Keys) → unwrapping.◌>>=◌ sealed (open_keyset master table) ≡ Ok keys → (plain : List ℕ) × (reads_binary plain ≡ Ok keys)
+sealed_read table master (Ok sealed) keys is = opened_read (open_answer master table sealed []) keys is
+sealed_read table master (Err refusal) keys is = absurd (cc)
+
+pub unwrapped_is_keyset : (table : Table) (master : Keys) (json : Bool) (text : List ℕ) (keys : Keys) → unwrap_of master table text json ≡ Ok keys → IsKeyset keys
+unwrapped_is_keyset table master json text keys gives =
+    let plain = sealed_read table master (sealed_in json text) keys gives in
+    record { faultless = read_binary_keyset plain.0 keys plain.1; words = read-ids plain.0 keys plain.1 }
 
 pub given_is_keyset : (master : Keys) (text : Written) (keys : Keys) → GivesUnder master text keys → IsKeyset keys
-given_is_keyset master text keys gives =
-    let plain = sealed_read master (sealed_in (is_json text.form) text.bytes) keys gives in
-    record { faultless = read_binary_keyset plain.0 keys plain.1; words = read-ids plain.0 keys plain.1 }
+given_is_keyset master text keys gives = unwrapped_is_keyset standard_table master (is_json text.form) text.bytes keys gives
 
 -- ---- the steps
 

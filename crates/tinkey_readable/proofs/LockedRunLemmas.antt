@@ -6,6 +6,7 @@ use Rattle.std.specs.List.{AllByRecursion}
 use Rattle.std.proofs.lemmas.Option.{same_Some}
 use Rattle.key_msgs.specs.Templates.{Row, row_named}
 use Rattle.key_msgs.specs.declared.primitive.Primitive.{Primitive}
+use Rattle.key_msgs.specs.declared.primitive.Primitive.TheVariants.{Stream}
 use Rattle.keyset_json.specs.Writing.{JsonBack}
 use Rattle.keyset_model.specs.Keyset.{Keys, fault_of, primary_of}
 use Rattle.keyset_model.specs.WellFormed.{FaultlessKeysets}
@@ -16,6 +17,7 @@ use Rattle.seal_wrap.specs.Info.{info_of}
 use Rattle.seal_wrap.specs.Laws.{WrapBackBytes}
 use Rattle.seal_wrap.specs.Unwrapped.{unwrap_of}
 use Rattle.seal_wrap.specs.Wrapped.{Wrapped, wrap_of, wrapped_with}
+use Rattle.segment_stream.specs.StreamKeys.{stream_unfit}
 use Rattle.tinkey_cmds.proofs.Fronts.{fronts-first, fronts-step}
 use Rattle.tinkey_cmds.specs.Draws.{Drawn}
 use Rattle.tinkey_cmds.specs.Edits.{Edit, first, step}
@@ -44,9 +46,10 @@ use Rattle.tinkey_readable.proofs.ReachLemmas.{IsDoneAnswer, behind, bytes_put, 
 use Rattle.tinkey_readable.proofs.RunLemmas.{done_edits, each_of, edit_template, free_done, json_back, no_edits, primary_word, read_faultless, read_keyset, still_fit, talk_done, template_row}
 use Rattle.tinkey_readable.proofs.WrappedRunLemmas.{behind_random, gives_key, text_made, unwrap_keeps, within_done, wraps_done}
 use Rattle.tinkey_readable.proofs.WrittenBytesLemmas.{written_bytes}
-use Rattle.tinkey_readable.specs.Anywhere.{CreatedServe, LocksServe}
+use Rattle.tinkey_readable.proofs.StreamKeyLemmas.{fit_sound, sound_fit}
+use Rattle.tinkey_readable.specs.Anywhere.{CreatedServe, CreatedServeStreams, LocksServe, LocksServeStreams}
 use Rattle.tinkey_readable.specs.LockedRuns.{GivesUnder}
-use Rattle.tinkey_readable.specs.Runs.{AreLocked, Does, DrawsBytes, GoesLocked, GoesUnder, HoldsBytes, IsCreated, Keeps, LockedHanding, LocksStep, ReadIsStored, Run, StillOpens, Written, bytes_at, hands_under, keyset_of, read_in, session_under}
+use Rattle.tinkey_readable.specs.Runs.{AreLocked, CreatesUnder, Does, DrawsBytes, GoesLocked, GoesUnder, HoldsBytes, IsCreated, Keeps, LockedHanding, LocksStep, ReadIsStored, Run, StillOpens, Written, bytes_at, hands_under, keyset_of, read_in, session_under}
 use Rattle.tinkey_words.specs.declared.words.rows.Format.{Format}
 use Rattle.tinkey_words.specs.declared.words.rows.Format.TheVariants as formats
 use Rattle.tinkey_words.specs.Words.{Asked, AskedEdit, Master, Place, as_taken, convert_keyset, create_keyset, edit_keyset, help, in_clear, list_key_templates, list_keyset, open_range, open_stream, seal_stream, self_test, session, under, use_envelope, use_keyset, version}
@@ -422,20 +425,48 @@ locks_step l wrap locked unwrap before after old goes random bytes holds is =
     let k = locks_keep (λ keys. Unit {0}) l wrap locked unwrap before after old goes random bytes holds is (each_none locked g.master g.first g.last goes.text g.are) tt in
     record { new = k.new; edited = k.edited; keeps = k.keeps }
 
-pub locks_serve : (p : Primitive) → SoundIsUsable p → EditedIsSound → ReadKeysFit → StepLaws → LocksServe p
-locks_serve p usable sound fit l wrap locked before later text old over goes random bytes holds is serves fits =
+-- it serves there under the last master, where its records can serve
+record LastServes (later text : Written) (old over : Keys) : Type 0 where
+  new : Keys
+  edited : IsEdited old new
+  keyset : IsKeyset old
+  gives : GivesUnder over text new
+  within : length text.bytes ≤ wrapped_limit
+
+last_serves : ReadKeysFit → StepLaws → (wrap : Run) (locked : List Run) (before later text : Written) (old over : Keys) → GoesUnder standard_table wrap locked before later text → DrawsBytes wrap → AllByRecursion DrawsBytes locked → HoldsBytes before → keyset_of before ≡ Some old → keyset_of later ≡ Some over → LastServes later text old over
+last_serves fit l wrap locked before later text old over goes random bytes holds is read =
     let d = gives_last (λ keys. Unit {0}) l wrap locked before later text old goes random bytes holds is (each_none locked goes.master goes.first goes.last text goes.are) tt in
     let w = wraps_done wrap goes.master before goes.first goes.over old goes.wraps goes.read is in
-    let keyset = read_keyset fit before.form before.bytes old w.within is in
     record {
       new = d.new;
       edited = d.edited;
+      keyset = read_keyset fit before.form before.bytes old w.within is;
+      gives = subst (λ k. unwrap_of k standard_table text.bytes (is_json text.form) ≡ Ok d.new) (same_Some _ _ (sym goes.opens.read_again ∙ read)) d.gives;
+      within = d.short;
+    }
+
+pub locks_serve : (p : Primitive) → SoundIsUsable p → EditedIsSound → ReadKeysFit → StepLaws → LocksServe p
+locks_serve p usable sound fit l wrap locked before later text old over goes random bytes holds is serves fits =
+    let x = last_serves fit l wrap locked before later text old over goes random bytes holds is serves.read in
+    record {
+      new = x.new;
+      edited = x.edited;
+      serves = record { over = over; opens = serves; gives = x.gives; within = x.within; fit = still_fit p usable sound l.edited old x.new x.keyset x.edited fits };
+    }
+
+-- edits keep what serves streams
+streams_still : EditedIsSound → (old new : Keys) → IsKeyset old → IsEdited old new → stream_unfit old ≡ None → stream_unfit new ≡ None
+streams_still sound old new keyset edited fits = sound_fit new (sound Stream old new edited (fit_sound old keyset fits))
+
+pub locks_serve_streams : EditedIsSound → ReadKeysFit → StepLaws → LocksServeStreams
+locks_serve_streams sound fit l wrap locked before later text old over goes random bytes holds is serves fits =
+    let x = last_serves fit l wrap locked before later text old over goes random bytes holds is serves.read in
+    record {
+      new = x.new;
+      edited = x.edited;
       serves = record {
-        over = over;
-        opens = serves;
-        gives = subst (λ k. unwrap_of k standard_table text.bytes (is_json text.form) ≡ Ok d.new) (same_Some _ _ (sym goes.opens.read_again ∙ serves.read)) d.gives;
-        within = d.short;
-        fit = still_fit p usable sound l.edited old d.new keyset d.edited fits;
+        taken = record { master = Some over; opens = serves; gives = x.gives; within = x.within };
+        fit = streams_still sound old x.new x.keyset x.edited fits;
       };
     }
 
@@ -473,26 +504,57 @@ created_under firsts firsts_stored lock template out told master text over form 
           (firsts_stored m.new f.0 told.random m.drawn row random m.gave m.made);
     }
 
-pub created_serve : (p : Primitive) → SoundIsUsable p → EditedIsSound → FirstsAreKeysets → FirstsAreStored → StepLaws → CreatedServe p
-created_serve p usable sound firsts firsts_stored l run locked template master first last later text begun over x read are opens random bytes serves =
+-- what was created, and went on
+record CreatedLast (template random : List ℕ) (later text : Written) (over : Keys) : Type 0 where
+  old : Keys
+  created : IsCreated template random old
+  last : LastServes later text old over
+
+created_last : FirstsAreKeysets → FirstsAreStored → StepLaws → (run : Run) (locked : List Run) (template : List ℕ) (master first last later text : Written) (begun over : Keys) → CreatesUnder standard_table run template master first → keyset_of master ≡ Some begun
+    → AreLocked standard_table locked master first last text → StillOpens last later → DrawsBytes run → AllByRecursion DrawsBytes locked → keyset_of later ≡ Some over → CreatedLast template run.told.random later text over
+created_last firsts firsts_stored l run locked template master first last later text begun over x read are opens random bytes read_again =
     let a : Asked → Answer = λ asked. answer (command_plan standard_table asked) run.told in
     let c = created_under firsts firsts_stored x.lock template x.out run.told master first begun x.form x.lies read random
     (ap (λ asked. (a asked).status) (sym x.asked) ∙ x.done) x.put_form
     (ap (λ asked. bytes_at x.out.file (a asked).files (a asked).output) (sym x.asked) ∙ x.put) in
     let d = led_under (λ keys. Unit {0}) l locked master first last text c.new are (each_none locked master first last text are) tt bytes c.seal in
-    let gives = given_again l last later text d.new opens d.seal in
-    let keyset : IsKeyset c.new = record { faultless = c.seal.faultless; words = each_of c.new.records (λ r s. s.held.id) c.seal.stored } in (
-      c.new,
-      c.created,
-      λ fits. record {
+    record {
+      old = c.new;
+      created = c.created;
+      last = record {
         new = d.new;
         edited = d.edited;
+        keyset = record { faultless = c.seal.faultless; words = each_of c.new.records (λ r s. s.held.id) c.seal.stored };
+        gives = subst (λ k. unwrap_of k standard_table text.bytes (is_json text.form) ≡ Ok d.new) (same_Some _ _ (sym opens.read_again ∙ read_again)) (given_again l last later text d.new opens d.seal);
+        within = d.seal.short;
+      };
+    }
+
+pub created_serve : (p : Primitive) → SoundIsUsable p → EditedIsSound → FirstsAreKeysets → FirstsAreStored → StepLaws → CreatedServe p
+created_serve p usable sound firsts firsts_stored l run locked template master first last later text begun over x read are opens random bytes serves =
+    let c = created_last firsts firsts_stored l run locked template master first last later text begun over x read are opens random bytes serves.read in
+    let w = c.last in (
+      c.old,
+      c.created,
+      λ fits. record {
+        new = w.new;
+        edited = w.edited;
+        serves = record { over = over; opens = serves; gives = w.gives; within = w.within; fit = still_fit p usable sound l.edited c.old w.new w.keyset w.edited fits };
+      },
+    )
+
+pub created_serve_streams : EditedIsSound → FirstsAreKeysets → FirstsAreStored → StepLaws → CreatedServeStreams
+created_serve_streams sound firsts firsts_stored l run locked template master first last later text begun over x read are opens random bytes serves =
+    let c = created_last firsts firsts_stored l run locked template master first last later text begun over x read are opens random bytes serves.read in
+    let w = c.last in (
+      c.old,
+      c.created,
+      λ fits. record {
+        new = w.new;
+        edited = w.edited;
         serves = record {
-          over = over;
-          opens = serves;
-          gives = subst (λ k. unwrap_of k standard_table text.bytes (is_json text.form) ≡ Ok d.new) (same_Some _ _ (sym opens.read_again ∙ serves.read)) gives;
-          within = d.seal.short;
-          fit = still_fit p usable sound l.edited c.new d.new keyset d.edited fits;
+          taken = record { master = Some over; opens = serves; gives = w.gives; within = w.within };
+          fit = streams_still sound c.old w.new w.keyset w.edited fits;
         };
       },
     )

@@ -1,7 +1,6 @@
 -- Streams that were sealed before runs, and opened after them.
 use Rattle.std.proofs.Common.{arith, ◌≡◌, ◌∙◌, sym, refl, ap, ℕ, ◌+◌, ◌≤◌, Bool, true, false, List, [], ◌∷◌, length, take, drop, Option, Some, None, Ok}
 use Rattle.std.specs.Prelude.{nat_lt, option_map, if◌then◌else◌}
-use Rattle.std.specs.FinMap as map
 use Rattle.std.proofs.lemmas.Bool.Decides.{nat_tests}
 use Rattle.std.proofs.lemmas.List.{length-take-le}
 use Rattle.keyset_model.specs.Keyset.{Keys}
@@ -21,15 +20,17 @@ use Rattle.tinkey_session.proofs.Options.{map_some}
 use Rattle.tinkey_plans.specs.declared.status.Status.TheVariants as status
 use Rattle.tinkey_words.specs.declared.words.rows.Format.{Format}
 use Rattle.tinkey_plans.specs.Plan.{Answer, Plan, Told, allocates, answer, draw_answer, pump_answer, pumps, refused, stream_status}
-use Rattle.tinkey_plans.specs.Steps.{keyset_limit, with_made}
+use Rattle.tinkey_plans.specs.Steps.{with_made}
 use Rattle.tinkey_plans.specs.Streaming.{keys_for, loads_stream_keys, opens_stream, seals_stream, unless_unfit, with_keys}
-use Rattle.tinkey_readable.specs.Runs.{read_in}
-use Rattle.tinkey_readable.proofs.ReachLemmas.{IsDoneAnswer, load_done, load_reached}
+use Rattle.tinkey_words.specs.Words.{Lock}
+use Rattle.tinkey_readable.specs.Lying.{LiesBehind}
+use Rattle.tinkey_readable.proofs.LyingLemmas.{loads_reached, loads_there}
+use Rattle.tinkey_readable.proofs.ReachLemmas.{IsDoneAnswer}
 
 -- ---- the keys of a keyset
 
 -- the plan behind a keyset
-abbrev pub behind_keyset : (KeysForStreams → Plan) → Keys → Plan
+abbrev behind_keyset : (KeysForStreams → Plan) → Keys → Plan
 behind_keyset next keys = allocates (unless_unfit (stream_unfit keys) (with_keys (keys_for keys) next))
 
 fit_done : (unfit : Option (ℕ × StreamUnfit)) (next : Plan) (told : Told) → IsDoneAnswer (answer (unless_unfit unfit next) told) → unfit ≡ None
@@ -45,29 +46,36 @@ keys_done None next told done = absurd (cc)
 abbrev pub with_primary : Keys → StreamKey → KeysForStreams
 with_primary keys primary = record { primary = primary; keys = stream_keys keys }
 
-pub record LoadedKeys (keys : Keys) (next : KeysForStreams → Plan) (told : Told) (a : Answer) : Type 0 where
+-- those that were loaded
+pub record LoadedKeys (table : Table) (lock : Lock) (name : List ℕ) (form : Format) (next : KeysForStreams → Plan) (told : Told) (a : Answer) : Type 0 where
+  pub keys : Keys
+  pub lies : LiesBehind table lock (record { file = Some name; form = form }) told keys
   pub fit : stream_unfit keys ≡ None
   pub primary : StreamKey
   pub there : primary_key keys ≡ Some primary
   pub goes_on : a ≡ answer (next (with_primary keys primary)) told
 
-pub keys_reached : (table : Table) (name : List ℕ) (form : Format) (bytes : List ℕ) (keys : Keys) (primary : StreamKey) (next : KeysForStreams → Plan) (told : Told) → map.get told.files name ≡ Some bytes → read_in form bytes ≡ Some keys → length bytes ≤ keyset_limit
-    → stream_unfit keys ≡ None → primary_key keys ≡ Some primary → answer (loads_stream_keys table None name form next) told ≡ answer (next (with_primary keys primary)) told
-keys_reached table name form bytes keys primary next told there e within fit is =
-    load_reached name form bytes keys (behind_keyset next) told there e within
+pub keys_reached : (table : Table) (lock : Lock) (name : List ℕ) (form : Format) (keys : Keys) (primary : StreamKey) (next : KeysForStreams → Plan) (told : Told) → LiesBehind table lock (record { file = Some name; form = form }) told keys
+    → stream_unfit keys ≡ None → primary_key keys ≡ Some primary → answer (loads_stream_keys table lock name form next) told ≡ answer (next (with_primary keys primary)) told
+keys_reached table lock name form keys primary next told lies fit is =
+    loads_reached table lock name form keys (behind_keyset next) told lies
     ∙ ap (λ u. answer (unless_unfit u (with_keys (keys_for keys) next)) told) fit
     ∙ ap (λ o. answer (with_keys (option_map (with_primary keys) o) next) told) is
 
-pub keys_loaded : (table : Table) (name : List ℕ) (form : Format) (bytes : List ℕ) (keys : Keys) (next : KeysForStreams → Plan) (told : Told) → map.get told.files name ≡ Some bytes → read_in form bytes ≡ Some keys → IsDoneAnswer (answer (loads_stream_keys table None name form next) told)
-    → LoadedKeys keys next told (answer (loads_stream_keys table None name form next) told)
-keys_loaded table name form bytes keys next told there e done =
-    let l = load_done name form bytes keys (behind_keyset next) told there e done in
+pub keys_loaded : (table : Table) (lock : Lock) (name : List ℕ) (form : Format) (next : KeysForStreams → Plan) (told : Told) → IsDoneAnswer (answer (loads_stream_keys table lock name form next) told)
+    → LoadedKeys table lock name form next told (answer (loads_stream_keys table lock name form next) told)
+keys_loaded table lock name form next told done =
+    let loaded = loads_there table lock name form (behind_keyset next) told done in
+    let keys = loaded.0 in
+    let l = loads_reached table lock name form keys (behind_keyset next) told loaded.1 in
     let done1 : IsDoneAnswer (answer (unless_unfit (stream_unfit keys) (with_keys (keys_for keys) next)) told) = ap (λ (a : Answer). a.status) (sym l) ∙ done in
     let fit = fit_done (stream_unfit keys) (with_keys (keys_for keys) next) told done1 in
     let f : answer (unless_unfit (stream_unfit keys) (with_keys (keys_for keys) next)) told ≡ answer (with_keys (keys_for keys) next) told = ap (λ u. answer (unless_unfit u (with_keys (keys_for keys) next)) told) fit in
     let k = keys_done (keys_for keys) next told (ap (λ (a : Answer). a.status) (sym f) ∙ done1) in
     let primary = map_some (with_primary keys) (primary_key keys) k.0 k.1 in
     record {
+      keys = keys;
+      lies = loaded.1;
       fit = fit;
       primary = primary.0;
       there = primary.1;

@@ -6,7 +6,7 @@
 --   WasMadeBy            what a run or a line of a session made under a key
 --   IsReadAnywhere       what opens or verifies it, over any keyset that has the key
 --   OpensAnywhere ..     the laws
-use Rattle.std.specs.Prelude.{◌≡◌, ℕ, ◌≤◌, List, [], length, Some, None, slice_get}
+use Rattle.std.specs.Prelude.{◌≡◌, ℕ, ◌≤◌, List, [], length, Option, Some, None, slice_get}
 use Rattle.std.specs.List.{AllByRecursion}
 use Rattle.key_msgs.specs.declared.primitive.Primitive.{Primitive}
 use Rattle.key_msgs.specs.declared.primitive.Primitive.TheVariants.{Aead}
@@ -20,6 +20,7 @@ use Rattle.tinkey_session.specs.declared.reply.Reply.TheVariants.{Gives}
 use Rattle.wrapped_prims.specs.Candidates.{prefix_of}
 use Rattle.wrapped_prims.specs.Fitness.{unfit}
 use Rattle.wrapped_prims.specs.Laws.{HasKey, HasSameKey}
+use Rattle.tinkey_plans.specs.Locks.{limit_under}
 use Rattle.tinkey_plans.specs.Plan.{Told}
 use Rattle.tinkey_plans.specs.Steps.{keyset_limit}
 use Rattle.tinkey_plans.specs.Using.{limit_for}
@@ -27,6 +28,7 @@ use Rattle.tinkey_plans.specs.Wrapping.{wrapped_limit}
 use Rattle.tinkey_readable.specs.EnvelopeRuns.{IsEnveloped, MakeOneType, WasEnveloped}
 use Rattle.tinkey_readable.specs.LineRuns.{HasTurn, asks, done_reply}
 use Rattle.tinkey_readable.specs.LockedRuns.{GivesUnder, IsDoneUnder, WasDoneUnder}
+use Rattle.tinkey_readable.specs.Lying.{GivesKeyset, Lies, Lying, sealed_under}
 use Rattle.tinkey_readable.specs.RangeRuns.{IsRanged}
 use Rattle.tinkey_readable.specs.Runs.{AreLocked, CreatesUnder, DrawsBytes, GoesUnder, HoldsBytes, IsCreated, IsDone, IsUnwrapped, Run, StillOpens, WasDone, Wraps, Written, keyset_of}
 use Rattle.tinkey_readable.specs.StreamRuns.{IsOpened, NoOtherBefore, OpensFirst, WasSealed}
@@ -39,12 +41,6 @@ pub record Serves (primitive : Primitive) (written : Written) (keys : Keys) : Ty
   pub within : length written.bytes ≤ keyset_limit
   pub fit : unfit keys primitive standard_table ≡ None
 
--- the same of streams
-pub record ServesStreams (written : Written) (keys : Keys) : Type 0 where
-  pub read : keyset_of written ≡ Some keys
-  pub within : length written.bytes ≤ keyset_limit
-  pub fit : stream_unfit keys ≡ None
-
 -- Under this master, which can serve as one, the text that lies here gives a keyset whose ENABLED records all
 -- serve the primitive, and it is within the limit of such texts.
 pub record ServesUnder (primitive : Primitive) (master text : Written) (keys : Keys) : Type 0 where
@@ -53,6 +49,30 @@ pub record ServesUnder (primitive : Primitive) (master text : Written) (keys : K
   pub gives : GivesUnder over text keys
   pub within : length text.bytes ≤ wrapped_limit
   pub fit : unfit keys primitive standard_table ≡ None
+
+-- the keyset of a master that serves as one, where there is a master
+abbrev pub ServesAsMaster : Option Written → Option Keys → Type 0
+ServesAsMaster None None = Unit {0}
+ServesAsMaster (Some written) (Some over) = Serves Aead written over
+ServesAsMaster _ _ = ⊥
+
+-- The keyset that lies so, in clear or under a master that serves as one, is taken by each command, as what
+-- lies there is within its limit.
+pub record IsTaken (lying : Lying) (keys : Keys) : Type 0 where
+  pub master : Option Keys
+  pub opens : ServesAsMaster lying.master master
+  pub gives : GivesKeyset standard_table master lying.text.form lying.text.bytes keys
+  pub within : length lying.text.bytes ≤ limit_under master
+
+-- its ENABLED records all give keys for streams
+pub record ServesStreams (lying : Lying) (keys : Keys) : Type 0 where
+  pub taken : IsTaken lying keys
+  pub fit : stream_unfit keys ≡ None
+
+-- they all serve as AEADs, for the data keys of envelopes
+pub record ServesEnvelopes (lying : Lying) (keys : Keys) : Type 0 where
+  pub taken : IsTaken lying keys
+  pub fit : unfit keys Aead standard_table ≡ None
 
 -- What went on under masters serves there, under a master that serves, where the first keyset served: it is
 -- that one after the edits that were accepted on the way.
@@ -77,6 +97,28 @@ CreatedServe primitive = (run : Run) (locked : List Run) (template : List ℕ)
     → DrawsBytes run → AllByRecursion DrawsBytes locked → Serves Aead later over
     → (old : Keys) × IsCreated template run.told.random old
     × (unfit old primitive standard_table ≡ None → ServesOn primitive later text old)
+
+-- Both hold of streams too: what went on so serves streams there, where the first keyset did.
+pub record ServesStreamsOn (later text : Written) (old : Keys) : Type 0 where
+  pub new : Keys
+  pub edited : IsEdited old new
+  pub serves : ServesStreams (sealed_under later text) new
+
+abbrev pub LocksServeStreams : Type 0
+LocksServeStreams = (wrap : Run) (locked : List Run) (before later text : Written) (old over : Keys)
+    → GoesUnder standard_table wrap locked before later text → DrawsBytes wrap
+    → AllByRecursion DrawsBytes locked → HoldsBytes before → keyset_of before ≡ Some old
+    → Serves Aead later over → stream_unfit old ≡ None
+    → ServesStreamsOn later text old
+
+abbrev pub CreatedServeStreams : Type 0
+CreatedServeStreams = (run : Run) (locked : List Run) (template : List ℕ)
+    (master first last later text : Written) (begun over : Keys)
+    → CreatesUnder standard_table run template master first → keyset_of master ≡ Some begun
+    → AreLocked standard_table locked master first last text → StillOpens last later
+    → DrawsBytes run → AllByRecursion DrawsBytes locked → Serves Aead later over
+    → (old : Keys) × IsCreated template run.told.random old
+    × (stream_unfit old ≡ None → ServesStreamsOn later text old)
 
 -- a turn of a session over the keyset that this text gives under a master, of the lines and random bytes that
 -- are told
@@ -166,37 +208,38 @@ VerifiesAnywhere = (tag body : List ℕ) (r : Record)
     → WasMadeBy to_tag body tag r → IsReadAnywhere HasKey (to_verify tag) body [] r
 
 -- What was sealed as a stream opens to its plaintext under each keyset that serves streams and has the key,
--- ENABLED, where no other key before it opens the stream's first segment.
+-- ENABLED, where no other key before it opens the stream's first segment. Both keysets lie in clear or under
+-- masters.
 abbrev pub OpensStreamAnywhere : Type 0
-OpensStreamAnywhere = (before other : Written) (old keys : Keys) (r : Record) (ad stream : List ℕ)
-    (told : Told) → keyset_of before ≡ Some old → primary_of old ≡ Some r
+OpensStreamAnywhere = (before other : Lying) (old keys : Keys) (r : Record) (ad stream : List ℕ)
+    (told : Told) → Lies before old → primary_of old ≡ Some r
     → WasSealed ad before told stream
     → ServesStreams other keys → (has : HasKey r keys) → NoOtherBefore r has.place ad stream keys
     → IsOpened ad other stream told.input
 
 -- of such a stream, ranges are slices of its plaintext
 abbrev pub OpensRangeAnywhere : Type 0
-OpensRangeAnywhere = (before other : Written) (old keys : Keys) (r : Record) (ad stream : List ℕ)
-    (told : Told) → keyset_of before ≡ Some old → primary_of old ≡ Some r
+OpensRangeAnywhere = (before other : Lying) (old keys : Keys) (r : Record) (ad stream : List ℕ)
+    (told : Told) → Lies before old → primary_of old ≡ Some r
     → WasSealed ad before told stream
     → ServesStreams other keys → (has : HasKey r keys) → NoOtherBefore r has.place ad stream keys
     → IsRanged ad other stream told.input
 
 -- while the key is there, ENABLED, the first segment opens, under that key or another one before it
 abbrev pub OpensFirstAnywhere : Type 0
-OpensFirstAnywhere = (before other : Written) (old keys : Keys) (r : Record) (ad stream : List ℕ)
-    (told : Told) → keyset_of before ≡ Some old → primary_of old ≡ Some r
+OpensFirstAnywhere = (before other : Lying) (old keys : Keys) (r : Record) (ad stream : List ℕ)
+    (told : Told) → Lies before old → primary_of old ≡ Some r
     → WasSealed ad before told stream → ServesStreams other keys → HasKey r keys
     → OpensFirst ad other keys stream
 
 -- What was sealed in an envelope under a key with a prefix opens to its plaintext, with its associated data
--- and any template of its data key's type.
+-- and any template of its data key's type. Both keysets lie in clear or under masters.
 abbrev pub OpensEnvelopeAnywhere : Type 0
-OpensEnvelopeAnywhere = (before other : Written) (old keys : Keys) (r : Record)
+OpensEnvelopeAnywhere = (before other : Lying) (old keys : Keys) (r : Record)
     (prefix template again ad sealed : List ℕ) (told : Told)
-    → keyset_of before ≡ Some old → primary_of old ≡ Some r → prefix_of r ≡ Some prefix
+    → Lies before old → primary_of old ≡ Some r → prefix_of r ≡ Some prefix
     → WasEnveloped (to_eseal ad) template before told sealed → MakeOneType template again
-    → Serves Aead other keys → HasSameKey r keys
+    → ServesEnvelopes other keys → HasSameKey r keys
     → IsEnveloped (to_eopen ad) again other sealed told.input
 
 -- What was wrapped under a key with a prefix is unwrapped to the keyset.

@@ -1,24 +1,21 @@
--- Where a command is answered Done, in the words of what it asks.
+-- Where a command is answered Done, in the words of what it asks, with a lock or without.
 --
---   LiesThere   a keyset lies at a place, within its limit and well formed
---   EditsDone   where an edit is Done, and where the first, another form or the listing of a keyset is
+--   EditsDone   where an edit is Done, and where the first, another form or master, or the listing of a
+--               keyset is
 --   WorksDone   where work by keys on a whole input is
 --   StreamsDone where a stream is sealed, and where one is opened
---   RangesDone, SessionsDone, EnvelopesDone, WrapsDone   where those are
+--   RangesDone, SessionsDone, EnvelopesDone   where those are
 use Rattle.std.specs.Prelude.{◌≡◌, ◌↔◌, ℕ, ◌+◌, ◌≤◌, true, List, length, take, Option, Some, None, Ok}
 use Rattle.std.specs.FinMap as map
 use Rattle.key_msgs.specs.Templates.{Row, row_named}
 use Rattle.key_msgs.specs.declared.key.KeyKind.{KeyKind}
 use Rattle.key_msgs.specs.declared.primitive.Primitive.TheVariants.{Aead}
 use Rattle.keyset_model.specs.Keyset.{Keys}
-use Rattle.keyset_model.specs.Writing.{binary_of}
 use Rattle.managers.specs.Schemes.{Scheme}
 use Rattle.managers.specs.Table.{Table, scheme_at}
 use Rattle.managers.specs.Uses.{iv_size}
 use Rattle.seal_wrap.specs.Enveloped.{envelope_of, open_envelope_of}
 use Rattle.seal_wrap.specs.Enveloping.{IsAead, url_made}
-use Rattle.seal_wrap.specs.Unwrapped.{unwrap_of}
-use Rattle.seal_wrap.specs.Wrapped.{Wrapped, wrap_of}
 use Rattle.segment_stream.specs.Opening.{decides}
 use Rattle.segment_stream.specs.Range.{range_of}
 use Rattle.segment_stream.specs.Sealing.{seal_decides}
@@ -26,7 +23,6 @@ use Rattle.segment_stream.specs.Segments.{cipher_of, ciphers_of}
 use Rattle.segment_stream.specs.StreamKeys.{stream_keys, stream_unfit}
 use Rattle.segment_stream.specs.StreamKeys as streams
 use Rattle.segment_stream.specs.declared.key.StreamKey.{StreamKey}
-use Rattle.tinkey_cmds.specs.Edits.{Stepped, first}
 use Rattle.tinkey_session.specs.Talking.{goes, talk}
 use Rattle.wrapped_prims.specs.Answers.{derive_answer, dopen_answer, open_answer, primary_key, verify_answer}
 use Rattle.wrapped_prims.specs.Fitness.{unfit}
@@ -34,67 +30,67 @@ use Rattle.tinkey_plans.specs.declared.status.Status.TheVariants as status
 use Rattle.tinkey_plans.specs.Commands.{command_plan}
 use Rattle.tinkey_plans.specs.Envelopes.{envelope_limit}
 use Rattle.tinkey_plans.specs.Plan.{Told, answer}
-use Rattle.tinkey_plans.specs.Steps.{keyset_limit, written_in}
 use Rattle.tinkey_plans.specs.Using.{limit_for}
-use Rattle.tinkey_plans.specs.Wrapping.{is_json, wrapped_limit}
 use Rattle.tinkey_words.specs.declared.words.rows.Format.{Format}
-use Rattle.tinkey_words.specs.Words.{AskedEdit, AskedEnvelope, AskedRange, AskedWork, Output, Place, as_taken, convert_keyset, create_keyset, edit_keyset, list_keyset, open_range, open_stream, seal_stream, session, to_eopen, to_eseal, unwrap_keyset, use_envelope, use_keyset, wrap_keyset, to_seal, to_open, to_dseal, to_dopen, to_tag, to_verify, to_derive, primitive_for}
-use Rattle.tinkey_readable.specs.Runs.{IsEdit, IsFree, bytes_at, read_in}
-
--- a keyset lies in the file of this place, or where none is named, in the input: it is there, within its
--- limit, and well formed
-pub record LiesThere (place : Place) (told : Told) (keys : Keys) : Type 0 where
-  pub bytes : List ℕ
-  pub there : bytes_at place.file told.files told.input ≡ Some bytes
-  pub within : length bytes ≤ keyset_limit
-  pub read : read_in place.form bytes ≡ Some keys
+use Rattle.tinkey_words.specs.Words.{AskedEdit, AskedEnvelope, AskedRange, AskedWork, Lock, NewLock, Output, Place, convert_keyset, create_keyset, edit_keyset, list_keyset, open_range, open_stream, seal_stream, session, to_eopen, to_eseal, use_envelope, use_keyset, to_seal, to_open, to_dseal, to_dopen, to_tag, to_verify, to_derive, primitive_for}
+use Rattle.tinkey_readable.specs.Lying.{FitsThere, LiesBehind, LiesThere, OpensLock, OpensNewLock}
+use Rattle.tinkey_readable.specs.Runs.{IsCreated, IsEdit, IsFree}
 
 -- ---- edits
 
--- A keyset lies there; the edit that is asked for is accepted, of a template of the table where it has one,
--- with random bytes that suffice; and the keyset that it makes is within the limit, with a name that is
--- free.
-pub record EditGoes (asked : AskedEdit) (in' out : Place) (told : Told) : Type 0 where
+-- The lock opens, and a keyset lies there; the edit that is asked for is accepted, of a template of the table
+-- where it has one, with random bytes that suffice; and the keyset that it makes fits there, with a name that
+-- is free. What it draws comes before the IV under which that keyset is sealed.
+pub record EditGoes (table : Table) (lock : Lock) (asked : AskedEdit) (in' out : Place) (told : Told)
+    : Type 0 where
+  pub master : Option Keys
+  pub opens : OpensLock table lock told master
   pub old : Keys
-  pub lies : LiesThere in' told old
+  pub lies : LiesThere table master in' told old
   pub new : Keys
   pub accepted : IsEdit asked told.random old new
-  pub within : length (written_in out.form new) ≤ keyset_limit
+  pub fits : FitsThere table master out.form new accepted.stepped.left
   pub free : IsFree out.file told.files
 
--- The template is of the table, the random bytes suffice for an id and a key, the keyset is within the
--- limit, and its name is free.
-pub record CreateGoes (template : List ℕ) (out : Place) (told : Told) : Type 0 where
-  pub row : Row
-  pub named : row_named template ≡ Some row
-  pub stepped : Stepped
-  pub steps : first row told.random ≡ Some stepped
+-- The template is of the table, and the lock opens; the random bytes suffice for an id and a key; and the
+-- keyset fits there, with a name that is free.
+pub record CreateGoes (table : Table) (lock : Lock) (template : List ℕ) (out : Place) (told : Told)
+    : Type 0 where
+  pub master : Option Keys
+  pub opens : OpensLock table lock told master
   pub new : Keys
-  pub accepted : stepped.answer ≡ Ok new
-  pub within : length (written_in out.form new) ≤ keyset_limit
+  pub created : IsCreated template told.random new
+  pub fits : FitsThere table master out.form new created.stepped.left
   pub free : IsFree out.file told.files
 
--- A keyset lies there, and in the form that is asked for it is within the limit, with a name that is free.
-pub record ConvertGoes (in' out : Place) (told : Told) : Type 0 where
+-- Both locks open, and a keyset lies there; in the form and under the master that are asked for it fits, with
+-- a name that is free.
+pub record ConvertGoes (table : Table) (lock : Lock) (new : NewLock) (in' out : Place) (told : Told)
+    : Type 0 where
+  pub taken : Option Keys
+  pub opens : OpensLock table lock told taken
+  pub put : Option Keys
+  pub opens_new : OpensNewLock table new taken told put
   pub keys : Keys
-  pub lies : LiesThere in' told keys
-  pub within : length (written_in out.form keys) ≤ keyset_limit
+  pub lies : LiesThere table taken in' told keys
+  pub fits : FitsThere table put out.form keys told.random
   pub free : IsFree out.file told.files
 
--- a keyset is edited, created, converted and listed exactly where that is so
+-- A keyset is edited, created, converted and listed exactly where that is so. One is wrapped, and unwrapped,
+-- where it is converted so.
 pub record EditsDone : Type 0 where
-  pub edited : (table : Table) (asked : AskedEdit) (in' out : Place) (told : Told)
-      → ((answer (command_plan table (edit_keyset None asked in' out)) told).status ≡ status.Done)
-      ↔ EditGoes asked in' out told
-  pub created : (table : Table) (template : List ℕ) (out : Place) (told : Told)
-      → ((answer (command_plan table (create_keyset None template out)) told).status ≡ status.Done)
-      ↔ CreateGoes template out told
-  pub converted : (table : Table) (in' out : Place) (told : Told)
-      → ((answer (command_plan table (convert_keyset None as_taken in' out)) told).status ≡ status.Done)
-      ↔ ConvertGoes in' out told
-  pub listed : (table : Table) (in' : Place) (told : Told)
-      → ((answer (command_plan table (list_keyset None in')) told).status ≡ status.Done)
-      ↔ ((keys : Keys) × LiesThere in' told keys)
+  pub edited : (table : Table) (lock : Lock) (asked : AskedEdit) (in' out : Place) (told : Told)
+      → ((answer (command_plan table (edit_keyset lock asked in' out)) told).status ≡ status.Done)
+      ↔ EditGoes table lock asked in' out told
+  pub created : (table : Table) (lock : Lock) (template : List ℕ) (out : Place) (told : Told)
+      → ((answer (command_plan table (create_keyset lock template out)) told).status ≡ status.Done)
+      ↔ CreateGoes table lock template out told
+  pub converted : (table : Table) (lock : Lock) (new : NewLock) (in' out : Place) (told : Told)
+      → ((answer (command_plan table (convert_keyset lock new in' out)) told).status ≡ status.Done)
+      ↔ ConvertGoes table lock new in' out told
+  pub listed : (table : Table) (lock : Lock) (in' : Place) (told : Told)
+      → ((answer (command_plan table (list_keyset lock in')) told).status ≡ status.Done)
+      ↔ ((keys : Keys) × LiesBehind table lock in' told keys)
 
 -- ---- whole inputs
 
@@ -113,12 +109,12 @@ WorkGoes table keys (to_verify tag) input random = verify_answer keys table tag 
 WorkGoes table keys (to_derive size) input random =
     (bytes : List ℕ) × (derive_answer keys table input size ≡ Some (Ok bytes))
 
--- A keyset lies in the file of this name, whose ENABLED records can all serve for the work; the input is
--- within the limit of the work, which goes; and the name of a new file is free.
-pub record WorkIsDone (table : Table) (name : List ℕ) (form : Format) (work : AskedWork)
+-- A keyset lies in the file of this name, behind its lock, whose ENABLED records can all serve for the work; the
+-- input is within the limit of the work, which goes; and the name of a new file is free.
+pub record WorkIsDone (table : Table) (lock : Lock) (name : List ℕ) (form : Format) (work : AskedWork)
     (out : Output) (told : Told) : Type 0 where
   pub keys : Keys
-  pub lies : LiesThere (record { file = Some name; form = form }) told keys
+  pub lies : LiesBehind table lock (record { file = Some name; form = form }) told keys
   pub fit : unfit keys (primitive_for work) table ≡ None
   pub short : length told.input ≤ limit_for work
   pub goes : WorkGoes table keys work told.input told.random
@@ -126,18 +122,20 @@ pub record WorkIsDone (table : Table) (name : List ℕ) (form : Format) (work : 
 
 -- work on a whole input is answered Done exactly where that is so
 abbrev pub WorksDone : Type 0
-WorksDone = (table : Table) (name : List ℕ) (form : Format) (work : AskedWork) (out : Output)
-    (told : Told)
-    → ((answer (command_plan table (use_keyset None name form work out)) told).status ≡ status.Done)
-    ↔ WorkIsDone table name form work out told
+WorksDone = (table : Table) (lock : Lock) (name : List ℕ) (form : Format) (work : AskedWork)
+    (out : Output) (told : Told)
+    → ((answer (command_plan table (use_keyset lock name form work out)) told).status ≡ status.Done)
+    ↔ WorkIsDone table lock name form work out told
 
 -- ---- streams
 
--- A keyset lies in the file of this name, each ENABLED record of which gives a key for streams; the random
--- bytes suffice for salt and nonce prefix of the primary one; and the input is no more than 2^32 segments.
-pub record StreamSeals (name : List ℕ) (form : Format) (ad : List ℕ) (told : Told) : Type 0 where
+-- A keyset lies in the file of this name, behind its lock, each ENABLED record of which gives a key for
+-- streams; the random bytes suffice for salt and nonce prefix of the primary one; and the input is no more
+-- than 2^32 segments.
+pub record StreamSeals (table : Table) (lock : Lock) (name : List ℕ) (form : Format) (ad : List ℕ)
+    (told : Told) : Type 0 where
   pub keys : Keys
-  pub lies : LiesThere (record { file = Some name; form = form }) told keys
+  pub lies : LiesBehind table lock (record { file = Some name; form = form }) told keys
   pub fit : stream_unfit keys ≡ None
   pub primary : StreamKey
   pub there : streams.primary_key keys ≡ Some primary
@@ -147,9 +145,10 @@ pub record StreamSeals (name : List ℕ) (form : Format) (ad : List ℕ) (told :
 
 -- The same of the keyset; and under the first of its keys that opens the first segment, each segment opens
 -- in its place, the final one as the last.
-pub record StreamOpens (name : List ℕ) (form : Format) (ad : List ℕ) (told : Told) : Type 0 where
+pub record StreamOpens (table : Table) (lock : Lock) (name : List ℕ) (form : Format) (ad : List ℕ)
+    (told : Told) : Type 0 where
   pub keys : Keys
-  pub lies : LiesThere (record { file = Some name; form = form }) told keys
+  pub lies : LiesBehind table lock (record { file = Some name; form = form }) told keys
   pub fit : stream_unfit keys ≡ None
   pub primary : StreamKey
   pub there : streams.primary_key keys ≡ Some primary
@@ -157,22 +156,22 @@ pub record StreamOpens (name : List ℕ) (form : Format) (ad : List ℕ) (told :
 
 -- a stream is sealed, and opened, to its end exactly where that is so
 pub record StreamsDone : Type 0 where
-  pub sealed : (table : Table) (name : List ℕ) (form : Format) (ad : List ℕ) (told : Told)
-      → ((answer (command_plan table (seal_stream None name form ad)) told).status ≡ status.Done)
-      ↔ StreamSeals name form ad told
-  pub opened : (table : Table) (name : List ℕ) (form : Format) (ad : List ℕ) (told : Told)
-      → ((answer (command_plan table (open_stream None name form ad)) told).status ≡ status.Done)
-      ↔ StreamOpens name form ad told
+  pub sealed : (table : Table) (lock : Lock) (name : List ℕ) (form : Format) (ad : List ℕ) (told : Told)
+      → ((answer (command_plan table (seal_stream lock name form ad)) told).status ≡ status.Done)
+      ↔ StreamSeals table lock name form ad told
+  pub opened : (table : Table) (lock : Lock) (name : List ℕ) (form : Format) (ad : List ℕ) (told : Told)
+      → ((answer (command_plan table (open_stream lock name form ad)) told).status ≡ status.Done)
+      ↔ StreamOpens table lock name form ad told
 
 -- ---- ranges
 
 -- Such a keyset lies in its file, and a stream in its own; of that the first of the keys that opens the first
 -- segment opens the final one and those that cover the range, which ends within the plaintext; and the name
 -- of a new file is free.
-pub record RangeOpens (name : List ℕ) (form : Format) (ad : List ℕ) (range : AskedRange)
-    (out : Option (List ℕ)) (told : Told) : Type 0 where
+pub record RangeOpens (table : Table) (lock : Lock) (name : List ℕ) (form : Format) (ad : List ℕ)
+    (range : AskedRange) (out : Option (List ℕ)) (told : Told) : Type 0 where
   pub keys : Keys
-  pub lies : LiesThere (record { file = Some name; form = form }) told keys
+  pub lies : LiesBehind table lock (record { file = Some name; form = form }) told keys
   pub fit : stream_unfit keys ≡ None
   pub primary : StreamKey
   pub there : streams.primary_key keys ≡ Some primary
@@ -185,34 +184,38 @@ pub record RangeOpens (name : List ℕ) (form : Format) (ad : List ℕ) (range :
 
 -- a range is opened exactly where that is so
 abbrev pub RangesDone : Type 0
-RangesDone = (table : Table) (name : List ℕ) (form : Format) (ad : List ℕ) (range : AskedRange)
-    (out : Option (List ℕ)) (told : Told)
-    → ((answer (command_plan table (open_range None name form ad range out)) told).status ≡ status.Done)
-    ↔ RangeOpens name form ad range out told
+RangesDone = (table : Table) (lock : Lock) (name : List ℕ) (form : Format) (ad : List ℕ)
+    (range : AskedRange) (out : Option (List ℕ)) (told : Told)
+    → ((answer (command_plan table (open_range lock name form ad range out)) told).status ≡ status.Done)
+    ↔ RangeOpens table lock name form ad range out told
 
 -- ---- sessions
 
--- the last keyset, where it is to be saved, is within the limit of one
-abbrev pub IsSavedWithin : Option (List ℕ) → Format → Keys → Type 0
-IsSavedWithin None form keys = Unit {0}
-IsSavedWithin (Some name) form keys = length (written_in form keys) ≤ keyset_limit
+-- the last keyset, where it is to be saved, fits there
+abbrev pub IsSavedWithin : Table → (master : Option Keys) → Option (List ℕ) → Format → Keys
+    → (random : List ℕ) → Type 0
+IsSavedWithin table master None form keys random = Unit {0}
+IsSavedWithin table master (Some name) form keys random = FitsThere table master form keys random
 
--- A keyset lies in the file of this name; the name of a new file is free; the lines and their number are
--- within their limits and the random bytes suffice for them, so that the session goes on to the end of its
--- input; and the last keyset can be saved.
-pub record SessionGoes (table : Table) (name : List ℕ) (form : Format) (out : Place) (told : Told)
-    : Type 0 where
+-- The lock opens, and a keyset lies in the file of this name; the name of a new file is free; the lines and
+-- their number are within their limits and the random bytes suffice for them, so that the session goes on to
+-- the end of its input; and the last keyset can be saved, of the random bytes that are left.
+pub record SessionGoes (table : Table) (lock : Lock) (name : List ℕ) (form : Format) (out : Place)
+    (told : Told) : Type 0 where
+  pub master : Option Keys
+  pub opens : OpensLock table lock told master
   pub keys : Keys
-  pub lies : LiesThere (record { file = Some name; form = form }) told keys
+  pub lies : LiesThere table master (record { file = Some name; form = form }) told keys
   pub free : IsFree out.file told.files
   pub goes_on : (talk table keys told.input told.random true).stop ≡ goes
-  pub saved : IsSavedWithin out.file out.form (talk table keys told.input told.random true).keys
+  pub saved : let x = talk table keys told.input told.random true in
+      IsSavedWithin table master out.file out.form x.keys x.random
 
 -- a session is answered Done exactly where that is so
 abbrev pub SessionsDone : Type 0
-SessionsDone = (table : Table) (name : List ℕ) (form : Format) (out : Place) (told : Told)
-    → ((answer (command_plan table (session None name form out)) told).status ≡ status.Done)
-    ↔ SessionGoes table name form out told
+SessionsDone = (table : Table) (lock : Lock) (name : List ℕ) (form : Format) (out : Place) (told : Told)
+    → ((answer (command_plan table (session lock name form out)) told).status ≡ status.Done)
+    ↔ SessionGoes table lock name form out told
 
 -- ---- envelopes
 
@@ -226,17 +229,17 @@ EnvelopeGoes table keys scheme row (to_eopen ad) input random =
     (plain : List ℕ) × (open_envelope_of keys table scheme input ad ≡ Some plain)
 
 -- The template is of the table and makes keys of AEADs, for which there is a manager; a keyset lies in the
--- file of this name, whose ENABLED records can all serve as AEADs; the input is within the limit of the work,
--- which goes; and the name of a new file is free.
-pub record EnvelopeIsDone (table : Table) (name : List ℕ) (form : Format) (template : List ℕ)
-    (work : AskedEnvelope) (out : Option (List ℕ)) (told : Told) : Type 0 where
+-- file of this name, behind its lock, whose ENABLED records can all serve as AEADs; the input is within the
+-- limit of the work, which goes; and the name of a new file is free.
+pub record EnvelopeIsDone (table : Table) (lock : Lock) (name : List ℕ) (form : Format)
+    (template : List ℕ) (work : AskedEnvelope) (out : Option (List ℕ)) (told : Told) : Type 0 where
   pub row : Row
   pub named : row_named template ≡ Some row
   pub aead : IsAead row
   pub scheme : Scheme
   pub served : scheme_at table Aead (url_made row) ≡ Some scheme
   pub keys : Keys
-  pub lies : LiesThere (record { file = Some name; form = form }) told keys
+  pub lies : LiesBehind table lock (record { file = Some name; form = form }) told keys
   pub fit : unfit keys Aead table ≡ None
   pub short : length told.input ≤ envelope_limit work
   pub goes : EnvelopeGoes table keys scheme row work told.input told.random
@@ -244,49 +247,7 @@ pub record EnvelopeIsDone (table : Table) (name : List ℕ) (form : Format) (tem
 
 -- an envelope is sealed or opened exactly where that is so
 abbrev pub EnvelopesDone : Type 0
-EnvelopesDone = (table : Table) (name : List ℕ) (form : Format) (template : List ℕ)
+EnvelopesDone = (table : Table) (lock : Lock) (name : List ℕ) (form : Format) (template : List ℕ)
     (work : AskedEnvelope) (out : Option (List ℕ)) (told : Told)
-    → ((answer (command_plan table (use_envelope None name form template work out)) told).status
-    ≡ status.Done) ↔ EnvelopeIsDone table name form template work out told
-
--- ---- encrypted keysets
-
--- The master lies in the file of this name, and its ENABLED records can all serve as AEADs; a keyset lies
--- in its own place, whose binary form is within the limit of one; the random bytes suffice for a text of it,
--- which is within the limit of those; and the name of a new file is free.
-pub record WrapGoes (table : Table) (name : List ℕ) (form : Format) (in' out : Place) (told : Told)
-    : Type 0 where
-  pub old : Keys
-  pub lies : LiesThere (record { file = Some name; form = form }) told old
-  pub fit : unfit old Aead table ≡ None
-  pub keys : Keys
-  pub from : LiesThere in' told keys
-  pub within : length (binary_of keys) ≤ keyset_limit
-  pub wrapped : Wrapped
-  pub made : wrap_of keys old table told.random (is_json out.form) ≡ Some wrapped
-  pub short : length wrapped.text ≤ wrapped_limit
-  pub free : IsFree out.file told.files
-
--- The same of the master; a text lies there, within its limit, which opens to a keyset; and that is within
--- the limit of one, with a name that is free.
-pub record UnwrapGoes (table : Table) (name : List ℕ) (form : Format) (in' out : Place) (told : Told)
-    : Type 0 where
-  pub old : Keys
-  pub lies : LiesThere (record { file = Some name; form = form }) told old
-  pub fit : unfit old Aead table ≡ None
-  pub text : List ℕ
-  pub there : bytes_at in'.file told.files told.input ≡ Some text
-  pub short : length text ≤ wrapped_limit
-  pub keys : Keys
-  pub opens : unwrap_of old table text (is_json in'.form) ≡ Ok keys
-  pub within : length (written_in out.form keys) ≤ keyset_limit
-  pub free : IsFree out.file told.files
-
--- a keyset is wrapped, and unwrapped, exactly where that is so
-pub record WrapsDone : Type 0 where
-  pub wrapped : (table : Table) (name : List ℕ) (form : Format) (in' out : Place) (told : Told)
-      → ((answer (command_plan table (wrap_keyset name form in' out)) told).status ≡ status.Done)
-      ↔ WrapGoes table name form in' out told
-  pub unwrapped : (table : Table) (name : List ℕ) (form : Format) (in' out : Place) (told : Told)
-      → ((answer (command_plan table (unwrap_keyset name form in' out)) told).status ≡ status.Done)
-      ↔ UnwrapGoes table name form in' out told
+    → ((answer (command_plan table (use_envelope lock name form template work out)) told).status
+    ≡ status.Done) ↔ EnvelopeIsDone table lock name form template work out told

@@ -1,5 +1,5 @@
 -- What may be shown to others: a listing of a keyset, and what a run tells on standard error.
-use Rattle.std.specs.Prelude.{◌≡◌, List, [], ◌++◌, ℕ, Some, None}
+use Rattle.std.specs.Prelude.{◌≡◌, List, [], ◌++◌, ℕ, Some}
 use Rattle.keyset_model.specs.Keyset.{Keys}
 use Rattle.keyset_model.specs.Listing.{info_of}
 use Rattle.managers.specs.Table.{Table}
@@ -9,8 +9,8 @@ use Rattle.tinkey_plans.specs.Commands.{command_plan}
 use Rattle.tinkey_plans.specs.Plan.{Told, answer}
 use Rattle.tinkey_plans.specs.Status.{Reports}
 use Rattle.tinkey_plans.specs.declared.status.Status.{Status}
-use Rattle.tinkey_readable.specs.DoneWhere.{LiesThere}
-use Rattle.tinkey_words.specs.Words.{Place, list_keyset}
+use Rattle.tinkey_readable.specs.Lying.{LiesBehind}
+use Rattle.tinkey_words.specs.Words.{Lock, Place, list_keyset}
 
 -- Two keysets that differ in key messages and key material types alone, which `without_keys` clears, have
 -- one listing.
@@ -18,12 +18,14 @@ abbrev pub ListingHidesKeys : Type 0
 ListingHidesKeys = (keys other : Keys) → without_keys keys ≡ without_keys other
     → info_of keys ≡ info_of other
 
--- So list-keyset puts out the same of them, wherever they lie and in whichever form.
+-- So list-keyset puts out the same of them, wherever they lie and in whichever form, each in clear or behind
+-- its own lock.
 abbrev pub ListedAlike : Type 0
-ListedAlike = (table : Table) (in' from : Place) (told other : Told) (one two : Keys)
-    → LiesThere in' told one → LiesThere from other two → without_keys one ≡ without_keys two
-    → ((answer (command_plan table (list_keyset None in')) told).output
-    ≡ (answer (command_plan table (list_keyset None from)) other).output)
+ListedAlike = (table : Table) (lock behind : Lock) (in' from : Place) (told other : Told) (one two : Keys)
+    → LiesBehind table lock in' told one → LiesBehind table behind from other two
+    → without_keys one ≡ without_keys two
+    → ((answer (command_plan table (list_keyset lock in')) told).output
+    ≡ (answer (command_plan table (list_keyset behind from)) other).output)
 
 -- the sink, which held these bytes before, took the first of this text, and all of it where no write
 -- failed

@@ -18,6 +18,7 @@ use Rattle.tinkey_plans.specs.Steps.{keyset_limit}
 use Rattle.tinkey_readable.specs.Anywhere.{WasMadeBy}
 use Rattle.tinkey_readable.specs.EnvelopeRuns.{IsEnveloped, MakeOneType, WasEnveloped}
 use Rattle.tinkey_readable.specs.KeptRuns.{Course, Event, OfEvents}
+use Rattle.tinkey_readable.specs.Lying.{Lies, Lying, clear}
 use Rattle.tinkey_readable.specs.RangeRuns.{IsRanged}
 use Rattle.tinkey_readable.specs.Runs.{DrawsBytes, HoldsBytes, IsDone, IsUnwrapped, Run, Wraps, Written, keyset_of}
 use Rattle.tinkey_readable.specs.StreamRuns.{IsOpened, NoOtherBefore, WasSealed}
@@ -33,16 +34,16 @@ pub record StillReads (old : Keys) (r : Record) (after : Written) : Type 0 where
       → WasMadeBy (to_dseal ad) plain sealed r → IsDone (to_dopen ad) after sealed plain
   pub verifies : unfit old Mac standard_table ≡ None → (tag body : List ℕ)
       → WasMadeBy to_tag body tag r → IsDone (to_verify tag) after body []
-  pub streams : stream_unfit old ≡ None → (before : Written) (first keys : Keys)
+  pub streams : stream_unfit old ≡ None → (before : Lying) (first keys : Keys)
       (ad stream : List ℕ) (told : Told)
-      → keyset_of before ≡ Some first → primary_of first ≡ Some r → WasSealed ad before told stream
+      → Lies before first → primary_of first ≡ Some r → WasSealed ad before told stream
       → keyset_of after ≡ Some keys → (has : HasKey r keys) → NoOtherBefore r has.place ad stream keys
-      → IsOpened ad after stream told.input × IsRanged ad after stream told.input
-  pub envelopes : unfit old Aead standard_table ≡ None → (before : Written) (first : Keys)
+      → IsOpened ad (clear after) stream told.input × IsRanged ad (clear after) stream told.input
+  pub envelopes : unfit old Aead standard_table ≡ None → (before : Lying) (first : Keys)
       (template again ad sealed : List ℕ) (told : Told)
-      → keyset_of before ≡ Some first → primary_of first ≡ Some r
+      → Lies before first → primary_of first ≡ Some r
       → WasEnveloped (to_eseal ad) template before told sealed → MakeOneType template again
-      → IsEnveloped (to_eopen ad) again after sealed told.input
+      → IsEnveloped (to_eopen ad) again (clear after) sealed told.input
   pub unwraps : unfit old Aead standard_table ≡ None → (master : Written) (first : Keys)
       → HoldsBytes master → keyset_of master ≡ Some first → primary_of first ≡ Some r
       → (wrap : Run) (before text : Written) (keys : Keys)

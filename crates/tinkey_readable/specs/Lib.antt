@@ -6,6 +6,7 @@ pub mod KeptRuns
 pub mod KeptTexts
 pub mod LineRuns
 pub mod LockedRuns
+pub mod Lying
 pub mod RangeRuns
 pub mod Readable
 pub mod Runs

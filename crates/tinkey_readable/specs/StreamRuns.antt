@@ -3,7 +3,7 @@
 --   NoOtherBefore           no other key before that one opens the first segment of a stream
 --   RunsOpenStream          what was sealed as a stream before runs opens after them
 --   RunsOpenStreamPresent   its first segment opens, under that key or another one
-use Rattle.std.specs.Prelude.{◌≡◌, ℕ, List, take, true, Some, None, Ok, slice_get}
+use Rattle.std.specs.Prelude.{◌≡◌, ℕ, List, take, true, Some, Ok, slice_get}
 use Rattle.std.specs.List.{AllByRecursion, filter_map}
 use Rattle.keyset_model.specs.Keyset.{Keys}
 use Rattle.keyset_model.specs.declared.record.Record.{Record}
@@ -18,30 +18,36 @@ use Rattle.tinkey_plans.specs.declared.status.Status.TheVariants as status
 use Rattle.tinkey_plans.specs.Commands.{command_plan}
 use Rattle.tinkey_plans.specs.Plan.{Answer, Told, answer, pumps}
 use Rattle.tinkey_words.specs.Words.{seal_stream, open_stream}
-use Rattle.tinkey_readable.specs.Runs.{LeadOn, LiesIn, Passage, Written}
+use Rattle.tinkey_readable.specs.Lying.{LiesAs, Lying, clear, lock_in}
+use Rattle.tinkey_readable.specs.Runs.{LeadOn, Passage, Written}
 
--- the answer of sseal, and that of sopen, by the keys of the keyset that lies in the file of this name
-abbrev pub sseal_answer : (ad : List ℕ) → Written → (name : List ℕ) → Told → Answer
-sseal_answer ad written name told =
-    answer (command_plan standard_table (seal_stream None name written.form ad)) told
+-- the answer of sseal, and that of sopen, by the keys of the keyset that lies in the file of this name, under
+-- the master, if there is one, that lies in the file of the lock
+abbrev pub sseal_answer : (ad : List ℕ) → Lying → (lock name : List ℕ) → Told → Answer
+sseal_answer ad lying lock name told =
+    answer (command_plan standard_table
+    (seal_stream (lock_in lying.master lock) name lying.text.form ad)) told
 
-abbrev pub sopen_answer : (ad : List ℕ) → Written → (name : List ℕ) → Told → Answer
-sopen_answer ad written name told =
-    answer (command_plan standard_table (open_stream None name written.form ad)) told
+abbrev pub sopen_answer : (ad : List ℕ) → Lying → (lock name : List ℕ) → Told → Answer
+sopen_answer ad lying lock name told =
+    answer (command_plan standard_table
+    (open_stream (lock_in lying.master lock) name lying.text.form ad)) told
 
 -- a run of sseal over a keyset was answered Done, and put out this stream
-pub record WasSealed (ad : List ℕ) (written : Written) (told : Told) (stream : List ℕ) : Type 0 where
+pub record WasSealed (ad : List ℕ) (lying : Lying) (told : Told) (stream : List ℕ) : Type 0 where
+  pub lock : List ℕ
   pub name : List ℕ
-  pub lies : LiesIn written told name
-  pub done : (sseal_answer ad written name told).status ≡ status.Done
-  pub gave : (sseal_answer ad written name told).output ≡ stream
+  pub lies : LiesAs lying told lock name
+  pub done : (sseal_answer ad lying lock name told).status ≡ status.Done
+  pub gave : (sseal_answer ad lying lock name told).output ≡ stream
 
--- a run of sopen over a keyset is answered Done, with this output, in whichever file the keyset lies
-abbrev pub IsOpened : (ad : List ℕ) → Written → (stream output : List ℕ) → Type 0
-IsOpened ad written stream output = (told : Told) (name : List ℕ)
-    → LiesIn written told name → told.input ≡ stream
-    → ((sopen_answer ad written name told).status ≡ status.Done)
-    × ((sopen_answer ad written name told).output ≡ output)
+-- a run of sopen over a keyset is answered Done, with this output, in whichever files the keyset and its
+-- master lie
+abbrev pub IsOpened : (ad : List ℕ) → Lying → (stream output : List ℕ) → Type 0
+IsOpened ad lying stream output = (told : Told) (lock name : List ℕ)
+    → LiesAs lying told lock name → told.input ≡ stream
+    → ((sopen_answer ad lying lock name told).status ≡ status.Done)
+    × ((sopen_answer ad lying lock name told).output ≡ output)
 
 -- Among the ENABLED records before this place none gives a key for streams, other than that of this
 -- record, under which the first segment of the stream opens. Nothing in a stream tells its key, so the
@@ -57,19 +63,19 @@ abbrev pub RunsOpenStream : Type 0
 RunsOpenStream = (runs : List Passage) (before after : Written) (r : Record) (ad stream : List ℕ)
     (told : Told) (lead : LeadOn runs before after r) (has : HasKey r lead.new)
     → NoOtherBefore r has.place ad stream lead.new
-    → WasSealed ad before told stream
-    → IsOpened ad after stream told.input
+    → WasSealed ad (clear before) told stream
+    → IsOpened ad (clear after) stream told.input
 
 -- The first segment of the stream opens under a key of the keyset, and a run of sopen over it is answered
 -- as under that key alone.
-pub record OpensFirst (ad : List ℕ) (written : Written) (keys : Keys) (stream : List ℕ) : Type 0
+pub record OpensFirst (ad : List ℕ) (lying : Lying) (keys : Keys) (stream : List ℕ) : Type 0
   where
     pub key : StreamKey
     pub place : ℕ
     pub there : slice_get (stream_keys keys) place ≡ Some key
     pub first : fits (cipher_of ad key) stream ≡ true
-    pub answers : (told : Told) (name : List ℕ) → LiesIn written told name → told.input ≡ stream
-        → sopen_answer ad written name told ≡ answer (pumps (opening_under (cipher_of ad key))) told
+    pub answers : (told : Told) (lock name : List ℕ) → LiesAs lying told lock name → told.input ≡ stream
+        → sopen_answer ad lying lock name told ≡ answer (pumps (opening_under (cipher_of ad key))) told
 
 -- While the key that sealed it is there, ENABLED, its first segment opens: under that key, or by chance
 -- under another one before it, which may refuse a later segment then.
@@ -77,5 +83,5 @@ abbrev pub RunsOpenStreamPresent : Type 0
 RunsOpenStreamPresent = (runs : List Passage) (before after : Written) (r : Record)
     (ad stream : List ℕ) (told : Told) (lead : LeadOn runs before after r)
     → HasKey r lead.new
-    → WasSealed ad before told stream
-    → OpensFirst ad after lead.new stream
+    → WasSealed ad (clear before) told stream
+    → OpensFirst ad (clear after) lead.new stream

@@ -3,8 +3,8 @@
 ghost use Rattle.key_msgs.specs.declared.primitive.Primitive.TheVariants.{Aead, Daead, Mac};
 ghost use Rattle.keyset_json.specs.Writing.{JsonBack};
 ghost use Rattle.keyset_model.specs.Writing.{BinaryBack};
-ghost use Rattle.tinkey_readable.specs.Anywhere.{CreatedServe, DopensAnywhere, DopensSomehowAnywhere, LocksServe, OpensAnywhere, OpensEnvelopeAnywhere, OpensFirstAnywhere, OpensRangeAnywhere, OpensSomehowAnywhere, OpensStreamAnywhere, UnwrapsAnywhere, VerifiesAnywhere};
-ghost use Rattle.tinkey_readable.specs.DoneWhere.{EditsDone, EnvelopesDone, RangesDone, SessionsDone, StreamsDone, WorksDone, WrapsDone};
+ghost use Rattle.tinkey_readable.specs.Anywhere.{CreatedServe, CreatedServeStreams, DopensAnywhere, DopensSomehowAnywhere, LocksServe, LocksServeStreams, OpensAnywhere, OpensEnvelopeAnywhere, OpensFirstAnywhere, OpensRangeAnywhere, OpensSomehowAnywhere, OpensStreamAnywhere, UnwrapsAnywhere, VerifiesAnywhere};
+ghost use Rattle.tinkey_readable.specs.DoneWhere.{EditsDone, EnvelopesDone, RangesDone, SessionsDone, StreamsDone, WorksDone};
 ghost use Rattle.tinkey_readable.specs.EnvelopeRuns.{RunsOpenEnvelope};
 ghost use Rattle.tinkey_readable.specs.Hiding.{ListedAlike, ListingHidesKeys, ReportsGoByStatus};
 ghost use Rattle.tinkey_readable.specs.KeptRuns.{CommandIdsStayDistinct, CreatedIdsAreDistinct, DataStaysByCommands, FilesStay, GivenBackByEnable, KeptByCommands, KeptByItsIdAlone};
@@ -96,13 +96,14 @@ pub fn locks_step()
     wrap_back_bytes();
 }
 
-/// A keyset that went on so, and lies under a master that serves, serves AEADs there, DAEADs or MACs, where the
-/// first one did: so commands with a lock are Done over it, and what was made under a key opens or verifies
+/// A keyset that went on so, and lies under a master that serves, serves AEADs there, DAEADs, MACs or streams,
+/// where the first one did: so commands with a lock are Done over it, and what was made under a key opens or verifies
 /// while the key is there, as kept_anywhere says it of each keyset that serves.
 pub fn locks_serve()
     ensures aead { LocksServe Aead }
     ensures daead { LocksServe Daead }
     ensures mac { LocksServe Mac }
+    ensures streams { LocksServeStreams }
 {
     faultless_keysets();
     forms_back();
@@ -122,6 +123,7 @@ pub fn created_serve()
     ensures aead { CreatedServe Aead }
     ensures daead { CreatedServe Daead }
     ensures mac { CreatedServe Mac }
+    ensures streams { CreatedServeStreams }
 {
     faultless_keysets();
     forms_back();
@@ -369,16 +371,21 @@ pub fn sessions_are_readable()
     read_keysets_fit();
 }
 
-/// An edit is answered Done exactly where its keyset is there, within its limit and well formed, the edit is
-/// accepted, with a template of the table and random bytes that suffice, and the new keyset is within the
-/// limit and its name free. So are a first keyset, without the old one, another form of a keyset, without the
-/// edit, and a listing where the keyset is there, within its limit and well formed.
+/// An edit is answered Done exactly where its keyset is there, the edit is accepted, with a template of the
+/// table and random bytes that suffice, the new keyset fits, and its name is free. So are a first keyset,
+/// without the old one, another form of a keyset, without the edit, and a listing where the keyset is there.
+///
+/// A keyset is there where it lies in clear, within its limit and well formed; behind a lock, where the master
+/// does so and can serve, and a text within its limit gives it under that. It fits where it is within the limit;
+/// under a master, where it is so in the binary form, and the random bytes suffice for a text of it that is within
+/// its own limit. So a keyset is wrapped or unwrapped, or put under another master, exactly where it is there and
+/// fits, and both masters are there. The laws below are over any lock, too.
 pub fn edits_done()
     ensures { EditsDone }
 {}
 
-/// Work on a whole input is answered Done exactly where its keyset is there, within its limit, well formed
-/// and fit for the work, the input within its limit, the name of a new file free, and: of sealing, the random
+/// Work on a whole input is answered Done exactly where its keyset is there and fit for the work, the input
+/// within its limit, the name of a new file free, and: of sealing, the random
 /// bytes suffice for an IV; of opening and verifying, a candidate opens or has the tag; of deriving, no more
 /// bytes are asked for than there can be.
 pub fn works_done()
@@ -388,8 +395,7 @@ pub fn works_done()
     done_exactly();
 }
 
-/// A stream is sealed to its end, and answered Done, exactly where the keyset is there, within its limit, well
-/// formed, and each ENABLED record gives a key for streams, the random bytes suffice for salt and nonce prefix,
+/// A stream is sealed to its end, and answered Done, exactly where the keyset is there, and each ENABLED record gives a key for streams, the random bytes suffice for salt and nonce prefix,
 /// and there are at most 2^32 segments; and one is opened so where, of such a keyset, under the first key that
 /// opens the first segment each segment opens in its place, the final one as the last.
 pub fn streams_done()
@@ -403,32 +409,21 @@ pub fn ranges_done()
     ensures { RangesDone }
 {}
 
-/// A session is answered Done exactly where the keyset is there, within its limit and well formed, the name of
-/// a new file free, the lines and their number within their limits, the random bytes suffice for them, and the
-/// last keyset, if it is to be saved, is within the limit of one.
+/// A session is answered Done exactly where the keyset is there, the name of a new file free, the lines and their number within their limits, the random bytes suffice for them, and the
+/// last keyset, if it is to be saved, fits, of the random bytes that they leave.
 pub fn sessions_done()
     ensures { SessionsDone }
 {}
 
 /// An envelope is sealed or opened, and answered Done, exactly where the template is of the table and makes
-/// keys of AEADs that have a manager, the keyset is there, within its limit, well formed and fit, the input
-/// within its limit, the name of a new file free, and: of sealing, the random bytes suffice and the data key
+/// keys of AEADs that have a manager, the keyset is there and fit, the input within its limit, the name of a new file free, and: of sealing, the random bytes suffice and the data key
 /// breaks no rule; of opening, it opens.
 pub fn envelopes_done()
     ensures { EnvelopesDone }
 {}
 
-/// A keyset is wrapped, and answered Done, exactly where the master is there, within its limit, well formed and
-/// fit, the keyset too is there, within its limit and well formed, its binary form is within the limit of a
-/// keyset, the random bytes suffice for a text of it, the text is within its limit, and the name of a new file
-/// is free. One is unwrapped so where, under such a master, the text is there, within its limit, and opens to a
-/// keyset that is within the limit of one, and the name of a new file is free.
-pub fn wraps_done()
-    ensures { WrapsDone }
-{}
-
 /// A listing goes by a keyset less its key messages and key material types: list-keyset puts out the same of
-/// two keysets that differ in these alone. What is told on standard error goes by the status alone, which
+/// two keysets that differ in these alone, each in clear or behind a lock. What is told on standard error goes by the status alone, which
 /// has places, counts, numbers and names of our own, and no byte of a key or a plaintext. So both may be
 /// shown to others.
 pub fn listing_hides_keys()

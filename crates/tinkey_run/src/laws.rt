@@ -92,7 +92,6 @@ pub use tinkey_readable::laws::streams_done;
 pub use tinkey_readable::laws::texts_stay_readable;
 pub use tinkey_readable::laws::works_done;
 pub use tinkey_readable::laws::wrap_step;
-pub use tinkey_readable::laws::wraps_done;
 pub use tinkey_selftest::laws::counts_add_up;
 pub use tinkey_selftest::laws::entropy_suffices;
 pub use tinkey_selftest::laws::nothing_is_lost;

@@ -1,5 +1,5 @@
 use Rattle.key_msgs.specs.declared.primitive.Primitive.TheVariants.{Aead, Daead, Mac}
-use Rattle.tinkey_readable.proofs.LockedRunLemmas.{StepLaws, created_serve}
+use Rattle.tinkey_readable.proofs.LockedRunLemmas.{StepLaws, created_serve, created_serve_streams}
 use Rattle.tinkey_readable.proofs.laws.created_serve.Goals as goal
 
 pub returns : goal.returns
@@ -21,4 +21,5 @@ returns c =
       aead = created_serve Aead c.sound_usable.ensures.aead c.edited_kept.ensures.sound c.edits_keep_keysets.ensures.firsts c.stored_kept.ensures.firsts l;
       daead = created_serve Daead c.sound_usable.ensures.daead c.edited_kept.ensures.sound c.edits_keep_keysets.ensures.firsts c.stored_kept.ensures.firsts l;
       mac = created_serve Mac c.sound_usable.ensures.mac c.edited_kept.ensures.sound c.edits_keep_keysets.ensures.firsts c.stored_kept.ensures.firsts l;
+      streams = created_serve_streams c.edited_kept.ensures.sound c.edits_keep_keysets.ensures.firsts c.stored_kept.ensures.firsts l;
     }

@@ -1,5 +1,5 @@
 use Rattle.key_msgs.specs.declared.primitive.Primitive.TheVariants.{Aead, Daead, Mac}
-use Rattle.tinkey_readable.proofs.LockedRunLemmas.{StepLaws, locks_serve}
+use Rattle.tinkey_readable.proofs.LockedRunLemmas.{StepLaws, locks_serve, locks_serve_streams}
 use Rattle.tinkey_readable.proofs.laws.locks_serve.Goals as goal
 
 pub returns : goal.returns
@@ -21,4 +21,5 @@ returns c =
       aead = locks_serve Aead c.sound_usable.ensures.aead c.edited_kept.ensures.sound c.read_keysets_fit.ensures l;
       daead = locks_serve Daead c.sound_usable.ensures.daead c.edited_kept.ensures.sound c.read_keysets_fit.ensures l;
       mac = locks_serve Mac c.sound_usable.ensures.mac c.edited_kept.ensures.sound c.read_keysets_fit.ensures l;
+      streams = locks_serve_streams c.edited_kept.ensures.sound c.read_keysets_fit.ensures l;
     }
