@@ -1,16 +1,18 @@
 -- What a run of a session wrote, however it ended.
-use Rattle.std.proofs.Common.{◌≡◌, ◌≢◌, ◌∙◌, ◌⊎◌, inl, inr, sym, refl, ap, subst, ℕ, zero, suc, ◌≤◌, Bool, true, false, List, [], ◌∷◌, ◌++◌, length, append_assoc, append-nil, Option, Some, None, Err, option_map, arith}
+use Rattle.std.proofs.Common.{◌≡◌, ◌≢◌, ◌∙◌, ◌⊎◌, inl, inr, sym, refl, ap, subst, ℕ, zero, suc, ◌≤◌, Bool, true, false, List, [], ◌∷◌, ◌++◌, length, append_assoc, append-nil, Option, Some, None, Result, Ok, Err, option_map, arith}
 use Rattle.std.specs.Prelude.{◌==◌, if◌then◌else◌, nat_le, IfSome, map as each}
 use Rattle.std.specs.FinMap as map
 use Rattle.std.proofs.lemmas.Bool.{eqb-true}
 use Rattle.std.proofs.lemmas.List.Concat.{flat_map-cons}
 use Rattle.std.proofs.lemmas.Option.{same_Some}
 use Rattle.keyset_json.specs.Reading.{reads_json}
+use Rattle.key_msgs.specs.declared.primitive.Primitive.TheVariants.{Aead}
 use Rattle.keyset_model.specs.Keyset.{Keys}
 use Rattle.keyset_model.specs.Reading.{reads_binary}
 use Rattle.keyset_model.specs.Writing.{ReadKeysFit}
 use Rattle.managers.specs.Standard.{standard_table}
 use Rattle.managers.specs.Table.{Table}
+use Rattle.seal_wrap.specs.Unwrapped.{Refusal}
 use Rattle.tink_spec.proofs.Moves.{lost_nothing, took_same}
 use Rattle.tink_spec.specs.Files.{StoreState, Files, Holds}
 use Rattle.tink_spec.specs.Outside.{DrewLosing, EntropyState, SinkState, Took, TookPrefix}
@@ -27,24 +29,30 @@ use Rattle.tinkey_session.specs.Talks as talks
 use Rattle.tinkey_session.specs.Texts.{reply_text}
 use Rattle.tinkey_session.specs.declared.talk.TalkFault.{TalkFault}
 use Rattle.tinkey_session.specs.declared.talk.TalkFault.TheVariants as talk_faults
+use Rattle.tinkey_cmds.specs.declared.command.CmdFault.{CmdFault}
+use Rattle.wrapped_prims.specs.Fitness.{Unfit, NoManager, BadKey, NotRaw, unfit}
 use Rattle.wrapped_prims.specs.Laws.{IsKeyset}
 use Rattle.tinkey_plans.specs.declared.status.Status.{Status}
 use Rattle.tinkey_plans.specs.declared.status.Status.TheVariants as status
 use Rattle.tinkey_words.specs.declared.words.rows.Format.{Format}
 use Rattle.tinkey_words.specs.declared.words.rows.Format.TheVariants as formats
 use Rattle.tinkey_plans.specs.Commands.{asked_plan}
-use Rattle.tinkey_plans.specs.Ends.{World, Ends, loaded, load_absent, load_long, load_failed, load_starved, made, name_taken, create_failed, create_starved, look_free, look_taken, look_failed, exchanged, exchange_ended, talk_status, sides_of}
+use Rattle.tinkey_plans.specs.Ends.{World, Ends, loaded, load_absent, load_long, load_failed, load_starved, made, name_taken, create_failed, create_starved, look_free, look_taken, look_failed, exchanged, exchange_ended, talk_status, sides_of, settled, draw_failed, draw_starved}
 use Rattle.tinkey_plans.specs.Plan as plans
 use Rattle.tinkey_plans.specs.Plan.{Told, Plan, creates, exchanges, limit_status}
 use Rattle.tinkey_plans.specs.Promises.{Tells}
-use Rattle.tinkey_plans.specs.Session.{finds_free, holds_session, saves, saves_as}
-use Rattle.tinkey_plans.specs.Steps.{keyset_limit, keyset_in, loads_keyset, with_json, with_keyset, written_in}
+use Rattle.tinkey_plans.specs.Session.{finds_free, holds_session, saves, saves_as, session_plan}
+use Rattle.tinkey_plans.specs.Steps.{keyset_limit, keyset_in, with_json, with_keyset, with_made, within_limit, written_in}
+use Rattle.tinkey_plans.specs.Wrapping.{makes_wrapped, with_unwrapped, wrapped_limit}
+use Rattle.tinkey_plans.specs.Handles.{handles, unless_unfit}
+use Rattle.tinkey_plans.specs.Locks.{keyset_under, limit_under, takes_under}
 use Rattle.tinkey_plans.proofs.FaultLemmas.{went, Went, of_fault, of_limit}
-use Rattle.tinkey_words.specs.Words.{Place}
+use Rattle.tinkey_words.specs.Words.{Lock, Master, Place}
+use Rattle.tinkey_readable.specs.Lying.{GivesKeyset, MasterThere}
+use Rattle.tinkey_readable.proofs.LyingLemmas.{given_is_keyset}
 use Rattle.tinkey_readable.specs.Readable.{AreReadable, HasReplies, SessionsAreReadable, turns_of}
 use Rattle.tinkey_readable.specs.Runs.{read_in}
 use Rattle.tinkey_readable.proofs.ReadableLemmas.{none_replied}
-use Rattle.tinkey_readable.proofs.RunLemmas.{read_keyset}
 use Rattle.tinkey_readable.proofs.RunLemmas.{ok_of}
 
 -- ---- the lines of the first bytes of an input
@@ -233,17 +241,43 @@ has_replies readable table keys told old s new output done is w all took front =
 }
 
 -- saving writes nothing to the sink
-saved : (table : Table) (file : Option (List ℕ)) (form : Format) (keys : Keys) (old : World) (s : Status) (new : World) → Ends (saves_as table None file form keys) old s new → (s ≢ status.WriteFault) × (old.sink ≡ new.sink)
-saved table None form keys old s new (is, same) = (λ h. absurd (cc), ap (λ (w : World). w.sink) same)
-saved table (Some name) form keys old s new (inr (is, same)) = (λ h. absurd (cc), ap (λ (w : World). w.sink) same)
-saved table (Some name) form keys old s new (inl ended) = by (nat_le (length (written_in form keys)) keyset_limit) ended
+abbrev Quiet : World → Status → World → Type 0
+Quiet old s new = (s ≢ status.WriteFault) × (old.sink ≡ new.sink)
+
+abbrev makes_file : (name : List ℕ) → List ℕ → Plan
+makes_file name bytes = creates name bytes status.OutExists tt
+
+file_quiet : (name bytes : List ℕ) (old : World) (s : Status) (new : World) → Ends (makes_file name bytes) old s new → Quiet old s new
+file_quiet name bytes old s new (made is only stood given added) = (λ h. absurd (cc), only.sink)
+file_quiet name bytes old s new (name_taken is only kept stood given there) = (λ h. absurd (cc), only.sink)
+file_quiet name bytes old s new (create_failed is only rose given may) = (λ h. absurd (cc), only.sink)
+file_quiet name bytes old s new (create_starved is only kept stood given) = (λ h. absurd (cc), only.sink)
+
+within_quiet : (limit : ℕ) (next : List ℕ → Plan) (bytes : List ℕ) (old : World) (s : Status) (new : World) → (Ends (next bytes) old s new → Quiet old s new) → Ends (within_limit limit next bytes) old s new → Quiet old s new
+within_quiet limit next bytes old s new later ended = by (nat_le (length bytes) limit) ended
   where
-    by : (b : Bool) → Ends (if b then creates name (written_in form keys) status.OutExists tt else plans.ends status.KeysetTooLong tt) old s new → (s ≢ status.WriteFault) × (old.sink ≡ new.sink)
-    by true (made is only stood given added) = (λ h. absurd (cc), only.sink)
-    by true (name_taken is only kept stood given there) = (λ h. absurd (cc), only.sink)
-    by true (create_failed is only rose given may) = (λ h. absurd (cc), only.sink)
-    by true (create_starved is only kept stood given) = (λ h. absurd (cc), only.sink)
+    by : (b : Bool) → Ends (if b then next bytes else plans.ends status.KeysetTooLong tt) old s new → Quiet old s new
+    by true run = later run
     by false (is, same) = (λ h. absurd (cc), ap (λ (w : World). w.sink) same)
+
+made_quiet : (given : Result (List ℕ) CmdFault) (name : List ℕ) (old : World) (s : Status) (new : World) → Ends (with_made given (within_limit wrapped_limit (makes_file name))) old s new → Quiet old s new
+made_quiet (Ok text) name old s new run = within_quiet wrapped_limit (makes_file name) text old s new (file_quiet name text old s new) run
+made_quiet (Err fault) name old s new (is, same) = (λ h. absurd (cc), ap (λ (w : World). w.sink) same)
+
+text_quiet : (table : Table) (over : Keys) (form : Format) (keys : Keys) (name : List ℕ) (old : World) (s : Status) (new : World) → Ends (makes_wrapped keys over table form (makes_file name)) old s new → Quiet old s new
+text_quiet table over form keys name old s new (inr (is, same)) = (λ h. absurd (cc), ap (λ (w : World). w.sink) same)
+text_quiet table over form keys name old s new (inl (settled drawn entropy given drew stood settles (inl run))) = made_quiet given name (record old { entropy = entropy }) s new run
+text_quiet table over form keys name old s new (inl (settled drawn entropy given drew stood settles (inr (is, same)))) = (λ h. absurd (cc), ap (λ (w : World). w.sink) same)
+text_quiet table over form keys name old s new (inl (draw_failed is only out)) = (λ h. absurd (cc), only.sink)
+text_quiet table over form keys name old s new (inl (draw_starved parts is only drawn drew stood few)) = (λ h. absurd (cc), only.sink)
+
+saved : (table : Table) (master : Option Keys) (file : Option (List ℕ)) (form : Format) (keys : Keys) (old : World) (s : Status) (new : World) → Ends (saves_as table master file form keys) old s new → Quiet old s new
+saved table master None form keys old s new (is, same) = (λ h. absurd (cc), ap (λ (w : World). w.sink) same)
+saved table None (Some name) form keys old s new (inr (is, same)) = (λ h. absurd (cc), ap (λ (w : World). w.sink) same)
+saved table None (Some name) form keys old s new (inl run) = within_quiet keyset_limit (makes_file name) (written_in form keys) old s new (file_quiet name (written_in form keys) old s new) run
+saved table (Some over) (Some name) form keys old s new (inr (is, same)) = (λ h. absurd (cc), ap (λ (w : World). w.sink) same)
+saved table (Some over) (Some name) form keys old s new (inl run) =
+    within_quiet keyset_limit (λ plain. makes_wrapped keys over table form (makes_file name)) (written_in formats.Binary keys) old s new (text_quiet table over form keys name old s new) run
 
 -- no fault of a session is its end
 not_done : (fault : TalkFault) → talk_status fault ≢ status.Done
@@ -302,19 +336,19 @@ session_left readable law table keys told old s new fault is tells ended run = b
         let random = split new.entropy.left old.entropy.left told.random (drawn ++ part) tells.random drew.left in
         some_lines taken (more ++ input.0) drawn (part ++ random.0) (input.2 ∙ append_assoc taken more input.0) (random.2 ∙ append_assoc drawn part random.0) false (λ h. absurd (cc)) (λ h. took) (λ h. absurd (cc))
 
-talk_ends : TurnsAreReadable → TalkIsTurns → (table : Table) (out : Place) (keys : Keys) (told : Told) (old : World) (s : Status) (new : World) → IsKeyset keys → Tells old told → Ends (exchanges (talk table keys) (saves table None out)) old s new → HasReplies table keys told old s new
-talk_ends readable law table out keys told old s new is tells (exchanged last mid run kept steady later) =
-    session_done readable law table out keys last told old mid s new is tells (went (talk table keys) last (sides_of old) (sides_of mid) run) (saved table out.file out.form last mid s new later)
-talk_ends readable law table out keys told old s new is tells (exchange_ended fault ended run kept steady) = session_left readable law table keys told old s new fault is tells ended run
+talk_ends : TurnsAreReadable → TalkIsTurns → (table : Table) (master : Option Keys) (out : Place) (keys : Keys) (told : Told) (old : World) (s : Status) (new : World) → IsKeyset keys → Tells old told → Ends (exchanges (talk table keys) (saves table master out)) old s new → HasReplies table keys told old s new
+talk_ends readable law table master out keys told old s new is tells (exchanged last mid run kept steady later) =
+    session_done readable law table out keys last told old mid s new is tells (went (talk table keys) last (sides_of old) (sides_of mid) run) (saved table master out.file out.form last mid s new later)
+talk_ends readable law table master out keys told old s new is tells (exchange_ended fault ended run kept steady) = session_left readable law table keys told old s new fault is tells ended run
 
 -- behind a name that was looked up
-session_ends : TurnsAreReadable → TalkIsTurns → (table : Table) (out : Place) (keys : Keys) (told : Told) (old : World) (s : Status) (new : World) → IsKeyset keys → Tells old told → Ends (holds_session table None out keys) old s new → HasReplies table keys told old s new
-session_ends readable law table out keys told old s new is tells run = by out.file run
+session_ends : TurnsAreReadable → TalkIsTurns → (table : Table) (master : Option Keys) (out : Place) (keys : Keys) (told : Told) (old : World) (s : Status) (new : World) → IsKeyset keys → Tells old told → Ends (holds_session table master out keys) old s new → HasReplies table keys told old s new
+session_ends readable law table master out keys told old s new is tells run = by out.file run
   where
-    by : (file : Option (List ℕ)) → Ends (finds_free file (λ free. exchanges (talk table keys) (saves table None out))) old s new → HasReplies table keys told old s new
-    by None run = talk_ends readable law table out keys told old s new is tells run
+    by : (file : Option (List ℕ)) → Ends (finds_free file (λ free. exchanges (talk table keys) (saves table master out))) old s new → HasReplies table keys told old s new
+    by None run = talk_ends readable law table master out keys told old s new is tells run
     by (Some name) (look_free store kept stood given holds run) =
-        let r = talk_ends readable law table out keys told (record old { store = store }) s new is (record { input = tells.input; files = sym kept.files ∙ tells.files; random = tells.random }) run in
+        let r = talk_ends readable law table master out keys told (record old { store = store }) s new is (record { input = tells.input; files = sym kept.files ∙ tells.files; random = tells.random }) run in
         record { answered = r.answered; later = r.later; cut = r.cut; all = r.all; whole = r.whole; took = r.took; front = r.front; readable = r.readable }
     by (Some name) (look_taken e only kept stood given there) = none_replied table keys told old s new (λ h. let clash : status.Done ≡ status.OutExists = sym h ∙ e in absurd (cc)) (λ h. let clash : status.WriteFault ≡ status.OutExists = sym h ∙ e in absurd (cc)) (took_same old.sink new.sink only.sink)
     by (Some name) (look_failed e only kept rose given) = none_replied table keys told old s new (λ h. absurd (cc)) (λ h. absurd (cc)) (took_same old.sink new.sink only.sink)
@@ -328,6 +362,12 @@ keyset_ends formats.Json bytes keys next old s new read (inr starved) = inr star
 keyset_ends formats.Binary bytes keys next old s new read (inl run) = inl (subst (λ r. Ends (with_keyset r next) old s new) (ok_of (reads_binary bytes) keys read) run)
 keyset_ends formats.Binary bytes keys next old s new read (inr starved) = inr starved
 
+-- and so under a master
+under_ends : (table : Table) (master : Option Keys) (form : Format) (bytes : List ℕ) (keys : Keys) (next : Keys → Plan) (old : World) (s : Status) (new : World) → GivesKeyset table master form bytes keys → Ends (keyset_under table master form bytes next) old s new → Ends (next keys) old s new ⊎ ((s ≡ status.NoMemory) × (old ≡ new))
+under_ends table None form bytes keys next old s new gives run = keyset_ends form bytes keys next old s new gives run
+under_ends table (Some over) form bytes keys next old s new gives (inl run) = inl (subst (λ (r : Result Keys Refusal). Ends (with_unwrapped r next) old s new) gives run)
+under_ends table (Some over) form bytes keys next old s new gives (inr starved) = inr starved
+
 file_told : (store : StoreState) (files : Files) (name bytes : List ℕ) → store.files ≡ Some files → Holds store name (Some bytes) → map.get files name ≡ Some bytes
 file_told store files name bytes told holds = let h : IfSome (Some files) (λ f. map.get f name ≡ Some bytes) = rw told at holds in h
 
@@ -335,18 +375,22 @@ file_told store files name bytes told holds = let h : IfSome (Some files) (λ f.
 starved_replies : (table : Table) (keys : Keys) (told : Told) (old : World) (s : Status) (new : World) → s ≡ status.NoMemory → old.sink ≡ new.sink → HasReplies table keys told old s new
 starved_replies table keys told old s new is same = none_replied table keys told old s new (λ h. absurd (cc)) (λ h. absurd (cc)) (took_same old.sink new.sink same)
 
-loads_ends : TurnsAreReadable → TalkIsTurns → ReadKeysFit → (table : Table) (name bytes : List ℕ) (form : Format) (out : Place) (keys : Keys) (told : Told) (old : World) (s : Status) (new : World) → Tells old told → map.get told.files name ≡ Some bytes → read_in form bytes ≡ Some keys
-    → Ends (loads_keyset name form (holds_session table None out)) old s new → HasReplies table keys told old s new
-loads_ends readable law fit table name bytes form out keys told old s new tells there read (loaded found store kept stood given within holds run) =
+-- nothing was written before the session
+abbrev none_written : (table : Table) (keys : Keys) (told : Told) (old : World) (s : Status) (new : World) → s ≢ status.Done → s ≢ status.WriteFault → old.sink ≡ new.sink → HasReplies table keys told old s new
+none_written table keys told old s new undone other same = none_replied table keys told old s new undone other (took_same old.sink new.sink same)
+
+text_ends : TurnsAreReadable → TalkIsTurns → ReadKeysFit → (table : Table) (master : Option Keys) (name bytes : List ℕ) (form : Format) (out : Place) (keys : Keys) (told : Told) (old : World) (s : Status) (new : World) → Tells old told → map.get told.files name ≡ Some bytes → GivesKeyset table master form bytes keys
+    → Ends (takes_under table master (record { file = Some name; form = form }) (holds_session table master out)) old s new → HasReplies table keys told old s new
+text_ends readable law fit table master name bytes form out keys told old s new tells there gives (loaded found store kept stood given within holds run) =
     let same : bytes ≡ found = same_Some _ _ (sym there ∙ file_told old.store told.files name found tells.files holds) in
     let mid : World = record old { store = store } in
     let mid_tells : Tells mid told = record { input = tells.input; files = sym kept.files ∙ tells.files; random = tells.random } in
-    let is = read_keyset fit form bytes keys (subst (λ l. length l ≤ keyset_limit) (sym same) within) read in
-    by mid mid_tells is refl (keyset_ends form bytes keys (holds_session table None out) mid s new read (subst (λ l. Ends (keyset_in form l (holds_session table None out)) mid s new) (sym same) run))
+    let is = given_is_keyset fit table master form bytes keys gives (subst (λ l. length l ≤ limit_under master) (sym same) within) in
+    by mid mid_tells is refl (under_ends table master form bytes keys (holds_session table master out) mid s new gives (subst (λ l. Ends (keyset_under table master form l (holds_session table master out)) mid s new) (sym same) run))
   where
-    by : (mid : World) → Tells mid told → IsKeyset keys → mid.sink ≡ old.sink → Ends (holds_session table None out keys) mid s new ⊎ ((s ≡ status.NoMemory) × (mid ≡ new)) → HasReplies table keys told old s new
+    by : (mid : World) → Tells mid told → IsKeyset keys → mid.sink ≡ old.sink → Ends (holds_session table master out keys) mid s new ⊎ ((s ≡ status.NoMemory) × (mid ≡ new)) → HasReplies table keys told old s new
     by mid tells is sink (inl run) =
-        let r = session_ends readable law table out keys told mid s new is tells run in
+        let r = session_ends readable law table master out keys told mid s new is tells run in
         record {
           answered = r.answered;
           later = r.later;
@@ -358,16 +402,64 @@ loads_ends readable law fit table name bytes form out keys told old s new tells 
           readable = r.readable;
         }
     by mid tells is sink (inr (e, same)) = starved_replies table keys told old s new e (sym sink ∙ ap (λ (w : World). w.sink) same)
-loads_ends readable law fit table name bytes form out keys told old s new tells there read (load_absent is only kept stood given holds) = none_replied table keys told old s new (λ h. absurd (cc)) (λ h. absurd (cc)) (took_same old.sink new.sink only.sink)
-loads_ends readable law fit table name bytes form out keys told old s new tells there read (load_long is only kept stood given holds) = none_replied table keys told old s new (λ h. absurd (cc)) (λ h. absurd (cc)) (took_same old.sink new.sink only.sink)
-loads_ends readable law fit table name bytes form out keys told old s new tells there read (load_failed is only kept rose given) = none_replied table keys told old s new (λ h. absurd (cc)) (λ h. absurd (cc)) (took_same old.sink new.sink only.sink)
-loads_ends readable law fit table name bytes form out keys told old s new tells there read (load_starved is only kept stood given) = starved_replies table keys told old s new is only.sink
+text_ends readable law fit table master name bytes form out keys told old s new tells there gives (load_absent is only kept stood given holds) = none_written table keys told old s new (λ h. absurd (cc)) (λ h. absurd (cc)) only.sink
+text_ends readable law fit table master name bytes form out keys told old s new tells there gives (load_long is only kept stood given holds) = none_written table keys told old s new (λ h. absurd (cc)) (λ h. absurd (cc)) only.sink
+text_ends readable law fit table master name bytes form out keys told old s new tells there gives (load_failed is only kept rose given) = none_written table keys told old s new (λ h. absurd (cc)) (λ h. absurd (cc)) only.sink
+text_ends readable law fit table master name bytes form out keys told old s new tells there gives (load_starved is only kept stood given) = starved_replies table keys told old s new is only.sink
+
+-- behind a lock
+lock_ends : TurnsAreReadable → TalkIsTurns → ReadKeysFit → (table : Table) (lock : Master) (of_lock : List ℕ) (over : Keys) (name bytes : List ℕ) (form : Format) (out : Place) (keys : Keys) (told : Told) (old : World) (s : Status) (new : World)
+    → Tells old told → map.get told.files lock.file ≡ Some of_lock → read_in lock.form of_lock ≡ Some over → map.get told.files name ≡ Some bytes → GivesKeyset table (Some over) form bytes keys
+    → Ends (session_plan table (Some lock) name form out) old s new → HasReplies table keys told old s new
+lock_ends readable law fit table lock of_lock over name bytes form out keys told old s new tells lies read there gives (loaded found store kept stood given within holds run) =
+    let same : of_lock ≡ found = same_Some _ _ (sym lies ∙ file_told old.store told.files lock.file found tells.files holds) in
+    by_keyset (keyset_ends lock.form of_lock over fits mid s new read (subst (λ l. Ends (keyset_in lock.form l fits) mid s new) (sym same) run))
+  where
+    mid : World
+    mid = record old { store = store }
+
+    mid_tells : Tells mid told
+    mid_tells = record { input = tells.input; files = sym kept.files ∙ tells.files; random = tells.random }
+
+    taken : Option Keys → Plan
+    taken master = takes_under table master (record { file = Some name; form = form }) (holds_session table master out)
+
+    fits : Keys → Plan
+    fits m = handles table Aead m (λ fit. taken (Some m))
+
+    by_fit : (u : Option (ℕ × Unfit)) → Ends (unless_unfit u (taken (Some over))) mid s new → HasReplies table keys told old s new
+    by_fit None run =
+        let r = text_ends readable law fit table (Some over) name bytes form out keys told mid s new mid_tells there gives run in
+        record { answered = r.answered; later = r.later; cut = r.cut; all = r.all; whole = r.whole; took = r.took; front = r.front; readable = r.readable }
+    by_fit (Some (i, NoManager)) (is, same) = none_written table keys told old s new (λ h. absurd (cc)) (λ h. absurd (cc)) (ap (λ (w : World). w.sink) same)
+    by_fit (Some (i, BadKey rule)) (is, same) = none_written table keys told old s new (λ h. absurd (cc)) (λ h. absurd (cc)) (ap (λ (w : World). w.sink) same)
+    by_fit (Some (i, NotRaw)) (is, same) = none_written table keys told old s new (λ h. absurd (cc)) (λ h. absurd (cc)) (ap (λ (w : World). w.sink) same)
+
+    by_handles : Ends (fits over) mid s new → HasReplies table keys told old s new
+    by_handles (inl run) = by_fit (unfit over Aead table) run
+    by_handles (inr (is, same)) = starved_replies table keys told old s new is (ap (λ (w : World). w.sink) same)
+
+    by_keyset : Ends (fits over) mid s new ⊎ ((s ≡ status.NoMemory) × (mid ≡ new)) → HasReplies table keys told old s new
+    by_keyset (inl run) = by_handles run
+    by_keyset (inr (is, same)) = starved_replies table keys told old s new is (ap (λ (w : World). w.sink) same)
+lock_ends readable law fit table lock of_lock over name bytes form out keys told old s new tells lies read there gives (load_absent is only kept stood given holds) = none_written table keys told old s new (λ h. absurd (cc)) (λ h. absurd (cc)) only.sink
+lock_ends readable law fit table lock of_lock over name bytes form out keys told old s new tells lies read there gives (load_long is only kept stood given holds) = none_written table keys told old s new (λ h. absurd (cc)) (λ h. absurd (cc)) only.sink
+lock_ends readable law fit table lock of_lock over name bytes form out keys told old s new tells lies read there gives (load_failed is only kept rose given) = none_written table keys told old s new (λ h. absurd (cc)) (λ h. absurd (cc)) only.sink
+lock_ends readable law fit table lock of_lock over name bytes form out keys told old s new tells lies read there gives (load_starved is only kept stood given) = starved_replies table keys told old s new is only.sink
+
+plan_ends : TurnsAreReadable → TalkIsTurns → ReadKeysFit → (table : Table) (lock : Lock) (name : List ℕ) (form : Format) (out : Place) (keys : Keys) (told : Told) (old : World) (s : Status) (new : World) → Tells old told → (bytes : List ℕ) → map.get told.files name ≡ Some bytes → (master : Option Keys) → MasterThere lock told master → GivesKeyset table master form bytes keys
+    → Ends (session_plan table lock name form out) old s new → HasReplies table keys told old s new
+plan_ends readable law fit table None name form out keys told old s new tells bytes there None read gives run = text_ends readable law fit table None name bytes form out keys told old s new tells there gives run
+plan_ends readable law fit table None name form out keys told old s new tells bytes there (Some over) read gives run = absurd read
+plan_ends readable law fit table (Some lock) name form out keys told old s new tells bytes there None read gives run = absurd read
+plan_ends readable law fit table (Some lock) name form out keys told old s new tells bytes there (Some over) (of_lock, lies, read) gives run =
+    lock_ends readable law fit table lock of_lock over name bytes form out keys told old s new tells lies read there gives run
 
 pub readable_ends : TurnsAreReadable → TalkIsTurns → ReadKeysFit → SessionsAreReadable
 readable_ends readable law fit table words old s new (inl run) = record {
-  replies = λ told name bytes form out keys tells is there read.
-      loads_ends readable law fit table name bytes form out keys told old s new tells there read (subst (λ p. Ends p old s new) (ap (λ r. asked_plan table r words) is) run);
+  replies = λ told lock name form out keys tells is gives.
+      plan_ends readable law fit table lock name form out keys told old s new tells gives.bytes gives.there gives.master gives.read gives.gives (subst (λ p. Ends p old s new) (ap (λ r. asked_plan table r words) is) run);
 }
 readable_ends readable law fit table words old s new (inr (is, same)) = record {
-  replies = λ told name bytes form out keys tells asked there read. starved_replies table keys told old s new is (ap (λ (w : World). w.sink) same);
+  replies = λ told lock name form out keys tells asked gives. starved_replies table keys told old s new is (ap (λ (w : World). w.sink) same);
 }

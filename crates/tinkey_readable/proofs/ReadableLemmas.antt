@@ -1,33 +1,42 @@
 -- What a run of a session wrote, and what of it is readable.
 use Rattle.std.proofs.Common.{◌≡◌, ◌≢◌, ◌∙◌, sym, refl, ap, subst, ℕ, Bool, true, false, List, [], ◌++◌, length, nat_le, append-nil, Option, Some, None, arith}
-use Rattle.std.specs.Prelude.{if◌then◌else◌, map as each}
+use Rattle.std.specs.Prelude.{if◌then◌else◌, map as each, option_map}
 use Rattle.std.specs.FinMap as map
 use Rattle.std.proofs.lemmas.Bool.Decides.{nat_tests}
+use Rattle.key_msgs.specs.declared.primitive.Primitive.TheVariants.{Aead}
 use Rattle.keyset_model.specs.Keyset.{Keys}
 use Rattle.keyset_model.specs.Writing.{ReadKeysFit}
 use Rattle.managers.specs.Standard.{standard_table}
 use Rattle.managers.specs.Table.{Table}
+use Rattle.seal_wrap.specs.Wrapped.{Wrapped, wrap_of}
 use Rattle.tink_spec.specs.Outside.{Took}
+use Rattle.tinkey_cmds.specs.Draws.{Drawn}
 use Rattle.tinkey_session.specs.Lines.{Line, line_of}
 use Rattle.tinkey_session.specs.Session.{Turn, lines_of, turns}
 use Rattle.tinkey_session.specs.SessionLaws.{HasTurns, SessionDopens, SessionDopensPresent, SessionOpens, SessionOpensPresent, SessionVerifies}
 use Rattle.tinkey_session.specs.TalkLaws.{TalkIsTurns}
 use Rattle.tinkey_session.specs.Talking.{Stop, goes, wants, passes, long_line, many_lines, Talk, talk}
+use Rattle.wrapped_prims.specs.Fitness.{Unfit, NoManager, BadKey, NotRaw, unfit}
 use Rattle.wrapped_prims.specs.Laws.{IsKeyset}
 use Rattle.tinkey_plans.specs.declared.status.Status.{Status}
 use Rattle.tinkey_plans.specs.declared.status.Status.TheVariants as status
 use Rattle.tinkey_words.specs.declared.words.rows.Format.{Format}
+use Rattle.tinkey_words.specs.declared.words.rows.Format.TheVariants as formats
 use Rattle.tinkey_plans.specs.Commands.{asked_plan}
 use Rattle.tinkey_plans.specs.Ends.{World}
-use Rattle.tinkey_plans.specs.Plan.{Told, Answer, answer, create_answer, creates, ends, exchanges, IsStated, look_answer, refused, talk_answer}
+use Rattle.tinkey_plans.specs.Handles.{handles, unless_unfit}
+use Rattle.tinkey_plans.specs.Locks.{keyset_under, limit_under, opens_master, takes_under}
+use Rattle.tinkey_plans.specs.Plan.{Told, Answer, Plan, answer, create_answer, creates, draw_answer, ends, exchanges, IsStated, look_answer, refused, talk_answer}
 use Rattle.tinkey_plans.specs.Promises.{IsAnswer}
 use Rattle.tinkey_readable.specs.Readable.{AnswersAreReadable, AreAmong, AreReadable, HasReplies, turns_of}
 use Rattle.tinkey_readable.specs.Runs.{read_in}
-use Rattle.tinkey_plans.specs.Session.{finds_free, holds_session, saves, saves_as}
-use Rattle.tinkey_plans.specs.Steps.{keyset_limit, keyset_in, loads_keyset, written_in}
-use Rattle.tinkey_words.specs.Words.{Place}
+use Rattle.tinkey_plans.specs.Session.{finds_free, holds_session, saves, saves_as, session_plan}
+use Rattle.tinkey_plans.specs.Steps.{keyset_limit, keyset_in, with_made, within_limit, written_in}
+use Rattle.tinkey_plans.specs.Wrapping.{as_wrapping, is_json, makes_wrapped, wrapped_limit}
+use Rattle.tinkey_words.specs.Words.{Lock, Master, Place}
+use Rattle.tinkey_readable.specs.Lying.{GivesKeyset, MasterThere}
+use Rattle.tinkey_readable.proofs.LyingLemmas.{given_is_keyset, keyset_given}
 use Rattle.tinkey_readable.proofs.ReachLemmas.{keyset_reached}
-use Rattle.tinkey_readable.proofs.RunLemmas.{read_keyset}
 
 -- a stated status is no fault of the entropy or of the sink
 not_fault : (s : Status) → IsStated s → s ≡ status.EntropyFault → ⊥
@@ -66,25 +75,46 @@ none_readable = record {
 -- ---- the answer of a session
 
 -- saving writes nothing
-saves_nothing : (table : Table) (file : Option (List ℕ)) (form : Format) (keys : Keys) (told : Told) → (answer (saves_as table None file form keys) told).output ≡ []
-saves_nothing table None form keys told = refl
-saves_nothing table (Some name) form keys told = by (nat_le (length (written_in form keys)) keyset_limit) (map.get told.files name) refl
+abbrev makes_file : (name : List ℕ) → List ℕ → Plan
+makes_file name bytes = creates name bytes status.OutExists tt
+
+files_nothing : (name bytes : List ℕ) (told : Told) → (answer (makes_file name bytes) told).output ≡ []
+files_nothing name bytes told = by (map.get told.files name)
   where
-    by : (b : Bool) (found : Option (List ℕ)) → map.get told.files name ≡ found → (answer (if b then creates name (written_in form keys) status.OutExists tt else ends status.KeysetTooLong tt) told).output ≡ []
-    by true None is = ap (λ f. (create_answer f told name (written_in form keys) (refused told status.OutExists)).output) is
-    by true (Some bytes) is = ap (λ f. (create_answer f told name (written_in form keys) (refused told status.OutExists)).output) is
-    by false found is = refl
+    by : (found : Option (List ℕ)) → (create_answer found told name bytes (refused told status.OutExists)).output ≡ []
+    by None = refl
+    by (Some there) = refl
+
+within_nothing : (limit : ℕ) (next : List ℕ → Plan) (bytes : List ℕ) (told : Told) → (answer (next bytes) told).output ≡ [] → (answer (within_limit limit next bytes) told).output ≡ []
+within_nothing limit next bytes told nothing = by (nat_le (length bytes) limit)
+  where
+    by : (b : Bool) → (answer (if b then next bytes else ends status.KeysetTooLong tt) told).output ≡ []
+    by true = nothing
+    by false = refl
+
+text_nothing : (table : Table) (over : Keys) (form : Format) (keys : Keys) (name : List ℕ) (told : Told) → (answer (makes_wrapped keys over table form (makes_file name)) told).output ≡ []
+text_nothing table over form keys name told = by (wrap_of keys over table told.random (is_json form))
+  where
+    by : (o : Option Wrapped) → (draw_answer (option_map as_wrapping o) (refused told status.EntropyFault) (λ (d : Drawn (List ℕ)). answer (with_made d.answer (within_limit wrapped_limit (makes_file name))) (record told { random = d.left }))).output ≡ []
+    by None = refl
+    by (Some w) = within_nothing wrapped_limit (makes_file name) w.text (record told { random = w.left }) (files_nothing name w.text (record told { random = w.left }))
+
+saves_nothing : (table : Table) (master : Option Keys) (file : Option (List ℕ)) (form : Format) (keys : Keys) (told : Told) → (answer (saves_as table master file form keys) told).output ≡ []
+saves_nothing table master None form keys told = refl
+saves_nothing table None (Some name) form keys told = within_nothing keyset_limit (makes_file name) (written_in form keys) told (files_nothing name (written_in form keys) told)
+saves_nothing table (Some over) (Some name) form keys told =
+    within_nothing keyset_limit (λ plain. makes_wrapped keys over table form (makes_file name)) (written_in formats.Binary keys) told (text_nothing table over form keys name told)
 
 -- what the answer of the session itself says of the run
-talk_replied : SessionOpens → SessionDopens → SessionOpensPresent → SessionDopensPresent → SessionVerifies → TalkIsTurns → (table : Table) (out : Place) (keys : Keys) (told : Told) (old : World) (s : Status) (new : World)
-    → IsKeyset keys → IsStated s → IsAnswer (answer (exchanges (talk table keys) (saves table None out)) told) old s new → HasReplies table keys told old s new
-talk_replied opens dopens opens_present dopens_present verifies law table out keys told old s new is stated a = by_stop x.stop refl a
+talk_replied : SessionOpens → SessionDopens → SessionOpensPresent → SessionDopensPresent → SessionVerifies → TalkIsTurns → (table : Table) (master : Option Keys) (out : Place) (keys : Keys) (told : Told) (old : World) (s : Status) (new : World)
+    → IsKeyset keys → IsStated s → IsAnswer (answer (exchanges (talk table keys) (saves table master out)) told) old s new → HasReplies table keys told old s new
+talk_replied opens dopens opens_present dopens_present verifies law table master out keys told old s new is stated a = by_stop x.stop refl a
   where
     x : Talk
     x = talk table keys told.input told.random true
 
     next : Answer
-    next = answer (saves table None out x.keys) (record told { input = []; random = x.random })
+    next = answer (saves table master out x.keys) (record told { input = []; random = x.random })
 
     told_so : (s ≡ status.Done → x.stop ≡ goes) → (output : List ℕ) → output ≡ x.output → Took old.sink new.sink output → HasReplies table keys told old s new
     told_so done output same took =
@@ -101,7 +131,7 @@ talk_replied opens dopens opens_present dopens_present verifies law table out ke
         }
 
     by_stop : (stop : Stop) → x.stop ≡ stop → IsAnswer (talk_answer stop x told next) old s new → HasReplies table keys told old s new
-    by_stop goes is a = told_so (λ h. is) (x.output ++ next.output) (ap (λ l. x.output ++ l) (saves_nothing table out.file out.form x.keys (record told { input = []; random = x.random })) ∙ append-nil x.output) a.output
+    by_stop goes is a = told_so (λ h. is) (x.output ++ next.output) (ap (λ l. x.output ++ l) (saves_nothing table master out.file out.form x.keys (record told { input = []; random = x.random })) ∙ append-nil x.output) a.output
     by_stop wants is a = absurd (not_fault s stated a.status)
     by_stop (passes long_line) is a = told_so (λ h. let clash : status.Done ≡ status.LineTooLong = sym h ∙ a.status in absurd (cc)) x.output refl a.output
     by_stop (passes many_lines) is a = told_so (λ h. let clash : status.Done ≡ status.TooManyLines = sym h ∙ a.status in absurd (cc)) x.output refl a.output
@@ -121,33 +151,71 @@ none_replied table keys told old s new undone other took = record {
 }
 
 -- behind a name that was looked up
-replied : SessionOpens → SessionDopens → SessionOpensPresent → SessionDopensPresent → SessionVerifies → TalkIsTurns → (table : Table) (out : Place) (keys : Keys) (told : Told) (old : World) (s : Status) (new : World)
-    → IsKeyset keys → IsStated s → IsAnswer (answer (holds_session table None out keys) told) old s new → HasReplies table keys told old s new
-replied opens dopens opens_present dopens_present verifies law table out keys told old s new is stated a = by_file out.file a
+replied : SessionOpens → SessionDopens → SessionOpensPresent → SessionDopensPresent → SessionVerifies → TalkIsTurns → (table : Table) (master : Option Keys) (out : Place) (keys : Keys) (told : Told) (old : World) (s : Status) (new : World)
+    → IsKeyset keys → IsStated s → IsAnswer (answer (holds_session table master out keys) told) old s new → HasReplies table keys told old s new
+replied opens dopens opens_present dopens_present verifies law table master out keys told old s new is stated a = by_file out.file a
   where
-    went : IsAnswer (answer (exchanges (talk table keys) (saves table None out)) told) old s new → HasReplies table keys told old s new
-    went a = talk_replied opens dopens opens_present dopens_present verifies law table out keys told old s new is stated a
+    went : IsAnswer (answer (exchanges (talk table keys) (saves table master out)) told) old s new → HasReplies table keys told old s new
+    went a = talk_replied opens dopens opens_present dopens_present verifies law table master out keys told old s new is stated a
 
-    by_found : (found : Option (List ℕ)) → IsAnswer (look_answer found (refused told status.OutExists) (answer (exchanges (talk table keys) (saves table None out)) told)) old s new → HasReplies table keys told old s new
+    by_found : (found : Option (List ℕ)) → IsAnswer (look_answer found (refused told status.OutExists) (answer (exchanges (talk table keys) (saves table master out)) told)) old s new → HasReplies table keys told old s new
     by_found None a = went a
     by_found (Some there) a = none_replied table keys told old s new (λ h. let clash : status.Done ≡ status.OutExists = sym h ∙ a.status in absurd (cc)) (not_unwritten s stated) a.output
 
-    by_file : (file : Option (List ℕ)) → IsAnswer (answer (finds_free file (λ free. exchanges (talk table keys) (saves table None out))) told) old s new → HasReplies table keys told old s new
+    by_file : (file : Option (List ℕ)) → IsAnswer (answer (finds_free file (λ free. exchanges (talk table keys) (saves table master out))) told) old s new → HasReplies table keys told old s new
     by_file None a = went a
     by_file (Some name) a = by_found (map.get told.files name) a
 
+-- behind the text that is taken
+text_replied : SessionOpens → SessionDopens → SessionOpensPresent → SessionDopensPresent → SessionVerifies → TalkIsTurns → ReadKeysFit → (table : Table) (master : Option Keys) (name : List ℕ) (form : Format) (out : Place) (bytes : List ℕ) (keys : Keys) (told : Told) (old : World) (s : Status) (new : World)
+    → map.get told.files name ≡ Some bytes → GivesKeyset table master form bytes keys → IsStated s
+    → IsAnswer (answer (takes_under table master (record { file = Some name; form = form }) (holds_session table master out)) told) old s new → HasReplies table keys told old s new
+text_replied opens dopens opens_present dopens_present verifies law fit table master name form out bytes keys told old s new there gives stated a = by (nat_le (length bytes) (limit_under master)) refl (rw there at a)
+  where
+    by : (t : Bool) → nat_le (length bytes) (limit_under master) ≡ t → IsAnswer (if t then answer (keyset_under table master form bytes (holds_session table master out)) told else refused told status.KeysetTooLong) old s new → HasReplies table keys told old s new
+    by true is a =
+        replied opens dopens opens_present dopens_present verifies law table master out keys told old s new (given_is_keyset fit table master form bytes keys gives (grind (arith, nat_tests, is))) stated
+        (subst (λ x. IsAnswer x old s new) (keyset_given table master form bytes keys (holds_session table master out) told gives) a)
+    by false is a =
+        none_replied table keys told old s new (λ h. let clash : status.Done ≡ status.KeysetTooLong = sym h ∙ a.status in absurd (cc)) (not_unwritten s stated) a.output
+
+-- behind a lock
+lock_replied : (table : Table) (lock : Master) (bytes : List ℕ) (over : Keys) (next : Option Keys → Plan) (keys : Keys) (told : Told) (old : World) (s : Status) (new : World)
+    → map.get told.files lock.file ≡ Some bytes → read_in lock.form bytes ≡ Some over → IsStated s → IsAnswer (answer (opens_master table lock next) told) old s new
+    → (IsAnswer (answer (next (Some over)) told) old s new → HasReplies table keys told old s new) → HasReplies table keys told old s new
+lock_replied table lock bytes over next keys told old s new there read stated a later = by (nat_le (length bytes) keyset_limit) (rw there at a)
+  where
+    fits : Keys → Plan
+    fits m = handles table Aead m (λ fit. next (Some m))
+
+    none : (other : Status) → (other ≡ status.Done → ⊥) → s ≡ other → Took old.sink new.sink [] → HasReplies table keys told old s new
+    none other undone is took = none_replied table keys told old s new (λ h. undone (sym is ∙ h)) (not_unwritten s stated) took
+
+    by_fit : (u : Option (ℕ × Unfit)) → IsAnswer (answer (unless_unfit u (next (Some over))) told) old s new → HasReplies table keys told old s new
+    by_fit None a = later a
+    by_fit (Some (i, NoManager)) a = none (status.NoManager i) (λ h. absurd (cc)) a.status a.output
+    by_fit (Some (i, BadKey rule)) a = none (status.BadKey i rule) (λ h. absurd (cc)) a.status a.output
+    by_fit (Some (i, NotRaw)) a = none (status.NotRaw i) (λ h. absurd (cc)) a.status a.output
+
+    by : (t : Bool) → IsAnswer (if t then answer (keyset_in lock.form bytes fits) told else refused told status.KeysetTooLong) old s new → HasReplies table keys told old s new
+    by true a = by_fit (unfit over Aead table) (subst (λ x. IsAnswer x old s new) (keyset_reached lock.form bytes over fits told read) a)
+    by false a = none status.KeysetTooLong (λ h. absurd (cc)) a.status a.output
+
 pub readable_answer : SessionOpens → SessionDopens → SessionOpensPresent → SessionDopensPresent → SessionVerifies → TalkIsTurns → ReadKeysFit → AnswersAreReadable
 readable_answer opens dopens opens_present dopens_present verifies law fit table words old s new stated answers = record {
-  replies = λ told name bytes form out keys tells is there read.
-      let a : IsAnswer (answer (loads_keyset name form (holds_session table None out)) told) old s new = subst (λ p. IsAnswer (answer p told) old s new) (ap (λ r. asked_plan table r words) is) (answers.over told tells stated) in
-      let b : IsAnswer (if nat_le (length bytes) keyset_limit then answer (keyset_in form bytes (holds_session table None out)) told else refused told status.KeysetTooLong) old s new = rw there at a in
-      by_length told bytes form out keys read (nat_le (length bytes) keyset_limit) refl b;
+  replies = λ told lock name form out keys tells is gives.
+      by told lock name form out keys gives.bytes gives.there gives.master gives.read gives.gives (subst (λ p. IsAnswer (answer p told) old s new) (ap (λ r. asked_plan table r words) is) (answers.over told tells stated));
 }
   where
-    by_length : (told : Told) (bytes : List ℕ) (form : Format) (out : Place) (keys : Keys) → read_in form bytes ≡ Some keys → (t : Bool) → nat_le (length bytes) keyset_limit ≡ t
-        → IsAnswer (if t then answer (keyset_in form bytes (holds_session table None out)) told else refused told status.KeysetTooLong) old s new → HasReplies table keys told old s new
-    by_length told bytes form out keys read true is a =
-        replied opens dopens opens_present dopens_present verifies law table out keys told old s new (read_keyset fit form bytes keys (grind (arith, nat_tests, is)) read) stated
-        (subst (λ x. IsAnswer x old s new) (keyset_reached form bytes keys (holds_session table None out) told read) a)
-    by_length told bytes form out keys read false is a =
-        none_replied table keys told old s new (λ h. let clash : status.Done ≡ status.KeysetTooLong = sym h ∙ a.status in absurd (cc)) (not_unwritten s stated) a.output
+    text : (told : Told) (master : Option Keys) (name : List ℕ) (form : Format) (out : Place) (keys : Keys) (bytes : List ℕ) → map.get told.files name ≡ Some bytes → GivesKeyset table master form bytes keys
+        → IsAnswer (answer (takes_under table master (record { file = Some name; form = form }) (holds_session table master out)) told) old s new → HasReplies table keys told old s new
+    text told master name form out keys bytes there gives a = text_replied opens dopens opens_present dopens_present verifies law fit table master name form out bytes keys told old s new there gives stated a
+
+    by : (told : Told) (lock : Lock) (name : List ℕ) (form : Format) (out : Place) (keys : Keys) (bytes : List ℕ) → map.get told.files name ≡ Some bytes → (master : Option Keys) → MasterThere lock told master → GivesKeyset table master form bytes keys
+        → IsAnswer (answer (session_plan table lock name form out) told) old s new → HasReplies table keys told old s new
+    by told None name form out keys bytes there None read gives a = text told None name form out keys bytes there gives a
+    by told None name form out keys bytes there (Some over) read gives a = absurd read
+    by told (Some lock) name form out keys bytes there None read gives a = absurd read
+    by told (Some lock) name form out keys bytes there (Some over) (of_lock, lies, read) gives a =
+        lock_replied table lock of_lock over (λ master. takes_under table master (record { file = Some name; form = form }) (holds_session table master out)) keys told old s new lies read stated a
+        (λ later. text told (Some over) name form out keys bytes there gives later)

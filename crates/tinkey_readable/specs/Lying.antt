@@ -5,9 +5,11 @@
 --   OpensNewLock  the same of the lock that a keyset is put under
 --   LiesBehind    a keyset lies behind a lock, or without one in clear
 --   FitsThere     a keyset can be written, in clear or under a master
+--   FileGives     a file is a keyset, or gives one behind its lock, whether a command takes it or not
 --   Lying         a keyset as it lies outside, in clear or under a master
 --   LiesAs        it lies so in the files of a run
 use Rattle.std.specs.Prelude.{◌≡◌, ℕ, ◌≤◌, List, length, Option, Some, None, Ok}
+use Rattle.std.specs.FinMap as map
 use Rattle.key_msgs.specs.declared.primitive.Primitive.TheVariants.{Aead}
 use Rattle.keyset_model.specs.Keyset.{Keys}
 use Rattle.keyset_model.specs.Writing.{binary_of}
@@ -76,6 +78,23 @@ pub record SealsUnder (table : Table) (over : Keys) (form : Format) (keys : Keys
 abbrev pub FitsThere : Table → (master : Option Keys) → Format → Keys → (random : List ℕ) → Type 0
 FitsThere table None form keys random = length (written_in form keys) ≤ keyset_limit
 FitsThere table (Some over) form keys random = SealsUnder table over form keys random
+
+-- the keyset in the file of a lock, whether it can serve or not; without a lock there is none
+abbrev pub MasterThere : Lock → Told → (master : Option Keys) → Type 0
+MasterThere None told None = Unit {0}
+MasterThere (Some lock) told (Some over) = (bytes : List ℕ)
+    × (map.get told.files lock.file ≡ Some bytes) × (read_in lock.form bytes ≡ Some over)
+MasterThere _ told _ = ⊥
+
+-- The file of this name is that keyset, or gives it under the keyset of the lock. Of limits nothing is said,
+-- nor of what can serve.
+pub record FileGives (table : Table) (lock : Lock) (name : List ℕ) (form : Format) (told : Told)
+    (keys : Keys) : Type 0 where
+  pub master : Option Keys
+  pub read : MasterThere lock told master
+  pub bytes : List ℕ
+  pub there : map.get told.files name ≡ Some bytes
+  pub gives : GivesKeyset table master form bytes keys
 
 -- ---- a keyset outside
 

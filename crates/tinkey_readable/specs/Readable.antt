@@ -3,8 +3,7 @@
 --   AreReadable   of turns: what one sealed or tagged, a later one opens or verifies
 --   IsReadable    of a run: where it is that of a session, however it ended, what it wrote are the
 --                 replies of such turns
-use Rattle.std.specs.Prelude.{◌≡◌, ◌≢◌, ℕ, ◌<◌, List, [], ◌++◌, length, map, Some, None, Ok, slice_get}
-use Rattle.std.specs.FinMap as map
+use Rattle.std.specs.Prelude.{◌≡◌, ◌≢◌, ℕ, ◌<◌, List, [], ◌++◌, length, map, Some, Ok, slice_get}
 use Rattle.keyset_model.specs.Keyset.{Keys, primary_of}
 use Rattle.keyset_model.specs.declared.record.Record.{Record}
 use Rattle.managers.specs.Standard.{standard_table}
@@ -23,8 +22,8 @@ use Rattle.tinkey_plans.specs.Ends.{World, Ends}
 use Rattle.tinkey_plans.specs.Plan.{Told, IsStated, allocates}
 use Rattle.tinkey_plans.specs.Commands.{plan_of}
 use Rattle.tinkey_plans.specs.Promises.{Answers, Tells}
-use Rattle.tinkey_readable.specs.Runs.{read_in}
-use Rattle.tinkey_words.specs.Words.{Place, session, words_of}
+use Rattle.tinkey_readable.specs.Lying.{FileGives}
+use Rattle.tinkey_words.specs.Words.{Lock, Place, session, words_of}
 
 -- two of these turns, the second one later
 pub record AreAmong (ts : List Turn) (s t : Turn) : Type 0 where
@@ -80,12 +79,13 @@ pub record HasReplies (table : Table) (keys : Keys) (told : Told) (old : World) 
       TookPrefix old.sink new.sink (replies_text (turns_of table keys answered told.random))
   pub readable : table ≡ standard_table → AreReadable (turns_of table keys answered told.random)
 
--- a run of `session` over objects that tell, whatever its status, over a file that is a keyset
+-- a run of `session` over objects that tell, whatever its status, over a file that is a keyset, or that gives one
+-- under the keyset in the file of the lock
 pub record IsReadable (table : Table) (words : List (List ℕ)) (old : World) (s : Status)
     (new : World) : Type 0 where
-  pub replies : (told : Told) (name bytes : List ℕ) (form : Format) (out : Place) (keys : Keys)
-      → Tells old told → words_of words ≡ Ok (session None name form out)
-      → map.get told.files name ≡ Some bytes → read_in form bytes ≡ Some keys
+  pub replies : (told : Told) (lock : Lock) (name : List ℕ) (form : Format) (out : Place) (keys : Keys)
+      → Tells old told → words_of words ≡ Ok (session lock name form out)
+      → FileGives table lock name form told keys
       → HasReplies table keys told old s new
 
 -- However a run of these words ends, also where memory was wanting before it, it is readable.

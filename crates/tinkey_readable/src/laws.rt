@@ -356,7 +356,7 @@ pub fn kept_lines()
     sound_usable();
 }
 
-/// What a run of a session wrote are the replies of turns, which are readable over the standard
+/// What a run of a session wrote, over a keyset in clear or behind a lock, are the replies of turns, which are readable over the standard
 /// table: however the run ends, and of whatever is answered as the stated answer says.
 pub fn sessions_are_readable()
     ensures ended { SessionsAreReadable }

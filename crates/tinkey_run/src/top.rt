@@ -37,8 +37,8 @@ use tinkey_words::{Misuse, Request, parse};
 /// what was taken and written; `stands` says what the sink holds after any status; `complete` says
 /// that the status is a stated one where nothing fails and memory suffices; `ends`, from which they
 /// follow, has each way in which a run may end. `line` is the diagnostic line. `readable` is of sessions
-/// over a keyset in clear, over objects that tell: what was written are the replies to the first lines of
-/// the input, to all of them at `Done`, and at a write fault the first bytes of these. Over the table of
+/// over a keyset, in clear or behind a lock, over objects that tell: what was written are the replies to the
+/// first lines of the input, to all of them at `Done`, and at a write fault the first bytes of these. Over the table of
 /// the program, what a line sealed under a key with an output prefix, a later one opens to its plaintext,
 /// with its associated data, while that key is ENABLED and alone under its prefix; while it is there,
 /// ENABLED, to some plaintext, whatever its prefix type, and a tag verifies.
