@@ -14,6 +14,8 @@ pub mod KeptTextLemmas
 pub mod LineCaseLemmas
 pub mod LineRunLemmas
 pub mod LockLemmas
+pub mod LockedHidingExamples
+pub mod LockedHidingLemmas
 pub mod LockedRunLemmas
 pub mod LyingLemmas
 pub mod PutLemmas

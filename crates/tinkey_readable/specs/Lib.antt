@@ -5,6 +5,7 @@ pub mod Hiding
 pub mod KeptRuns
 pub mod KeptTexts
 pub mod LineRuns
+pub mod LockedHiding
 pub mod LockedRuns
 pub mod Lying
 pub mod RangeRuns

@@ -10,6 +10,7 @@ ghost use Rattle.tinkey_readable.specs.Hiding.{ListedAlike, ListingHidesKeys, Re
 ghost use Rattle.tinkey_readable.specs.KeptRuns.{CommandIdsStayDistinct, CreatedIdsAreDistinct, DataStaysByCommands, FilesStay, GivenBackByEnable, KeptByCommands, KeptByItsIdAlone};
 ghost use Rattle.tinkey_readable.specs.KeptTexts.{ReadsAfterCommands, ReadsByItsIdAlone};
 ghost use Rattle.tinkey_readable.specs.LineRuns.{MadeDopens, MadeDopensPresent, MadeOpens, MadeOpensPresent, MadeVerifies};
+ghost use Rattle.tinkey_readable.specs.LockedHiding.{LockedRunsPut, LockedSessionsSave, SealedAlike};
 ghost use Rattle.tinkey_readable.specs.RangeRuns.{RunsOpenRange};
 ghost use Rattle.tinkey_readable.specs.Readable.{AnswersAreReadable, SessionsAreReadable};
 ghost use Rattle.tinkey_readable.specs.Runs.{LocksStep, ReadIsStored, RunStep, RunsDopen, RunsDopenPresent, RunsOpen, RunsOpenPresent, RunsUnwrap, RunsVerify, WrapStep};
@@ -18,7 +19,8 @@ ghost use Rattle.tinkey_readable.specs.StreamRuns.{RunsOpenStream, RunsOpenStrea
 use keyset_json::laws::{json_back, json_is_stored};
 use keyset_model::laws::{binary_back, faultless_keysets, read_keysets_fit};
 use seal_wrap::laws::{
-    envelope_back, envelopes_fit, sealings_fit, standard_data_keys, wrap_back_bytes,
+    envelope_back, envelopes_fit, sealings_fit, standard_data_keys, text_hides_keys,
+    wrap_back_bytes,
 };
 use segment_stream::laws::{range_is_slice, stream_back};
 use tinkey_cmds::laws::edits_keep_keysets;
@@ -431,3 +433,18 @@ pub fn listing_hides_keys()
     ensures listed { ListedAlike }
     ensures reports { ReportsGoByStatus }
 {}
+
+/// A run that puts a keyset under a master shows of it, in all that it puts out, its info and sealed bytes: the
+/// new file, or else standard output, is one text, which is made of these two alone, and nothing else is new. So
+/// it is of create-keyset, each edit and convert-keyset; and of a session, whose output are the replies to its
+/// lines. Of a run of the others that is refused nothing is put out, and of one in which a write or the store
+/// fails the first bytes of that text at most (`stands` of run). Two keysets that
+/// differ in key messages and key material types alone, with binary forms of one length, have texts that differ
+/// in the sealed bytes alone, which have one length; list-keyset puts out the same of both.
+pub fn locked_runs_hide()
+    ensures puts { LockedRunsPut }
+    ensures saves { LockedSessionsSave }
+    ensures alike { SealedAlike }
+{
+    text_hides_keys();
+}

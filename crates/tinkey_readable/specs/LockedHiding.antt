@@ -1,0 +1,105 @@
+-- What a run shows of a keyset that it puts under a master.
+--
+--   ShowsInfoAlone    a text is made of sealed bytes, and of the info of a keyset without its keys
+--   PutsSealed        a run puts out one such text, and nothing else
+--   LockedRunsPut     so does each run that puts a keyset under a master
+--   LockedSessionsSave   and each session; its output are the replies
+--   SealedAlike       texts of two keysets that differ in keys alone differ in the sealed bytes alone
+use Rattle.std.specs.Prelude.{◌≡◌, ℕ, Bool, true, List, [], length, Option, Some, None}
+use Rattle.std.specs.FinMap as map
+use Rattle.keyset_model.specs.Keyset.{Keys}
+use Rattle.keyset_model.specs.Writing.{binary_of}
+use Rattle.managers.specs.Table.{Table}
+use Rattle.seal_wrap.specs.Info.{info_of, without_keys}
+use Rattle.seal_wrap.specs.Wrapped.{Wrapped, wrap_of, wrapped_text}
+use Rattle.tinkey_session.specs.Talking.{talk}
+use Rattle.wrapped_prims.specs.Answers.{Sealed, seal_answer}
+use Rattle.tinkey_plans.specs.declared.status.Status.TheVariants as status
+use Rattle.tinkey_plans.specs.Commands.{command_plan}
+use Rattle.tinkey_plans.specs.Plan.{Answer, Told, answer}
+use Rattle.tinkey_plans.specs.Wrapping.{is_json}
+use Rattle.tinkey_words.specs.declared.words.rows.Format.{Format}
+use Rattle.tinkey_words.specs.Words.{Asked, Master, Place, as_taken, convert_keyset, create_keyset, edit_keyset, session, under}
+use Rattle.tinkey_readable.specs.Lying.{LiesBehind, OpensMaster}
+use Rattle.tinkey_readable.specs.Runs.{IsCreated, IsEdit}
+
+-- The text is made of two things alone: bytes that this master sealed, of the binary form of the keyset; and
+-- the info of the keyset without its key messages and key material types.
+pub record ShowsInfoAlone (table : Table) (over keys : Keys) (form : Format) (text : List ℕ) : Type 0
+  where
+    pub random : List ℕ
+    pub sealed : Sealed
+    pub seals : seal_answer over table (binary_of keys) [] random ≡ Some sealed
+    pub is : text ≡ wrapped_text (is_json form) sealed.bytes (info_of (without_keys keys))
+
+-- The text is a new file of this name, and nothing else is new, neither a file nor a byte of output; or where
+-- none is named, it is the output.
+abbrev pub PutsAlone : Option (List ℕ) → Told → (text : List ℕ) → Answer → Type 0
+PutsAlone None told text a = (a.output ≡ text) × (a.files ≡ told.files)
+PutsAlone (Some name) told text a = (a.output ≡ []) × (a.files ≡ map.insert told.files name text)
+
+-- What a run puts out is such a text alone, of this keyset under the master that lies in the file of the lock.
+pub record PutsSealed (table : Table) (lock : Master) (out : Place) (told : Told) (keys : Keys)
+    (a : Answer) : Type 0 where
+  pub over : Keys
+  pub opens : OpensMaster table lock told over
+  pub text : List ℕ
+  pub shows : ShowsInfoAlone table over keys out.form text
+  pub alone : PutsAlone out.file told text a
+
+-- the master that a command puts a keyset under, and the place that it puts it
+pub record SealedPut : Type 0 where
+  pub lock : Master
+  pub out : Place
+
+-- the commands that put a keyset under a master, but for the session
+abbrev pub sealed_put : Asked → Option SealedPut
+sealed_put (create_keyset (Some lock) template out) = Some (record { lock = lock; out = out })
+sealed_put (edit_keyset (Some lock) edit in' out) = Some (record { lock = lock; out = out })
+sealed_put (convert_keyset (Some lock) as_taken in' out) = Some (record { lock = lock; out = out })
+sealed_put (convert_keyset lock (under new) in' out) = Some (record { lock = new; out = out })
+sealed_put _ = None
+
+-- the keyset that such a run makes: the first one of a template, or what the command does to the keyset that
+-- lies behind its lock
+abbrev pub Makes : Table → Told → Keys → Asked → Type 0
+Makes table told keys (create_keyset lock template out) = IsCreated template told.random keys
+Makes table told keys (edit_keyset lock edit in' out) = (old : Keys)
+    × LiesBehind table lock in' told old × IsEdit edit told.random old keys
+Makes table told keys (convert_keyset lock new in' out) = LiesBehind table lock in' told keys
+Makes table told keys _ = ⊥
+
+-- A run that puts a keyset under a master, and is Done, puts out the text of the keyset that it makes, and
+-- nothing else. One that is refused puts out nothing, as each command that is whole (commands_are_whole).
+abbrev pub LockedRunsPut : Type 0
+LockedRunsPut = (table : Table) (asked : Asked) (told : Told) (put : SealedPut)
+    → sealed_put asked ≡ Some put
+    → (answer (command_plan table asked) told).status ≡ status.Done
+    → (keys : Keys) × Makes table told keys asked
+    × PutsSealed table put.lock put.out told keys (answer (command_plan table asked) told)
+
+-- The files of a session that saves its last keyset under a master have such a text more, and nothing else is
+-- new; its output are the replies to its lines.
+abbrev pub LockedSessionsSave : Type 0
+LockedSessionsSave = (table : Table) (lock : Master) (name file : List ℕ) (form of_out : Format)
+    (told : Told)
+    → let a = answer (command_plan table
+    (session (Some lock) name form (record { file = Some file; form = of_out }))) told in
+    a.status ≡ status.Done
+    → (over old : Keys) × OpensMaster table lock told over
+    × LiesBehind table (Some lock) (record { file = Some name; form = form }) told old
+    × (let x = talk table old told.input told.random true in (text : List ℕ)
+    × ShowsInfoAlone table over x.keys of_out text × (a.output ≡ x.output)
+    × (a.files ≡ map.insert told.files file text))
+
+-- Two keysets that differ in key messages and key material types alone, and whose binary forms have one length,
+-- have texts under one master, of the same random bytes, that differ in the sealed bytes alone; and these have
+-- one length.
+abbrev pub SealedAlike : Type 0
+SealedAlike = (table : Table) (over one two : Keys) (json : Bool) (random : List ℕ) (wrapped : Wrapped)
+    → without_keys one ≡ without_keys two → length (binary_of one) ≡ length (binary_of two)
+    → wrap_of one over table random json ≡ Some wrapped
+    → (other : Wrapped) × (wrap_of two over table random json ≡ Some other)
+    × (sealed resealed : List ℕ) × (length sealed ≡ length resealed)
+    × (wrapped.text ≡ wrapped_text json sealed (info_of (without_keys one)))
+    × (other.text ≡ wrapped_text json resealed (info_of (without_keys one)))
