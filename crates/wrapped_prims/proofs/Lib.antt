@@ -2,6 +2,7 @@ pub mod KeepLemmas
 pub mod PlaceLemmas
 pub mod IndexLemmas
 pub mod OpenLemmas
+pub mod OpenedSizes
 pub mod PrefixLemmas
 pub mod InPlaceLemmas
 pub mod HandleLemmas
