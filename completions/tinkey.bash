@@ -20,9 +20,9 @@ _tinkey() {
     --key-id | --ad | --ad-hex | --tag-hex | --length | --seed | --lines | --from) return ;;
     *)
         if [ "$COMP_CWORD" -eq 1 ]; then
-            words='create-keyset add-key rotate-keyset promote-key enable-key disable-key destroy-key delete-key list-keyset convert-keyset list-key-templates seal open dseal dopen sseal sopen tag verify derive session selftest wrap-keyset unwrap-keyset eseal eopen srange help version'
+            words='create-keyset add-key rotate-keyset promote-key enable-key disable-key destroy-key delete-key list-keyset convert-keyset list-key-templates seal open dseal dopen reseal dreseal sseal sopen tag verify derive session selftest wrap-keyset unwrap-keyset eseal eopen srange help version'
         elif [ "$COMP_CWORD" -eq 2 ] && [ "$before" = help ]; then
-            words='create-keyset add-key rotate-keyset promote-key enable-key disable-key destroy-key delete-key list-keyset convert-keyset list-key-templates seal open dseal dopen sseal sopen tag verify derive session selftest wrap-keyset unwrap-keyset eseal eopen srange exit'
+            words='create-keyset add-key rotate-keyset promote-key enable-key disable-key destroy-key delete-key list-keyset convert-keyset list-key-templates seal open dseal dopen reseal dreseal sseal sopen tag verify derive session selftest wrap-keyset unwrap-keyset eseal eopen srange exit'
         else
             case "${COMP_WORDS[1]}" in
             create-keyset) words='--key-template --out --out-format --master --master-format --help' ;;
@@ -40,6 +40,8 @@ _tinkey() {
             open) words='--keyset --keyset-format --ad --ad-hex --out --master --master-format --help' ;;
             dseal) words='--keyset --keyset-format --ad --ad-hex --out --master --master-format --help' ;;
             dopen) words='--keyset --keyset-format --ad --ad-hex --out --master --master-format --help' ;;
+            reseal) words='--keyset --keyset-format --ad --ad-hex --out --master --master-format --help' ;;
+            dreseal) words='--keyset --keyset-format --ad --ad-hex --out --master --master-format --help' ;;
             sseal) words='--keyset --keyset-format --ad --ad-hex --master --master-format --help' ;;
             sopen) words='--keyset --keyset-format --ad --ad-hex --master --master-format --help' ;;
             tag) words='--keyset --keyset-format --out --hex --master --master-format --help' ;;

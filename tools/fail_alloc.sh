@@ -250,6 +250,14 @@ refuse dseal dseal --keyset siv --ad-hex 000e
 hex 003f691decd01ba02be727b014625c9a8606b032893191be | takes
 ends same "$(printf 'Hi There' | shaped same)" none
 refuse dopen dopen --keyset siv --ad-hex 000e
+hex 003f691decd01ba02be727b014625c9a8606b032893191be | takes
+ends same 003f691decd01ba02be727b014625c9a8606b032893191be none
+refuse dreseal dreseal --keyset siv --ad-hex 000e
+hex "$sealed" | takes
+ends size 49 none
+refuse reseal reseal --keyset gcm --keyset-format binary
+ends same '' 'size 49'
+refuse resealed-file reseal --keyset gcm --keyset-format binary --out n
 printf 'Hi There' | takes
 ends same b0344c61d8db38535ca8afceaf0bf12b none
 refuse tag tag --keyset hmac --keyset-format binary

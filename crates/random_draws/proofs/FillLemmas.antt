@@ -12,19 +12,20 @@ use Rattle.keyset_model.specs.Keyset.{Keys, primary_of}
 use Rattle.keyset_model.specs.declared.record.Record.{Record}
 use Rattle.managers.specs.Table.{Table}
 use Rattle.managers.specs.Uses.{iv_size, seal_of}
-use Rattle.random_draws.specs.Slices.{Fill, Id, Key, edit_fills, effect_fills, fill_of, fills, iv_fills, new_fills, template_fills, total, unless_there, Iv}
+use Rattle.random_draws.specs.Slices.{Fill, Id, Key, edit_fills, effect_fills, fill_of, fills, iv_fills, new_fills, opened_fills, template_fills, total, unless_there, Iv}
 use Rattle.tinkey_cmds.specs.Draws.{Drawn, and_then, answered as answers}
 use Rattle.tinkey_cmds.specs.Edits.{Edit, EditOf, added, effect_of, grown, id_of, is_taken, new_id, record_of, refusal_of, rotated, step, unless_refused, with_key}
 use Rattle.tinkey_cmds.specs.Edits as edits
 use Rattle.tinkey_cmds.specs.declared.command.CmdFault.{CmdFault}
 use Rattle.tinkey_session.proofs.DrawLemmas.{served_left}
 use Rattle.tinkey_session.proofs.Options.{clash, map_some, then_some}
-use Rattle.tinkey_session.specs.Lines.{Line, Seal, Dseal, Open, Dopen, Tag, Verify, Derive, Edit as AsksEdit, Bad}
-use Rattle.tinkey_session.specs.Serving.{Served, answered, cannot_serve, computed, derived_reply, edit_line, sealed_reply, serve, stepped, template_of, unless_unfit, with_template}
+use Rattle.tinkey_session.specs.Lines.{Line, Seal, Dseal, Open, Dopen, Reseal, Dreseal, Tag, Verify, Derive, Edit as AsksEdit, Bad}
+use Rattle.tinkey_session.specs.Serving.{Served, answered, cannot_serve, computed, derived_reply, edit_line, if_opened, sealed_reply, serve, stepped, template_of, unless_unfit, with_template}
 use Rattle.tinkey_session.specs.declared.reply.Refusal.{Refusal}
+use Rattle.tinkey_session.specs.declared.reply.Refusal.TheVariants.{OpenFailed}
 use Rattle.tinkey_session.specs.declared.reply.Reply.{Reply}
 use Rattle.tinkey_session.specs.declared.reply.Reply.TheVariants.{Gives, Refuses}
-use Rattle.wrapped_prims.specs.Answers.{Sealed, derive_answer, dseal_answer, primary_key, seal_answer, seal_behind, seal_under, tag_answer}
+use Rattle.wrapped_prims.specs.Answers.{Sealed, derive_answer, dopen_answer, dseal_answer, open_answer, primary_key, seal_answer, seal_behind, seal_under, tag_answer}
 use Rattle.wrapped_prims.specs.Candidates.{prefix_bytes, prefix_of}
 use Rattle.wrapped_prims.specs.Fitness.{Unfit, key_of_record, unfit}
 
@@ -200,12 +201,24 @@ seal_took table keys plain ad random x None e =
     (subst (λ k. Took (total (iv_fills k)) random there.0.left) (sym (primary_is table keys s.under' s.key s.primary s.is))
     (took-one (fill_of Iv (iv_size s.key)) random there.0.left s.took))
 
+reseal_took : (table : Table) (keys : Keys) (ad random : List ℕ) (x : Served) (u : Option (ℕ × Unfit)) (o : Option (List ℕ)) → unless_unfit u keys random (if_opened keys random o (λ plain. option_map (sealed_reply keys) (seal_answer keys table plain ad random))) ≡ Some x
+    → Took (total (unless_there u (opened_fills o (iv_fills (primary_key keys table Aead))))) random x.left
+reseal_took table keys ad random x (Some found) o e = took-answered keys random (Refuses (cannot_serve found.0 found.1)) x e
+reseal_took table keys ad random x None (Some plain) e = seal_took table keys plain ad random x None e
+reseal_took table keys ad random x None None e = took-answered keys random (Refuses OpenFailed) x e
+
+took-opened : (keys : Keys) (random : List ℕ) (o : Option (List ℕ)) (next : List ℕ → Option Served) (x : Served) → ((plain : List ℕ) → next plain ≡ Some x → Took 0 random x.left) → if_opened keys random o next ≡ Some x → Took 0 random x.left
+took-opened keys random (Some plain) next x took e = took plain e
+took-opened keys random None next x took e = took-answered keys random (Refuses OpenFailed) x e
+
 pub line_took : (table : Table) (keys : Keys) (line : Line) (random : List ℕ) (x : Served) → serve table keys line random ≡ Some x → Took (total (fills table keys line random)) random x.left
 unfolding serve fills
 line_took table keys (Seal plain ad) random x e = seal_took table keys plain ad random x (unfit keys Aead table) e
 line_took table keys (Dseal plain ad) random x e = took-unless (unfit keys Daead table) keys random _ x (took-computed keys random Gives (dseal_answer keys table plain ad) x) e
 line_took table keys (Open sealed ad) random x e = took-unless (unfit keys Aead table) keys random _ x (took-answered keys random _ x) e
 line_took table keys (Dopen sealed ad) random x e = took-unless (unfit keys Daead table) keys random _ x (took-answered keys random _ x) e
+line_took table keys (Reseal sealed ad) random x e = reseal_took table keys ad random x (unfit keys Aead table) (open_answer keys table sealed ad) e
+line_took table keys (Dreseal sealed ad) random x e = took-unless (unfit keys Daead table) keys random _ x (took-opened keys random (dopen_answer keys table sealed ad) _ x (λ plain. took-computed keys random Gives (dseal_answer keys table plain ad) x)) e
 line_took table keys (Tag body) random x e = took-unless (unfit keys Mac table) keys random _ x (took-computed keys random Gives (tag_answer keys table body) x) e
 line_took table keys (Verify tag body) random x e = took-unless (unfit keys Mac table) keys random _ x (took-answered keys random _ x) e
 line_took table keys (Derive size input) random x e = took-unless (unfit keys Prf table) keys random _ x (took-computed keys random (derived_reply size) (derive_answer keys table input size) x) e

@@ -16,15 +16,16 @@ use Rattle.managers.specs.Table.{Table}
 use Rattle.managers.specs.Uses.{iv_size, seal_of}
 use Rattle.random_draws.proofs.SessionLemmas.{slices_apart, slices_are_within, turns_have_slices}
 use Rattle.random_draws.proofs.FillLemmas.{IsSealing, seal_fills, is_sealing}
-use Rattle.random_draws.specs.Slices.{Slice, Iv, size_of, slices, fill_of, fills, placed, bytes_of}
-use Rattle.random_draws.specs.Sessions.{IvsApart, IvsAreDrawn, IvsStandInReplies}
+use Rattle.random_draws.specs.Slices.{Slice, Iv, size_of, slices, fill_of, fills, iv_fills, opened_fills, placed, bytes_of, unless_there}
+use Rattle.random_draws.specs.Sessions.{IvsApart, IvsAreDrawn, IvsStandInReplies, SealsPlain}
 use Rattle.tinkey_session.proofs.Options.{map_some}
+use Rattle.tinkey_session.proofs.ResealLemmas.{reseal_seals}
 use Rattle.tinkey_session.proofs.TurnLemmas.{handle_cases}
-use Rattle.tinkey_session.specs.Lines.{Seal}
+use Rattle.tinkey_session.specs.Lines.{Line, Reseal, Seal}
 use Rattle.tinkey_session.specs.Serving.{Served, cannot_serve, sealed_reply, serve}
 use Rattle.tinkey_session.specs.declared.reply.Refusal.{Refusal}
 use Rattle.tinkey_session.specs.declared.reply.Reply.TheVariants.{Gives, Refuses}
-use Rattle.wrapped_prims.specs.Answers.{Sealed, seal_answer}
+use Rattle.wrapped_prims.specs.Answers.{Sealed, primary_key, seal_answer}
 use Rattle.wrapped_prims.specs.Candidates.{prefix_bytes, prefix_of}
 use Rattle.wrapped_prims.specs.Fitness.{key_of_record, unfit}
 
@@ -56,6 +57,19 @@ seal_gave table keys plain ad random sealed x e reply =
       | inr other ↦ refuses_not_gives (cannot_serve other.0.0 other.0.1) sealed (ap (λ y. y.reply) other.1 ∙ reply)
     ]
 
+-- a line that seals this plaintext is answered, and draws, as the line `seal` of it
+record IsLikeSeal (table : Table) (keys : Keys) (line : Line) (plain ad random : List ℕ) : Type 0 where
+  served : serve table keys line random ≡ serve table keys (Seal plain ad) random
+  filled : fills table keys line random ≡ fills table keys (Seal plain ad) random
+
+like_seal : (table : Table) (keys : Keys) (line : Line) (plain ad random : List ℕ) → SealsPlain table keys line plain ad → IsLikeSeal table keys line plain ad random
+unfolding fills
+like_seal table keys line plain ad random (inl is) = record { served = ap (λ l. serve table keys l random) is; filled = ap (λ l. fills table keys l random) is }
+like_seal table keys line plain ad random (inr is) = record {
+  served = ap (λ l. serve table keys l random) is.1 ∙ reseal_seals table keys is.0 ad plain is.2 random;
+  filled = ap (λ l. fills table keys l random) is.1 ∙ ap (λ o. unless_there (unfit keys Aead table) (opened_fills o (iv_fills (primary_key keys table Aead)))) is.2;
+}
+
 get-middle : (xs : List Slice) (y : Slice) (ys : List Slice) → slice_get ((xs ++ y ∷ []) ++ ys) (length xs) ≡ Some y
 get-middle [] y ys = refl
 get-middle (x ∷ xs) y ys = get-middle xs y ys
@@ -72,11 +86,12 @@ pub ivs_are_drawn : IvsAreDrawn
 ivs_are_drawn table keys lines random plain ad sealed i t e asks gives =
     let h = turns_have_slices table keys lines random i t e in
     let rest = drop (size_of h.before) random in
-    let g = seal_gave table t.before plain ad rest sealed h.served (ap (λ line. serve table t.before line rest) (sym asks) ∙ h.is) (sym h.reply ∙ gives) in
+    let like = like_seal table t.before t.line plain ad rest asks in
+    let g = seal_gave table t.before plain ad rest sealed h.served (sym like.served ∙ h.is) (sym h.reply ∙ gives) in
     let s = g.is in
     let iv : Slice = record { line = i; purpose = Iv; place = size_of h.before; size = iv_size s.key } in
     let filled : fills table t.before t.line rest ≡ fill_of Iv (iv_size s.key) ∷ []
-    = ap (λ line. fills table t.before line rest) asks ∙ seal_fills table t.before plain ad rest s.under' s.key g.fit s.primary s.is in
+    = like.filled ∙ seal_fills table t.before plain ad rest s.under' s.key g.fit s.primary s.is in
     let mine : placed i (size_of h.before) (fills table t.before t.line rest) ≡ iv ∷ [] = ap (placed i (size_of h.before)) filled ∙ placed-one i (size_of h.before) (iv_size s.key) in
     let all : slices table keys lines random ≡ h.before ++ iv ∷ [] ++ h.after = h.split ∙ ap (λ ds. h.before ++ ds ++ h.after) mine in (
       iv,

@@ -15,7 +15,7 @@ use Rattle.tinkey_cmds.specs.Edits as edits
 use Rattle.tinkey_cmds.specs.declared.command.CmdFault.{CmdFault}
 use Rattle.tinkey_session.proofs.DrawLemmas.{lines_draw_fronts}
 use Rattle.tinkey_session.proofs.Options.{clash, map_some}
-use Rattle.tinkey_session.specs.Lines.{Line, Seal, Dseal, Open, Dopen, Tag, Verify, Derive, Edit as AsksEdit, Bad}
+use Rattle.tinkey_session.specs.Lines.{Line, Seal, Dseal, Open, Dopen, Reseal, Dreseal, Tag, Verify, Derive, Edit as AsksEdit, Bad}
 use Rattle.tinkey_session.specs.Serving.{Served, edit_line, serve, stepped, template_of, with_template}
 use Rattle.tinkey_session.specs.Session.{Remains, remains, turn_then, turns}
 use Rattle.tinkey_session.specs.declared.reply.Refusal.{Refusal}
@@ -96,6 +96,8 @@ fills_more table keys (Seal plain ad) random more x e = refl
 fills_more table keys (Dseal plain ad) random more x e = refl
 fills_more table keys (Open sealed ad) random more x e = refl
 fills_more table keys (Dopen sealed ad) random more x e = refl
+fills_more table keys (Reseal sealed ad) random more x e = refl
+fills_more table keys (Dreseal sealed ad) random more x e = refl
 fills_more table keys (Tag body) random more x e = refl
 fills_more table keys (Verify tag body) random more x e = refl
 fills_more table keys (Derive size input) random more x e = refl

@@ -10,11 +10,12 @@ use Rattle.managers.specs.Table.{Table}
 use Rattle.managers.specs.Uses.{iv_size, seal_of}
 use Rattle.random_draws.specs.Slices.{AreApart, Slice, Id, Iv, IsIn, Key, size_of, slices, slices_from, fills, placed, bytes_of}
 use Rattle.tinkey_cmds.specs.Edits.{EditOf, id_of, record_of}
-use Rattle.tinkey_session.specs.Lines.{Edit, Line, Seal}
+use Rattle.tinkey_session.specs.Lines.{Edit, Line, Reseal, Seal}
 use Rattle.tinkey_session.specs.Serving.{Served, serve, template_of}
 use Rattle.tinkey_session.specs.Session.{Remains, Turn, remains, turns}
 use Rattle.tinkey_session.specs.declared.reply.Refusal.{Refusal}
 use Rattle.tinkey_session.specs.declared.reply.Reply.TheVariants.{Gives, NewId, Refuses}
+use Rattle.wrapped_prims.specs.Answers.{open_answer}
 use Rattle.wrapped_prims.specs.Candidates.{prefix_bytes, prefix_of}
 use Rattle.wrapped_prims.specs.Fitness.{key_of_record}
 
@@ -78,6 +79,11 @@ NoByteServesTwice = (table : Table) (keys : Keys) (lines : List Line) (random : 
 
 -- ---- IVs
 
+-- a line that seals this plaintext: `seal`, which has it, or `reseal`, whose text opens to it
+abbrev pub SealsPlain : Table → Keys → Line → (plain ad : List ℕ) → Type 0
+SealsPlain table keys line plain ad = (line ≡ Seal plain ad)
+    ⊎ ((bytes : List ℕ) × (line ≡ Reseal bytes ad) × (open_answer keys table bytes ad ≡ Some plain))
+
 -- what line i sealed, under the primary key and with the bytes of this slice of its own as IV
 pub record IsSealedWith (all : List Slice) (random : List ℕ) (table : Table) (i : ℕ) (keys : Keys)
     (plain ad sealed : List ℕ) (iv : Slice) : Type 0 where
@@ -93,12 +99,12 @@ pub record IsSealedWith (all : List Slice) (random : List ℕ) (table : Table) (
   pub bytes : sealed
       ≡ prefix_bytes (prefix_of under') ++ seal_of key (bytes_of iv random) plain ad
 
--- Each line `seal` that gave something gave such a sealing.
+-- Each line `seal` or `reseal` that gave something gave such a sealing.
 abbrev pub IvsAreDrawn : Type 0
 IvsAreDrawn = (table : Table) (keys : Keys) (lines : List Line) (random plain ad sealed : List ℕ)
     (i : ℕ) (t : Turn)
     → slice_get (turns table keys lines random) i ≡ Some t
-    → t.line ≡ Seal plain ad → t.reply ≡ Gives sealed
+    → SealsPlain table t.before t.line plain ad → t.reply ≡ Gives sealed
     → (iv : Slice) × IsSealedWith (slices table keys lines random) random table i t.before plain ad
     sealed iv
 
@@ -115,23 +121,23 @@ pub record IsIvOf (all : List Slice) (random : List ℕ) (table : Table) (i : �
   pub purpose : iv.purpose ≡ Iv
   pub stands : take iv.size (drop (length (prefix_bytes (prefix_of r))) sealed) ≡ bytes_of iv random
 
--- So the IV can be read in each reply to a line `seal`, whichever kind of AEAD the primary key is of.
+-- So the IV can be read in each reply with a sealing, whichever kind of AEAD the primary key is of.
 abbrev pub IvsStandInReplies : Type 0
 IvsStandInReplies = (table : Table) (keys : Keys) (lines : List Line) (random plain ad sealed : List ℕ)
     (i : ℕ) (r : Record) (t : Turn)
     → slice_get (turns table keys lines random) i ≡ Some t
-    → t.line ≡ Seal plain ad → t.reply ≡ Gives sealed → primary_of t.before ≡ Some r
+    → SealsPlain table t.before t.line plain ad → t.reply ≡ Gives sealed → primary_of t.before ≡ Some r
     → (iv : Slice) × IsIvOf (slices table keys lines random) random table i r sealed iv
 
--- Two lines `seal` have IVs at different places of the random bytes, with no byte in common. So they can
+-- Two lines that seal have IVs at different places of the random bytes, with no byte in common. So they can
 -- be equal only if the random bytes themselves repeat.
 abbrev pub IvsApart : Type 0
 IvsApart = (table : Table) (keys : Keys) (lines : List Line) (random : List ℕ) (i j : ℕ)
     (s t : Turn) (plain ad sealed other more resealed : List ℕ) (q r : Record)
     → slice_get (turns table keys lines random) i ≡ Some s
     → slice_get (turns table keys lines random) j ≡ Some t → i ≢ j
-    → s.line ≡ Seal plain ad → s.reply ≡ Gives sealed → primary_of s.before ≡ Some q
-    → t.line ≡ Seal other more → t.reply ≡ Gives resealed → primary_of t.before ≡ Some r
+    → SealsPlain table s.before s.line plain ad → s.reply ≡ Gives sealed → primary_of s.before ≡ Some q
+    → SealsPlain table t.before t.line other more → t.reply ≡ Gives resealed → primary_of t.before ≡ Some r
     → (iv iv' : Slice) × AreApart iv iv'
     × IsIvOf (slices table keys lines random) random table i q sealed iv
     × IsIvOf (slices table keys lines random) random table j r resealed iv'

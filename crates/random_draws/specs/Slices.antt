@@ -16,10 +16,10 @@ use Rattle.managers.specs.Table.{Table}
 use Rattle.managers.specs.Uses.{iv_size}
 use Rattle.tinkey_cmds.specs.Edits.{Edit, edit_then, id_of, is_taken, refusal_of}
 use Rattle.tinkey_cmds.specs.Edits as edits
-use Rattle.tinkey_session.specs.Lines.{Line, Seal, Edit as AsksEdit}
+use Rattle.tinkey_session.specs.Lines.{Line, Reseal, Seal, Edit as AsksEdit}
 use Rattle.tinkey_session.specs.Serving.{Served, serve, template_of}
 use Rattle.tinkey_session.specs.declared.reply.Refusal.{Refusal}
-use Rattle.wrapped_prims.specs.Answers.{primary_key}
+use Rattle.wrapped_prims.specs.Answers.{open_answer, primary_key}
 use Rattle.wrapped_prims.specs.Fitness.{unfit}
 
 -- ---- fills
@@ -80,13 +80,21 @@ abbrev pub template_fills : Result Row Refusal → (Row → List Fill) → List 
 template_fills (Ok row) next = next row
 template_fills (Err why) next = []
 
--- Of the lines of a session `seal` draws an IV, if the keyset can serve, and an edit what it needs.
--- All others draw nothing.
+-- what is sealed where something opened; where nothing did, nothing
+abbrev pub opened_fills : {A : Type 0} → Option A → List Fill → List Fill
+opened_fills None filled = []
+opened_fills (Some plain) filled = filled
+
+-- Of the lines of a session `seal` draws an IV, if the keyset can serve, `reseal` too if its text opens, and
+-- an edit draws what it needs. All others draw nothing.
 unfoldable pub fills : Table → Keys → Line → (random : List ℕ) → List Fill
 fills table keys (Seal plain ad) random =
     unless_there (unfit keys Aead table) (iv_fills (primary_key keys table Aead))
 fills table keys (AsksEdit edit) random =
     edit_then (λ name. template_fills (template_of name)) edit (edit_fills keys random)
+fills table keys (Reseal sealed ad) random =
+    unless_there (unfit keys Aead table) (opened_fills (open_answer keys table sealed ad)
+    (iv_fills (primary_key keys table Aead)))
 fills table keys line random = []
 
 -- ---- in their places

@@ -41,8 +41,8 @@ pub fn slices_apart()
     ensures bytes { NoByteServesTwice }
 {}
 
-/// The IV in the reply to a line `seal` is a slice of its own, and those of two lines have no byte in
-/// common.
+/// The IV in the reply to a line `seal` or `reseal` is a slice of its own, and those of two such lines have
+/// no byte in common.
 pub fn ivs_are_drawn()
     ensures sealed { IvsAreDrawn }
     ensures replies { IvsStandInReplies }

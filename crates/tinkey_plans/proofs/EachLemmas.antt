@@ -23,7 +23,7 @@ use Rattle.tinkey_plans.specs.Locks.{keyset_under, limit_under, loads_locked, op
 use Rattle.tinkey_plans.specs.Wrapping.{is_json, makes_wrapped, with_unwrapped, wrapped_limit, wraps}
 use Rattle.seal_wrap.specs.Unwrapped as unwrapped
 use Rattle.seal_wrap.specs.Unwrapped.{unwrap_of}
-use Rattle.tinkey_words.specs.Words.{AskedEdit, AskedEnvelope, AskedWork, Lock, Master, NewLock, Place, as_taken, in_clear, under, to_eseal, to_eopen, to_seal, to_open, to_dseal, to_dopen, to_tag, to_verify, to_derive}
+use Rattle.tinkey_words.specs.Words.{AskedEdit, AskedEnvelope, AskedWork, Lock, Master, NewLock, Place, as_taken, in_clear, under, to_eseal, to_eopen, to_seal, to_open, to_dseal, to_dopen, to_reseal, to_dreseal, to_tag, to_verify, to_derive}
 use Rattle.tinkey_plans.specs.Plan.{IsStated, Made, Of, allocates, draws, envelopings, sealings}
 use Rattle.tinkey_plans.specs.declared.status.Status.{Status}
 use Rattle.key_msgs.specs.KeyTypes.{primitive_of_type}
@@ -169,11 +169,13 @@ derived_each P c asked None next all = all []
 derived_each P c asked (Some (Ok bytes)) next all = all bytes
 derived_each P c asked (Some (Err greatest)) next all = c.ended _ _
 
-pub work_each : (P : Plan → Type 0) → IsClosed P → (table : Table) (keys : Keys) (work : AskedWork) (input : List ℕ) → ((ad : List ℕ) → IsClosedAt P sealings (seals keys table input ad)) → (next : List ℕ → Plan) → AreAll P next → P (works table keys work input next)
-work_each P c table keys (to_seal ad) input drawn next all = c.allocated _ (drawn ad _ (λ made. c.allocated _ (made_each P c made next all)))
+pub work_each : (P : Plan → Type 0) → IsClosed P → (table : Table) (keys : Keys) (work : AskedWork) (input : List ℕ) → ((plain ad : List ℕ) → IsClosedAt P sealings (seals keys table plain ad)) → (next : List ℕ → Plan) → AreAll P next → P (works table keys work input next)
+work_each P c table keys (to_seal ad) input drawn next all = c.allocated _ (drawn input ad _ (λ made. c.allocated _ (made_each P c made next all)))
 work_each P c table keys (to_open ad) input drawn next all = c.allocated _ (opened_each P c (open_answer keys table input ad) next all)
 work_each P c table keys (to_dseal ad) input drawn next all = c.allocated _ (all _)
 work_each P c table keys (to_dopen ad) input drawn next all = c.allocated _ (opened_each P c (dopen_answer keys table input ad) next all)
+work_each P c table keys (to_reseal ad) input drawn next all = c.allocated _ (opened_each P c (open_answer keys table input ad) _ (λ plain. c.allocated _ (drawn plain ad _ (λ made. c.allocated _ (made_each P c made next all)))))
+work_each P c table keys (to_dreseal ad) input drawn next all = c.allocated _ (opened_each P c (dopen_answer keys table input ad) _ (λ plain. c.allocated _ (all _)))
 work_each P c table keys to_tag input drawn next all = c.allocated _ (all _)
 work_each P c table keys (to_verify tag) input drawn next all = c.allocated _ (verified_each P c (verify_answer keys table tag input) next all)
 work_each P c table keys (to_derive size) input drawn next all = c.allocated _ (derived_each P c size (derive_answer keys table input size) next all)

@@ -34,6 +34,8 @@ list_text =
     ++ codes "  eopen               opens an envelope\n"
     ++ codes "  dseal               seals deterministically: equal texts give equal bytes\n"
     ++ codes "  dopen               opens what dseal sealed\n"
+    ++ codes "  reseal              opens, and seals again under the primary key\n"
+    ++ codes "  dreseal             as reseal, of what dseal sealed\n"
     ++ codes "  sseal               seals a stream of any length, in one pass\n"
     ++ codes "  sopen               opens such a stream; it is complete only if the exit code is 0\n"
     ++ codes "  srange              opens a range of such a stream in a file\n\n"
@@ -601,6 +603,30 @@ command_text commands.Dopen =
     ++ codes "  tinkey create-keyset --key-template AES256_SIV --out dopen.json\n"
     ++ codes "  echo 'Dear Ada' | tinkey dseal --keyset dopen.json --out dopen.sealed\n"
     ++ codes "  tinkey dopen --keyset dopen.json < dopen.sealed\n"
+command_text commands.Reseal =
+    codes "tinkey reseal: opens, and seals again under the primary key\n\n"
+    ++ codes "  tinkey reseal --keyset FILE [--keyset-format json|binary] [--ad TEXT] [--ad-hex HEX]\n"
+    ++ codes "      [--out FILE] [--master FILE] [--master-format json|binary]\n"
+    ++ options_of_seal ++ read_by_seal
+    ++ codes "Gives  what the input opens to, sealed again under the primary key, in a new file of --out,\n"
+    ++ codes "       or on standard output if there is no --out\n"
+    ++ codes_012345678
+    ++ codes "  tinkey create-keyset --key-template AES256_GCM --out before.json\n"
+    ++ codes "  echo 'Dear Ada' | tinkey seal --keyset before.json --ad 'to Ada' --out reseal.sealed\n"
+    ++ codes "  tinkey rotate-keyset --key-template AES256_GCM --in before.json --out reseal.json\n"
+    ++ codes "  tinkey reseal --keyset reseal.json --ad 'to Ada' < reseal.sealed > resealed\n"
+command_text commands.Dreseal =
+    codes "tinkey dreseal: as reseal, of what dseal sealed\n\n"
+    ++ codes "  tinkey dreseal --keyset FILE [--keyset-format json|binary] [--ad TEXT] [--ad-hex HEX]\n"
+    ++ codes "      [--out FILE] [--master FILE] [--master-format json|binary]\n"
+    ++ options_of_seal ++ read_by_seal
+    ++ codes "Gives  as reseal, without an IV, in a new file of --out, or on standard output if there is\n"
+    ++ codes "       no --out\n"
+    ++ codes_012345678
+    ++ codes "  tinkey create-keyset --key-template AES256_SIV --out earlier.json\n"
+    ++ codes "  echo 'Dear Ada' | tinkey dseal --keyset earlier.json --out dreseal.sealed\n"
+    ++ codes "  tinkey rotate-keyset --key-template AES256_SIV --in earlier.json --out dreseal.json\n"
+    ++ codes "  tinkey dreseal --keyset dreseal.json < dreseal.sealed > dresealed\n"
 command_text commands.Sseal =
     codes "tinkey sseal: seals a stream of any length, in one pass\n\n"
     ++ codes "  tinkey sseal --keyset FILE [--keyset-format json|binary] [--ad TEXT] [--ad-hex HEX]\n"
@@ -688,9 +714,10 @@ command_text commands.Session =
     ++ codes "\nOptional:\n"
     ++ keyset_format_31 ++ out_31 ++ out_format_31 ++ master_31 ++ master_format_31
     ++ codes "\nReads  the keyset, and lines on standard input: seal HEX HEX and dseal HEX HEX (a text, its\n"
-    ++ codes "       associated data), open HEX HEX and dopen HEX HEX, tag HEX, verify HEX HEX (a tag, its\n"
-    ++ codes "       text), derive N HEX, add NAME and rotate NAME (a template), promote N, enable N,\n"
-    ++ codes "       disable N, destroy N, delete N (a key id); - stands for no bytes\n"
+    ++ codes "       associated data), open HEX HEX and dopen HEX HEX, reseal HEX HEX and dreseal HEX HEX,\n"
+    ++ codes "       tag HEX, verify HEX HEX (a tag, its text), derive N HEX, add NAME and rotate NAME (a\n"
+    ++ codes "       template), promote N, enable N, disable N, destroy N, delete N (a key id); - stands\n"
+    ++ codes "       for no bytes\n"
     ++ codes "Gives  one reply for each line, on standard output; and then the last keyset in the new file\n"
     ++ codes "       of --out, if one is given\n"
     ++ codes_012345678

@@ -18,7 +18,7 @@ use Rattle.tinkey_plans.specs.Ends.{World}
 use Rattle.tinkey_plans.specs.Handles.{handles}
 use Rattle.tinkey_plans.specs.Locks.{loads_locked}
 use Rattle.tinkey_plans.specs.Steps.{input_limit, sealed_limit, puts, reads_input, works_out, with_made, Passes}
-use Rattle.tinkey_words.specs.Words.{AskedWork, Lock, to_seal, to_open, to_dseal, to_dopen, to_tag, to_verify, to_derive, primitive_for, Output}
+use Rattle.tinkey_words.specs.Words.{AskedWork, Lock, to_seal, to_open, to_dseal, to_dopen, to_reseal, to_dreseal, to_tag, to_verify, to_derive, primitive_for, Output}
 
 -- a sealing, and the random bytes that it leaves
 abbrev pub as_drawn : Sealed → Drawn (List ℕ)
@@ -49,16 +49,30 @@ with_derived asked None next = next []
 with_derived asked (Some (Ok bytes)) next = next bytes
 with_derived asked (Some (Err greatest)) next = ends (status.OutputTooLong asked greatest) tt
 
+-- a plaintext, sealed under the primary key
+abbrev pub seals_plain : Table → Keys → (plain ad : List ℕ) → (List ℕ → Plan) → Plan
+seals_plain table keys plain ad next =
+    allocates (draws sealings (seals keys table plain ad) (λ made. allocates (with_made made next)))
+
+-- the same, deterministic
+abbrev pub dseals_plain : Table → Keys → (plain ad : List ℕ) → (List ℕ → Plan) → Plan
+dseals_plain table keys plain ad next =
+    works_out (made_bytes (dseal_answer keys table plain ad)) next
+
 -- what is put out for the whole input
 abbrev pub works : Table → Keys → AskedWork → List ℕ → (List ℕ → Plan) → Plan
-works table keys (to_seal ad) input next =
-    allocates (draws sealings (seals keys table input ad) (λ made. allocates (with_made made next)))
+works table keys (to_seal ad) input next = seals_plain table keys input ad next
 works table keys (to_open ad) input next =
     allocates (with_opened (open_answer keys table input ad) next)
-works table keys (to_dseal ad) input next =
-    works_out (made_bytes (dseal_answer keys table input ad)) next
+works table keys (to_dseal ad) input next = dseals_plain table keys input ad next
 works table keys (to_dopen ad) input next =
     allocates (with_opened (dopen_answer keys table input ad) next)
+works table keys (to_reseal ad) input next =
+    allocates (with_opened (open_answer keys table input ad)
+    (λ plain. seals_plain table keys plain ad next))
+works table keys (to_dreseal ad) input next =
+    allocates (with_opened (dopen_answer keys table input ad)
+    (λ plain. dseals_plain table keys plain ad next))
 works table keys to_tag input next = works_out (made_bytes (tag_answer keys table input)) next
 works table keys (to_verify tag) input next =
     allocates (with_verified (verify_answer keys table tag input) next)
@@ -69,6 +83,8 @@ works table keys (to_derive size) input next =
 abbrev pub limit_for : AskedWork → ℕ
 limit_for (to_open ad) = sealed_limit
 limit_for (to_dopen ad) = sealed_limit
+limit_for (to_reseal ad) = sealed_limit
+limit_for (to_dreseal ad) = sealed_limit
 limit_for _ = input_limit
 
 -- work on the whole input, by the keys of the keyset in a file

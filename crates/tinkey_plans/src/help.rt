@@ -263,6 +263,8 @@ Seal and open:
   eopen               opens an envelope
   dseal               seals deterministically: equal texts give equal bytes
   dopen               opens what dseal sealed
+  reseal              opens, and seals again under the primary key
+  dreseal             as reseal, of what dseal sealed
   sseal               seals a stream of any length, in one pass
   sopen               opens such a stream; it is complete only if the exit code is 0
   srange              opens a range of such a stream in a file
@@ -717,6 +719,32 @@ tinkey dopen: opens what dseal sealed
   echo 'Dear Ada' | tinkey dseal --keyset dopen.json --out dopen.sealed
   tinkey dopen --keyset dopen.json < dopen.sealed
 "),
+        CommandName::Reseal => text!([] "\
+tinkey reseal: opens, and seals again under the primary key
+
+  tinkey reseal --keyset FILE [--keyset-format json|binary] [--ad TEXT] [--ad-hex HEX]
+      [--out FILE] [--master FILE] [--master-format json|binary]
+" options_of_seal read_by_seal "\
+Gives  what the input opens to, sealed again under the primary key, in a new file of --out,
+       or on standard output if there is no --out
+" codes_012345678 "  tinkey create-keyset --key-template AES256_GCM --out before.json
+  echo 'Dear Ada' | tinkey seal --keyset before.json --ad 'to Ada' --out reseal.sealed
+  tinkey rotate-keyset --key-template AES256_GCM --in before.json --out reseal.json
+  tinkey reseal --keyset reseal.json --ad 'to Ada' < reseal.sealed > resealed
+"),
+        CommandName::Dreseal => text!([] "\
+tinkey dreseal: as reseal, of what dseal sealed
+
+  tinkey dreseal --keyset FILE [--keyset-format json|binary] [--ad TEXT] [--ad-hex HEX]
+      [--out FILE] [--master FILE] [--master-format json|binary]
+" options_of_seal read_by_seal "\
+Gives  as reseal, without an IV, in a new file of --out, or on standard output if there is
+       no --out
+" codes_012345678 "  tinkey create-keyset --key-template AES256_SIV --out earlier.json
+  echo 'Dear Ada' | tinkey dseal --keyset earlier.json --out dreseal.sealed
+  tinkey rotate-keyset --key-template AES256_SIV --in earlier.json --out dreseal.json
+  tinkey dreseal --keyset dreseal.json < dreseal.sealed > dresealed
+"),
         CommandName::Sseal => text!([] "\
 tinkey sseal: seals a stream of any length, in one pass
 
@@ -813,9 +841,10 @@ Required:
 Optional:
 " keyset_format_31 out_31 out_format_31 master_31 master_format_31 "
 Reads  the keyset, and lines on standard input: seal HEX HEX and dseal HEX HEX (a text, its
-       associated data), open HEX HEX and dopen HEX HEX, tag HEX, verify HEX HEX (a tag, its
-       text), derive N HEX, add NAME and rotate NAME (a template), promote N, enable N,
-       disable N, destroy N, delete N (a key id); - stands for no bytes
+       associated data), open HEX HEX and dopen HEX HEX, reseal HEX HEX and dreseal HEX HEX,
+       tag HEX, verify HEX HEX (a tag, its text), derive N HEX, add NAME and rotate NAME (a
+       template), promote N, enable N, disable N, destroy N, delete N (a key id); - stands
+       for no bytes
 Gives  one reply for each line, on standard output; and then the last keyset in the new file
        of --out, if one is given
 " codes_012345678 "  tinkey create-keyset --key-template AES256_GCM --out session.json

@@ -11,6 +11,7 @@ use Rattle.tinkey_cmds.specs.Draws.{Draw, Drawn}
 use Rattle.tinkey_cmds.specs.Edits.{Edit, first, step}
 use Rattle.tinkey_cmds.specs.Edits as edits
 use Rattle.tinkey_session.proofs.Options.{no_truth, then_some}
+use Rattle.key_msgs.specs.declared.primitive.Primitive.TheVariants.{Aead}
 use Rattle.wrapped_prims.specs.Answers.{Sealed, derive_answer, dopen_answer, open_answer, seal_answer, verify_answer}
 use Rattle.tinkey_plans.specs.declared.status.Status.TheVariants as status
 use Rattle.tinkey_plans.specs.Commands.{command_plan}
@@ -20,9 +21,9 @@ use Rattle.tinkey_plans.specs.Laws.{FitKeysetsAnswer, IsFit}
 use Rattle.tinkey_plans.specs.Locks.{opens_lock, opens_new_lock, puts_under, takes_under}
 use Rattle.tinkey_plans.specs.Plan.{Answer, Plan, Told, answer, draw_answer, refused, writes}
 use Rattle.tinkey_plans.specs.Steps.{finds_edit, makes_keyset, puts, with_made, with_row, works_out}
-use Rattle.tinkey_plans.specs.Using.{as_drawn, hex_line, limit_for, puts_output, shows, with_derived, with_opened, with_verified, works}
-use Rattle.tinkey_words.specs.Words.{AskedEdit, AskedWork, Lock, NewLock, Output, Place, convert_keyset, create_keyset, edit_keyset, use_keyset, to_seal, to_open, to_dseal, to_dopen, to_tag, to_verify, to_derive, primitive_for}
-use Rattle.tinkey_readable.specs.DoneWhere.{ConvertGoes, CreateGoes, EditGoes, EditsDone, WorkGoes, WorkIsDone, WorksDone}
+use Rattle.tinkey_plans.specs.Using.{as_drawn, dseals_plain, hex_line, limit_for, puts_output, seals_plain, shows, with_derived, with_opened, with_verified, works}
+use Rattle.tinkey_words.specs.Words.{AskedEdit, AskedWork, Lock, NewLock, Output, Place, convert_keyset, create_keyset, edit_keyset, use_keyset, to_seal, to_open, to_dseal, to_dopen, to_reseal, to_dreseal, to_tag, to_verify, to_derive, primitive_for}
+use Rattle.tinkey_readable.specs.DoneWhere.{ConvertGoes, CreateGoes, EditGoes, EditsDone, HasIv, WorkGoes, WorkIsDone, WorksDone}
 use Rattle.tinkey_readable.specs.Lying.{FitsThere}
 use Rattle.tinkey_readable.specs.Runs.{IsFree, edit_of}
 use Rattle.tinkey_readable.proofs.LyingLemmas.{behind_faultless, behind_reached, behind_there, loads_reached, loads_there, lock_reached, lock_there, name_free, new_lock_reached, new_lock_there, put_comes, put_there, takes_reached, takes_there}
@@ -206,21 +207,33 @@ work_goes answers seals table keys (to_seal ad) input next told fit done =
 work_goes answers seals table keys (to_open ad) input next told fit done = opened_goes (open_answer keys table input ad) next told done
 work_goes answers seals table keys (to_dseal ad) input next told fit done = tt
 work_goes answers seals table keys (to_dopen ad) input next told fit done = opened_goes (dopen_answer keys table input ad) next told done
+work_goes answers seals table keys (to_reseal ad) input next told fit done =
+    let o = opened_goes (open_answer keys table input ad) (λ plain. seals_plain table keys plain ad next) told done in
+    let sealed = subst (λ x. IsDoneAnswer (answer (with_opened x (λ plain. seals_plain table keys plain ad next)) told)) o.1 done in
+    let key = seals table keys o.0 ad told.random fit in
+    (o, (key.0, key.1, key.2.1 (sealed_goes table keys ad o.0 next told sealed)))
+work_goes answers seals table keys (to_dreseal ad) input next told fit done = opened_goes (dopen_answer keys table input ad) (λ plain. dseals_plain table keys plain ad next) told done
 work_goes answers seals table keys to_tag input next told fit done = tt
 work_goes answers seals table keys (to_verify tag) input next told fit done = verified_goes (verify_answer keys table tag input) next told done
 work_goes answers seals table keys (to_derive size) input next told fit done =
     derived_goes size (derive_answer keys table input size) next told (answers.derive table keys input size fit) done
 
--- written to the output it is done
-work_done : FitKeysetsSeal → (table : Table) (keys : Keys) (work : AskedWork) (input : List ℕ) (told : Told) → IsFit table (primitive_for work) keys → WorkGoes table keys work input told.random → IsDoneAnswer (answer (works table keys work input writes) told)
-work_done seals table keys (to_seal ad) input told fit goes =
+sealed_done : FitKeysetsSeal → (table : Table) (keys : Keys) (ad input : List ℕ) (told : Told) → IsFit table Aead keys → HasIv table keys told.random → IsDoneAnswer (answer (seals_plain table keys input ad writes) told)
+sealed_done seals table keys ad input told fit goes =
     let key = seals table keys input ad told.random fit in
     let iv = subst (λ n. n ≤ length told.random) (ap iv_size (same_Some _ _ (sym goes.1 ∙ key.1))) goes.2 in
     let s = key.2.0 iv in
     ap (λ o. (draw_answer (option_map as_drawn o) (refused told status.EntropyFault) (λ (d : Drawn (List ℕ)). answer (with_made d.answer writes) (record told { random = d.left }))).status) s.1
+
+-- written to the output it is done
+work_done : FitKeysetsSeal → (table : Table) (keys : Keys) (work : AskedWork) (input : List ℕ) (told : Told) → IsFit table (primitive_for work) keys → WorkGoes table keys work input told.random → IsDoneAnswer (answer (works table keys work input writes) told)
+work_done seals table keys (to_seal ad) input told fit goes = sealed_done seals table keys ad input told fit goes
 work_done seals table keys (to_open ad) input told fit goes = ap (λ o. (answer (with_opened o writes) told).status) goes.1
 work_done seals table keys (to_dseal ad) input told fit goes = refl
 work_done seals table keys (to_dopen ad) input told fit goes = ap (λ o. (answer (with_opened o writes) told).status) goes.1
+work_done seals table keys (to_reseal ad) input told fit goes =
+    ap (λ o. (answer (with_opened o (λ plain. seals_plain table keys plain ad writes)) told).status) goes.0.1 ∙ sealed_done seals table keys ad goes.0.0 told fit goes.1
+work_done seals table keys (to_dreseal ad) input told fit goes = ap (λ o. (answer (with_opened o (λ plain. dseals_plain table keys plain ad writes)) told).status) goes.1
 work_done seals table keys to_tag input told fit goes = refl
 work_done seals table keys (to_verify tag) input told fit goes = ap (λ b. (answer (with_verified b writes) told).status) goes
 work_done seals table keys (to_derive size) input told fit goes = ap (λ o. (answer (with_derived size o writes) told).status) goes.1

@@ -21,8 +21,8 @@ use Rattle.tinkey_plans.specs.declared.status.Status.TheVariants as status
 use Rattle.tinkey_plans.specs.Envelopes.{as_enveloped, envelopes, with_enveloped}
 use Rattle.tinkey_plans.specs.Plan.{Answer, Plan, Told, answer, draw_answer, refused, writes}
 use Rattle.tinkey_plans.specs.Steps.{puts, with_made}
-use Rattle.tinkey_plans.specs.Using.{as_drawn, hex_line, made_bytes, shows, with_derived, with_opened, with_verified, works}
-use Rattle.tinkey_words.specs.Words.{AskedEnvelope, AskedWork, to_eseal, to_eopen, to_seal, to_open, to_dseal, to_dopen, to_tag, to_verify, to_derive}
+use Rattle.tinkey_plans.specs.Using.{as_drawn, dseals_plain, hex_line, made_bytes, seals_plain, shows, with_derived, with_opened, with_verified, works}
+use Rattle.tinkey_words.specs.Words.{AskedEnvelope, AskedWork, to_eseal, to_eopen, to_seal, to_open, to_dseal, to_dopen, to_reseal, to_dreseal, to_tag, to_verify, to_derive}
 use Rattle.tinkey_readable.specs.Runs.{IsFree, bytes_at, shown}
 use Rattle.tinkey_readable.proofs.ReachLemmas.{IsDoneAnswer, bytes_put, bytes_reached}
 
@@ -127,12 +127,25 @@ sealed_worked table keys ad input next told done = by (seal_answer keys table in
     by (Some s) is done = record { made = s.bytes; left = record told { random = s.left }; files = refl; is = λ n. ap (a n) is }
     by None is done = absurd (cc)
 
+-- what opened, sealed
+resealed_worked : (table : Table) (keys : Keys) (ad : List ℕ) (o : Option (List ℕ)) (next : List ℕ → Plan) (told : Told) → IsDoneAnswer (answer (with_opened o (λ plain. seals_plain table keys plain ad next)) told)
+    → Worked (λ n. with_opened o (λ plain. seals_plain table keys plain ad n)) told
+resealed_worked table keys ad (Some plain) next told done = let w = sealed_worked table keys ad plain next told done in record { made = w.made; left = w.left; files = w.files; is = w.is }
+resealed_worked table keys ad None next told done = absurd (cc)
+
+dresealed_worked : (table : Table) (keys : Keys) (ad : List ℕ) (o : Option (List ℕ)) (next : List ℕ → Plan) (told : Told) → IsDoneAnswer (answer (with_opened o (λ plain. dseals_plain table keys plain ad next)) told)
+    → Worked (λ n. with_opened o (λ plain. dseals_plain table keys plain ad n)) told
+dresealed_worked table keys ad (Some plain) next told done = record { made = made_bytes (dseal_answer keys table plain ad); left = told; files = refl; is = λ n. refl }
+dresealed_worked table keys ad None next told done = absurd (cc)
+
 -- work that is done made bytes
 pub worked : (table : Table) (keys : Keys) (work : AskedWork) (input : List ℕ) (next : List ℕ → Plan) (told : Told) → IsDoneAnswer (answer (works table keys work input next) told) → Worked (works table keys work input) told
 worked table keys (to_seal ad) input next told done = sealed_worked table keys ad input next told done
 worked table keys (to_open ad) input next told done = let w = opened_worked (open_answer keys table input ad) next told done in record { made = w.made; left = w.left; files = w.files; is = w.is }
 worked table keys (to_dseal ad) input next told done = record { made = made_bytes (dseal_answer keys table input ad); left = told; files = refl; is = λ n. refl }
 worked table keys (to_dopen ad) input next told done = let w = opened_worked (dopen_answer keys table input ad) next told done in record { made = w.made; left = w.left; files = w.files; is = w.is }
+worked table keys (to_reseal ad) input next told done = let w = resealed_worked table keys ad (open_answer keys table input ad) next told done in record { made = w.made; left = w.left; files = w.files; is = w.is }
+worked table keys (to_dreseal ad) input next told done = let w = dresealed_worked table keys ad (dopen_answer keys table input ad) next told done in record { made = w.made; left = w.left; files = w.files; is = w.is }
 worked table keys to_tag input next told done = record { made = made_bytes (tag_answer keys table input); left = told; files = refl; is = λ n. refl }
 worked table keys (to_verify tag) input next told done = let w = verified_worked (verify_answer keys table tag input) next told done in record { made = w.made; left = w.left; files = w.files; is = w.is }
 worked table keys (to_derive size) input next told done = let w = derived_worked size (derive_answer keys table input size) next told done in record { made = w.made; left = w.left; files = w.files; is = w.is }

@@ -32,7 +32,7 @@ use Rattle.tinkey_plans.specs.Envelopes.{envelope_limit}
 use Rattle.tinkey_plans.specs.Plan.{Told, answer}
 use Rattle.tinkey_plans.specs.Using.{limit_for}
 use Rattle.tinkey_words.specs.declared.words.rows.Format.{Format}
-use Rattle.tinkey_words.specs.Words.{AskedEdit, AskedEnvelope, AskedRange, AskedWork, Lock, NewLock, Output, Place, convert_keyset, create_keyset, edit_keyset, list_keyset, open_range, open_stream, seal_stream, session, to_eopen, to_eseal, use_envelope, use_keyset, to_seal, to_open, to_dseal, to_dopen, to_tag, to_verify, to_derive, primitive_for}
+use Rattle.tinkey_words.specs.Words.{AskedEdit, AskedEnvelope, AskedRange, AskedWork, Lock, NewLock, Output, Place, convert_keyset, create_keyset, edit_keyset, list_keyset, open_range, open_stream, seal_stream, session, to_eopen, to_eseal, use_envelope, use_keyset, to_seal, to_open, to_dseal, to_dopen, to_reseal, to_dreseal, to_tag, to_verify, to_derive, primitive_for}
 use Rattle.tinkey_readable.specs.Lying.{FitsThere, LiesBehind, LiesThere, OpensLock, OpensNewLock}
 use Rattle.tinkey_readable.specs.Runs.{IsCreated, IsEdit, IsFree}
 
@@ -94,15 +94,23 @@ pub record EditsDone : Type 0 where
 
 -- ---- whole inputs
 
+-- the random bytes suffice for an IV for the primary key
+abbrev pub HasIv : Table → Keys → (random : List ℕ) → Type 0
+HasIv table keys random = (key : KeyKind)
+    × (primary_key keys table Aead ≡ Some key) × (iv_size key ≤ length random)
+
 -- what the work wants of the keys, the input and the random bytes: an IV for the primary key; a candidate
 -- that opens, or whose tag it is; at most as many bytes as can be derived
 abbrev pub WorkGoes : Table → Keys → AskedWork → (input random : List ℕ) → Type 0
-WorkGoes table keys (to_seal ad) input random = (key : KeyKind)
-    × (primary_key keys table Aead ≡ Some key) × (iv_size key ≤ length random)
+WorkGoes table keys (to_seal ad) input random = HasIv table keys random
 WorkGoes table keys (to_open ad) input random =
     (plain : List ℕ) × (open_answer keys table input ad ≡ Some plain)
 WorkGoes table keys (to_dseal ad) input random = Unit {0}
 WorkGoes table keys (to_dopen ad) input random =
+    (plain : List ℕ) × (dopen_answer keys table input ad ≡ Some plain)
+WorkGoes table keys (to_reseal ad) input random =
+    ((plain : List ℕ) × (open_answer keys table input ad ≡ Some plain)) × HasIv table keys random
+WorkGoes table keys (to_dreseal ad) input random =
     (plain : List ℕ) × (dopen_answer keys table input ad ≡ Some plain)
 WorkGoes table keys to_tag input random = Unit {0}
 WorkGoes table keys (to_verify tag) input random = verify_answer keys table tag input ≡ true

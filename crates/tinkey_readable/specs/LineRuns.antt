@@ -9,7 +9,7 @@ use Rattle.std.specs.List.{AllByRecursion}
 use Rattle.keyset_model.specs.Keyset.{Keys, primary_of}
 use Rattle.keyset_model.specs.declared.record.Record.{Record}
 use Rattle.managers.specs.Standard.{standard_table}
-use Rattle.tinkey_session.specs.Lines.{Line, Seal, Open, Dseal, Dopen, Tag, Verify, Derive}
+use Rattle.tinkey_session.specs.Lines.{Line, Seal, Open, Dseal, Dopen, Reseal, Dreseal, Tag, Verify, Derive}
 use Rattle.tinkey_session.specs.Session.{Turn, asked_in, turns}
 use Rattle.tinkey_session.specs.declared.reply.Reply.{Reply}
 use Rattle.tinkey_session.specs.declared.reply.Reply.TheVariants.{Done, Gives}
@@ -19,7 +19,7 @@ use Rattle.tinkey_plans.specs.Laws.{IsSession}
 use Rattle.tinkey_plans.specs.Plan.{Told}
 use Rattle.tinkey_readable.specs.Runs.{AreRuns, HoldsBytes, IsDone, Passage, PassesBytes, Run, WasDone, Written, keyset_of}
 use Rattle.tinkey_readable.specs.Runs as passages
-use Rattle.tinkey_words.specs.Words.{AskedWork, to_seal, to_open, to_dseal, to_dopen, to_tag, to_verify, to_derive}
+use Rattle.tinkey_words.specs.Words.{AskedWork, to_seal, to_open, to_dseal, to_dopen, to_reseal, to_dreseal, to_tag, to_verify, to_derive}
 
 -- the line of a session that asks for this work on this input
 abbrev pub asks : AskedWork → (input : List ℕ) → Line
@@ -27,6 +27,8 @@ asks (to_seal ad) input = Seal input ad
 asks (to_open ad) input = Open input ad
 asks (to_dseal ad) input = Dseal input ad
 asks (to_dopen ad) input = Dopen input ad
+asks (to_reseal ad) input = Reseal input ad
+asks (to_dreseal ad) input = Dreseal input ad
 asks to_tag input = Tag input
 asks (to_verify tag) input = Verify tag input
 asks (to_derive size) input = Derive size input

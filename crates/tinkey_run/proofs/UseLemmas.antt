@@ -10,15 +10,17 @@ use Rattle.hex.specs.declared.error.FromHexError.TheVariants as hex_errors
 use Rattle.hex.proofs.HexLemmas.{decode_pairs-ok}
 use Rattle.key_msgs.specs.declared.key.KeyKind.{KeyKind}
 use Rattle.key_msgs.specs.declared.primitive.Primitive.{Primitive}
-use Rattle.key_msgs.specs.declared.primitive.Primitive.TheVariants.{Aead}
+use Rattle.key_msgs.specs.declared.primitive.Primitive.TheVariants.{Aead, Daead}
 use Rattle.keyset_model.specs.Keyset.{Keys, primary_of}
 use Rattle.keyset_model.specs.declared.record.Record.{Record}
 use Rattle.managers.specs.Table.{Table}
 use Rattle.managers.specs.Uses.{iv_size, seal_of}
 use Rattle.tink_spec.specs.Outside.{EntropyState, Drew, Stood}
-use Rattle.wrapped_prims.specs.Answers.{Sealed, primary_key, seal_behind, seal_under, seal_answer}
+use Rattle.wrapped_prims.specs.Answers.{Sealed, dopen_answer, open_answer, primary_key, seal_behind, seal_under, seal_answer}
 use Rattle.wrapped_prims.specs.Candidates.{prefix_of, prefix_bytes}
 use Rattle.wrapped_prims.specs.Fitness.{key_of_record}
+use Rattle.wrapped_prims.specs.Making.{IsOver}
+use Rattle.wrapped_prims.specs.declared.held.Held.{Held}
 use Rattle.wrapped_prims.specs.Sealing.{IsSealing, IsSealFault}
 use Rattle.wrapped_prims.specs.declared.sealing.SealFault.TheVariants as seal_faults
 use Rattle.tinkey_plans.specs.declared.status.Status.{Status}
@@ -33,8 +35,8 @@ use Rattle.tinkey_plans.proofs.StepLemmas.{passes_then, ends_there}
 use Rattle.std.specs.Result.{IsErrAnd}
 use Rattle.tinkey_plans.specs.Handles.{handles}
 use Rattle.tinkey_plans.specs.Locks.{loads_locked}
-use Rattle.tinkey_plans.specs.Using.{as_drawn, limit_for, with_opened, works, use_output}
-use Rattle.tinkey_words.specs.Words.{AskedWork, Lock, to_seal, primitive_for}
+use Rattle.tinkey_plans.specs.Using.{as_drawn, dseals_plain, limit_for, seals_plain, with_opened, works, use_output}
+use Rattle.tinkey_words.specs.Words.{AskedWork, Lock, to_seal, to_reseal, to_dreseal, primitive_for}
 
 -- a step behind which memory isn't wanting
 pub behind_memory : {A : Type 0} (step : (A → Plan) → Plan) (old new : World) (r : Result A Status) → Passes step old r new → Passes (λ next. allocates (step next)) old r new
@@ -44,6 +46,15 @@ behind_memory step old new (Err s) passes = λ next. inl (passes next)
 -- the plaintext that was found, or none
 pub opened_passes : (found answer : Option (List ℕ)) (old new : World) (r : Result (List ℕ) Status) → found ≡ answer → Passes (with_opened found) old r new → Passes (λ next. allocates (with_opened answer next)) old r new
 opened_passes found answer old new r is passes = subst (λ (o : Option (List ℕ)). Passes (λ next. allocates (with_opened o next)) old r new) is (behind_memory (with_opened found) old new r passes)
+
+-- what opened under a handle is sealed
+pub resealed_passes : (table : Table) (keys : Keys) (held : Held) (plain sealed ad : List ℕ) (old new : World) (r : Result (List ℕ) Status) → IsOver table Aead keys held → Some plain ≡ open_answer keys table sealed ad → Passes (seals_plain table keys plain ad) old r new → Passes (works table keys (to_reseal ad) sealed) old r new
+resealed_passes table keys held plain sealed ad old new r over is passes =
+    subst (λ (o : Option (List ℕ)). Passes (λ next. allocates (with_opened o (λ p. seals_plain table keys p ad next))) old r new) is (behind_memory (seals_plain table keys plain ad) old new r passes)
+
+pub dresealed_passes : (table : Table) (keys : Keys) (held : Held) (plain sealed ad : List ℕ) (old new : World) (r : Result (List ℕ) Status) → IsOver table Daead keys held → Some plain ≡ dopen_answer keys table sealed ad → Passes (dseals_plain table keys plain ad) old r new → Passes (works table keys (to_dreseal ad) sealed) old r new
+dresealed_passes table keys held plain sealed ad old new r over is passes =
+    subst (λ (o : Option (List ℕ)). Passes (λ next. allocates (with_opened o (λ p. dseals_plain table keys p ad next))) old r new) is (behind_memory (dseals_plain table keys plain ad) old new r passes)
 
 -- Sealing.
 

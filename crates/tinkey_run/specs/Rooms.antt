@@ -1,6 +1,6 @@
 -- Room in front of an input, which is sealed where it stands.
 use Rattle.std.specs.Prelude.{ℕ}
-use Rattle.tinkey_words.specs.Words.{AskedEnvelope, AskedWork, to_seal, to_open, to_dseal, to_dopen, to_tag, to_verify, to_derive, to_eseal, to_eopen}
+use Rattle.tinkey_words.specs.Words.{AskedEnvelope, AskedWork, to_seal, to_open, to_dseal, to_dopen, to_reseal, to_dreseal, to_tag, to_verify, to_derive, to_eseal, to_eopen}
 use Rattle.wrapped_prims.specs.Rooms.{seal_room, dseal_room}
 use Rattle.wrapped_prims.specs.declared.held.Held.{Held}
 
@@ -10,6 +10,8 @@ room_for held (to_seal ad) = seal_room held
 room_for held (to_open ad) = 0
 room_for held (to_dseal ad) = dseal_room held
 room_for held (to_dopen ad) = 0
+room_for held (to_reseal ad) = 0
+room_for held (to_dreseal ad) = 0
 room_for held to_tag = 0
 room_for held (to_verify tag) = 0
 room_for held (to_derive size) = 0

@@ -1,4 +1,4 @@
-//! Work by the keys of a keyset: seal, open, dseal, dopen, tag, verify and derive.
+//! Work by the keys of a keyset: seal, open, dseal, dopen, reseal, dreseal, tag, verify and derive.
 
 ghost use Rattle.std.specs.Prelude.{◌≡◌, ◌≢◌, ◌+◌, ◌≤◌, ◌^◌, drop, length, IfOk, option_map};
 ghost use Rattle.key_msgs.specs.declared.primitive.Primitive.TheVariants.{Aead, Daead, Mac, Prf, Stream};
@@ -8,8 +8,9 @@ ghost use Rattle.tinkey_run.specs.Rooms.{room_for};
 ghost use Rattle.tinkey_plans.specs.Ends.{World};
 ghost use Rattle.tinkey_plans.specs.Steps.{Passes, PassesAs};
 ghost use Rattle.tinkey_plans.specs.Handles.{handles, handle_refusal, IsServing};
-ghost use Rattle.tinkey_plans.specs.Using.{limit_for, use_output, with_opened, Works};
-ghost use Rattle.tinkey_words.specs.Words.{primitive_for, datum_as, datum_of_hex, seen_datum, seen_lock, seen_work, to_seal, to_open, to_dseal, to_dopen, to_tag, to_verify, to_derive};
+ghost use Rattle.keyset_model.specs.Keyset.{Keys};
+ghost use Rattle.tinkey_plans.specs.Using.{dseals_plain, limit_for, seals_plain, use_output, with_opened, Works};
+ghost use Rattle.tinkey_words.specs.Words.{primitive_for, datum_as, datum_of_hex, seen_datum, seen_lock, seen_work, to_seal, to_open, to_dseal, to_dopen, to_reseal, to_dreseal, to_tag, to_verify, to_derive};
 
 use crate::locks::load_locked;
 use crate::steps::read_input_behind;
@@ -29,6 +30,9 @@ pub(crate) const INPUT_LIMIT: usize = 16_777_216;
 /// How many bytes it may have where it is to be opened: 1,024 more, as no sealing is longer than its
 /// plaintext by more.
 pub(crate) const SEALED_LIMIT: usize = INPUT_LIMIT + 1024;
+
+/// The bytes of the longest tag, which is a digest of SHA-512.
+const LONGEST_TAG: usize = 64;
 
 /// Work on the whole input, by the keys of the keyset in the file of this name: what is put out.
 #[inline(never)]
@@ -69,8 +73,8 @@ fn primitive_for(work: Work<'_>) -> Primitive
     ensures { result ≡ primitive_for (seen_work work.entry) }
 {
     match work {
-        Work::Seal(_) | Work::Open(_) => Primitive::Aead,
-        Work::Dseal(_) | Work::Dopen(_) => Primitive::Daead,
+        Work::Seal(_) | Work::Open(_) | Work::Reseal(_) => Primitive::Aead,
+        Work::Dseal(_) | Work::Dopen(_) | Work::Dreseal(_) => Primitive::Daead,
         Work::Tag | Work::Verify(_) => Primitive::Mac,
         Work::Derive(_) => Primitive::Prf,
     }
@@ -82,7 +86,7 @@ fn limit_for(work: Work<'_>) -> usize
     ensures bound { result ≤ 2 ^ 25 }
 {
     match work {
-        Work::Open(_) | Work::Dopen(_) => SEALED_LIMIT,
+        Work::Open(_) | Work::Dopen(_) | Work::Reseal(_) | Work::Dreseal(_) => SEALED_LIMIT,
         _ => INPUT_LIMIT,
     }
 }
@@ -120,7 +124,7 @@ fn refusal(fault: HandleFault) -> Status
     }
 }
 
-/// How many bytes go before the ciphertext, where the work seals.
+/// How many bytes go before the ciphertext, where the work seals its input.
 fn room_for(handle: &Handle<'_>, work: Work<'_>) -> usize
     requires serving { IsServing (⟦<Managers as KeyTable>⟧.table handle.now.managers.now)
         (primitive_for (seen_work work)) handle.now.held }
@@ -156,6 +160,8 @@ fn do_work<E: Entropy>(
         Work::Open(ad) => open(alloc, handle, ad, input),
         Work::Dseal(ad) => dseal(alloc, handle, ad, input),
         Work::Dopen(ad) => dopen(alloc, handle, ad, input),
+        Work::Reseal(ad) => reseal(alloc, handle, ad, input, entropy),
+        Work::Dreseal(ad) => dreseal(alloc, handle, ad, input),
         Work::Tag => tag(alloc, handle, &input),
         Work::Verify(tag) => verify(alloc, handle, tag, &input),
         Work::Derive(size) => derive(alloc, handle, size, &input),
@@ -180,7 +186,29 @@ fn seal<E: Entropy>(
         (record w { entropy = E.state entropy.old }) result (record w { entropy = E.state entropy.new }) }
 {
     let ad = datum(alloc, ad)?;
-    match handle.seal_in_place(alloc, input, ad.as_slice(), entropy) {
+    seal_plain(alloc, handle, ad.as_slice(), input, entropy)
+}
+
+/// A plaintext, sealed in place; it stands behind room for prefix and IV.
+fn seal_plain<E: Entropy>(
+    alloc: Global,
+    handle: &Handle<'_>,
+    ad: &[u8],
+    plain: Vec<u8>,
+    entropy: &mut E,
+) -> Result<Bytes, Status>
+    requires serving { IsServing (⟦<Managers as KeyTable>⟧.table handle.now.managers.now) Aead
+        handle.now.held }
+    requires room { seal_room handle.now.held ≤ length plain.items }
+    requires bound { length plain.items ≤ seal_room handle.now.held + 2 ^ 25 }
+    requires ad_bound { length ad.now ≤ 2 ^ 20 }
+    ensures { (w : World) (keys : Keys)
+        → IsOver (⟦<Managers as KeyTable>⟧.table handle.now.managers.now) Aead keys handle.now.held
+        → Passes (seals_plain (⟦<Managers as KeyTable>⟧.table handle.now.managers.now) keys
+        (drop (seal_room handle.now.held) plain.items) ad.now)
+        (record w { entropy = E.state entropy.old }) result (record w { entropy = E.state entropy.new }) }
+{
+    match handle.seal_in_place(alloc, plain, ad, entropy) {
         Ok(sealed) => Ok(Bytes::own(sealed)),
         Err(SealFault::EntropyFault) => Err(Status::EntropyFault),
         Err(SealFault::NoMemory) => Err(Status::NoMemory),
@@ -212,7 +240,22 @@ fn dseal(alloc: Global, handle: &Handle<'_>, ad: Datum<'_>, input: Vec<u8>) -> R
         w result w }
 {
     let ad = datum(alloc, ad)?;
-    match handle.dseal_in_place(input, ad.as_slice()) {
+    dseal_plain(handle, ad.as_slice(), input)
+}
+
+/// A plaintext, sealed in place without an IV; it stands behind room for prefix and tag.
+fn dseal_plain(handle: &Handle<'_>, ad: &[u8], plain: Vec<u8>) -> Result<Bytes, Status>
+    requires serving { IsServing (⟦<Managers as KeyTable>⟧.table handle.now.managers.now) Daead
+        handle.now.held }
+    requires room { dseal_room handle.now.held ≤ length plain.items }
+    requires bound { length plain.items ≤ dseal_room handle.now.held + 2 ^ 25 }
+    requires ad_bound { length ad.now ≤ 2 ^ 20 }
+    ensures { (w : World) (keys : Keys)
+        → IsOver (⟦<Managers as KeyTable>⟧.table handle.now.managers.now) Daead keys handle.now.held
+        → Passes (dseals_plain (⟦<Managers as KeyTable>⟧.table handle.now.managers.now) keys
+        (drop (dseal_room handle.now.held) plain.items) ad.now) w result w }
+{
+    match handle.dseal_in_place(plain, ad) {
         Ok(sealed) => Ok(Bytes::own(sealed)),
         Err(_) => Err(Status::NoMemory),
     }
@@ -234,6 +277,65 @@ fn dopen(
 {
     let ad = datum(alloc, ad)?;
     or_failed(handle.dopen_in_place(sealed, ad.as_slice(), &mut Trials::new()))
+}
+
+/// reseal, in place: what `open` gives, sealed under the primary key.
+fn reseal<E: Entropy>(
+    alloc: Global,
+    handle: &Handle<'_>,
+    ad: Datum<'_>,
+    sealed: Vec<u8>,
+    entropy: &mut E,
+) -> Result<Bytes, Status>
+    requires serving { IsServing (⟦<Managers as KeyTable>⟧.table handle.now.managers.now) Aead
+        handle.now.held }
+    requires bound { length sealed.items ≤ 2 ^ 25 }
+    ensures { (w : World) → Works (⟦<Managers as KeyTable>⟧.table handle.now.managers.now)
+        handle.now.held (to_reseal (seen_datum ad.entry)) sealed.items
+        (record w { entropy = E.state entropy.old }) result (record w { entropy = E.state entropy.new }) }
+{
+    let ad = datum(alloc, ad)?;
+    let Some(opened) = handle.open_in_place(sealed, ad.as_slice(), &mut Trials::new()) else {
+        return Err(Status::OpenFailed);
+    };
+    let plain = behind_room(handle.seal_room(), opened)?;
+    seal_plain(alloc, handle, ad.as_slice(), plain, entropy)
+}
+
+/// dreseal, in place: what `dopen` gives, sealed without an IV under the primary key.
+fn dreseal(
+    alloc: Global,
+    handle: &Handle<'_>,
+    ad: Datum<'_>,
+    sealed: Vec<u8>,
+) -> Result<Bytes, Status>
+    requires serving { IsServing (⟦<Managers as KeyTable>⟧.table handle.now.managers.now) Daead
+        handle.now.held }
+    requires bound { length sealed.items ≤ 2 ^ 25 }
+    ensures { (w : World) → Works (⟦<Managers as KeyTable>⟧.table handle.now.managers.now)
+        handle.now.held (to_dreseal (seen_datum ad.entry)) sealed.items
+        w result w }
+{
+    let ad = datum(alloc, ad)?;
+    let Some(opened) = handle.dopen_in_place(sealed, ad.as_slice(), &mut Trials::new()) else {
+        return Err(Status::OpenFailed);
+    };
+    let plain = behind_room(handle.dseal_room(), opened)?;
+    dseal_plain(handle, ad.as_slice(), plain)
+}
+
+/// The bytes of the list behind so many bytes of room, in the same list.
+fn behind_room(room: usize, mut plain: Vec<u8>) -> Result<Vec<u8>, NoMemory>
+    requires room_bound { room ≤ 2 ^ 10 }
+    requires plain_bound { length plain.items ≤ 2 ^ 25 }
+    ensures size { IfOk result (λ bytes. length bytes.items ≡ room + length plain.items) }
+    ensures plain { IfOk result (λ bytes. drop room bytes.items ≡ plain.items) }
+{
+    let size = plain.len();
+    plain.reserve_exact(room + LONGEST_TAG)?;
+    plain.resize(size + room, 0)?;
+    plain.as_mut_slice().copy_within(..size, room);
+    Ok(plain)
 }
 
 /// tag: prefix and tag.

@@ -14,7 +14,7 @@ use Rattle.tink_spec.proofs.Moves.{drew_nothing}
 use Rattle.tink_spec.specs.Outside.{EntropyState, Stood}
 use Rattle.tinkey_session.proofs.Options.{clash, no_truth}
 use Rattle.tinkey_session.specs.Answered.{Gives, Serves}
-use Rattle.tinkey_session.specs.Lines.{Seal, Dseal, Open, Dopen, Tag, Verify, Derive}
+use Rattle.tinkey_session.specs.Lines.{Seal, Dseal, Open, Dopen, Reseal, Dreseal, Tag, Verify, Derive}
 use Rattle.tinkey_session.specs.Serving.{Served, answered, by_handle, computed, derived_reply, opened_reply, sealed_reply, serve, unless_unfit, verified_reply}
 use Rattle.tinkey_session.specs.declared.reply.Reply.TheVariants as replies
 use Rattle.tinkey_session.specs.declared.reply.Reply.{Reply}
@@ -31,7 +31,7 @@ pub undrawn : (gives : Gives) (reply : Reply) (keys : Keys) (e : EntropyState) �
 undrawn gives reply keys e is = record { drawn = []; drew = drew_nothing e; stood = refl; is = is }
 
 -- under keys that can serve
-fit_served : (primitive : Primitive) (table : Table) (keys : Keys) (random : List ℕ) (served : Option Served) → unfit keys primitive table ≡ None → by_handle primitive table keys random served ≡ served
+pub fit_served : (primitive : Primitive) (table : Table) (keys : Keys) (random : List ℕ) (served : Option Served) → unfit keys primitive table ≡ None → by_handle primitive table keys random served ≡ served
 fit_served primitive table keys random served fit = ap (λ u. unless_unfit u keys random served) fit
 
 pub open_served : (table : Table) (keys : Keys) (sealed ad : List ℕ) (opened : Option (List ℕ)) (reply : Reply) (random : List ℕ) → unfit keys Aead table ≡ None → opened ≡ open_answer keys table sealed ad → reply ≡ opened_reply opened → serve table keys (Open sealed ad) random ≡ Some (answered keys random reply)

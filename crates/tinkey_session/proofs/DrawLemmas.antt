@@ -19,13 +19,14 @@ use Rattle.tinkey_session.proofs.Options.{clash, map_some}
 use Rattle.tinkey_session.proofs.TurnLemmas.{asked_cases}
 use Rattle.tinkey_session.specs.LineLaws.{LinesDrawFronts, RefusalsLeave}
 use Rattle.tinkey_session.specs.SessionLaws.{SessionGoesOn}
-use Rattle.tinkey_session.specs.Lines.{Line, Seal, Dseal, Open, Dopen, Tag, Verify, Derive, Edit as AsksEdit, Bad}
-use Rattle.tinkey_session.specs.Serving.{cannot_serve, Served, answered, asked_line, computed, derived_reply, edit_line, edit_served, last_id, edited_reply, sealed_reply, serve, stepped, unless_unfit}
+use Rattle.tinkey_session.specs.Lines.{Line, Seal, Dseal, Open, Dopen, Reseal, Dreseal, Tag, Verify, Derive, Edit as AsksEdit, Bad}
+use Rattle.tinkey_session.specs.Serving.{cannot_serve, Served, answered, asked_line, computed, derived_reply, edit_line, edit_served, last_id, edited_reply, if_opened, sealed_reply, serve, stepped, unless_unfit}
 use Rattle.tinkey_session.specs.declared.reply.Refusal.{Refusal}
+use Rattle.tinkey_session.specs.declared.reply.Refusal.TheVariants.{OpenFailed}
 use Rattle.tinkey_session.specs.declared.reply.Reply.{Reply}
 use Rattle.tinkey_session.specs.declared.reply.Reply.TheVariants.{Gives, Refuses}
 use Rattle.tinkey_session.specs.Session.{remains, turn_then, turns}
-use Rattle.wrapped_prims.specs.Answers.{Sealed, derive_answer, dseal_answer, seal_answer, seal_behind, seal_under, tag_answer}
+use Rattle.wrapped_prims.specs.Answers.{Sealed, derive_answer, dopen_answer, dseal_answer, open_answer, seal_answer, seal_behind, seal_under, tag_answer}
 use Rattle.wrapped_prims.specs.Candidates.{prefix_bytes, prefix_of}
 use Rattle.wrapped_prims.specs.Fitness.{Unfit, key_of_record, unfit}
 
@@ -97,6 +98,11 @@ pub served_left : (edit : Edit) (keys : Keys) (answer : Result Keys CmdFault) (l
 served_left edit keys (Ok edited) left = refl
 served_left edit keys (Err fault) left = refl
 
+fronts-opened : (keys : Keys) (o : Option (List ℕ)) (next : (plain random : List ℕ) → Option Served) → ((plain : List ℕ) → Fronts (next plain)) → Fronts (λ random. if_opened keys random o (λ plain. next plain random))
+unfolding Fronts
+fronts-opened keys (Some plain) next each random x e = each plain random x e
+fronts-opened keys None next each random x e = fronts-answered keys (Refuses OpenFailed) random x e
+
 fronts-edit : (keys : Keys) (edit : Edit) → Fronts (λ random. edit_line keys random edit)
 unfolding Fronts
 fronts-edit keys edit random x e =
@@ -127,6 +133,10 @@ fronts-line table keys (Seal plain ad) random x e = fronts-unless (unfit keys Ae
 fronts-line table keys (Dseal plain ad) random x e = fronts-unless (unfit keys Daead table) keys (λ bytes. computed keys bytes Gives (dseal_answer keys table plain ad)) (fronts-computed keys Gives (dseal_answer keys table plain ad)) random x e
 fronts-line table keys (Open sealed ad) random x e = fronts-unless (unfit keys Aead table) keys _ (fronts-answered keys _) random x e
 fronts-line table keys (Dopen sealed ad) random x e = fronts-unless (unfit keys Daead table) keys _ (fronts-answered keys _) random x e
+fronts-line table keys (Reseal sealed ad) random x e = fronts-unless (unfit keys Aead table) keys (λ bytes. if_opened keys bytes (open_answer keys table sealed ad) (λ plain. option_map (sealed_reply keys) (seal_answer keys table plain ad bytes)))
+    (fronts-opened keys (open_answer keys table sealed ad) (λ plain bytes. option_map (sealed_reply keys) (seal_answer keys table plain ad bytes)) (λ plain. fronts-seal table keys plain ad (primary_of keys))) random x e
+fronts-line table keys (Dreseal sealed ad) random x e = fronts-unless (unfit keys Daead table) keys (λ bytes. if_opened keys bytes (dopen_answer keys table sealed ad) (λ plain. computed keys bytes Gives (dseal_answer keys table plain ad)))
+    (fronts-opened keys (dopen_answer keys table sealed ad) (λ plain bytes. computed keys bytes Gives (dseal_answer keys table plain ad)) (λ plain. fronts-computed keys Gives (dseal_answer keys table plain ad))) random x e
 fronts-line table keys (Tag body) random x e = fronts-unless (unfit keys Mac table) keys (λ bytes. computed keys bytes Gives (tag_answer keys table body)) (fronts-computed keys Gives (tag_answer keys table body)) random x e
 fronts-line table keys (Verify tag body) random x e = fronts-unless (unfit keys Mac table) keys _ (fronts-answered keys _) random x e
 fronts-line table keys (Derive size input) random x e = fronts-unless (unfit keys Prf table) keys (λ bytes. computed keys bytes (derived_reply size) (derive_answer keys table input size)) (fronts-computed keys (derived_reply size) (derive_answer keys table input size)) random x e
@@ -157,6 +167,10 @@ keeps-unless (Some found) keys random served x keeps e = keeps-answered keys ran
 keeps-sealed : (keys : Keys) (sealed : Option Sealed) (x : Served) → option_map (sealed_reply keys) sealed ≡ Some x → KeepsRefused keys x
 keeps-sealed keys (Some sealed) x e = keeps-answered keys sealed.left (Gives sealed.bytes) x e
 keeps-sealed keys None x e = clash e
+
+keeps-opened : (keys : Keys) (random : List ℕ) (o : Option (List ℕ)) (next : List ℕ → Option Served) (x : Served) → ((plain : List ℕ) → next plain ≡ Some x → KeepsRefused keys x) → if_opened keys random o next ≡ Some x → KeepsRefused keys x
+keeps-opened keys random (Some plain) next x each e = each plain e
+keeps-opened keys random None next x each e = keeps-answered keys random (Refuses OpenFailed) x e
 
 -- the reply to an accepted edit is no refusal
 last_accepts : {P : Type 0} (rs : List Record) (why : Refusal) → last_id rs ≡ Refuses why → P
@@ -195,6 +209,8 @@ keeps-line table keys (Seal plain ad) random x e = keeps-unless (unfit keys Aead
 keeps-line table keys (Dseal plain ad) random x e = keeps-unless (unfit keys Daead table) keys random _ x (keeps-computed keys random Gives (dseal_answer keys table plain ad) x) e
 keeps-line table keys (Open sealed ad) random x e = keeps-unless (unfit keys Aead table) keys random _ x (keeps-answered keys random _ x) e
 keeps-line table keys (Dopen sealed ad) random x e = keeps-unless (unfit keys Daead table) keys random _ x (keeps-answered keys random _ x) e
+keeps-line table keys (Reseal sealed ad) random x e = keeps-unless (unfit keys Aead table) keys random _ x (keeps-opened keys random (open_answer keys table sealed ad) _ x (λ plain. keeps-sealed keys (seal_answer keys table plain ad random) x)) e
+keeps-line table keys (Dreseal sealed ad) random x e = keeps-unless (unfit keys Daead table) keys random _ x (keeps-opened keys random (dopen_answer keys table sealed ad) _ x (λ plain. keeps-computed keys random Gives (dseal_answer keys table plain ad) x)) e
 keeps-line table keys (Tag body) random x e = keeps-unless (unfit keys Mac table) keys random _ x (keeps-computed keys random Gives (tag_answer keys table body) x) e
 keeps-line table keys (Verify tag body) random x e = keeps-unless (unfit keys Mac table) keys random _ x (keeps-answered keys random _ x) e
 keeps-line table keys (Derive size input) random x e = keeps-unless (unfit keys Prf table) keys random _ x (keeps-computed keys random (derived_reply size) (derive_answer keys table input size) x) e

@@ -31,12 +31,13 @@ use Rattle.tinkey_session.proofs.Options.{clash}
 use Rattle.tinkey_session.proofs.TurnLemmas.{asked_cases}
 use Rattle.tinkey_session.proofs.UsableLemmas.{fit_reading}
 use Rattle.tinkey_session.specs.LineLaws.{FirstsDrawFew, LinesDrawFew}
-use Rattle.tinkey_session.specs.Lines.{Line, Seal, Dseal, Open, Dopen, Tag, Verify, Derive, Edit as AsksEdit, Bad}
-use Rattle.tinkey_session.specs.Serving.{cannot_serve, Served, answered, asked_line, computed, derived_reply, edit_line, sealed_reply, serve, stepped, unless_unfit}
+use Rattle.tinkey_session.specs.Lines.{Line, Seal, Dseal, Open, Dopen, Reseal, Dreseal, Tag, Verify, Derive, Edit as AsksEdit, Bad}
+use Rattle.tinkey_session.specs.declared.reply.Refusal.TheVariants.{OpenFailed}
+use Rattle.tinkey_session.specs.Serving.{cannot_serve, Served, answered, asked_line, computed, derived_reply, edit_line, if_opened, sealed_reply, serve, stepped, unless_unfit}
 use Rattle.tinkey_session.specs.declared.reply.Reply.{Reply}
 use Rattle.tinkey_session.specs.declared.reply.Reply.TheVariants.{Gives, Refuses}
 use Rattle.wrapped_prims.proofs.OpenLemmas.{none_here}
-use Rattle.wrapped_prims.specs.Answers.{Sealed, derive_answer, derive_under, dseal_answer, made, made_by, seal_answer, seal_behind, seal_under, tag_answer}
+use Rattle.wrapped_prims.specs.Answers.{Sealed, derive_answer, derive_under, dopen_answer, dseal_answer, made, made_by, open_answer, seal_answer, seal_behind, seal_under, tag_answer}
 use Rattle.wrapped_prims.specs.Candidates.{is_legacy, prefix_bytes, prefix_of}
 use Rattle.wrapped_prims.specs.Fitness.{Unfit, fault_of_record, first_of_three, key_of_record, prefix_fault, read_key, reading_of, unfit, unfit_from}
 
@@ -165,6 +166,10 @@ few-unless (Some found) keys random served few = few-answered keys random (Refus
 few-computed : {A : Type 0} (keys : Keys) (random : List ℕ) (reply : A → Reply) (answer : Option A) (value : A) → answer ≡ Some value → Few random (computed keys random reply answer)
 few-computed keys random reply answer value e = subst (λ o. Few random (computed keys random reply o)) (sym e) (few-answered keys random (reply value))
 
+few-opened : (keys : Keys) (random : List ℕ) (o : Option (List ℕ)) (next : List ℕ → Option Served) → ((plain : List ℕ) → Few random (next plain)) → Few random (if_opened keys random o next)
+few-opened keys random (Some plain) next few = few plain
+few-opened keys random None next few = few-answered keys random (Refuses OpenFailed)
+
 -- what the primary record's key makes
 made_there : (table : Table) (p : Primitive) (keys : Keys) (make : KeyKind → Record → List ℕ) (has : HasPrimaryKey table p keys) → made keys table p make ≡ Some (prefix_bytes (prefix_of has.under') ++ make has.key has.under')
 made_there table p keys make has =
@@ -210,6 +215,11 @@ few-line table keys (Dseal plain ad) random k enough = few-unless (unfit keys Da
     few-computed keys random Gives (dseal_answer keys table plain ad) _ (made_there table Daead keys (λ key _. dseal_of key plain ad) (has_primary_key table Daead keys k fit)))
 few-line table keys (Open sealed ad) random k enough = few-unless (unfit keys Aead table) keys random _ (λ fit. few-answered keys random _)
 few-line table keys (Dopen sealed ad) random k enough = few-unless (unfit keys Daead table) keys random _ (λ fit. few-answered keys random _)
+few-line table keys (Reseal sealed ad) random k enough = few-unless (unfit keys Aead table) keys random _ (λ fit.
+    few-opened keys random (open_answer keys table sealed ad) _ (λ plain. few-seal table keys plain ad random enough (has_primary_key table Aead keys k fit)))
+few-line table keys (Dreseal sealed ad) random k enough = few-unless (unfit keys Daead table) keys random _ (λ fit.
+    few-opened keys random (dopen_answer keys table sealed ad) _ (λ plain.
+    few-computed keys random Gives (dseal_answer keys table plain ad) _ (made_there table Daead keys (λ key _. dseal_of key plain ad) (has_primary_key table Daead keys k fit))))
 few-line table keys (Tag body) random k enough = few-unless (unfit keys Mac table) keys random _ (λ fit.
     few-computed keys random Gives (tag_answer keys table body) _ (made_there table Mac keys (λ key r. tag_of key (tagged (is_legacy r) body)) (has_primary_key table Mac keys k fit)))
 few-line table keys (Verify tag body) random k enough = few-unless (unfit keys Mac table) keys random _ (λ fit. few-answered keys random _)

@@ -10,7 +10,7 @@ use Rattle.tinkey_session.proofs.AnswerLemmas.{starved, undrawn}
 use Rattle.tinkey_session.proofs.Options.{clash}
 use Rattle.tinkey_session.specs.Answered.{Serves}
 use Rattle.tinkey_session.specs.Keeping.{IsHeldFor, IsKept, ServesBy, needs, unserved}
-use Rattle.tinkey_session.specs.Lines.{Line, Seal, Dseal, Open, Dopen, Tag, Verify, Derive}
+use Rattle.tinkey_session.specs.Lines.{Line, Seal, Dseal, Open, Dopen, Reseal, Dreseal, Tag, Verify, Derive}
 use Rattle.tinkey_session.specs.Serving.{cannot_serve, Served, answered, by_handle, serve, unless_unfit}
 use Rattle.tinkey_session.specs.declared.reply.Reply.TheVariants.{Refuses}
 use Rattle.tinkey_session.specs.declared.reply.Refusal.TheVariants as refusals
@@ -35,6 +35,8 @@ unfit_served (Seal plain ad) primitive table keys random found is unfits = refus
 unfit_served (Open sealed ad) primitive table keys random found is unfits = refused Aead primitive table keys random _ found is unfits
 unfit_served (Dseal plain ad) primitive table keys random found is unfits = refused Daead primitive table keys random _ found is unfits
 unfit_served (Dopen sealed ad) primitive table keys random found is unfits = refused Daead primitive table keys random _ found is unfits
+unfit_served (Reseal sealed ad) primitive table keys random found is unfits = refused Aead primitive table keys random _ found is unfits
+unfit_served (Dreseal sealed ad) primitive table keys random found is unfits = refused Daead primitive table keys random _ found is unfits
 unfit_served (Tag body) primitive table keys random found is unfits = refused Mac primitive table keys random _ found is unfits
 unfit_served (Verify tag body) primitive table keys random found is unfits = refused Mac primitive table keys random _ found is unfits
 unfit_served (Derive size input) primitive table keys random found is unfits = refused Prf primitive table keys random _ found is unfits

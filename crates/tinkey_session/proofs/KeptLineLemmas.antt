@@ -16,17 +16,17 @@ use Rattle.tinkey_session.proofs.DrawLemmas.{refusals_leave}
 use Rattle.tinkey_session.proofs.EnabledLemmas.{data_stays}
 use Rattle.tinkey_session.proofs.KeptKeyLemmas.{if_ok, kept_by_edits}
 use Rattle.tinkey_session.proofs.Options.{clash, map_some}
-use Rattle.tinkey_session.proofs.TurnLemmas.{answer_keeps, computed_keeps, handle_cases, served_keys}
+use Rattle.tinkey_session.proofs.TurnLemmas.{answer_keeps, computed_keeps, handle_cases, opened_keeps, sealed_keeps, served_keys}
 use Rattle.tinkey_session.specs.KeptKeys.{HasData, SparesData, EnablesNoOther, HasDistinctIds, Spares, SparesKey}
 use Rattle.tinkey_session.specs.KeptLines.{EachAcceptedLine, IsAccepted, KeptByLines, KeptBySession, LineIdsStayDistinct, LinesOfOthersSpare, OfEdit, SessionDataStays, SessionIdsStayDistinct}
 use Rattle.tinkey_session.specs.Laws.{kept}
-use Rattle.tinkey_session.specs.Lines.{Line, Seal, Dseal, Open, Dopen, Tag, Verify, Derive, Edit as AsksEdit, Bad}
+use Rattle.tinkey_session.specs.Lines.{Line, Seal, Dseal, Open, Dopen, Reseal, Dreseal, Tag, Verify, Derive, Edit as AsksEdit, Bad}
 use Rattle.tinkey_session.specs.Serving.{Served, asked_line, by_handle, edit_line, sealed_reply, serve, stepped, template_of, with_template}
 use Rattle.tinkey_session.specs.Session.{Remains, Turn, remains, turn_then, turns}
 use Rattle.tinkey_session.specs.declared.reply.Refusal.{Refusal}
 use Rattle.tinkey_session.specs.declared.reply.Reply.{Reply}
 use Rattle.tinkey_session.specs.declared.reply.Reply.TheVariants.{Done, Gives, NewId, Refuses}
-use Rattle.wrapped_prims.specs.Answers.{derive_answer, dseal_answer, seal_answer, tag_answer}
+use Rattle.wrapped_prims.specs.Answers.{derive_answer, dopen_answer, dseal_answer, open_answer, seal_answer, tag_answer}
 use Rattle.wrapped_prims.specs.Candidates.{prefix_of}
 use Rattle.wrapped_prims.specs.Fitness.{unfit}
 use Rattle.wrapped_prims.specs.Laws.{HasSameKey}
@@ -86,6 +86,8 @@ line_keeps P table keys (Seal plain ad) random x p each e = subst P (handled_kee
 line_keeps P table keys (Dseal plain ad) random x p each e = subst P (handled_keeps Daead table keys random _ x e (computed_keeps keys random _ (dseal_answer keys table plain ad) x)) p
 line_keeps P table keys (Open sealed ad) random x p each e = subst P (handled_keeps Aead table keys random _ x e (answer_keeps keys random _ x)) p
 line_keeps P table keys (Dopen sealed ad) random x p each e = subst P (handled_keeps Daead table keys random _ x e (answer_keeps keys random _ x)) p
+line_keeps P table keys (Reseal sealed ad) random x p each e = subst P (handled_keeps Aead table keys random _ x e (opened_keeps keys random (open_answer keys table sealed ad) _ x (λ plain. sealed_keeps keys (seal_answer keys table plain ad random) x))) p
+line_keeps P table keys (Dreseal sealed ad) random x p each e = subst P (handled_keeps Daead table keys random _ x e (opened_keeps keys random (dopen_answer keys table sealed ad) _ x (λ plain. computed_keeps keys random _ (dseal_answer keys table plain ad) x))) p
 line_keeps P table keys (Tag body) random x p each e = subst P (handled_keeps Mac table keys random _ x e (computed_keeps keys random _ (tag_answer keys table body) x)) p
 line_keeps P table keys (Verify tag body) random x p each e = subst P (handled_keeps Mac table keys random _ x e (answer_keeps keys random _ x)) p
 line_keeps P table keys (Derive size input) random x p each e = subst P (handled_keeps Prf table keys random _ x e (computed_keeps keys random _ (derive_answer keys table input size) x)) p
@@ -98,6 +100,8 @@ each_edit_of P keys random (Seal plain ad) each = tt
 each_edit_of P keys random (Dseal plain ad) each = tt
 each_edit_of P keys random (Open sealed ad) each = tt
 each_edit_of P keys random (Dopen sealed ad) each = tt
+each_edit_of P keys random (Reseal sealed ad) each = tt
+each_edit_of P keys random (Dreseal sealed ad) each = tt
 each_edit_of P keys random (Tag body) each = tt
 each_edit_of P keys random (Verify tag body) each = tt
 each_edit_of P keys random (Derive size input) each = tt
@@ -203,6 +207,8 @@ line_of_other keys r prefix has held (Seal plain ad) spares = tt
 line_of_other keys r prefix has held (Dseal plain ad) spares = tt
 line_of_other keys r prefix has held (Open sealed ad) spares = tt
 line_of_other keys r prefix has held (Dopen sealed ad) spares = tt
+line_of_other keys r prefix has held (Reseal sealed ad) spares = tt
+line_of_other keys r prefix has held (Dreseal sealed ad) spares = tt
 line_of_other keys r prefix has held (Tag body) spares = tt
 line_of_other keys r prefix has held (Verify tag body) spares = tt
 line_of_other keys r prefix has held (Derive size input) spares = tt

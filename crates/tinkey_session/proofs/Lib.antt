@@ -11,6 +11,7 @@ pub mod StandardLemmas
 pub mod UsableLemmas
 pub mod MadeLemmas
 pub mod ReadingLemmas
+pub mod ResealLemmas
 pub mod ServingExamples
 pub mod SoundLemmas
 pub mod NewIdLemmas

@@ -5,7 +5,7 @@ use Rattle.std.specs.Str.{chars, is_utf8}
 use Rattle.hex.proofs.OnLiterals.{hex_on_literals}
 use Rattle.tink_base.specs.Decimal.{number_in}
 use Rattle.tinkey_cmds.specs.Edits.{Add, Rotate, Promote, Enable, Disable, Destroy, Delete}
-use Rattle.tinkey_session.specs.Lines.{Seal, Dseal, Open, Dopen, Tag, Verify, Derive, Edit, Bad, line_of}
+use Rattle.tinkey_session.specs.Lines.{Seal, Dseal, Open, Dopen, Reseal, Dreseal, Tag, Verify, Derive, Edit, Bad, line_of}
 use Rattle.tinkey_session.specs.Session.{lines_of}
 
 -- what unfolds to read a line that is a literal
@@ -19,6 +19,8 @@ forms :
     × (line_of (codes "dseal - aBcD") ≡ Dseal [] (171 ∷ 205 ∷ []))
     × (line_of (codes "open 0101 00") ≡ Open (1 ∷ 1 ∷ []) (0 ∷ []))
     × (line_of (codes "dopen - -") ≡ Dopen [] [])
+    × (line_of (codes "reseal 01 00") ≡ Reseal (1 ∷ []) (0 ∷ []))
+    × (line_of (codes "dreseal fF -") ≡ Dreseal (255 ∷ []) [])
     × (line_of (codes "tag 48") ≡ Tag (72 ∷ []))
     × (line_of (codes "verify 0A 48") ≡ Verify (10 ∷ []) (72 ∷ []))
     × (line_of (codes "derive 82 -") ≡ Derive 82 [])
@@ -30,7 +32,7 @@ forms :
     × (line_of (codes "destroy 0000000007") ≡ Edit (Destroy 7))
     × (line_of (codes "delete 9") ≡ Edit (Delete 9))
 unfolding line_on_literals
-forms = (refl, refl, refl, refl, refl, refl, refl, refl, refl, refl, refl, refl, refl, refl)
+forms = (refl, refl, refl, refl, refl, refl, refl, refl, refl, refl, refl, refl, refl, refl, refl, refl)
 
 -- a tab, a carriage return or a letter of two bytes may stand in a name
 names :

@@ -1,5 +1,5 @@
 -- A session's turns, and the edits that lead to each.
-use Rattle.std.proofs.Common.{◌≡◌, ◌∙◌, ◌⊎◌, inl, inr, refl, sym, ap, subst, ℕ, zero, suc, ◌<◌, Bool, true, false, List, [], ◌∷◌, ◌++◌, Option, Some, None, Result, Ok, Err, arith}
+use Rattle.std.proofs.Common.{◌≡◌, ◌∙◌, ◌⊎◌, inl, inr, refl, sym, ap, subst, ℕ, zero, suc, ◌<◌, Bool, true, false, List, [], ◌∷◌, ◌++◌, Option, Some, None, Result, Ok, Err, arith, option_map}
 use Rattle.std.specs.Prelude.{slice_get}
 use Rattle.std.specs.Option.{option_and_then}
 use Rattle.std.specs.Str.{bytes_eq}
@@ -18,13 +18,14 @@ use Rattle.tinkey_cmds.specs.declared.command.CmdFault.{CmdFault}
 use Rattle.tinkey_session.proofs.Options.{clash, map_some}
 use Rattle.tinkey_session.specs.Laws.{Asked, IsAsked, IsEdited, after, kept}
 use Rattle.tinkey_session.specs.SessionLaws.{SessionIsEdits}
-use Rattle.tinkey_session.specs.Lines.{Line, Seal, Dseal, Open, Dopen, Tag, Verify, Derive, Edit as AsksEdit, Bad}
-use Rattle.tinkey_session.specs.Serving.{cannot_serve, Served, answered, asked_line, by_handle, computed, edit_line, edit_served, sealed_reply, serve, stepped, template_of, template_or, unless_unfit, with_template}
+use Rattle.tinkey_session.specs.Lines.{Line, Seal, Dseal, Open, Dopen, Reseal, Dreseal, Tag, Verify, Derive, Edit as AsksEdit, Bad}
+use Rattle.tinkey_session.specs.Serving.{cannot_serve, Served, answered, asked_line, by_handle, computed, edit_line, edit_served, if_opened, sealed_reply, serve, stepped, template_of, template_or, unless_unfit, with_template}
 use Rattle.tinkey_session.specs.declared.reply.Refusal.{Refusal}
+use Rattle.tinkey_session.specs.declared.reply.Refusal.TheVariants.{OpenFailed}
 use Rattle.tinkey_session.specs.declared.reply.Reply.{Reply}
 use Rattle.tinkey_session.specs.declared.reply.Reply.TheVariants.{Refuses}
 use Rattle.tinkey_session.specs.Session.{Turn, remains, turn_then, turns}
-use Rattle.wrapped_prims.specs.Answers.{derive_answer, dseal_answer, seal_answer, tag_answer}
+use Rattle.wrapped_prims.specs.Answers.{Sealed, derive_answer, dopen_answer, dseal_answer, open_answer, seal_answer, tag_answer}
 use Rattle.wrapped_prims.specs.Fitness.{Unfit, unfit}
 
 -- ---- edits
@@ -129,6 +130,14 @@ asked_leaves keys asked random x e = elim (asked_cases keys asked) [
   | inr refused ↦ inl (answer_keeps keys random (Refuses refused.0) x (sym (refused.1 random) ∙ e))
 ]
 
+-- what is opened is sealed, or nothing opened
+pub opened_keeps : (keys : Keys) (random : List ℕ) (o : Option (List ℕ)) (next : List ℕ → Option Served) (x : Served) → ((plain : List ℕ) → next plain ≡ Some x → keys ≡ x.keys) → if_opened keys random o next ≡ Some x → keys ≡ x.keys
+opened_keeps keys random (Some plain) next x each e = each plain e
+opened_keeps keys random None next x each e = answer_keeps keys random (Refuses OpenFailed) x e
+
+pub sealed_keeps : (keys : Keys) (sealed : Option Sealed) (x : Served) → option_map (sealed_reply keys) sealed ≡ Some x → keys ≡ x.keys
+sealed_keeps keys sealed x k = ap (λ y. y.keys) (map_some (sealed_reply keys) sealed x k).2
+
 -- ---- every line
 
 pub serve_leaves : (table : Table) (keys : Keys) (line : Line) (random : List ℕ) (x : Served) → serve table keys line random ≡ Some x → Leaves keys random x
@@ -138,6 +147,8 @@ serve_leaves table keys (Seal plain ad) random x e = handled Aead table keys ran
 serve_leaves table keys (Dseal plain ad) random x e = handled Daead table keys random _ x e (computed_keeps keys random _ (dseal_answer keys table plain ad) x)
 serve_leaves table keys (Open sealed ad) random x e = handled Aead table keys random _ x e (answer_keeps keys random _ x)
 serve_leaves table keys (Dopen sealed ad) random x e = handled Daead table keys random _ x e (answer_keeps keys random _ x)
+serve_leaves table keys (Reseal sealed ad) random x e = handled Aead table keys random _ x e (opened_keeps keys random (open_answer keys table sealed ad) _ x (λ plain. sealed_keeps keys (seal_answer keys table plain ad random) x))
+serve_leaves table keys (Dreseal sealed ad) random x e = handled Daead table keys random _ x e (opened_keeps keys random (dopen_answer keys table sealed ad) _ x (λ plain. computed_keeps keys random _ (dseal_answer keys table plain ad) x))
 serve_leaves table keys (Tag body) random x e = handled Mac table keys random _ x e (computed_keeps keys random _ (tag_answer keys table body) x)
 serve_leaves table keys (Verify tag body) random x e = handled Mac table keys random _ x e (answer_keeps keys random _ x)
 serve_leaves table keys (Derive size input) random x e = handled Prf table keys random _ x e (computed_keeps keys random _ (derive_answer keys table input size) x)

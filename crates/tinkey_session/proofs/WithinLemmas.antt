@@ -9,7 +9,7 @@ use Rattle.hex.specs.declared.error.FromHexError.TheVariants as hex_errors
 use Rattle.hex.proofs.HexLemmas.{decode_pairs-ok}
 use Rattle.tinkey_cmds.specs.Edits.{Add, Rotate, Promote, Enable, Disable, Destroy, Delete}
 use Rattle.tink_base.specs.Decimal.{number_in}
-use Rattle.tinkey_session.specs.Lines.{Line, Seal, Dseal, Open, Dopen, Tag, Verify, Derive, Edit, Bad, bytes_in, line_of, line_of_words, line_with_bytes, line_with_id, line_with_one, line_with_two, name_in, with_one, with_two, words_of}
+use Rattle.tinkey_session.specs.Lines.{Line, Seal, Dseal, Open, Dopen, Reseal, Dreseal, Tag, Verify, Derive, Edit, Bad, bytes_in, line_of, line_of_words, line_with_bytes, line_with_id, line_with_one, line_with_two, name_in, with_one, with_two, words_of}
 use Rattle.tinkey_session.specs.Reading.{IsWithin}
 
 -- ---- words
@@ -83,15 +83,17 @@ one_within most name a le = by (bytes_eq name (codes "tag")) (bytes_eq name (cod
     by false false false bytes fits named None = tt
 
 both_within : (most : ℕ) (name a b : List ℕ) → length a ≤ most → length b ≤ most → IsWithin most (line_with_bytes name a b)
-both_within most name a b le less = by (bytes_eq name (codes "seal")) (bytes_eq name (codes "open")) (bytes_eq name (codes "dseal")) (bytes_eq name (codes "dopen")) (bytes_eq name (codes "verify"))
+both_within most name a b le less = by (bytes_eq name (codes "seal")) (bytes_eq name (codes "open")) (bytes_eq name (codes "dseal")) (bytes_eq name (codes "dopen")) (bytes_eq name (codes "verify")) (bytes_eq name (codes "reseal")) (bytes_eq name (codes "dreseal"))
   where
-    by : (c d e f g : Bool) → IsWithin most (cond c (Seal a b) (cond d (Open a b) (cond e (Dseal a b) (cond f (Dopen a b) (cond g (Verify a b) Bad)))))
-    by true d e f g = (le, less)
-    by false true e f g = (le, less)
-    by false false true f g = (le, less)
-    by false false false true g = (le, less)
-    by false false false false true = (le, less)
-    by false false false false false = tt
+    by : (c d e f g h i : Bool) → IsWithin most (cond c (Seal a b) (cond d (Open a b) (cond e (Dseal a b) (cond f (Dopen a b) (cond g (Verify a b) (cond h (Reseal a b) (cond i (Dreseal a b) Bad)))))))
+    by true d e f g h i = (le, less)
+    by false true e f g h i = (le, less)
+    by false false true f g h i = (le, less)
+    by false false false true g h i = (le, less)
+    by false false false false true h i = (le, less)
+    by false false false false false true i = (le, less)
+    by false false false false false false true = (le, less)
+    by false false false false false false false = tt
 
 bytes_within : (most : ℕ) (name : List ℕ) (a b : Option (List ℕ)) → Fits most a → Fits most b → IsWithin most (with_two (line_with_bytes name) a b)
 bytes_within most name (Some a) (Some b) le less = both_within most name a b le less
@@ -135,6 +137,8 @@ within_limit least most (Seal plain ad) le is = let a = is.0 in let b = is.1 in 
 within_limit least most (Dseal plain ad) le is = let a = is.0 in let b = is.1 in (omega (arith, a, le), omega (arith, b, le))
 within_limit least most (Open plain ad) le is = let a = is.0 in let b = is.1 in (omega (arith, a, le), omega (arith, b, le))
 within_limit least most (Dopen plain ad) le is = let a = is.0 in let b = is.1 in (omega (arith, a, le), omega (arith, b, le))
+within_limit least most (Reseal plain ad) le is = let a = is.0 in let b = is.1 in (omega (arith, a, le), omega (arith, b, le))
+within_limit least most (Dreseal plain ad) le is = let a = is.0 in let b = is.1 in (omega (arith, a, le), omega (arith, b, le))
 within_limit least most (Tag body) le is = omega (arith, is, le)
 within_limit least most (Verify tag body) le is = let a = is.0 in let b = is.1 in (omega (arith, a, le), omega (arith, b, le))
 within_limit least most (Derive size input) le is = omega (arith, is, le)

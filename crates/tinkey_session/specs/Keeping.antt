@@ -14,7 +14,7 @@ use Rattle.tinkey_cmds.specs.declared.command.CmdError.{CmdError}
 use Rattle.tinkey_cmds.specs.declared.command.CmdError.TheVariants as errors
 use Rattle.tinkey_cmds.specs.declared.command.Command.{Command}
 use Rattle.tinkey_session.specs.Answered.{Serves}
-use Rattle.tinkey_session.specs.Lines.{Line, Seal, Dseal, Open, Dopen, Tag, Verify, Derive}
+use Rattle.tinkey_session.specs.Lines.{Line, Seal, Dseal, Open, Dopen, Reseal, Dreseal, Tag, Verify, Derive}
 use Rattle.tinkey_session.specs.Serving.{answered, edit_line, serve}
 use Rattle.tinkey_session.specs.declared.reply.Reply.TheVariants.{Refuses}
 use Rattle.tinkey_session.specs.declared.reply.Refusal.{Refusal}
@@ -34,6 +34,8 @@ needs (Seal plain ad) = Some Aead
 needs (Open sealed ad) = Some Aead
 needs (Dseal plain ad) = Some Daead
 needs (Dopen sealed ad) = Some Daead
+needs (Reseal sealed ad) = Some Aead
+needs (Dreseal sealed ad) = Some Daead
 needs (Tag body) = Some Mac
 needs (Verify tag body) = Some Mac
 needs (Derive size input) = Some Prf

@@ -19,6 +19,8 @@ use Rattle.tinkey_cmds.specs.Edits.{EditOf, Add, Rotate, Promote, Enable, Disabl
 pub data Line : Type 0 where
   Seal Dseal : (plain ad : List ℕ) → Line
   Open Dopen : (sealed ad : List ℕ) → Line
+  -- what is opened is sealed again
+  Reseal Dreseal : (sealed ad : List ℕ) → Line
   Tag : (body : List ℕ) → Line
   Verify : (tag body : List ℕ) → Line
   Derive : (size : ℕ) (input : List ℕ) → Line
@@ -87,7 +89,9 @@ line_with_bytes name a b =
     else (if bytes_eq name (codes "dseal") then Dseal a b
     else (if bytes_eq name (codes "dopen") then Dopen a b
     else (if bytes_eq name (codes "verify") then Verify a b
-    else Bad))))
+    else (if bytes_eq name (codes "reseal") then Reseal a b
+    else (if bytes_eq name (codes "dreseal") then Dreseal a b
+    else Bad))))))
 
 -- the lines of a name and two words
 abbrev pub line_with_two : (name a b : List ℕ) → Line

@@ -16,7 +16,7 @@ use Rattle.managers.specs.Table.{Table}
 use Rattle.tinkey_cmds.specs.Edits.{Edit, EditOf, Stepped, edit_then, step}
 use Rattle.tinkey_cmds.specs.Edits as edits
 use Rattle.tinkey_cmds.specs.declared.command.CmdFault.{CmdFault}
-use Rattle.tinkey_session.specs.Lines.{Line, Seal, Dseal, Open, Dopen, Tag, Verify, Derive, Edit as AsksEdit, Bad}
+use Rattle.tinkey_session.specs.Lines.{Line, Seal, Dseal, Open, Dopen, Reseal, Dreseal, Tag, Verify, Derive, Edit as AsksEdit, Bad}
 use Rattle.tinkey_session.specs.declared.reply.Refusal.{Refusal}
 use Rattle.tinkey_session.specs.declared.reply.Refusal.TheVariants.{AsymmetricTemplate, BadLine, EditRefused, OpenFailed, OutputTooLong, UnknownTemplate, VerifyFailed}
 use Rattle.tinkey_session.specs.declared.reply.Refusal.TheVariants as refusals
@@ -63,6 +63,12 @@ computed keys random reply answer =
 abbrev pub opened_reply : Option (List ℕ) → Reply
 opened_reply (Some plain) = Gives plain
 opened_reply None = Refuses OpenFailed
+
+-- what opened goes on; where nothing opened, that is the reply
+abbrev pub if_opened : Keys → (random : List ℕ) → Option (List ℕ) → (List ℕ → Option Served)
+    → Option Served
+if_opened keys random (Some plain) next = next plain
+if_opened keys random None next = Some (answered keys random (Refuses OpenFailed))
 
 -- the reply to a tag that is right, or isn't
 abbrev pub verified_reply : Bool → Reply
@@ -139,6 +145,12 @@ serve table keys (Open sealed ad) random = by_handle Aead table keys random
     (Some (answered keys random (opened_reply (open_answer keys table sealed ad))))
 serve table keys (Dopen sealed ad) random = by_handle Daead table keys random
     (Some (answered keys random (opened_reply (dopen_answer keys table sealed ad))))
+serve table keys (Reseal sealed ad) random = by_handle Aead table keys random
+    (if_opened keys random (open_answer keys table sealed ad) (λ plain.
+    option_map (sealed_reply keys) (seal_answer keys table plain ad random)))
+serve table keys (Dreseal sealed ad) random = by_handle Daead table keys random
+    (if_opened keys random (dopen_answer keys table sealed ad) (λ plain.
+    computed keys random Gives (dseal_answer keys table plain ad)))
 serve table keys (Tag body) random = by_handle Mac table keys random
     (computed keys random Gives (tag_answer keys table body))
 serve table keys (Verify tag body) random = by_handle Mac table keys random

@@ -3,7 +3,7 @@
 ghost use Rattle.std.specs.Prelude.{◌≡◌, ◌≤◌, ◌^◌, length, option_map};
 ghost use Rattle.tink_spec.specs.Outside.{EntropyState};
 ghost use Rattle.tinkey_session.specs.Keeping.{Answers, needs, ServesBy};
-ghost use Rattle.tinkey_session.specs.Lines.{Seal, Dseal, Open, Dopen, Tag, Verify, Derive};
+ghost use Rattle.tinkey_session.specs.Lines.{Seal, Dseal, Open, Dopen, Reseal, Dreseal, Tag, Verify, Derive};
 ghost use Rattle.tinkey_session.specs.Reading.{IsWithin, seen_line};
 ghost use Rattle.tinkey_session.specs.Serving.{opened_reply};
 
@@ -21,8 +21,8 @@ pub(crate) fn needs(line: &Line<'_>) -> Option<Primitive>
     ensures { result ≡ needs (seen_line line.now) }
 {
     match line {
-        Line::Seal(..) | Line::Open(..) => Some(Primitive::Aead),
-        Line::Dseal(..) | Line::Dopen(..) => Some(Primitive::Daead),
+        Line::Seal(..) | Line::Open(..) | Line::Reseal(..) => Some(Primitive::Aead),
+        Line::Dseal(..) | Line::Dopen(..) | Line::Dreseal(..) => Some(Primitive::Daead),
         Line::Tag(..) | Line::Verify(..) => Some(Primitive::Mac),
         Line::Derive(..) => Some(Primitive::Prf),
         _ => None,
@@ -106,6 +106,44 @@ fn dopen(alloc: Global, handle: &Handle<'_>, sealed: &[u8], ad: &[u8]) -> Result
     }
 }
 
+/// reseal: what `open` gives, sealed.
+fn reseal<E: Entropy>(
+    alloc: Global,
+    handle: &Handle<'_>,
+    sealed: &[u8],
+    ad: &[u8],
+    entropy: &mut E,
+) -> Result<Reply, LineFault>
+    requires held { Answers (⟦<Managers as KeyTable>⟧.table handle.now.managers.now)
+        (Reseal sealed.now ad.now) handle.now.held }
+    requires sealed_bound { length sealed.now ≤ 2 ^ 20 }
+    requires ad_bound { length ad.now ≤ 2 ^ 20 }
+    ensures { ServesBy (⟦<Managers as KeyTable>⟧.table handle.now.managers.now)
+        handle.now.held (Reseal sealed.now ad.now) result (E.state entropy.old) (E.state entropy.new) }
+{
+    match handle.open(alloc, sealed, ad, &mut Trials::new()) {
+        Ok(Some(plain)) => seal(alloc, handle, plain.as_slice(), ad, entropy),
+        Ok(None) => Ok(Reply::Refuses(Refusal::OpenFailed)),
+        Err(_) => Err(LineFault::NoMemory),
+    }
+}
+
+/// dreseal: what `dopen` gives, sealed without an IV.
+fn dreseal(alloc: Global, handle: &Handle<'_>, sealed: &[u8], ad: &[u8]) -> Result<Reply, LineFault>
+    requires held { Answers (⟦<Managers as KeyTable>⟧.table handle.now.managers.now)
+        (Dreseal sealed.now ad.now) handle.now.held }
+    requires sealed_bound { length sealed.now ≤ 2 ^ 20 }
+    requires ad_bound { length ad.now ≤ 2 ^ 20 }
+    ensures { (e : EntropyState) → ServesBy (⟦<Managers as KeyTable>⟧.table handle.now.managers.now)
+        handle.now.held (Dreseal sealed.now ad.now) result e e }
+{
+    match handle.dopen(alloc, sealed, ad, &mut Trials::new()) {
+        Ok(Some(plain)) => dseal(alloc, handle, plain.as_slice(), ad),
+        Ok(None) => Ok(Reply::Refuses(Refusal::OpenFailed)),
+        Err(_) => Err(LineFault::NoMemory),
+    }
+}
+
 /// tag: prefix and tag.
 fn tag(alloc: Global, handle: &Handle<'_>, body: &[u8]) -> Result<Reply, LineFault>
     requires held { Answers (⟦<Managers as KeyTable>⟧.table handle.now.managers.now)
@@ -171,6 +209,10 @@ pub(crate) fn answer<E: Entropy>(
         Line::Open(sealed, ad) => open(alloc, handle, sealed.as_slice(), ad.as_slice()),
         Line::Dseal(plain, ad) => dseal(alloc, handle, plain.as_slice(), ad.as_slice()),
         Line::Dopen(sealed, ad) => dopen(alloc, handle, sealed.as_slice(), ad.as_slice()),
+        Line::Reseal(sealed, ad) => {
+            reseal(alloc, handle, sealed.as_slice(), ad.as_slice(), entropy)
+        }
+        Line::Dreseal(sealed, ad) => dreseal(alloc, handle, sealed.as_slice(), ad.as_slice()),
         Line::Tag(body) => tag(alloc, handle, body.as_slice()),
         Line::Verify(tag, body) => Ok(verify(handle, tag.as_slice(), body.as_slice())),
         Line::Derive(size, input) => derive(alloc, handle, *size, input.as_slice()),

@@ -22,6 +22,10 @@ pub enum Line<'a> {
     Open(Bytes, Bytes),
     /// The same of bytes that were sealed without an IV.
     Dopen(Bytes, Bytes),
+    /// Open these bytes, and seal the plaintext, both with this associated data.
+    Reseal(Bytes, Bytes),
+    /// The same of bytes that were sealed without an IV.
+    Dreseal(Bytes, Bytes),
     /// Tag these bytes.
     Tag(Bytes),
     /// Verify this tag of these bytes.
@@ -132,6 +136,8 @@ fn line_with_bytes<'a>(name: &str, a: Bytes, b: Bytes) -> Line<'a>
         "dseal" => Line::Dseal(a, b),
         "dopen" => Line::Dopen(a, b),
         "verify" => Line::Verify(a, b),
+        "reseal" => Line::Reseal(a, b),
+        "dreseal" => Line::Dreseal(a, b),
         _ => Line::Bad,
     }
 }

@@ -106,6 +106,8 @@ row_of commands.Seal = row (codes "seal") seal_requires seal_may
 row_of commands.Open = row (codes "open") seal_requires seal_may
 row_of commands.Dseal = row (codes "dseal") seal_requires seal_may
 row_of commands.Dopen = row (codes "dopen") seal_requires seal_may
+row_of commands.Reseal = row (codes "reseal") seal_requires seal_may
+row_of commands.Dreseal = row (codes "dreseal") seal_requires seal_may
 row_of commands.Sseal = row (codes "sseal") seal_requires sseal_may
 row_of commands.Sopen = row (codes "sopen") seal_requires sseal_may
 row_of commands.Tag = row (codes "tag") seal_requires tag_may
@@ -125,10 +127,10 @@ all_commands =
     commands.CreateKeyset ∷ commands.AddKey ∷ commands.RotateKeyset ∷ commands.PromoteKey
     ∷ commands.EnableKey ∷ commands.DisableKey ∷ commands.DestroyKey ∷ commands.DeleteKey
     ∷ commands.ListKeyset ∷ commands.ConvertKeyset ∷ commands.ListKeyTemplates ∷ commands.Seal
-    ∷ commands.Open ∷ commands.Dseal ∷ commands.Dopen ∷ commands.Sseal ∷ commands.Sopen
-    ∷ commands.Tag ∷ commands.Verify ∷ commands.Derive ∷ commands.Session ∷ commands.Selftest
-    ∷ commands.WrapKeyset ∷ commands.UnwrapKeyset ∷ commands.Eseal ∷ commands.Eopen
-    ∷ commands.Srange ∷ []
+    ∷ commands.Open ∷ commands.Dseal ∷ commands.Dopen ∷ commands.Reseal ∷ commands.Dreseal
+    ∷ commands.Sseal ∷ commands.Sopen ∷ commands.Tag ∷ commands.Verify ∷ commands.Derive
+    ∷ commands.Session ∷ commands.Selftest ∷ commands.WrapKeyset ∷ commands.UnwrapKeyset
+    ∷ commands.Eseal ∷ commands.Eopen ∷ commands.Srange ∷ []
 
 -- The options.
 

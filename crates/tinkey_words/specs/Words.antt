@@ -65,6 +65,9 @@ pub data AskedWork : Type 0 where
   -- the same, deterministic
   to_dseal : (ad : List ℕ) → AskedWork
   to_dopen : (ad : List ℕ) → AskedWork
+  -- it is opened, and the plaintext is sealed, both with this associated data; the same, deterministic
+  to_reseal : (ad : List ℕ) → AskedWork
+  to_dreseal : (ad : List ℕ) → AskedWork
   -- its tag is made, or this one is compared with it
   to_tag : AskedWork
   to_verify : (tag : List ℕ) → AskedWork
@@ -77,6 +80,8 @@ primitive_for (to_seal ad) = Aead
 primitive_for (to_open ad) = Aead
 primitive_for (to_dseal ad) = Daead
 primitive_for (to_dopen ad) = Daead
+primitive_for (to_reseal ad) = Aead
+primitive_for (to_dreseal ad) = Daead
 primitive_for to_tag = Mac
 primitive_for (to_verify tag) = Mac
 primitive_for (to_derive size) = Prf
@@ -310,6 +315,8 @@ asked_with commands.Seal values = worked (to_seal (ad values)) values
 asked_with commands.Open values = worked (to_open (ad values)) values
 asked_with commands.Dseal values = worked (to_dseal (ad values)) values
 asked_with commands.Dopen values = worked (to_dopen (ad values)) values
+asked_with commands.Reseal values = worked (to_reseal (ad values)) values
+asked_with commands.Dreseal values = worked (to_dreseal (ad values)) values
 asked_with commands.Sseal values =
     seal_stream (lock values) (text (values options.Keyset)) (form_in (values options.KeysetFormat))
     (ad values)
@@ -578,6 +585,8 @@ seen_work (works.Seal ad) = to_seal (seen_datum ad)
 seen_work (works.Open ad) = to_open (seen_datum ad)
 seen_work (works.Dseal ad) = to_dseal (seen_datum ad)
 seen_work (works.Dopen ad) = to_dopen (seen_datum ad)
+seen_work (works.Reseal ad) = to_reseal (seen_datum ad)
+seen_work (works.Dreseal ad) = to_dreseal (seen_datum ad)
 seen_work works.Tag = to_tag
 seen_work (works.Verify tag) = to_verify (seen_datum tag)
 seen_work (works.Derive size) = to_derive size

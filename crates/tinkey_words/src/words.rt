@@ -184,6 +184,10 @@ pub enum Work<'a> {
     Dseal(Datum<'a>),
     /// Open what was sealed without an IV, with this associated data.
     Dopen(Datum<'a>),
+    /// Open it, and seal the plaintext, both with this associated data.
+    Reseal(Datum<'a>),
+    /// The same of what was sealed without an IV.
+    Dreseal(Datum<'a>),
     /// Tag it.
     Tag,
     /// Compare its tag with this one.
@@ -360,6 +364,8 @@ fn command_with<'a>(command: CommandName, given: &Options<'a>) -> Request<'a>
         CommandName::Open => given.worked(Work::Open(given.ad())),
         CommandName::Dseal => given.worked(Work::Dseal(given.ad())),
         CommandName::Dopen => given.worked(Work::Dopen(given.ad())),
+        CommandName::Reseal => given.worked(Work::Reseal(given.ad())),
+        CommandName::Dreseal => given.worked(Work::Dreseal(given.ad())),
         CommandName::Sseal => Request::SealStream {
             lock: given.lock(),
             keyset: given.text(OptionName::Keyset),

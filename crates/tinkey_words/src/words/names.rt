@@ -38,6 +38,10 @@ pub enum CommandName {
     Dseal,
     /// `dopen`
     Dopen,
+    /// `reseal`
+    Reseal,
+    /// `dreseal`
+    Dreseal,
     /// `sseal`
     Sseal,
     /// `sopen`
@@ -114,7 +118,7 @@ pub enum OptionName {
 }
 
 /// How many commands there are.
-const COMMAND_COUNT: usize = 27;
+const COMMAND_COUNT: usize = 29;
 
 /// How many options there are.
 pub const OPTION_COUNT: usize = 22;
@@ -170,6 +174,8 @@ impl CommandName {
             CommandName::Open => row("open", &SEAL_REQUIRES, &SEAL_MAY),
             CommandName::Dseal => row("dseal", &SEAL_REQUIRES, &SEAL_MAY),
             CommandName::Dopen => row("dopen", &SEAL_REQUIRES, &SEAL_MAY),
+            CommandName::Reseal => row("reseal", &SEAL_REQUIRES, &SEAL_MAY),
+            CommandName::Dreseal => row("dreseal", &SEAL_REQUIRES, &SEAL_MAY),
             CommandName::Sseal => row("sseal", &SEAL_REQUIRES, &SSEAL_MAY),
             CommandName::Sopen => row("sopen", &SEAL_REQUIRES, &SSEAL_MAY),
             CommandName::Tag => row("tag", &SEAL_REQUIRES, &TAG_MAY),
@@ -414,6 +420,8 @@ pub const COMMANDS: [CommandName; COMMAND_COUNT] = [
     CommandName::Open,
     CommandName::Dseal,
     CommandName::Dopen,
+    CommandName::Reseal,
+    CommandName::Dreseal,
     CommandName::Sseal,
     CommandName::Sopen,
     CommandName::Tag,

@@ -78,6 +78,14 @@ pub returns-in-Dopen : goal.returns-in-Dopen
 unfolding command_text
 returns-in-Dopen c = rw c.in-Dopen.is refl
 
+pub returns-in-Reseal : goal.returns-in-Reseal
+unfolding command_text
+returns-in-Reseal c = rw c.in-Reseal.is refl
+
+pub returns-in-Dreseal : goal.returns-in-Dreseal
+unfolding command_text
+returns-in-Dreseal c = rw c.in-Dreseal.is refl
+
 pub returns-in-Sseal : goal.returns-in-Sseal
 unfolding command_text
 returns-in-Sseal c = rw c.in-Sseal.is refl

@@ -12,6 +12,12 @@ returns-in-Dseal g c = λ w. rw c.in-Dseal.is (c.dseal.ensures (record w { entro
 pub returns-in-Dopen : goal.returns-in-Dopen
 returns-in-Dopen g c = λ w. rw c.in-Dopen.is (c.dopen.ensures (record w { entropy = g.E.Entropy.state c.args.entropy.now }))
 
+pub returns-in-Reseal : goal.returns-in-Reseal
+returns-in-Reseal g c = λ w. rw c.in-Reseal.is (c.reseal.ensures w)
+
+pub returns-in-Dreseal : goal.returns-in-Dreseal
+returns-in-Dreseal g c = λ w. rw c.in-Dreseal.is (c.dreseal.ensures (record w { entropy = g.E.Entropy.state c.args.entropy.now }))
+
 pub returns-in-Tag : goal.returns-in-Tag
 returns-in-Tag g c = λ w. rw c.in-Tag.is (rw c.deref.ensures.value at (c.tag.ensures (record w { entropy = g.E.Entropy.state c.args.entropy.now })))
 

@@ -1,18 +1,5 @@
-use Rattle.std.proofs.Common.{◌∙◌, refl}
-use Rattle.tinkey_plans.specs.Plan.{allocates}
-use Rattle.tinkey_plans.specs.Steps.{with_made}
-use Rattle.tinkey_run.proofs.UseLemmas.{sealed_passes, draw_failed_there, starved_sealing}
+use Rattle.std.proofs.Common.{◌∙◌}
 use Rattle.tinkey_run.proofs.using.seal.Goals as goal
 
-pub returns-in-Ok : goal.returns-in-Ok
-returns-in-Ok g c = λ w keys over.
-    let sealing = rw (c.as_slice.ensures ∙ c.in_ok-ad.ensures.bytes) at (c.in-Ok.ensures.sealed keys over) in
-    rw c.own.ensures (sealed_passes _ keys _ _ _ (record w { entropy = g.E.Entropy.state c.args.entropy.now }) (g.E.Entropy.state c.seal_in_place.new.entropy) sealing c.in-Ok.ensures.no_fault)
-
-pub returns-in-Err-EntropyFault : goal.returns-in-Err-EntropyFault
-returns-in-Err-EntropyFault g c = λ w keys over next.
-    draw_failed_there _ keys _ _ (λ sealed. sealed) _ (λ random. refl) (record w { entropy = g.E.Entropy.state c.args.entropy.now }) (g.E.Entropy.state c.seal_in_place.new.entropy) (rw c.in-Err-EntropyFault.field-0-is at (c.in-Err-EntropyFault.ensures.fault keys over)) (λ made. allocates (with_made made next))
-
 pub returns : goal.returns
-returns g c = λ w keys over next.
-    starved_sealing _ keys _ _ (λ sealed. sealed) _ (λ random. refl) (record w { entropy = g.E.Entropy.state c.args.entropy.now }) (g.E.Entropy.state c.seal_in_place.new.entropy) (rw c.in-Err-NoMemory.field-0-is at (c.in-Err-NoMemory.ensures.fault keys over)) (λ made. with_made made next)
+returns g c = λ w keys over. rw (c.as_slice.ensures ∙ c.in_ok-ad.ensures.bytes) at (c.seal_plain.ensures w keys over)

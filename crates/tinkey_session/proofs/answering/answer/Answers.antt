@@ -9,6 +9,9 @@ returns-in-Dseal g c = rw c.in-Dseal.is (rw (c.as_slice-in-Dseal.ensures, c.as_s
 pub returns-in-Dopen : goal.returns-in-Dopen
 returns-in-Dopen g c = rw c.in-Dopen.is (rw (c.as_slice-in-Dopen.ensures, c.as_slice-in-Dopen-2.ensures) at (c.dopen.ensures (g.E.Entropy.state c.args.entropy.now)))
 
+pub returns-in-Dreseal : goal.returns-in-Dreseal
+returns-in-Dreseal g c = rw c.in-Dreseal.is (rw (c.as_slice-in-Dreseal.ensures, c.as_slice-in-Dreseal-2.ensures) at (c.dreseal.ensures (g.E.Entropy.state c.args.entropy.now)))
+
 pub returns-in-Tag : goal.returns-in-Tag
 returns-in-Tag g c = rw c.in-Tag.is (rw (c.as_slice-in-Tag.ensures) at (c.tag.ensures (g.E.Entropy.state c.args.entropy.now)))
 
