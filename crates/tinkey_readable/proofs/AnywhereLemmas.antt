@@ -64,13 +64,13 @@ use Rattle.tinkey_words.specs.Words.{AskedWork, primitive_for, to_dopen, to_dsea
 -- ---- where something was made
 
 -- the keyset that made it of an input within a limit
-record Maker (input : List ℕ) (most : ℕ) (Makes : Keys → Type 0) (r : Record) : Type 0 where
-  old : Keys
-  primary : primary_of old ≡ Some r
-  short : length input ≤ most
-  makes : Makes old
+pub record Maker (input : List ℕ) (most : ℕ) (Makes : Keys → Type 0) (r : Record) : Type 0 where
+  pub old : Keys
+  pub primary : primary_of old ≡ Some r
+  pub short : length input ≤ most
+  pub makes : Makes old
 
-line_maker : (work : AskedWork) (input output : List ℕ) (r : Record) (Makes : Keys → Type 0)
+unfoldable pub line_maker : (work : AskedWork) (input output : List ℕ) (r : Record) (Makes : Keys → Type 0)
     → ((keys : Keys) (random : List ℕ) (x : Served) → serve standard_table keys (asks work input) random ≡ Some x → x.reply ≡ Gives output → Makes keys)
     → (keys : Keys) (told : Told) (place : ℕ) (t : Turn) → slice_get (turns standard_table keys (asked_in told.input) told.random) place ≡ Some t → length input ≤ limit_for work → t.line ≡ asks work input → t.reply ≡ Gives output → primary_of t.before ≡ Some r
     → Maker input (limit_for work) Makes r
@@ -83,7 +83,7 @@ line_maker work input output r Makes of_line keys told place t there short line 
       makes = of_line t.before at.random at.served (subst (λ asked. serve standard_table t.before asked at.random ≡ Some at.served) line at.is) (sym at.reply ∙ reply);
     }
 
-maker : ReadKeysFit → (work : AskedWork) (input output : List ℕ) (r : Record) (Makes : Keys → Type 0)
+unfoldable pub maker : ReadKeysFit → (work : AskedWork) (input output : List ℕ) (r : Record) (Makes : Keys → Type 0)
     → ((old : Keys) (told : Told) → IsKeyset old → Started work old told output → told.input ≡ input → Makes old)
     → ((keys : Keys) (random : List ℕ) (x : Served) → serve standard_table keys (asks work input) random ≡ Some x → x.reply ≡ Gives output → Makes keys)
     → WasMadeBy work input output r → Maker input (limit_for work) Makes r
@@ -111,7 +111,7 @@ line_reads work input P keys told place t there line fit a =
     let at = reached standard_table (asked_in told.input) keys told.random place t there in
     at.reply ∙ a.of_line at.random at.served fit (subst (λ asked. serve standard_table t.before asked at.random ≡ Some at.served) line at.is)
 
-read_over : {While : Record → Keys → Type 0} (work : AskedWork) (input output : List ℕ) (r : Record) → length input ≤ limit_for work → ((keys : Keys) → While r keys → Answers work input (λ other. other ≡ output) keys) → IsReadAnywhere While work input output r
+pub read_over : {While : Record → Keys → Type 0} (work : AskedWork) (input output : List ℕ) (r : Record) → length input ≤ limit_for work → ((keys : Keys) → While r keys → Answers work input (λ other. other ≡ output) keys) → IsReadAnywhere While work input output r
 read_over work input output r fits answers = record {
   by_run = λ written keys serves while'.
       let a = answers keys while' in
@@ -145,7 +145,7 @@ read_somehow_over work input r fits answers = record {
 
 -- ---- seals
 
-seal_maker : ReadKeysFit → (ad plain sealed : List ℕ) (r : Record) → WasMadeBy (to_seal ad) plain sealed r → Maker plain input_limit (MakesSeal plain ad sealed) r
+pub seal_maker : ReadKeysFit → (ad plain sealed : List ℕ) (r : Record) → WasMadeBy (to_seal ad) plain sealed r → Maker plain input_limit (MakesSeal plain ad sealed) r
 unfolding serve
 seal_maker fit ad plain sealed r was = maker fit (to_seal ad) plain sealed r (MakesSeal plain ad sealed)
     (λ old told k b same. let s = sealed_by old ad told sealed b in record { random = told.random; made = s.0; is = ap (λ i. seal_answer old standard_table i ad told.random) (sym same) ∙ s.1; bytes = s.2 })
@@ -172,7 +172,7 @@ opens_somehow_anywhere sizes fit kept ad plain sealed r was =
 
 -- ---- seals without an IV
 
-dseal_maker : FitKeysetsAnswer → ReadKeysFit → (ad plain sealed : List ℕ) (r : Record) → WasMadeBy (to_dseal ad) plain sealed r → Maker plain input_limit (λ keys. dseal_answer keys standard_table plain ad ≡ Some sealed) r
+pub dseal_maker : FitKeysetsAnswer → ReadKeysFit → (ad plain sealed : List ℕ) (r : Record) → WasMadeBy (to_dseal ad) plain sealed r → Maker plain input_limit (λ keys. dseal_answer keys standard_table plain ad ≡ Some sealed) r
 unfolding serve
 dseal_maker fits fit ad plain sealed r was = maker fit (to_dseal ad) plain sealed r (λ keys. dseal_answer keys standard_table plain ad ≡ Some sealed)
     (λ old told k b same. ap (λ i. dseal_answer old standard_table i ad) (sym same) ∙ dsealed_by fits old ad told sealed k b)

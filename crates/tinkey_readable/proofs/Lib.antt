@@ -21,6 +21,7 @@ pub mod LyingLemmas
 pub mod PutLemmas
 pub mod ReachLemmas
 pub mod ReadableLemmas
+pub mod ResealLemmas
 pub mod RunLemmas
 pub mod ReadBytesLemmas
 pub mod ReadIdLemmas

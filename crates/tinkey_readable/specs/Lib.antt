@@ -10,5 +10,6 @@ pub mod LockedRuns
 pub mod Lying
 pub mod RangeRuns
 pub mod Readable
+pub mod Resealing
 pub mod Runs
 pub mod StreamRuns

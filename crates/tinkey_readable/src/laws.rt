@@ -13,6 +13,7 @@ ghost use Rattle.tinkey_readable.specs.LineRuns.{MadeDopens, MadeDopensPresent, 
 ghost use Rattle.tinkey_readable.specs.LockedHiding.{LockedRunsPut, LockedSessionsSave, SealedAlike};
 ghost use Rattle.tinkey_readable.specs.RangeRuns.{RunsOpenRange};
 ghost use Rattle.tinkey_readable.specs.Readable.{AnswersAreReadable, SessionsAreReadable};
+ghost use Rattle.tinkey_readable.specs.Resealing.{ResealedDopens, ResealedOpens};
 ghost use Rattle.tinkey_readable.specs.Runs.{LocksStep, ReadIsStored, RunStep, RunsDopen, RunsDopenPresent, RunsOpen, RunsOpenPresent, RunsUnwrap, RunsVerify, WrapStep};
 ghost use Rattle.tinkey_readable.specs.StreamRuns.{RunsOpenStream, RunsOpenStreamPresent};
 
@@ -247,6 +248,21 @@ pub fn kept_anywhere()
     faultless_keysets();
     forms_back();
     wrap_back_bytes();
+}
+
+/// What was sealed, and then resealed any number of times, opens to its plaintext with its associated data
+/// over every keyset that is accepted for AEADs and in which the primary key of the last resealing is ENABLED
+/// and alone under its prefix. Each resealing, by a run or by a line of a session, was over a keyset in which
+/// the key of the text before it was so. The earlier keys may then be gone. The same of `dseal` and `dreseal`.
+pub fn resealed_opens()
+    ensures opens { ResealedOpens }
+    ensures dopens { ResealedDopens }
+{
+    sealings_fit();
+    read_keysets_fit();
+    fit_keysets_answer();
+    kept_open();
+    kept_dopen();
 }
 
 /// What was made under a key that is ENABLED and alone under its prefix opens or verifies after such runs to
