@@ -45,6 +45,8 @@ misfit_text (misfits.NoValue command name) =
     told_of (option_row name).word (codes " lacks its value, ") (form_text (form_for name command)) command
 misfit_text (misfits.Lacks command name) =
     told_of (row_of command).word (codes " lacks ") (option_row name).word command
+misfit_text (misfits.Without command name other) =
+    told_of (option_row name).word (codes " stands without ") (option_row other).word command
 
 -- the line that tells it
 unfoldable pub misfit_line : Misfit → List ℕ

@@ -66,6 +66,15 @@ fn push_misfit(line: &mut ShortText, why: Misfit)
                 command,
             );
         }
+        Misfit::Without(command, name, other) => {
+            push_told(
+                line,
+                option_word(name),
+                " stands without ",
+                option_word(other),
+                command,
+            );
+        }
     }
 }
 

@@ -1,7 +1,7 @@
 -- The options of a run fit their command, and options that fit are a run; so words are accepted exactly
 -- where they spell a command and options that fit it, or ask for help or for the version.
 use Rattle.std.proofs.Common.{◌≡◌, ◌⊎◌, ◌∙◌, sym, refl, ap, subst, inl, inr, ℕ, ◌+◌, Bool, true, false, List, [], ◌∷◌, ◌++◌, length, Option, Some, None, Ok, Err, Result}
-use Rattle.std.specs.Prelude.{◌||◌, is_some, not, if◌then◌else◌}
+use Rattle.std.specs.Prelude.{◌||◌, ◌&&◌, is_some, not, if◌then◌else◌}
 use Rattle.std.specs.List.{AllByRecursion, flat_map}
 use Rattle.std.proofs.Math.Path.{fun_ext}
 use Rattle.tinkey_words.specs.declared.words.help.First.{First}
@@ -11,10 +11,10 @@ use Rattle.tinkey_words.specs.declared.words.misuse.Misfit.TheVariants as misfit
 use Rattle.tinkey_words.specs.declared.words.misuse.Misuse.{Misuse}
 use Rattle.tinkey_words.specs.declared.words.names.CommandName.{CommandName}
 use Rattle.tinkey_words.specs.declared.words.names.OptionName.{OptionName}
-use Rattle.tinkey_words.specs.Names.{row_of, form_for, rival}
+use Rattle.tinkey_words.specs.Names.{row_of, form_for, rival, needs}
 use Rattle.tinkey_words.specs.Rows.{same, is_one_of}
-use Rattle.tinkey_words.specs.Words.{◌>>=◌, Asked, Values, asked_with, Options, is_given, is_excluded, is_barred, put, options_of, no_options, given_in, lacking, lacking_none, misuse_at, complete, with_options, is_help_flag, help, version, first_of, by_itself, command_words, asked_of, words_of}
-use Rattle.tinkey_words.specs.Grammar.{IsValue, Spelling, spelled, IsGiven, IsOnce, AreApart, IsOneOf, Fits, values_of, Spells, Helps, the_list, its_help, the_version, WordsAreSpelled}
+use Rattle.tinkey_words.specs.Words.{◌>>=◌, Asked, Values, asked_with, Options, is_given, is_excluded, is_barred, put, options_of, no_options, given_in, lacking, lacking_none, unmet, unmet_none, misuse_at, complete, with_options, is_help_flag, help, version, first_of, by_itself, command_words, asked_of, words_of}
+use Rattle.tinkey_words.specs.Grammar.{IsValue, Spelling, spelled, IsGiven, IsOnce, AreApart, IsOneOf, HasNeeded, Fits, values_of, Spells, Helps, the_list, its_help, the_version, WordsAreSpelled}
 use Rattle.tinkey_words.proofs.HelpLemmas.{first_found, first_is, flag_is, options_behind, alone_accepted, help_asked, helps_accepted}
 use Rattle.tinkey_words.proofs.NameLemmas.{are_rivals}
 use Rattle.tinkey_words.proofs.RowLemmas.{same_self, same_is}
@@ -124,6 +124,28 @@ all_there : (names : List OptionName) (run : List Spelling) → AllByRecursion (
 all_there [] run there = refl
 all_there (name ∷ names) run there = rw (given_there name no_options run there.0) (all_there names run there.1)
 
+-- what is given in the end, and wasn't before, is there
+there_at : (name : OptionName) (given : Options) (s : Spelling) (run : List Spelling) (b : Bool) → is_given name (put s.name s.value given) ≡ b → is_given name given ≡ false → (b ≡ false → IsGiven name run) → IsGiven name (s ∷ run)
+there_at name given s run true now was later = inl (put_same (same s.name name) name s.name s.value given refl was now)
+there_at name given s run false now was later = inr (later refl)
+
+pub there_of : (name : OptionName) (given : Options) (run : List Spelling) → is_given name given ≡ false → is_given name (all_put given run) ≡ true → IsGiven name run
+there_of name given [] was is = let clash : false ≡ true = sym was ∙ is in absurd (cc)
+there_of name given (s ∷ run) was is = there_at name given s run _ refl was (λ now. there_of name (put s.name s.value given) run now is)
+
+-- what each option of a run needs is there, where it has all that is needed
+unmet_test : (a b : Bool) (need : OptionName × OptionName) (later : Option (OptionName × OptionName)) → (a ≡ true → b ≡ true) → (if a && not b then Some need else later) ≡ later
+unmet_test true true need later has = refl
+unmet_test true false need later has = let clash : false ≡ true = has refl in absurd (cc)
+unmet_test false b need later has = refl
+
+all_met : (pairs : List (OptionName × OptionName)) (run : List Spelling) → AllByRecursion (HasNeeded run) pairs → unmet pairs (all_put no_options run) ≡ None
+all_met [] run has = refl
+all_met (need ∷ pairs) run has =
+    unmet_test (is_given need.0 (all_put no_options run)) (is_given need.1 (all_put no_options run)) need (unmet pairs (all_put no_options run))
+    (λ is. given_there need.1 no_options run (has.0 (there_of need.0 no_options run refl is)))
+    ∙ all_met pairs run has.1
+
 -- The values of a run are those that were given first, as none is there twice.
 
 abbrev or_else : Option (List ℕ) → Option (List ℕ) → Option (List ℕ)
@@ -157,7 +179,8 @@ values_run command run runs = fun_ext (λ name. value_run command no_options run
 completed : (command : CommandName) (count : ℕ) (run : List Spelling) (asked : Asked) → Fits command run → Runs command no_options run → asked ≡ asked_with command (values_of run) → complete command count (all_put no_options run) ≡ Ok asked
 completed command count run asked fits runs asks =
     let there = all_there (row_of command).required run fits.complete in
-    rw there (ap (λ (values : Values). Ok (asked_with command values)) (values_run command run runs) ∙ ap Ok (sym asks))
+    let has = all_met needs run fits.met in
+    rw (there, has) (ap (λ (values : Values). Ok (asked_with command values)) (values_run command run runs) ∙ ap Ok (sym asks))
 
 spelled_accepted : (words : List (List ℕ)) (asked : Asked) → Spells words asked → words_of words ≡ Ok asked
 unfolding words_of given_in
@@ -207,27 +230,33 @@ pub formed_of : (command : CommandName) (given : Options) (run : List Spelling) 
 formed_of command given [] runs = tt
 formed_of command given (s ∷ run) runs = (runs.2, formed_of command (put s.name s.value given) run runs.3)
 
--- what is given in the end, and wasn't before, is there
-there_at : (name : OptionName) (given : Options) (s : Spelling) (run : List Spelling) (b : Bool) → is_given name (put s.name s.value given) ≡ b → is_given name given ≡ false → (b ≡ false → IsGiven name run) → IsGiven name (s ∷ run)
-there_at name given s run true now was later = inl (put_same (same s.name name) name s.name s.value given refl was now)
-there_at name given s run false now was later = inr (later refl)
-
-pub there_of : (name : OptionName) (given : Options) (run : List Spelling) → is_given name given ≡ false → is_given name (all_put given run) ≡ true → IsGiven name run
-there_of name given [] was is = let clash : false ≡ true = sym was ∙ is in absurd (cc)
-there_of name given (s ∷ run) was is = there_at name given s run _ refl was (λ now. there_of name (put s.name s.value given) run now is)
-
 lack_none : (b : Bool) (name : OptionName) (later : Option OptionName) → (if not b then Some name else later) ≡ None → (b ≡ true) × (later ≡ None)
 lack_none true name later is = (refl, is)
 lack_none false name later is = let clash : Some name ≡ None = is in absurd (cc)
 
-all_of : (names : List OptionName) (run : List Spelling) → lacking names (all_put no_options run) ≡ None → AllByRecursion (λ name. IsGiven name run) names
+pub all_of : (names : List OptionName) (run : List Spelling) → lacking names (all_put no_options run) ≡ None → AllByRecursion (λ name. IsGiven name run) names
 all_of [] run is = tt
 all_of (name ∷ names) run is =
     let here = lack_none (is_given name (all_put no_options run)) name (lacking names (all_put no_options run)) is in
     (there_of name no_options run refl here.0, all_of names run here.1)
 
-complete_test : (lack : Option OptionName) (command : CommandName) (count : ℕ) (given : Options) (asked : Asked) → lacking_none lack command count given ≡ Ok asked → (lack ≡ None) × (asked ≡ asked_with command given.values)
-complete_test None command count given asked is = (refl, let same : Ok (asked_with command given.values) ≡ Ok asked = is in cc)
+unmet_pass : (a b : Bool) (need : OptionName × OptionName) (later : Option (OptionName × OptionName)) → (if a && not b then Some need else later) ≡ None → (a ≡ true → b ≡ true) × (later ≡ None)
+unmet_pass true true need later is = (λ same. refl, is)
+unmet_pass true false need later is = let clash : Some need ≡ None = is in absurd (cc)
+unmet_pass false b need later is = (λ same. absurd (cc), is)
+
+met_of : (pairs : List (OptionName × OptionName)) (run : List Spelling) → unmet pairs (all_put no_options run) ≡ None → AllByRecursion (HasNeeded run) pairs
+met_of [] run is = tt
+met_of (need ∷ pairs) run is =
+    let here = unmet_pass (is_given need.0 (all_put no_options run)) (is_given need.1 (all_put no_options run)) need (unmet pairs (all_put no_options run)) is in
+    (λ there. there_of need.1 no_options run refl (here.0 (given_there need.0 no_options run there)), met_of pairs run here.1)
+
+met_test : (lack : Option (OptionName × OptionName)) (command : CommandName) (count : ℕ) (given : Options) (asked : Asked) → unmet_none lack command count given ≡ Ok asked → (lack ≡ None) × (asked ≡ asked_with command given.values)
+met_test None command count given asked is = (refl, let same : Ok (asked_with command given.values) ≡ Ok asked = is in cc)
+met_test (Some need) command count given asked is = let clash : Err (misuse_at count (misfits.Without command need.0 need.1)) ≡ Ok asked = is in absurd (cc)
+
+complete_test : (lack : Option OptionName) (command : CommandName) (count : ℕ) (given : Options) (asked : Asked) → lacking_none lack command count given ≡ Ok asked → (lack ≡ None) × (unmet needs given ≡ None) × (asked ≡ asked_with command given.values)
+complete_test None command count given asked is = let met = met_test (unmet needs given) command count given asked is in (refl, met.0, met.1)
 complete_test (Some name) command count given asked is = let clash : Err (misuse_at count (misfits.Lacks command name)) ≡ Ok asked = is in absurd (cc)
 
 -- a run of a complete command fits
@@ -240,8 +269,9 @@ fits_of command count run asked runs is =
         taken = taken_of command no_options run runs;
         formed = formed_of command no_options run runs;
         complete = all_of (row_of command).required run done.0;
+        met = met_of needs run done.1;
       },
-      done.1 ∙ ap (asked_with command) (values_run command run runs),
+      done.2 ∙ ap (asked_with command) (values_run command run runs),
     )
 
 accepted_options : (command : CommandName) (words : List (List ℕ)) (asked : Asked) (r : Result Options Misuse) → options_of command 1 no_options words ≡ r → (r >>= complete command (1 + length words)) ≡ Ok asked → (run : List Spelling) × (words ≡ flat_map spelled run) × Fits command run × (asked ≡ asked_with command (values_of run))

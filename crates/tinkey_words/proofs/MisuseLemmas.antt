@@ -10,11 +10,11 @@ use Rattle.tinkey_words.specs.declared.words.misuse.Misfit.TheVariants as misfit
 use Rattle.tinkey_words.specs.declared.words.misuse.Misuse.{Misuse}
 use Rattle.tinkey_words.specs.declared.words.names.CommandName.{CommandName}
 use Rattle.tinkey_words.specs.declared.words.names.OptionName.{OptionName}
-use Rattle.tinkey_words.specs.Names.{row_of, option_row, form_for, rival}
+use Rattle.tinkey_words.specs.Names.{row_of, option_row, form_for, rival, needs}
 use Rattle.tinkey_words.specs.Rows.{option_of, takes, is_aside, is_new_file, is_value, is_flag}
-use Rattle.tinkey_words.specs.Words.{◌>>=◌, Asked, Options, misuse_at, own_value, misvalued, is_given, is_excluded, is_barred, bar, new_option, put, with_value, alone, option_word, word_after, next_word, ended, options_of, no_options, given_in, lacking, lacking_none, complete, with_options, is_help_flag, help, version, topic_of, first_of, by_itself, topic_words, help_words, command_words, asked_of, words_of}
-use Rattle.tinkey_words.specs.Grammar.{IsValue, Spelling, spelled_as, spelled, IsGiven, IsHelpWord, IsVersionWord, IsNameOf, IsOptionOf, Helps, the_list, a_topic, its_help, the_version, IsWordOf, IsTold, aside_told, bad_told, IsFault, no_option, twice, beside, own_value_bad, next_value_bad, value_missing, lacks, IsMisused, no_word, no_command, no_topic, too_many, behind_options, MisusesAreTrue}
-use Rattle.tinkey_words.proofs.FitLemmas.{is_one, one_is, given_there, once_of, apart_of, taken_of, formed_of, there_of}
+use Rattle.tinkey_words.specs.Words.{◌>>=◌, Asked, Options, misuse_at, own_value, misvalued, is_given, is_excluded, is_barred, bar, new_option, put, with_value, alone, option_word, word_after, next_word, ended, options_of, no_options, given_in, lacking, lacking_none, unmet, unmet_none, complete, with_options, is_help_flag, help, version, topic_of, first_of, by_itself, topic_words, help_words, command_words, asked_of, words_of}
+use Rattle.tinkey_words.specs.Grammar.{IsValue, Spelling, spelled_as, spelled, IsGiven, HasNeeded, IsHelpWord, IsVersionWord, IsNameOf, IsOptionOf, Helps, the_list, a_topic, its_help, the_version, IsWordOf, IsTold, aside_told, bad_told, IsFault, no_option, twice, beside, own_value_bad, next_value_bad, value_missing, lacks, without, IsMisused, no_word, no_command, no_topic, too_many, behind_options, MisusesAreTrue}
+use Rattle.tinkey_words.proofs.FitLemmas.{is_one, one_is, given_there, once_of, apart_of, taken_of, formed_of, there_of, all_of}
 use Rattle.tinkey_words.proofs.NameLemmas.{flag_form}
 use Rattle.tinkey_words.proofs.HelpLemmas.{first_found, first_is, flag_is, topic_found, topic_is}
 use Rattle.tinkey_words.proofs.RowLemmas.{option_found, option_named, own_plain, own_joined, value_taken, aside_is, is_aside', flag_formed}
@@ -295,8 +295,55 @@ first_lack : (names : List OptionName) (run : List Spelling) (name : OptionName)
 first_lack [] run name is = absurd (cc)
 first_lack (first ∷ names) run name is = lack_test (is_given first (all_put no_options run)) first names run name refl is (first_lack names run name)
 
+-- the first of these options that is given without the one that it needs
+record FirstUnmet (pairs : List (OptionName × OptionName)) (run : List Spelling) (need : OptionName × OptionName) : Type 0 where
+  before : List (OptionName × OptionName)
+  behind : List (OptionName × OptionName)
+  are : pairs ≡ before ++ (need ∷ behind)
+  met : AllByRecursion (HasNeeded run) before
+  given : IsGiven need.0 run
+  lack : IsGiven need.1 run → ⊥
+
+unmet_later : (first : OptionName × OptionName) (pairs : List (OptionName × OptionName)) (run : List Spelling) (need : OptionName × OptionName) → HasNeeded run first → FirstUnmet pairs run need → FirstUnmet (first ∷ pairs) run need
+unmet_later first pairs run need has lack = record {
+  before = first ∷ lack.before;
+  behind = lack.behind;
+  are = ap (λ (ns : List (OptionName × OptionName)). first ∷ ns) lack.are;
+  met = (has, lack.met);
+  given = lack.given;
+  lack = lack.lack;
+}
+
+unmet_here : (first : OptionName × OptionName) (pairs : List (OptionName × OptionName)) (run : List Spelling) (need : OptionName × OptionName) → first ≡ need → IsGiven first.0 run → (IsGiven first.1 run → ⊥) → FirstUnmet (first ∷ pairs) run need
+unmet_here first pairs run need same given lack = record {
+  before = [];
+  behind = pairs;
+  are = ap (λ (n : OptionName × OptionName). n ∷ pairs) same;
+  met = tt;
+  given = subst (λ (n : OptionName × OptionName). IsGiven n.0 run) same given;
+  lack = subst (λ (n : OptionName × OptionName). IsGiven n.1 run → ⊥) same lack;
+}
+
+not_there : (name : OptionName) (run : List Spelling) → is_given name (all_put no_options run) ≡ false → IsGiven name run → ⊥
+not_there name run test again = let clash : true ≡ false = sym (given_there name no_options run again) ∙ test in cc
+
+unmet_test : (a b : Bool) (first : OptionName × OptionName) (pairs : List (OptionName × OptionName)) (run : List Spelling) (need : OptionName × OptionName) → is_given first.0 (all_put no_options run) ≡ a → is_given first.1 (all_put no_options run) ≡ b → (if a && not b then Some first else unmet pairs (all_put no_options run)) ≡ Some need → (unmet pairs (all_put no_options run) ≡ Some need → FirstUnmet pairs run need) → FirstUnmet (first ∷ pairs) run need
+unmet_test true true first pairs run need here there is later = unmet_later first pairs run need (λ given. all_given first.1 run there) (later is)
+unmet_test true false first pairs run need here there is later = unmet_here first pairs run need (let some : Some first ≡ Some need = is in cc) (all_given first.0 run here) (not_there first.1 run there)
+unmet_test false b first pairs run need here there is later = unmet_later first pairs run need (λ given. absurd (not_there first.0 run here given)) (later is)
+
+first_unmet : (pairs : List (OptionName × OptionName)) (run : List Spelling) (need : OptionName × OptionName) → unmet pairs (all_put no_options run) ≡ Some need → FirstUnmet pairs run need
+first_unmet [] run need is = absurd (cc)
+first_unmet (first ∷ pairs) run need is = unmet_test (is_given first.0 (all_put no_options run)) (is_given first.1 (all_put no_options run)) first pairs run need refl refl is (first_unmet pairs run need)
+
+unmet_of : (lack : Option (OptionName × OptionName)) (command : CommandName) (run : List Spelling) (place : ℕ) (misuse : Misuse) → AllByRecursion (λ other. IsGiven other run) (row_of command).required → unmet needs (all_put no_options run) ≡ lack → unmet_none lack command place (all_put no_options run) ≡ Err misuse → IsFault command run place [] misuse
+unmet_of None command run place misuse complete found is = absurd (cc)
+unmet_of (Some need) command run place misuse complete found is =
+    let lack = first_unmet needs run need found in
+    without need lack.before lack.behind refl complete lack.are lack.met lack.given lack.lack (let same : Err (misuse_at place (misfits.Without command need.0 need.1)) ≡ Err misuse = is in cc)
+
 lack_of : (lack : Option OptionName) (command : CommandName) (run : List Spelling) (place : ℕ) (misuse : Misuse) → lacking (row_of command).required (all_put no_options run) ≡ lack → lacking_none lack command place (all_put no_options run) ≡ Err misuse → IsFault command run place [] misuse
-lack_of None command run place misuse found is = absurd (cc)
+lack_of None command run place misuse found is = unmet_of (unmet needs (all_put no_options run)) command run place misuse (all_of (row_of command).required run found) refl is
 lack_of (Some name) command run place misuse found is =
     let lack = first_lack (row_of command).required run name found in
     lacks name lack.before lack.behind refl lack.are lack.given lack.lack (let same : Err (misuse_at place (misfits.Lacks command name)) ≡ Err misuse = is in cc)

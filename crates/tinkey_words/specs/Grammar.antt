@@ -21,7 +21,7 @@ use Rattle.tinkey_words.specs.declared.words.rows.Form.{Form}
 use Rattle.tinkey_words.specs.declared.words.rows.Form.TheVariants as forms
 use Rattle.tinkey_words.specs.declared.words.names.OptionName.{OptionName}
 use Rattle.hex.specs.Hex.{is_hex_digit}
-use Rattle.tinkey_words.specs.Names.{row_of, option_row, form_for, rival}
+use Rattle.tinkey_words.specs.Names.{row_of, option_row, form_for, rival, needs}
 use Rattle.tinkey_words.specs.Rows.{same, aside, datum_limit, most_lines, most_range, is_flag, is_new_file}
 use Rattle.tinkey_words.specs.Words.{Asked, Values, asked_with, help, version, misuse_at, words_of}
 
@@ -118,14 +118,19 @@ abbrev pub IsOneOf : OptionName → List OptionName → Type 0
 IsOneOf name [] = ⊥
 IsOneOf name (other ∷ names) = (name ≡ other) ⊎ IsOneOf name names
 
+-- an option that needs another has it
+abbrev pub HasNeeded : List Spelling → (need : OptionName × OptionName) → Type 0
+HasNeeded given need = IsGiven need.0 given → IsGiven need.1 given
+
 -- the options fit a command: each is in its row, once and with a value of its form, no two exclude
--- each other, and all that it requires are there
+-- each other, and all are there that it requires or that one of them needs
 pub record Fits (command : CommandName) (given : List Spelling) : Type 0 where
   pub once : IsOnce given
   pub apart : AreApart given
   pub taken : AllByRecursion (λ s. IsOneOf s.name ((row_of command).required ++ (row_of command).optional)) given
   pub formed : AllByRecursion (λ s. IsValue (form_for s.name command) s.value) given
   pub complete : AllByRecursion (λ name. IsGiven name given) (row_of command).required
+  pub met : AllByRecursion (HasNeeded given) needs
 
 -- the value that each option has, the first one of it
 abbrev pub values_of : List Spelling → Values
@@ -233,6 +238,13 @@ pub data IsFault (command : CommandName) (given : List Spelling) (place : ℕ) (
       (row_of command).required ≡ before ++ (name ∷ behind) →
       AllByRecursion (λ other. IsGiven other given) before → (IsGiven name given → ⊥) →
       misuse ≡ misuse_at place (misfits.Lacks command name) → IsFault command given place rest misuse
+  -- nothing is behind the options, which are all that the command requires, and of those that need another this is
+  -- the first that is given without it
+  without : (need : OptionName × OptionName) (before behind : List (OptionName × OptionName)) → rest ≡ [] →
+      AllByRecursion (λ other. IsGiven other given) (row_of command).required →
+      needs ≡ before ++ (need ∷ behind) → AllByRecursion (HasNeeded given) before → IsGiven need.0 given →
+      (IsGiven need.1 given → ⊥) → misuse ≡ misuse_at place (misfits.Without command need.0 need.1) →
+      IsFault command given place rest misuse
 
 -- what is at fault with the words
 pub data IsMisused (words : List (List ℕ)) (misuse : Misuse) : Type 0 where

@@ -184,6 +184,11 @@ rival options.Ad = Some options.AdHex
 rival options.AdHex = Some options.Ad
 rival _ = None
 
+-- the options that mean nothing without another, each with that one
+abbrev pub needs : List (OptionName × OptionName)
+needs =
+    (options.MasterFormat, options.Master) ∷ (options.NewMasterFormat, options.NewMaster) ∷ []
+
 -- the form of the value of --length
 abbrev pub length_form : CommandName → Form
 length_form commands.Srange = forms.RangeLength

@@ -5,8 +5,8 @@
 -- The answer is a command, or the first word at fault, by its place and by why it is so: an unknown
 -- command or option, one that the command doesn't have, a repeat, the second of two that exclude each
 -- other, or one that holds a value that isn't of its form, as a name aside for a new file; of help, a topic that isn't known, or a word
--- too many. Where a value or a required option is missing at the end, the place is the number of words.
--- Places count from 0.
+-- too many. Where a value, a required option, or one that another needs is missing at the end, the place is the
+-- number of words; they are looked for in this order. Places count from 0.
 use Rattle.std.specs.Prelude.{◌≡◌, ℕ, ◌+◌, ◌*◌, List, [], ◌∷◌, length, Bool, false, ◌&&◌, ◌||◌, Option, Some, None, is_some, option_map, not, Result, Ok, Err, ◌==◌, nat_lt, nat_le, if◌then◌else◌, slice_index_or, codes, true}
 use Rattle.std.specs.List.{find, position_or_len, before_first, after_first}
 use Rattle.std.specs.Borrow.{Bor}
@@ -48,7 +48,7 @@ use Rattle.tinkey_words.specs.declared.words.names.CommandName.TheVariants as co
 use Rattle.tinkey_words.specs.declared.words.names.OptionName.{OptionName}
 use Rattle.tinkey_words.specs.declared.words.names.OptionName.TheVariants as options
 use Rattle.tink_base.specs.Decimal.{number_in}
-use Rattle.tinkey_words.specs.Names.{row_of, option_row, form_for, rival}
+use Rattle.tinkey_words.specs.Names.{row_of, option_row, form_for, rival, needs}
 use Rattle.tinkey_words.specs.Rows.{command_of, option_of, same, takes, datum_limit, most_range, format_of, is_aside, is_new_file, is_value, offset_in, is_flag}
 
 -- What is asked.
@@ -467,9 +467,18 @@ given_in command words = options_of command 1 no_options words
 abbrev pub lacking : List OptionName → Options → Option OptionName
 lacking names given = find (λ name. not (is_given name given)) names
 
--- the command with its options, where it lacks none that it requires; the number of words is behind them
+-- the first of these options that is given without the one that it needs, and that one
+abbrev pub unmet : List (OptionName × OptionName) → Options → Option (OptionName × OptionName)
+unmet pairs given = find (λ need. is_given need.0 given && not (is_given need.1 given)) pairs
+
+-- the command with its options, where each that needs another has it; the number of words is behind them
+abbrev pub unmet_none : Option (OptionName × OptionName) → CommandName → ℕ → Options → Result Asked Misuse
+unmet_none None command count given = Ok (asked_with command given.values)
+unmet_none (Some need) command count given = Err (misuse_at count (misfits.Without command need.0 need.1))
+
+-- the same, where it lacks none that it requires
 abbrev pub lacking_none : Option OptionName → CommandName → ℕ → Options → Result Asked Misuse
-lacking_none None command count given = Ok (asked_with command given.values)
+lacking_none None command count given = unmet_none (unmet needs given) command count given
 lacking_none (Some name) command count given = Err (misuse_at count (misfits.Lacks command name))
 
 -- the command with its options, among so many words

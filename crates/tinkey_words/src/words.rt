@@ -1,10 +1,10 @@
 //! The command's words, read by the grammar of `specs/Words.antt`. No memory is taken.
 
 ghost use Rattle.std.specs.Prelude.{◌≡◌, ◌<◌, ◌≤◌, ◌^◌, Some, length, map, option_map, slice_set, string_bytes};
-ghost use Rattle.tinkey_words.specs.Names.{option_row};
+ghost use Rattle.tinkey_words.specs.Names.{needs, option_row};
 ghost use Rattle.tinkey_words.specs.Rows.{option_of, is_flag};
 ghost use Rattle.tinkey_words.specs.declared.words.names.OptionName.TheVariants.{Lines};
-ghost use Rattle.tinkey_words.specs.Words.{words_of, by_itself, command_words, help_words, topic_words, with_options, topic_of, given_in, lines_in, next_word, option_word, own_value, misvalued, is_barred, bar, unbarred, new_option, with_value, no_options, lacking, complete, asked_with, text, number, id, template, ad, edited, enveloped, worked, seen_command, seen_datum, seen_edit, seen_envelope, seen_name, seen_options, seen_range, seen_work, offset, range, range_length, Reads, form_in, taken_from, put_to, seen_place, alone, output_in, seen_output, convert_keyset, lock, lock_of, new_lock, relocked, seen_lock, seen_new_lock};
+ghost use Rattle.tinkey_words.specs.Words.{words_of, by_itself, command_words, help_words, topic_words, with_options, topic_of, given_in, lines_in, next_word, option_word, own_value, misvalued, is_barred, bar, unbarred, new_option, with_value, no_options, lacking, complete, unmet, unmet_none, asked_with, text, number, id, template, ad, edited, enveloped, worked, seen_command, seen_datum, seen_edit, seen_envelope, seen_name, seen_options, seen_range, seen_work, offset, range, range_length, Reads, form_in, taken_from, put_to, seen_place, alone, output_in, seen_output, convert_keyset, lock, lock_of, new_lock, relocked, seen_lock, seen_new_lock};
 
 mod help;
 mod lock;
@@ -18,7 +18,7 @@ use help::{First, first_named, is_help_flag, topic_named};
 pub use lock::{Master, NewLock};
 use misuse::misuse_at;
 pub use misuse::{Misfit, Misuse};
-use names::OPTION_COUNT;
+use names::{NEEDS, OPTION_COUNT};
 pub use names::{CommandName, OptionName};
 pub use range::Range;
 pub use rows::{DATUM_LIMIT, Form, Format};
@@ -322,9 +322,35 @@ fn complete(command: CommandName, count: usize, given: Options<'_>) -> Result<Re
     ensures { Reads seen_command result (complete command count (seen_options given.entry)) }
 {
     match lacking(command.row().required, &given) {
-        None => Ok(command_with(command, &given)),
+        None => unmet_none(command, count, &given),
         Some(name) => Err(misuse_at(count, Misfit::Lacks(command, name))),
     }
+}
+
+/// The command with its options, where each that needs another has it.
+fn unmet_none<'a>(
+    command: CommandName,
+    count: usize,
+    given: &Options<'a>,
+) -> Result<Request<'a>, Misuse>
+    ensures { Reads seen_command result
+        (unmet_none (unmet needs (seen_options given.now)) command count (seen_options given.now)) }
+{
+    match unmet(&NEEDS, given) {
+        None => Ok(command_with(command, given)),
+        Some((name, other)) => Err(misuse_at(count, Misfit::Without(command, name, other))),
+    }
+}
+
+/// The first of these options that is given without the one that it needs, and that one.
+fn unmet(
+    pairs: &[(OptionName, OptionName)],
+    given: &Options<'_>,
+) -> Option<(OptionName, OptionName)>
+    ensures { result ≡ unmet pairs.now (seen_options given.now) }
+{
+    pairs.iter().copied().find(|need| given.value(need.0).is_some()
+        && given.value(need.1).is_none())
 }
 
 /// The first of these options that isn't given.

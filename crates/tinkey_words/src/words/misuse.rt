@@ -37,6 +37,8 @@ pub enum Misfit {
     NoValue(CommandName, OptionName),
     /// The words end without this option, the first one that the command requires and that isn't given.
     Lacks(CommandName, OptionName),
+    /// The words end without the second option, which the first one needs; none before it among them all lacks its own.
+    Without(CommandName, OptionName, OptionName),
 }
 
 /// The word of this place is at fault, for this reason.

@@ -403,6 +403,12 @@ fn option(word: &'static str, form: Form) -> OptionRow
     OptionRow { word, form }
 }
 
+/// The options that mean nothing without another, each with that one.
+pub const NEEDS: [(OptionName, OptionName); 2] = [
+    (OptionName::MasterFormat, OptionName::Master),
+    (OptionName::NewMasterFormat, OptionName::NewMaster),
+];
+
 /// All commands.
 pub const COMMANDS: [CommandName; COMMAND_COUNT] = [
     CommandName::CreateKeyset,
