@@ -4,10 +4,11 @@
 --   encrypted_in   the encrypted bytes of the fields of an `EncryptedKeyset` message
 --   encrypted_of   those of a JSON value
 --   sealed_in      those of a text in one of the two forms
+--   is_wrapped     the text has such bytes
 --   unwrap_of      the keyset of a text, or the refusal of the first step that fails
 --
 -- Places are those of tags, counted in bytes from 0.
-use Rattle.std.specs.Prelude.{ℕ, Bool, ◌||◌, ◌==◌, List, [], codes, filter, if◌then◌else◌, Option, Some, None, Result, Ok, Err}
+use Rattle.std.specs.Prelude.{ℕ, Bool, false, ◌||◌, ◌==◌, nat_lt, List, [], length, codes, filter, if◌then◌else◌, Option, Some, None, Result, Ok, Err}
 use Rattle.std.specs.Option.{option_and_then, option_or}
 use Rattle.serde_json.specs.Data.{Data, null}
 use Rattle.serde_json.specs.Find.{get}
@@ -100,6 +101,15 @@ sealed_in_json text = of_value (json_value (without_newline text))
 -- JSON, or else the binary form
 abbrev pub sealed_in : (json : Bool) → (text : List ℕ) → Result (List ℕ) Refusal
 sealed_in json text = if json then sealed_in_json text else sealed_in_binary text
+
+-- there are encrypted bytes, at least one
+abbrev pub has_sealed : Result (List ℕ) Refusal → Bool
+has_sealed (Ok sealed) = nat_lt 0 (length sealed)
+has_sealed (Err refusal) = false
+
+-- the text is an encrypted keyset: its encrypted bytes are read, and aren't empty
+unfoldable pub is_wrapped : (json : Bool) → (text : List ℕ) → Bool
+is_wrapped json text = has_sealed (sealed_in json text)
 
 -- the plaintext, where there is one
 abbrev pub or_not_opened : Option (List ℕ) → Result (List ℕ) Refusal

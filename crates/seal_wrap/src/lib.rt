@@ -16,5 +16,5 @@ mod wrapping;
 
 pub use data_keys::{DataKeyFault, data_key};
 pub use envelope::{ENVELOPE_ROOM, EnvelopeFault, envelope_open, envelope_seal};
-pub use unwrapping::{UnwrapFault, unwrap_keyset};
+pub use unwrapping::{UnwrapFault, is_wrapped, unwrap_keyset};
 pub use wrapping::{WrapFault, wrap};

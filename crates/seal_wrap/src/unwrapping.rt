@@ -1,19 +1,19 @@
 //! A wrapped keyset is read and opened under a master keyset.
 
-ghost use Rattle.std.specs.Prelude.{◌≡◌, ◌≤◌, length, ℕ, IfOk};
+ghost use Rattle.std.specs.Prelude.{◌≡◌, ◌≤◌, Bool, length, List, ℕ, IfOk};
 ghost use Rattle.std.specs.List.{AllByRecursion};
 ghost use Rattle.key_msgs.specs.declared.primitive.Primitive.TheVariants.{Aead};
 ghost use Rattle.keyset_model.specs.Keyset.{IsShort, IsWithin, Keys};
 ghost use Rattle.wrapped_prims.specs.Making.{IsOver};
-ghost use Rattle.seal_wrap.specs.Unwrapped.{open_keyset, unwrap_of};
-ghost use Rattle.seal_wrap.specs.Wrapping.{GivesKeyset};
+ghost use Rattle.seal_wrap.specs.Unwrapped.{has_sealed, is_wrapped, open_keyset, sealed_in, unwrap_of};
+ghost use Rattle.seal_wrap.specs.Wrapping.{GivesKeyset, IsRefusal};
 
 use crate::binary_form::read_wrapped_binary;
 use crate::json_form::read_wrapped_json;
 use keyset_model::{Keyset, KeysetFault, ReadError, read_binary};
 use managers::{KeyTable, Managers};
 use std::alloc::Global;
-use tink_base::Trials;
+use tink_base::{NoMemory, Trials};
 use wrapped_prims::Handle;
 
 /// Why a text gives no keyset, in the order in which causes are looked for: the first one is told.
@@ -72,6 +72,41 @@ pub fn unwrap_keyset(
             Ok(sealed) => open_keyset(alloc, handle, sealed),
             Err(fault) => Err(fault),
         }
+    }
+}
+
+/// Whether the text is an encrypted keyset, as JSON or else in the binary form: its encrypted bytes are read,
+/// as `unwrap_keyset` reads them, and aren't empty.
+#[tactic(auto, unfolding(crate::specs::Unwrapped::is_wrapped))]
+pub fn is_wrapped(alloc: Global, text: &[u8], json: bool) -> Result<bool, NoMemory>
+    ensures { IfOk result (λ wrapped. wrapped ≡ is_wrapped json text.now) }
+{
+    if json {
+        match read_wrapped_json(alloc, text) {
+            Ok(sealed) => Ok(!sealed.as_slice().is_empty()),
+            Err(fault) => unless_starved(fault),
+        }
+    } else {
+        match read_wrapped_binary(alloc, text) {
+            Ok(sealed) => Ok(!sealed.is_empty()),
+            Err(fault) => unless_starved(fault),
+        }
+    }
+}
+
+/// A text that is refused so is no encrypted keyset, unless memory was refused.
+fn unless_starved(fault: UnwrapFault) -> Result<bool, NoMemory>
+    ensures { IfOk result (λ wrapped. (json : Bool) (text : List ℕ)
+        → IsRefusal fault (sealed_in json text) → wrapped ≡ has_sealed (sealed_in json text)) }
+{
+    match fault {
+        UnwrapFault::NoMemory => Err(NoMemory),
+        UnwrapFault::OuterWire(_)
+        | UnwrapFault::NotJson
+        | UnwrapFault::Member
+        | UnwrapFault::NotOpened
+        | UnwrapFault::InnerWire(_)
+        | UnwrapFault::Fault(_) => Ok(false),
     }
 }
 

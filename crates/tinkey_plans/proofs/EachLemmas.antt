@@ -1,6 +1,6 @@
 -- What holds of a plan where it holds of its ends: the parts of which the commands' plans are made.
 use Rattle.std.proofs.Common.{ℕ, Bool, true, false, List, [], Option, Some, None, Result, Ok, Err}
-use Rattle.std.specs.Prelude.{if◌then◌else◌, length, nat_le}
+use Rattle.std.specs.Prelude.{if◌then◌else◌, ◌&&◌, length, nat_le}
 use Rattle.key_msgs.specs.Templates.{Row, row_named, is_asymmetric, type_made}
 use Rattle.keyset_json.specs.Reading as Json
 use Rattle.keyset_json.specs.Reading.{reads_json}
@@ -16,13 +16,13 @@ use Rattle.tinkey_plans.specs.declared.status.Status.TheVariants as status
 use Rattle.tinkey_words.specs.declared.words.rows.Format.{Format}
 use Rattle.tinkey_words.specs.declared.words.rows.Format.TheVariants as formats
 use Rattle.tinkey_plans.specs.Plan.{Plan, ends}
-use Rattle.tinkey_plans.specs.Steps.{with_keyset, with_json, keyset_in, with_row, finds_edit, with_made, keyset_limit, loads_bytes, reads_bytes, takes_bytes, writes_keyset, written_in}
+use Rattle.tinkey_plans.specs.Steps.{has_no_key, with_keyset, with_json, keyset_in, with_row, finds_edit, with_made, keyset_limit, loads_bytes, reads_bytes, takes_bytes, writes_keyset, written_in}
 use Rattle.tinkey_plans.specs.Handles.{unless_unfit}
 use Rattle.tinkey_plans.specs.Using.{seals, with_opened, with_verified, with_derived, works}
 use Rattle.tinkey_plans.specs.Locks.{keyset_under, limit_under, loads_locked, opens_lock, opens_master, opens_new_lock, takes_locked, takes_under, writes_under}
-use Rattle.tinkey_plans.specs.Wrapping.{is_json, makes_wrapped, with_unwrapped, wrapped_limit, wraps}
+use Rattle.tinkey_plans.specs.Wrapping.{is_json, is_keyset, makes_wrapped, with_unwrapped, wrapped_limit, wraps}
 use Rattle.seal_wrap.specs.Unwrapped as unwrapped
-use Rattle.seal_wrap.specs.Unwrapped.{unwrap_of}
+use Rattle.seal_wrap.specs.Unwrapped.{is_wrapped, unwrap_of}
 use Rattle.tinkey_words.specs.Words.{AskedEdit, AskedEnvelope, AskedWork, Lock, Master, NewLock, Place, as_taken, in_clear, under, to_eseal, to_eopen, to_seal, to_open, to_dseal, to_dopen, to_reseal, to_dreseal, to_tag, to_verify, to_derive}
 use Rattle.tinkey_plans.specs.Plan.{IsStated, Made, Of, allocates, draws, envelopings, sealings}
 use Rattle.tinkey_plans.specs.declared.status.Status.{Status}
@@ -56,14 +56,18 @@ with_keyset_each P c (Err (Wire at)) next all = c.ended _ _
 with_keyset_each P c (Err (Fault fault)) next all = c.ended _ _
 with_keyset_each P c (Ok keys) next all = all keys
 
-pub with_json_each : (P : Plan → Type 0) → IsClosed P → (r : Result Keys Json.Refusal) (next : Keys → Plan) → AreAll P next → P (with_json r next)
-with_json_each P c (Err Json.NotJson) next all = c.ended _ _
-with_json_each P c (Err (Json.Shape path)) next all = c.ended _ _
-with_json_each P c (Err (Json.Fault fault)) next all = c.ended _ _
-with_json_each P c (Ok keys) next all = all keys
+ended_each : (P : Plan → Type 0) → IsClosed P → (b : Bool) (s t : Status) (a : IsStated s) (other : IsStated t) → P (if b then ends s a else ends t other)
+ended_each P c true s t a other = c.ended s a
+ended_each P c false s t a other = c.ended t other
+
+pub with_json_each : (P : Plan → Type 0) → IsClosed P → (locked : Bool) (r : Result Keys Json.Refusal) (next : Keys → Plan) → AreAll P next → P (with_json locked r next)
+with_json_each P c locked (Err Json.NotJson) next all = c.ended _ _
+with_json_each P c locked (Err (Json.Shape path)) next all = c.ended _ _
+with_json_each P c locked (Err (Json.Fault fault)) next all = ended_each P c (locked && has_no_key fault) status.KeysetLocked (status.Keyset fault) tt tt
+with_json_each P c locked (Ok keys) next all = all keys
 
 pub keyset_each : (P : Plan → Type 0) → IsClosed P → (form : Format) (bytes : List ℕ) (next : Keys → Plan) → AreAll P next → P (keyset_in form bytes next)
-keyset_each P c formats.Json bytes next all = c.allocated _ (with_json_each P c (reads_json bytes) next all)
+keyset_each P c formats.Json bytes next all = c.allocated _ (with_json_each P c (is_wrapped true bytes) (reads_json bytes) next all)
 keyset_each P c formats.Binary bytes next all = c.allocated _ (with_keyset_each P c (reads_binary bytes) next all)
 
 pub no_row_each : (P : Plan → Type 0) → IsClosed P → (b : Bool) → P (if b then ends status.AsymmetricTemplate tt else ends status.UnknownTemplate tt)
@@ -111,14 +115,14 @@ verified_each P c false next all = c.ended _ _
 pub wrapped_each : (P : Plan → Type 0) → IsClosed P → (keys master : Keys) (table : Table) (form : Format) → IsClosedAt P sealings (wraps keys master table form) → (next : List ℕ → Plan) → AreAll P next → P (makes_wrapped keys master table form next)
 wrapped_each P c keys master table form drawn next all = c.allocated _ (drawn _ (λ made. c.allocated _ (made_each P c made _ (λ text. within_each P c (nat_le (length text) wrapped_limit) (next text) (all text)))))
 
-pub unwrapped_each : (P : Plan → Type 0) → IsClosed P → (r : Result Keys unwrapped.Refusal) (next : Keys → Plan) → AreAll P next → P (with_unwrapped r next)
-unwrapped_each P c (Ok keys) next all = all keys
-unwrapped_each P c (Err (unwrapped.OuterWire at)) next all = c.ended _ _
-unwrapped_each P c (Err unwrapped.NotJson) next all = c.ended _ _
-unwrapped_each P c (Err unwrapped.Member) next all = c.ended _ _
-unwrapped_each P c (Err unwrapped.NotOpened) next all = c.ended _ _
-unwrapped_each P c (Err (unwrapped.InnerWire at)) next all = c.ended _ _
-unwrapped_each P c (Err (unwrapped.Fault fault)) next all = c.ended _ _
+pub unwrapped_each : (P : Plan → Type 0) → IsClosed P → (clear : Bool) (r : Result Keys unwrapped.Refusal) (next : Keys → Plan) → AreAll P next → P (with_unwrapped clear r next)
+unwrapped_each P c clear (Ok keys) next all = all keys
+unwrapped_each P c clear (Err (unwrapped.OuterWire at)) next all = c.ended _ _
+unwrapped_each P c clear (Err unwrapped.NotJson) next all = c.ended _ _
+unwrapped_each P c clear (Err unwrapped.Member) next all = c.ended _ _
+unwrapped_each P c clear (Err unwrapped.NotOpened) next all = ended_each P c clear status.KeysetInClear status.OpenFailed tt tt
+unwrapped_each P c clear (Err (unwrapped.InnerWire at)) next all = c.ended _ _
+unwrapped_each P c clear (Err (unwrapped.Fault fault)) next all = c.ended _ _
 
 -- such a plan is so, too, that loads the bytes of a keyset, or reads them
 pub record IsOpen (P : Plan → Type 0) : Type 0 where
@@ -132,7 +136,7 @@ bytes_each P o limit None next all = o.read limit next all
 
 keyset_under_each : (P : Plan → Type 0) → IsOpen P → (table : Table) (master : Option Keys) (form : Format) (bytes : List ℕ) (next : Keys → Plan) → AreAll P next → P (keyset_under table master form bytes next)
 keyset_under_each P o table None form bytes next all = keyset_each P o.closed form bytes next all
-keyset_under_each P o table (Some master) form bytes next all = o.closed.allocated _ (unwrapped_each P o.closed (unwrap_of master table bytes (is_json form)) next all)
+keyset_under_each P o table (Some master) form bytes next all = o.closed.allocated _ (unwrapped_each P o.closed (is_keyset form bytes) (unwrap_of master table bytes (is_json form)) next all)
 
 master_each : (P : Plan → Type 0) → IsOpen P → (table : Table) (master : Master) (next : Option Keys → Plan) → AreAll P next → P (opens_master table master next)
 master_each P o table master next all = o.loaded keyset_limit master.file _ (λ bytes. keyset_each P o.closed master.form bytes _ (λ keys. o.closed.allocated _ (fit_each P o.closed (unfit keys Aead table) _ (all (Some keys)))))

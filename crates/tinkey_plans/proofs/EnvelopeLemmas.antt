@@ -1,6 +1,6 @@
 -- That under the standard table no data key is refused, nor wants a manager.
 use Rattle.std.proofs.Common.{arith, ◌≡◌, ◌∙◌, refl, ap, subst, inl, inr, ℕ, Bool, true, false, List, [], ◌++◌, length, take, drop, replicate, length-append, Contains, zero, suc, ◌∷◌, Option, Some, None, Result, Ok, Err}
-use Rattle.std.specs.Prelude.{find, if◌then◌else◌, nat_lt, option_map}
+use Rattle.std.specs.Prelude.{find, ◌&&◌, if◌then◌else◌, nat_lt, option_map}
 use Rattle.std.specs.Option.{option_and_then}
 use Rattle.std.proofs.lemmas.List.{length-replicate, length-take-le}
 use Rattle.std.proofs.lemmas.Option.{same_Some}
@@ -22,7 +22,7 @@ use Rattle.seal_wrap.specs.EnvelopeLaws.{DataKeysAreServed, DataKeysAreValid, Is
 use Rattle.seal_wrap.specs.Enveloped.{Enveloped, behind_data_key, data_key_of, envelope, envelope_of, open_envelope_of, under_data_key}
 use Rattle.seal_wrap.specs.Enveloping.{url_made}
 use Rattle.seal_wrap.specs.Unwrapped as unwrapped
-use Rattle.seal_wrap.specs.Unwrapped.{unwrap_of}
+use Rattle.seal_wrap.specs.Unwrapped.{is_wrapped, unwrap_of}
 use Rattle.tinkey_cmds.specs.Draws.{Drawn}
 use Rattle.tinkey_cmds.specs.declared.command.CmdFault.{CmdFault}
 use Rattle.wrapped_prims.specs.Answers.{Sealed, seal_answer, seal_behind}
@@ -38,10 +38,10 @@ use Rattle.tinkey_plans.specs.Envelopes.{as_enveloped, envelope_limit, envelope_
 use Rattle.tinkey_plans.specs.Laws.{DataKeysCome, IsDekStatus}
 use Rattle.tinkey_plans.specs.Plan.{IsStated, Plan, allocates, creates, ends, writes}
 use Rattle.tinkey_plans.specs.Locks.{loads_locked, opens_lock, takes_under}
-use Rattle.tinkey_plans.specs.Steps.{keyset_in, keyset_limit, loads_bytes, puts, reads_input, with_json, with_keyset, with_made, with_row}
+use Rattle.tinkey_plans.specs.Steps.{has_no_key, keyset_in, keyset_limit, loads_bytes, puts, reads_input, with_json, with_keyset, with_made, with_row}
 use Rattle.tinkey_plans.specs.Handles.{handles, unless_unfit}
 use Rattle.tinkey_plans.specs.Using.{with_opened}
-use Rattle.tinkey_plans.specs.Wrapping.{is_json, unwraps, with_unwrapped, wrapped_limit}
+use Rattle.tinkey_plans.specs.Wrapping.{is_json, is_keyset, unwraps, with_unwrapped, wrapped_limit}
 
 -- a template that is found stands in the table
 found_contains : {A : Type 0} (p : A → Bool) (xs : List A) (x : A) → find p xs ≡ Some x → Contains xs x
@@ -157,14 +157,18 @@ clear_binary (Err (Wire at)) next clear = clear_end (status.BadProto at) tt (λ 
 clear_binary (Err (Fault fault)) next clear = clear_end (status.Keyset fault) tt (λ d. d)
 clear_binary (Ok keys) next clear = clear keys
 
-clear_json : (r : Result Keys Json.Refusal) (next : Keys → Plan) → ((keys : Keys) → Clears (next keys)) → Clears (with_json r next)
-clear_json (Err Json.NotJson) next clear = clear_end status.NotJson tt (λ d. d)
-clear_json (Err (Json.Shape path)) next clear = clear_end (status.Shape path) tt (λ d. d)
-clear_json (Err (Json.Fault fault)) next clear = clear_end (status.Keyset fault) tt (λ d. d)
-clear_json (Ok keys) next clear = clear keys
+clear_either : (b : Bool) (s t : Status) (a : IsStated s) (other : IsStated t) → (IsDekStatus s → ⊥) → (IsDekStatus t → ⊥) → Clears (if b then ends s a else ends t other)
+clear_either true s t a other first second = clear_end s a first
+clear_either false s t a other first second = clear_end t other second
+
+clear_json : (locked : Bool) (r : Result Keys Json.Refusal) (next : Keys → Plan) → ((keys : Keys) → Clears (next keys)) → Clears (with_json locked r next)
+clear_json locked (Err Json.NotJson) next clear = clear_end status.NotJson tt (λ d. d)
+clear_json locked (Err (Json.Shape path)) next clear = clear_end (status.Shape path) tt (λ d. d)
+clear_json locked (Err (Json.Fault fault)) next clear = clear_either (locked && has_no_key fault) status.KeysetLocked (status.Keyset fault) tt tt (λ d. d) (λ d. d)
+clear_json locked (Ok keys) next clear = clear keys
 
 clear_keyset : (form : Format) (bytes : List ℕ) (next : Keys → Plan) → ((keys : Keys) → Clears (next keys)) → Clears (keyset_in form bytes next)
-clear_keyset formats.Json bytes next clear = clear_memory _ (clear_json (reads_json bytes) next clear)
+clear_keyset formats.Json bytes next clear = clear_memory _ (clear_json (is_wrapped true bytes) (reads_json bytes) next clear)
 clear_keyset formats.Binary bytes next clear = clear_memory _ (clear_binary (reads_binary bytes) next clear)
 
 clear_load : (limit : ℕ) (name : List ℕ) (next : List ℕ → Plan) → ((bytes : List ℕ) → Clears (next bytes)) → Clears (loads_bytes limit name next)
@@ -174,18 +178,18 @@ clear_load limit name next clear old s new (load_long is only kept stood given h
 clear_load limit name next clear old s new (load_failed is only kept rose given) d = subst IsDekStatus is d
 clear_load limit name next clear old s new (load_starved is only kept stood given) d = subst IsDekStatus is d
 
-clear_unwrapped : (r : Result Keys unwrapped.Refusal) (next : Keys → Plan) → ((keys : Keys) → Clears (next keys)) → Clears (with_unwrapped r next)
-clear_unwrapped (Err (unwrapped.OuterWire at)) next clear = clear_end (status.BadProto at) tt (λ d. d)
-clear_unwrapped (Err unwrapped.NotJson) next clear = clear_end status.NotJson tt (λ d. d)
-clear_unwrapped (Err unwrapped.Member) next clear = clear_end status.WrappedMember tt (λ d. d)
-clear_unwrapped (Err unwrapped.NotOpened) next clear = clear_end status.OpenFailed tt (λ d. d)
-clear_unwrapped (Err (unwrapped.InnerWire at)) next clear = clear_end (status.BadProto at) tt (λ d. d)
-clear_unwrapped (Err (unwrapped.Fault fault)) next clear = clear_end (status.Keyset fault) tt (λ d. d)
-clear_unwrapped (Ok keys) next clear = clear keys
+clear_unwrapped : (clear' : Bool) (r : Result Keys unwrapped.Refusal) (next : Keys → Plan) → ((keys : Keys) → Clears (next keys)) → Clears (with_unwrapped clear' r next)
+clear_unwrapped clear' (Err (unwrapped.OuterWire at)) next clear = clear_end (status.BadProto at) tt (λ d. d)
+clear_unwrapped clear' (Err unwrapped.NotJson) next clear = clear_end status.NotJson tt (λ d. d)
+clear_unwrapped clear' (Err unwrapped.Member) next clear = clear_end status.WrappedMember tt (λ d. d)
+clear_unwrapped clear' (Err unwrapped.NotOpened) next clear = clear_either clear' status.KeysetInClear status.OpenFailed tt tt (λ d. d) (λ d. d)
+clear_unwrapped clear' (Err (unwrapped.InnerWire at)) next clear = clear_end (status.BadProto at) tt (λ d. d)
+clear_unwrapped clear' (Err (unwrapped.Fault fault)) next clear = clear_end (status.Keyset fault) tt (λ d. d)
+clear_unwrapped clear' (Ok keys) next clear = clear keys
 
 clear_under : (master : Option Keys) (name : List ℕ) (form : Format) (next : Keys → Plan) → ((keys : Keys) → Clears (next keys)) → Clears (takes_under standard_table master (record { file = Some name; form = form }) next)
 clear_under None name form next clear = clear_load keyset_limit name (λ bytes. keyset_in form bytes next) (λ bytes. clear_keyset form bytes next clear)
-clear_under (Some master) name form next clear = clear_load wrapped_limit name (λ text. unwraps master standard_table form text next) (λ text. clear_memory (with_unwrapped (unwrap_of master standard_table text (is_json form)) next) (clear_unwrapped (unwrap_of master standard_table text (is_json form)) next clear))
+clear_under (Some master) name form next clear = clear_load wrapped_limit name (λ text. unwraps master standard_table form text next) (λ text. clear_memory (with_unwrapped (is_keyset form text) (unwrap_of master standard_table text (is_json form)) next) (clear_unwrapped (is_keyset form text) (unwrap_of master standard_table text (is_json form)) next clear))
 
 clear_lock : (lock : Lock) (next : Option Keys → Plan) → ((master : Option Keys) → Clears (next master)) → Clears (opens_lock standard_table lock next)
 clear_lock None next clear = clear None

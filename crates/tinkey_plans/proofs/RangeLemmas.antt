@@ -1,14 +1,15 @@
 -- How much a run of srange reads.
 use Rattle.std.proofs.Common.{arith, ◌≡◌, ◌≢◌, ◌⊎◌, inl, inr, refl, sym, ap, subst, ℕ, ◌*◌, ◌≤◌, List, Option, Some, None, Result, Ok, Err, ◌+◌}
-use Rattle.std.specs.Prelude.{IfSome}
+use Rattle.std.specs.Prelude.{Bool, true, false, ◌&&◌, if◌then◌else◌, IfSome}
 use Rattle.std.specs.FinMap as map
 use Rattle.key_msgs.specs.declared.primitive.Primitive.TheVariants.{Aead}
 use Rattle.keyset_json.specs.Reading as Json
 use Rattle.keyset_json.specs.Reading.{reads_json}
 use Rattle.keyset_model.specs.Keyset.{Keys}
 use Rattle.keyset_model.specs.Reading.{Refusal, Wire, Fault, reads_binary}
+use Rattle.keyset_model.specs.declared.keyset.KeysetFault.{KeysetFault}
 use Rattle.managers.specs.Table.{Table}
-use Rattle.seal_wrap.specs.Unwrapped.{unwrap_of}
+use Rattle.seal_wrap.specs.Unwrapped.{is_wrapped, unwrap_of}
 use Rattle.seal_wrap.specs.Unwrapped as unwrapping
 use Rattle.segment_stream.specs.KeysModel.{KeysForStreams}
 use Rattle.segment_stream.specs.Range.{stream_failed, past_end}
@@ -25,12 +26,12 @@ use Rattle.tinkey_plans.specs.Handles.{handles}
 use Rattle.tinkey_plans.specs.Handles as handling
 use Rattle.tinkey_plans.specs.Laws.{GivesKeysetIn, IsKeysetIn, RangeGave, RangesReadLittle, limit_behind}
 use Rattle.tinkey_plans.specs.Locks.{keyset_under, limit_under, takes_under}
-use Rattle.tinkey_plans.specs.Plan.{Plan, allocates}
+use Rattle.tinkey_plans.specs.Plan.{Plan, allocates, ends}
 use Rattle.tinkey_plans.specs.Ranging.{opens_stretch, range_output, stretch_for, with_stretch}
-use Rattle.tinkey_plans.specs.Steps.{keyset_in, keyset_limit, puts, with_json, with_keyset}
+use Rattle.tinkey_plans.specs.Steps.{has_no_key, keyset_in, keyset_limit, puts, with_json, with_keyset}
 use Rattle.tinkey_plans.specs.Streaming.{keys_for, unless_unfit, with_keys}
 use Rattle.tinkey_plans.specs.Stretch.{Opened, Stretch, GivesAtMost}
-use Rattle.tinkey_plans.specs.Wrapping.{is_json, with_unwrapped, wrapped_limit}
+use Rattle.tinkey_plans.specs.Wrapping.{is_json, is_keyset, with_unwrapped, wrapped_limit}
 use Rattle.tinkey_plans.proofs.GivenLemmas.{none_given}
 use Rattle.tinkey_words.specs.declared.words.misuse.Misuse.{Misuse}
 use Rattle.tinkey_words.specs.Words.{Asked, AskedRange, Lock, Master}
@@ -87,11 +88,15 @@ record WentOn {A : Type 0} (Is : A → Type 0) (next : A → Plan) (old : World)
   is : Is value
   run : Ends (next value) old s new
 
-json_ends : (r : Result Keys Json.Refusal) (bytes : List ℕ) (next : Keys → Plan) (old : World) (s : Status) (new : World) → reads_json bytes ≡ r → Ends (with_json r next) old s new → (old ≡ new) ⊎ WentOn (λ keys. reads_json bytes ≡ Ok keys) next old s new
-json_ends (Err Json.NotJson) bytes next old s new r (is, same) = inl same
-json_ends (Err (Json.Shape path)) bytes next old s new r (is, same) = inl same
-json_ends (Err (Json.Fault fault)) bytes next old s new r (is, same) = inl same
-json_ends (Ok keys) bytes next old s new r run = inr (record { value = keys; is = r; run = run })
+faulty_ends : (b : Bool) (fault : KeysetFault) (old : World) (s : Status) (new : World) → Ends (if b then ends status.KeysetLocked tt else ends (status.Keyset fault) tt) old s new → old ≡ new
+faulty_ends true fault old s new (is, same) = same
+faulty_ends false fault old s new (is, same) = same
+
+json_ends : (locked : Bool) (r : Result Keys Json.Refusal) (bytes : List ℕ) (next : Keys → Plan) (old : World) (s : Status) (new : World) → reads_json bytes ≡ r → Ends (with_json locked r next) old s new → (old ≡ new) ⊎ WentOn (λ keys. reads_json bytes ≡ Ok keys) next old s new
+json_ends locked (Err Json.NotJson) bytes next old s new r (is, same) = inl same
+json_ends locked (Err (Json.Shape path)) bytes next old s new r (is, same) = inl same
+json_ends locked (Err (Json.Fault fault)) bytes next old s new r run = inl (faulty_ends (locked && has_no_key fault) fault old s new run)
+json_ends locked (Ok keys) bytes next old s new r run = inr (record { value = keys; is = r; run = run })
 
 binary_ends : (r : Result Keys Refusal) (bytes : List ℕ) (next : Keys → Plan) (old : World) (s : Status) (new : World) → reads_binary bytes ≡ r → Ends (with_keyset r next) old s new → (old ≡ new) ⊎ WentOn (λ keys. reads_binary bytes ≡ Ok keys) next old s new
 binary_ends (Err (Wire at)) bytes next old s new r (is, same) = inl same
@@ -99,25 +104,29 @@ binary_ends (Err (Fault fault)) bytes next old s new r (is, same) = inl same
 binary_ends (Ok keys) bytes next old s new r run = inr (record { value = keys; is = r; run = run })
 
 keyset_ends : (form : Format) (bytes : List ℕ) (next : Keys → Plan) (old : World) (s : Status) (new : World) → Ends (keyset_in form bytes next) old s new → (old ≡ new) ⊎ WentOn (λ keys. IsKeysetIn form bytes keys) next old s new
-keyset_ends formats.Json bytes next old s new (inl run) = json_ends (reads_json bytes) bytes next old s new refl run
+keyset_ends formats.Json bytes next old s new (inl run) = json_ends (is_wrapped true bytes) (reads_json bytes) bytes next old s new refl run
 keyset_ends formats.Json bytes next old s new (inr (is, same)) = inl same
 keyset_ends formats.Binary bytes next old s new (inl run) = binary_ends (reads_binary bytes) bytes next old s new refl run
 keyset_ends formats.Binary bytes next old s new (inr (is, same)) = inl same
 
 -- under a master
-given_ends : (table : Table) (master : Keys) (form : Format) (bytes : List ℕ) (r : Result Keys unwrapping.Refusal) (next : Keys → Plan) (old : World) (s : Status) (new : World) → unwrap_of master table bytes (is_json form) ≡ r → Ends (with_unwrapped r next) old s new
+unopened_ends : (clear : Bool) (old : World) (s : Status) (new : World) → Ends (if clear then ends status.KeysetInClear tt else ends status.OpenFailed tt) old s new → old ≡ new
+unopened_ends true old s new (is, same) = same
+unopened_ends false old s new (is, same) = same
+
+given_ends : (clear : Bool) (table : Table) (master : Keys) (form : Format) (bytes : List ℕ) (r : Result Keys unwrapping.Refusal) (next : Keys → Plan) (old : World) (s : Status) (new : World) → unwrap_of master table bytes (is_json form) ≡ r → Ends (with_unwrapped clear r next) old s new
     → (old ≡ new) ⊎ WentOn (λ keys. unwrap_of master table bytes (is_json form) ≡ Ok keys) next old s new
-given_ends table master form bytes (Err (unwrapping.OuterWire at)) next old s new r (is, same) = inl same
-given_ends table master form bytes (Err unwrapping.NotJson) next old s new r (is, same) = inl same
-given_ends table master form bytes (Err unwrapping.Member) next old s new r (is, same) = inl same
-given_ends table master form bytes (Err unwrapping.NotOpened) next old s new r (is, same) = inl same
-given_ends table master form bytes (Err (unwrapping.InnerWire at)) next old s new r (is, same) = inl same
-given_ends table master form bytes (Err (unwrapping.Fault fault)) next old s new r (is, same) = inl same
-given_ends table master form bytes (Ok keys) next old s new r run = inr (record { value = keys; is = r; run = run })
+given_ends clear table master form bytes (Err (unwrapping.OuterWire at)) next old s new r (is, same) = inl same
+given_ends clear table master form bytes (Err unwrapping.NotJson) next old s new r (is, same) = inl same
+given_ends clear table master form bytes (Err unwrapping.Member) next old s new r (is, same) = inl same
+given_ends clear table master form bytes (Err unwrapping.NotOpened) next old s new r run = inl (unopened_ends clear old s new run)
+given_ends clear table master form bytes (Err (unwrapping.InnerWire at)) next old s new r (is, same) = inl same
+given_ends clear table master form bytes (Err (unwrapping.Fault fault)) next old s new r (is, same) = inl same
+given_ends clear table master form bytes (Ok keys) next old s new r run = inr (record { value = keys; is = r; run = run })
 
 under_ends : (table : Table) (master : Option Keys) (form : Format) (bytes : List ℕ) (next : Keys → Plan) (old : World) (s : Status) (new : World) → Ends (keyset_under table master form bytes next) old s new → (old ≡ new) ⊎ WentOn (λ keys. GivesKeysetIn table master form bytes keys) next old s new
 under_ends table None form bytes next old s new run = keyset_ends form bytes next old s new run
-under_ends table (Some master) form bytes next old s new (inl run) = given_ends table master form bytes (unwrap_of master table bytes (is_json form)) next old s new refl run
+under_ends table (Some master) form bytes next old s new (inl run) = given_ends (is_keyset form bytes) table master form bytes (unwrap_of master table bytes (is_json form)) next old s new refl run
 under_ends table (Some master) form bytes next old s new (inr (is, same)) = inl same
 
 -- a master that can serve

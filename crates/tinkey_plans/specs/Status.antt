@@ -18,6 +18,7 @@ use Rattle.tinkey_words.specs.declared.words.help.Topic.TheVariants as topics
 abbrev pub code_of : Status → ℕ
 code_of status.Done = 0
 code_of status.OpenFailed = 1
+code_of status.KeysetInClear = 1
 code_of status.VerifyFailed = 1
 code_of (status.StreamFailed number) = 1
 code_of status.NoWords = 2
@@ -32,6 +33,7 @@ code_of status.NotJson = 3
 code_of (status.Shape path) = 3
 code_of status.WrappedMember = 3
 code_of (status.Keyset fault) = 3
+code_of status.KeysetLocked = 3
 code_of (status.NoManager i) = 3
 code_of (status.BadKey i rule) = 3
 code_of (status.NotRaw i) = 3
@@ -76,6 +78,7 @@ key_text (Some i) = codes " of key " ++ decimal i
 unfoldable pub text_of : Status → List ℕ
 text_of status.Done = []
 text_of status.OpenFailed = refusal_text refused.OpenFailed
+text_of status.KeysetInClear = refusal_text refused.OpenFailed
 text_of status.VerifyFailed = refusal_text refused.VerifyFailed
 text_of (status.StreamFailed number) = codes "stream failed at segment " ++ decimal number
 text_of status.NoWords = codes "usage: word 0"
@@ -85,6 +88,7 @@ text_of status.NotJson = codes "not JSON"
 text_of (status.Shape path) = codes "bad JSON member " ++ name_of path.member ++ key_text path.key
 text_of status.WrappedMember = codes "bad JSON member encryptedKeyset"
 text_of (status.Keyset fault) = fault_text fault
+text_of status.KeysetLocked = fault_text faults.Empty
 text_of status.KeysetTooLong = codes "keyset too long"
 text_of (status.NoManager i) = refusal_text (refused.NoManager i)
 text_of (status.BadKey i rule) = refusal_text (refused.BadKey i rule)
@@ -116,11 +120,21 @@ unfoldable pub line_of : Status → List ℕ
 line_of status.Done = []
 line_of other = codes "tinkey: " ++ text_of other ++ codes "\n"
 
--- what stands behind the line: where there was no word, the list of the commands, and where one was at
--- fault, a second line that tells why
+-- the second lines of a keyset that is encrypted, and of one that isn't
+unfoldable pub locked_line : List ℕ
+locked_line = codes "tinkey: this is an encrypted keyset, which --master FILE opens\n"
+
+unfoldable pub in_clear_line : List ℕ
+in_clear_line = codes "tinkey: this is a keyset in clear: leave --master out\n"
+
+-- what stands behind the line: where there was no word, the list of the commands; where one was at fault, a
+-- second line that tells why; and where a keyset in clear stands for an encrypted one, or the other way round,
+-- a second line that says so
 unfoldable pub behind_line : Status → List ℕ
 behind_line status.NoWords = help_text topics.Commands
 behind_line (status.Usage misuse) = misfit_line misuse.why
+behind_line status.KeysetLocked = locked_line
+behind_line status.KeysetInClear = in_clear_line
 behind_line other = []
 
 -- these bytes were written, or the first of them where the count of faults rose

@@ -1,6 +1,6 @@
 -- The steps that commands share. Each is a word with the rest of the plan behind it, which takes
 -- what the step gives; the refusals of a step are its own.
-use Rattle.std.specs.Prelude.{ℕ, List, length, nat_le, Option, Some, None, Result, Ok, Err, if◌then◌else◌}
+use Rattle.std.specs.Prelude.{◌≡◌, ◌⊎◌, ℕ, Bool, true, false, ◌&&◌, List, length, nat_le, Option, Some, None, Result, Ok, Err, if◌then◌else◌}
 use Rattle.key_msgs.specs.Templates.{Row, row_named, is_asymmetric}
 use Rattle.keyset_model.specs.Keyset.{Keys}
 use Rattle.keyset_model.specs.Reading.{Refusal, Wire, Fault, reads_binary}
@@ -10,8 +10,11 @@ use Rattle.keyset_json.specs.Reading as Json
 use Rattle.keyset_json.specs.Writing.{json_of}
 use Rattle.keyset_json.specs.declared.reading.JsonError.{JsonError}
 use Rattle.keyset_json.specs.declared.reading.JsonError.TheVariants as json_errors
+use Rattle.keyset_model.specs.declared.keyset.KeysetFault.{KeysetFault}
+use Rattle.keyset_model.specs.declared.keyset.KeysetFault.TheVariants as keyset_faults
 use Rattle.keyset_model.specs.declared.reading.ReadError.{ReadError}
 use Rattle.keyset_model.specs.declared.reading.ReadError.TheVariants as errors
+use Rattle.seal_wrap.specs.Unwrapped.{is_wrapped}
 use Rattle.tinkey_cmds.specs.Draws.{Draw}
 use Rattle.tinkey_cmds.specs.Edits.{Edit, edit_then}
 use Rattle.tinkey_cmds.specs.declared.command.CmdError.{CmdError}
@@ -50,23 +53,43 @@ with_keyset (Err (Wire at)) next = ends (status.BadProto at) tt
 with_keyset (Err (Fault fault)) next = ends (status.Keyset fault) tt
 with_keyset (Ok keys) next = next keys
 
--- the same of JSON
-abbrev pub json_refusal_of : JsonError → Status
-json_refusal_of json_errors.NotJson = status.NotJson
-json_refusal_of (json_errors.Shape path) = status.Shape path
-json_refusal_of (json_errors.Fault fault) = status.Keyset fault
-json_refusal_of json_errors.NoMemory = status.NoMemory
+-- the keyset has no key
+abbrev pub has_no_key : KeysetFault → Bool
+has_no_key keyset_faults.Empty = true
+has_no_key _ = false
+
+-- The status of a keyset with this fault, the text of which is an encrypted keyset or isn't: one that has no key
+-- because it is encrypted is told as that.
+abbrev pub fault_status : (locked : Bool) → KeysetFault → Status
+fault_status locked fault = if locked && has_no_key fault then status.KeysetLocked else status.Keyset fault
+
+-- it is the answer
+abbrev pub ends_faulty : (locked : Bool) → KeysetFault → Plan
+ends_faulty locked fault =
+    if locked && has_no_key fault then ends status.KeysetLocked tt else ends (status.Keyset fault) tt
+
+-- the status is this one, or memory was refused while it was settled
+abbrev pub OrStarved : Status → Status → Type 0
+OrStarved s result = (result ≡ s) ⊎ (result ≡ status.NoMemory)
+
+-- the status of a keyset that can't be read as JSON, and of want of memory
+abbrev pub json_refusal_of : (locked : Bool) → JsonError → Status
+json_refusal_of locked json_errors.NotJson = status.NotJson
+json_refusal_of locked (json_errors.Shape path) = status.Shape path
+json_refusal_of locked (json_errors.Fault fault) = fault_status locked fault
+json_refusal_of locked json_errors.NoMemory = status.NoMemory
 
 -- the keyset goes on, or what is wrong with its JSON is the answer
-abbrev pub with_json : Result Keys Json.Refusal → (Keys → Plan) → Plan
-with_json (Err Json.NotJson) next = ends status.NotJson tt
-with_json (Err (Json.Shape path)) next = ends (status.Shape path) tt
-with_json (Err (Json.Fault fault)) next = ends (status.Keyset fault) tt
-with_json (Ok keys) next = next keys
+abbrev pub with_json : (locked : Bool) → Result Keys Json.Refusal → (Keys → Plan) → Plan
+with_json locked (Err Json.NotJson) next = ends status.NotJson tt
+with_json locked (Err (Json.Shape path)) next = ends (status.Shape path) tt
+with_json locked (Err (Json.Fault fault)) next = ends_faulty locked fault
+with_json locked (Ok keys) next = next keys
 
--- the keyset of these bytes, in this form
+-- The keyset of these bytes, in this form. In the binary form the encrypted bytes stand in the field of keys, so
+-- that no encrypted keyset is read as one without keys.
 abbrev pub keyset_in : Format → List ℕ → (Keys → Plan) → Plan
-keyset_in formats.Json bytes next = allocates (with_json (reads_json bytes) next)
+keyset_in formats.Json bytes next = allocates (with_json (is_wrapped true bytes) (reads_json bytes) next)
 keyset_in formats.Binary bytes next = allocates (with_keyset (reads_binary bytes) next)
 
 -- the bytes of a keyset in the file of this name, within a limit

@@ -1,9 +1,12 @@
 -- Keysets sealed under a master, as steps of plans. What a wrapped text is, and what one gives, is said apart from
 -- plans, in Wrapped and Unwrapped of seal_wrap.
-use Rattle.std.specs.Prelude.{ℕ, Bool, true, false, List, Option, Some, None, Result, Ok, Err}
+use Rattle.std.specs.Prelude.{ℕ, Bool, true, false, List, Option, Some, None, Result, Ok, Err, if◌then◌else◌}
 use Rattle.std.specs.Option.{option_map}
+use Rattle.std.specs.Result.{is_ok}
 use Rattle.key_msgs.specs.declared.primitive.Primitive.TheVariants.{Aead}
+use Rattle.keyset_json.specs.Reading.{reads_json}
 use Rattle.keyset_model.specs.Keyset.{Keys}
+use Rattle.keyset_model.specs.Reading.{reads_binary}
 use Rattle.managers.specs.Table.{Table}
 use Rattle.seal_wrap.specs.Unwrapped.{Refusal, OuterWire, NotJson, Member, NotOpened, InnerWire, Fault, unwrap_of}
 use Rattle.seal_wrap.specs.Wrapped.{Wrapped, wrap_of}
@@ -55,28 +58,41 @@ makes_wrapped keys master table form next =
 abbrev pub takes_wrapped : (file : Option (List ℕ)) → (List ℕ → Plan) → Plan
 takes_wrapped file next = takes_bytes wrapped_limit file next
 
+-- the bytes are a keyset in clear, in this form
+abbrev pub is_keyset : Format → List ℕ → Bool
+is_keyset formats.Json bytes = is_ok (reads_json bytes)
+is_keyset formats.Binary bytes = is_ok (reads_binary bytes)
+
+-- the status of a text that doesn't open, and is a keyset in clear or isn't
+abbrev pub unopened_status : (clear : Bool) → Status
+unopened_status clear = if clear then status.KeysetInClear else status.OpenFailed
+
+-- it is the answer
+abbrev pub ends_unopened : (clear : Bool) → Plan
+ends_unopened clear = if clear then ends status.KeysetInClear tt else ends status.OpenFailed tt
+
 -- the keyset goes on, or why the text gives none is the answer. A place in the keyset inside is told as
 -- one in the text around it is.
-abbrev pub with_unwrapped : Result Keys Refusal → (Keys → Plan) → Plan
-with_unwrapped (Err (OuterWire at)) next = ends (status.BadProto at) tt
-with_unwrapped (Err NotJson) next = ends status.NotJson tt
-with_unwrapped (Err Member) next = ends status.WrappedMember tt
-with_unwrapped (Err NotOpened) next = ends status.OpenFailed tt
-with_unwrapped (Err (InnerWire at)) next = ends (status.BadProto at) tt
-with_unwrapped (Err (Fault fault)) next = ends (status.Keyset fault) tt
-with_unwrapped (Ok keys) next = next keys
+abbrev pub with_unwrapped : (clear : Bool) → Result Keys Refusal → (Keys → Plan) → Plan
+with_unwrapped clear (Err (OuterWire at)) next = ends (status.BadProto at) tt
+with_unwrapped clear (Err NotJson) next = ends status.NotJson tt
+with_unwrapped clear (Err Member) next = ends status.WrappedMember tt
+with_unwrapped clear (Err NotOpened) next = ends_unopened clear
+with_unwrapped clear (Err (InnerWire at)) next = ends (status.BadProto at) tt
+with_unwrapped clear (Err (Fault fault)) next = ends (status.Keyset fault) tt
+with_unwrapped clear (Ok keys) next = next keys
 
 -- the same statuses, of the code's faults
-abbrev pub unwrap_refusal : UnwrapFault → Status
-unwrap_refusal (faults.OuterWire at) = status.BadProto at
-unwrap_refusal faults.NotJson = status.NotJson
-unwrap_refusal faults.Member = status.WrappedMember
-unwrap_refusal faults.NotOpened = status.OpenFailed
-unwrap_refusal (faults.InnerWire at) = status.BadProto at
-unwrap_refusal (faults.Fault fault) = status.Keyset fault
-unwrap_refusal faults.NoMemory = status.NoMemory
+abbrev pub unwrap_refusal : (clear : Bool) → UnwrapFault → Status
+unwrap_refusal clear (faults.OuterWire at) = status.BadProto at
+unwrap_refusal clear faults.NotJson = status.NotJson
+unwrap_refusal clear faults.Member = status.WrappedMember
+unwrap_refusal clear faults.NotOpened = unopened_status clear
+unwrap_refusal clear (faults.InnerWire at) = status.BadProto at
+unwrap_refusal clear (faults.Fault fault) = status.Keyset fault
+unwrap_refusal clear faults.NoMemory = status.NoMemory
 
 -- the keyset that a wrapped text gives under its master
 abbrev pub unwraps : (master : Keys) → Table → Format → (text : List ℕ) → (Keys → Plan) → Plan
 unwraps master table form text next =
-    allocates (with_unwrapped (unwrap_of master table text (is_json form)) next)
+    allocates (with_unwrapped (is_keyset form text) (unwrap_of master table text (is_json form)) next)

@@ -3,7 +3,7 @@
 ghost use Rattle.std.specs.Prelude.{◌≡◌, ◌+◌, ◌≤◌, ◌++◌, length, codes, decimal};
 ghost use Rattle.keyset_json.specs.Members.{name_of};
 ghost use Rattle.tinkey_session.specs.Texts.{refusal_text};
-ghost use Rattle.tinkey_plans.specs.Status.{key_text, line_of, behind_line, text_of, fault_text, Reports, Wrote};
+ghost use Rattle.tinkey_plans.specs.Status.{key_text, line_of, behind_line, locked_line, in_clear_line, text_of, fault_text, Reports, Wrote};
 ghost use Rattle.tinkey_cmds.specs.declared.command.CmdFault.TheVariants as edits;
 ghost use Rattle.tinkey_session.specs.declared.reply.Refusal.TheVariants as refused;
 
@@ -18,7 +18,8 @@ use tinkey_session::{Refusal, ShortText, refusal_text};
 use tinkey_words::Topic;
 
 /// Writes the line of a status, and what stands behind it: the list of the commands where there was no
-/// word, and why the word is at fault where one is. A fault of `diag` changes no status.
+/// word, why the word is at fault where one is, and that a keyset is in clear or encrypted where it should be
+/// the other. A fault of `diag` changes no status.
 pub fn report<G: Sink>(diag: &mut G, status: Status)
     ensures { Reports status (G.state diag.old) (G.state diag.new) }
 {
@@ -36,8 +37,30 @@ fn write_behind<G: Sink>(diag: &mut G, status: Status)
     match status {
         Status::NoWords => write_text(diag, help_text(Topic::Commands).as_bytes()),
         Status::Usage(misuse) => write_text(diag, misfit_line(misuse.why).as_slice()),
+        Status::KeysetLocked => write_text(diag, locked_line().as_slice()),
+        Status::KeysetInClear => write_text(diag, in_clear_line().as_slice()),
         _ => write_text(diag, &[]),
     }
+}
+
+/// The second line of a keyset that is encrypted.
+#[tactic(auto, unfolding(crate::specs::Status::locked_line))]
+fn locked_line() -> ShortText
+    ensures { result ≡ locked_line }
+{
+    let mut line = ShortText::new();
+    line.push("tinkey: this is an encrypted keyset, which --master FILE opens\n");
+    line
+}
+
+/// The second line of a keyset that is in clear.
+#[tactic(auto, unfolding(crate::specs::Status::in_clear_line))]
+fn in_clear_line() -> ShortText
+    ensures { result ≡ in_clear_line }
+{
+    let mut line = ShortText::new();
+    line.push("tinkey: this is a keyset in clear: leave --master out\n");
+    line
 }
 
 /// Writes a text.
@@ -82,7 +105,7 @@ fn push_text(line: &mut ShortText, status: Status)
 {
     match status {
         Status::Done => {}
-        Status::OpenFailed => push_refusal(line, Refusal::OpenFailed),
+        Status::OpenFailed | Status::KeysetInClear => push_refusal(line, Refusal::OpenFailed),
         Status::VerifyFailed => push_refusal(line, Refusal::VerifyFailed),
         Status::StreamFailed(number) => push_segment(line, number),
         Status::NoWords => line.push("usage: word 0"),
@@ -98,6 +121,7 @@ fn push_text(line: &mut ShortText, status: Status)
         Status::Shape(path) => push_path(line, path),
         Status::WrappedMember => line.push("bad JSON member encryptedKeyset"),
         Status::Keyset(fault) => push_fault(line, fault),
+        Status::KeysetLocked => push_fault(line, KeysetFault::Empty),
         Status::KeysetTooLong => line.push("keyset too long"),
         Status::InMissing => line.push("input file missing"),
         Status::NoManager(i) => push_refusal(line, Refusal::NoManager(i)),

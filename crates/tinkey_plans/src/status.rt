@@ -19,6 +19,8 @@ pub enum Status {
     Done,
     /// No key of the keyset opens the input.
     OpenFailed,
+    /// The master opens no keyset in the text, which is a keyset in clear.
+    KeysetInClear,
     /// The tag is none of the keyset's keys.
     VerifyFailed,
     /// This segment of the stream, counted from 0, is the first that doesn't authenticate in its place.
@@ -37,6 +39,8 @@ pub enum Status {
     WrappedMember,
     /// The keyset has this fault.
     Keyset(KeysetFault),
+    /// The keyset has no key, and its text is an encrypted keyset.
+    KeysetLocked,
     /// The keyset has more than 1,048,576 bytes, or a wrapped one more than 4,194,304.
     KeysetTooLong,
     /// The file of the keyset, or of the stream, is missing.
@@ -94,7 +98,10 @@ impl Status {
     {
         match self {
             Status::Done => 0,
-            Status::OpenFailed | Status::VerifyFailed | Status::StreamFailed(_) => 1,
+            Status::OpenFailed
+            | Status::KeysetInClear
+            | Status::VerifyFailed
+            | Status::StreamFailed(_) => 1,
             Status::NoWords
             | Status::Usage(_)
             | Status::UnknownTemplate
@@ -107,6 +114,7 @@ impl Status {
             | Status::Shape(_)
             | Status::WrappedMember
             | Status::Keyset(_)
+            | Status::KeysetLocked
             | Status::NoManager(_)
             | Status::BadKey(_, _)
             | Status::NotRaw(_)

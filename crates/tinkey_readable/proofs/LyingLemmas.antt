@@ -1,7 +1,7 @@
 -- Keysets that lie in clear or under a master, and those that are put so: what an answer that is Done says of
 -- them, and that it comes where they go on.
-use Rattle.std.proofs.Common.{arith, ◌≡◌, ◌∙◌, sym, refl, ap, subst, ℕ, ◌+◌, ◌≤◌, Bool, true, List, [], length, nat_le, Option, Some, None, option_map, Result, Ok, Err}
-use Rattle.std.specs.Prelude.{drop, if◌then◌else◌}
+use Rattle.std.proofs.Common.{arith, ◌≡◌, ◌∙◌, sym, refl, ap, subst, ℕ, ◌+◌, ◌≤◌, Bool, true, false, List, [], length, nat_le, Option, Some, None, option_map, Result, Ok, Err}
+use Rattle.std.specs.Prelude.{◌&&◌, drop, if◌then◌else◌}
 use Rattle.std.specs.FinMap as map
 use Rattle.std.specs.Result.{result_ok}
 use Rattle.std.proofs.lemmas.Bool.{leb-true}
@@ -14,9 +14,10 @@ use Rattle.keyset_model.specs.Keyset.{Keys, fault_of}
 use Rattle.keyset_model.specs.Reading.{reads_binary}
 use Rattle.keyset_model.specs.Reading as binary
 use Rattle.keyset_model.specs.Writing.{ReadKeysFit}
+use Rattle.keyset_model.specs.declared.keyset.KeysetFault.{KeysetFault}
 use Rattle.managers.specs.Standard.{standard_table}
 use Rattle.managers.specs.Table.{Table}
-use Rattle.seal_wrap.specs.Unwrapped.{Fault, InnerWire, Member, NotJson, NotOpened, OuterWire, Refusal, unwrap_of}
+use Rattle.seal_wrap.specs.Unwrapped.{Fault, InnerWire, Member, NotJson, NotOpened, OuterWire, Refusal, is_wrapped, unwrap_of}
 use Rattle.seal_wrap.specs.Wrapped.{Wrapped, wrap_of}
 use Rattle.tinkey_cmds.specs.Draws.{Drawn}
 use Rattle.wrapped_prims.specs.Fitness.{unfit}
@@ -25,8 +26,8 @@ use Rattle.tinkey_plans.specs.declared.status.Status.TheVariants as status
 use Rattle.tinkey_plans.specs.Handles.{handles, unless_unfit}
 use Rattle.tinkey_plans.specs.Locks.{keyset_under, limit_under, loads_locked, opens_lock, opens_new_lock, puts_under, takes_locked, takes_under, writes_under}
 use Rattle.tinkey_plans.specs.Plan.{Answer, Plan, Told, answer, create_answer, draw_answer, ends, load_answer, refused}
-use Rattle.tinkey_plans.specs.Steps.{keyset_in, keyset_limit, puts, takes_bytes, with_json, with_keyset, with_made, within_limit, written_in}
-use Rattle.tinkey_plans.specs.Wrapping.{as_wrapping, is_json, makes_wrapped, with_unwrapped, wrapped_limit}
+use Rattle.tinkey_plans.specs.Steps.{has_no_key, keyset_in, keyset_limit, puts, takes_bytes, with_json, with_keyset, with_made, within_limit, written_in}
+use Rattle.tinkey_plans.specs.Wrapping.{as_wrapping, is_json, is_keyset, makes_wrapped, with_unwrapped, wrapped_limit}
 use Rattle.tinkey_words.specs.declared.words.rows.Format.{Format}
 use Rattle.tinkey_words.specs.declared.words.rows.Format.TheVariants as formats
 use Rattle.tinkey_words.specs.Words.{Lock, Master, NewLock, Place, as_taken, in_clear, under}
@@ -67,11 +68,15 @@ bytes_taken limit None bytes next told there within =
 read_there : (form : Format) (bytes : List ℕ) (next : Keys → Plan) (told : Told) → IsDoneAnswer (answer (keyset_in form bytes next) told) → (keys : Keys) × (read_in form bytes ≡ Some keys)
 read_there formats.Json bytes next told done = by (reads_json bytes) done
   where
-    by : (r : Result Keys json.Refusal) → IsDoneAnswer (answer (with_json r next) told) → (keys : Keys) × (result_ok r ≡ Some keys)
+    faulty : (b : Bool) (fault : KeysetFault) → IsDoneAnswer (answer (if b then ends status.KeysetLocked tt else ends (status.Keyset fault) tt) told) → ⊥
+    faulty true fault done = cc
+    faulty false fault done = cc
+
+    by : (r : Result Keys json.Refusal) → IsDoneAnswer (answer (with_json (is_wrapped true bytes) r next) told) → (keys : Keys) × (result_ok r ≡ Some keys)
     by (Ok keys) done = (keys, refl)
     by (Err json.NotJson) done = absurd (cc)
     by (Err (json.Shape path)) done = absurd (cc)
-    by (Err (json.Fault fault)) done = absurd (cc)
+    by (Err (json.Fault fault)) done = absurd (faulty (is_wrapped true bytes && has_no_key fault) fault done)
 read_there formats.Binary bytes next told done = by (reads_binary bytes) done
   where
     by : (r : Result Keys binary.Refusal) → IsDoneAnswer (answer (with_keyset r next) told) → (keys : Keys) × (result_ok r ≡ Some keys)
@@ -79,22 +84,26 @@ read_there formats.Binary bytes next told done = by (reads_binary bytes) done
     by (Err (binary.Wire at)) done = absurd (cc)
     by (Err (binary.Fault fault)) done = absurd (cc)
 
-given_there : (r : Result Keys Refusal) (next : Keys → Plan) (told : Told) → IsDoneAnswer (answer (with_unwrapped r next) told) → (keys : Keys) × (r ≡ Ok keys)
-given_there (Ok keys) next told done = (keys, refl)
-given_there (Err (OuterWire at)) next told done = absurd (cc)
-given_there (Err NotJson) next told done = absurd (cc)
-given_there (Err Member) next told done = absurd (cc)
-given_there (Err NotOpened) next told done = absurd (cc)
-given_there (Err (InnerWire at)) next told done = absurd (cc)
-given_there (Err (Fault fault)) next told done = absurd (cc)
+not_unopened : (clear : Bool) (told : Told) → IsDoneAnswer (answer (if clear then ends status.KeysetInClear tt else ends status.OpenFailed tt) told) → ⊥
+not_unopened true told done = cc
+not_unopened false told done = cc
+
+given_there : (clear' : Bool) (r : Result Keys Refusal) (next : Keys → Plan) (told : Told) → IsDoneAnswer (answer (with_unwrapped clear' r next) told) → (keys : Keys) × (r ≡ Ok keys)
+given_there clear' (Ok keys) next told done = (keys, refl)
+given_there clear' (Err (OuterWire at)) next told done = absurd (cc)
+given_there clear' (Err NotJson) next told done = absurd (cc)
+given_there clear' (Err Member) next told done = absurd (cc)
+given_there clear' (Err NotOpened) next told done = absurd (not_unopened clear' told done)
+given_there clear' (Err (InnerWire at)) next told done = absurd (cc)
+given_there clear' (Err (Fault fault)) next told done = absurd (cc)
 
 keyset_there : (table : Table) (master : Option Keys) (form : Format) (bytes : List ℕ) (next : Keys → Plan) (told : Told) → IsDoneAnswer (answer (keyset_under table master form bytes next) told) → (keys : Keys) × GivesKeyset table master form bytes keys
 keyset_there table None form bytes next told done = read_there form bytes next told done
-keyset_there table (Some over) form bytes next told done = given_there (unwrap_of over table bytes (is_json form)) next told done
+keyset_there table (Some over) form bytes next told done = given_there (is_keyset form bytes) (unwrap_of over table bytes (is_json form)) next told done
 
 pub keyset_given : (table : Table) (master : Option Keys) (form : Format) (bytes : List ℕ) (keys : Keys) (next : Keys → Plan) (told : Told) → GivesKeyset table master form bytes keys → answer (keyset_under table master form bytes next) told ≡ answer (next keys) told
 keyset_given table None form bytes keys next told gives = keyset_reached form bytes keys next told gives
-keyset_given table (Some over) form bytes keys next told gives = ap (λ (o : Result Keys Refusal). answer (with_unwrapped o next) told) gives
+keyset_given table (Some over) form bytes keys next told gives = ap (λ (o : Result Keys Refusal). answer (with_unwrapped (is_keyset form bytes) o next) told) gives
 
 pub given_faultless : (table : Table) (master : Option Keys) (form : Format) (bytes : List ℕ) (keys : Keys) → GivesKeyset table master form bytes keys → fault_of keys ≡ None
 given_faultless table None form bytes keys gives = read_faultless (record { bytes = bytes; form = form }) keys gives

@@ -18,6 +18,7 @@ use Rattle.tinkey_cmds.specs.Edits as edits
 use Rattle.tinkey_cmds.specs.declared.command.CmdFault.{CmdFault}
 use Rattle.tinkey_session.proofs.Options.{clash}
 use Rattle.wrapped_prims.specs.Fitness.{Unfit, NoManager, BadKey, NotRaw, unfit}
+use Rattle.seal_wrap.specs.Unwrapped.{is_wrapped}
 use Rattle.tinkey_plans.specs.declared.status.Status.TheVariants as status
 use Rattle.tinkey_words.specs.declared.words.rows.Format.{Format}
 use Rattle.tinkey_words.specs.declared.words.rows.Format.TheVariants as formats
@@ -50,7 +51,7 @@ same_ok (Ok y) x e = let h : y ≡ x = cc in ap Ok h
 same_ok (Err y) x e = clash e
 
 pub keyset_reached : (form : Format) (bytes : List ℕ) (keys : Keys) (next : Keys → Plan) (told : Told) → read_in form bytes ≡ Some keys → answer (keyset_in form bytes next) told ≡ answer (next keys) told
-keyset_reached formats.Json bytes keys next told e = ap (λ r. answer (with_json r next) told) (same_ok (reads_json bytes) keys e)
+keyset_reached formats.Json bytes keys next told e = ap (λ r. answer (with_json (is_wrapped true bytes) r next) told) (same_ok (reads_json bytes) keys e)
 keyset_reached formats.Binary bytes keys next told e = ap (λ r. answer (with_keyset r next) told) (same_ok (reads_binary bytes) keys e)
 
 -- within its limit a file is loaded

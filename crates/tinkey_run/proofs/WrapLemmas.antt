@@ -1,5 +1,5 @@
 -- Encrypted keysets, as steps.
-use Rattle.std.proofs.Common.{◌≡◌, refl, ap, subst, inl, inr, ℕ, List, [], Option, Some, None, Result, Ok, Err}
+use Rattle.std.proofs.Common.{◌≡◌, ◌⊎◌, Bool, true, false, refl, ap, subst, inl, inr, ℕ, List, [], Option, Some, None, Result, Ok, Err}
 use Rattle.std.specs.Option.{option_map}
 use Rattle.keyset_model.specs.Keyset.{Keys}
 use Rattle.keyset_model.specs.declared.keyset.Keyset.{Keyset}
@@ -18,8 +18,8 @@ use Rattle.wrapped_prims.specs.Sealing.{IsSealFault}
 use Rattle.wrapped_prims.specs.declared.sealing.SealFault.TheVariants as seal_faults
 use Rattle.tinkey_plans.specs.Ends.{World, Ends, settled}
 use Rattle.tinkey_plans.specs.Plan.{Plan, allocates}
-use Rattle.tinkey_plans.specs.Steps.{with_made, within_limit, Passes}
-use Rattle.tinkey_plans.specs.Wrapping.{as_wrapping, is_json, makes_wrapped, unwrap_refusal, with_unwrapped, wrapped_limit, wraps}
+use Rattle.tinkey_plans.specs.Steps.{with_made, within_limit, OrStarved, Passes}
+use Rattle.tinkey_plans.specs.Wrapping.{as_wrapping, ends_unopened, is_json, makes_wrapped, unopened_status, unwrap_refusal, with_unwrapped, wrapped_limit, wraps}
 use Rattle.tinkey_words.specs.declared.words.rows.Format.{Format}
 use Rattle.wrapped_prims.specs.Answers.{Sealed, seal_answer}
 use Rattle.tinkey_run.proofs.UseLemmas.{IsMadeSo, draw_failed_there, made_so, starved_sealing}
@@ -54,14 +54,22 @@ wrapped_passes keys master table form text old entropy (Err s) is stood passes =
 -- ---- unwrapping
 
 -- the keyset of a text, or why it gives none
-pub unwrapped_passes : (read : Result Keys Refusal) (keyset : Keyset) (w : World) → read ≡ Ok keyset → Passes (λ next. allocates (with_unwrapped read next)) w (Ok keyset) w
-unwrapped_passes read keyset w is = λ next s last run. inl (rw is run)
+pub unwrapped_passes : (clear : Bool) (read : Result Keys Refusal) (keyset : Keyset) (w : World) → read ≡ Ok keyset → Passes (λ next. allocates (with_unwrapped clear read next)) w (Ok keyset) w
+unwrapped_passes clear read keyset w is = λ next s last run. inl (rw is run)
 
-pub not_unwrapped : (read : Result Keys Refusal) (fault : UnwrapFault) (w : World) → IsRefusal fault read → (next : Keys → Plan) → Ends (allocates (with_unwrapped read next)) w (unwrap_refusal fault) w
-not_unwrapped read (faults.OuterWire at) w is next = inl (rw is (refl, refl))
-not_unwrapped read faults.NotJson w is next = inl (rw is (refl, refl))
-not_unwrapped read faults.Member w is next = inl (rw is (refl, refl))
-not_unwrapped read faults.NotOpened w is next = inl (rw is (refl, refl))
-not_unwrapped read (faults.InnerWire at) w is next = inl (rw is (refl, refl))
-not_unwrapped read (faults.Fault fault) w is next = inl (rw is (refl, refl))
-not_unwrapped read faults.NoMemory w is next = inr (refl, refl)
+unopened : (clear : Bool) (w : World) → Ends (ends_unopened clear) w (unopened_status clear) w
+unopened true w = (refl, refl)
+unopened false w = (refl, refl)
+
+refused_so : (clear : Bool) (read : Result Keys Refusal) (fault : UnwrapFault) (w : World) → IsRefusal fault read → (next : Keys → Plan) → Ends (allocates (with_unwrapped clear read next)) w (unwrap_refusal clear fault) w
+refused_so clear read (faults.OuterWire at) w is next = inl (rw is (refl, refl))
+refused_so clear read faults.NotJson w is next = inl (rw is (refl, refl))
+refused_so clear read faults.Member w is next = inl (rw is (refl, refl))
+refused_so clear read faults.NotOpened w is next = inl (rw is (unopened clear w))
+refused_so clear read (faults.InnerWire at) w is next = inl (rw is (refl, refl))
+refused_so clear read (faults.Fault fault) w is next = inl (rw is (refl, refl))
+refused_so clear read faults.NoMemory w is next = inr (refl, refl)
+
+pub not_unwrapped : (clear : Bool) (read : Result Keys Refusal) (fault : UnwrapFault) (s : Status) (w : World) → OrStarved (unwrap_refusal clear fault) s → IsRefusal fault read → (next : Keys → Plan) → Ends (allocates (with_unwrapped clear read next)) w s w
+not_unwrapped clear read fault s w (inl is) why next = rw is (refused_so clear read fault w why next)
+not_unwrapped clear read fault s w (inr starved) why next = inr (starved, refl)

@@ -1,19 +1,23 @@
 //! The steps that commands share: a keyset, or the bytes of one, loaded or read, the whole input, and
 //! a template by its name.
 
-ghost use Rattle.std.specs.Prelude.{◌≡◌, ◌+◌, ◌≤◌, ◌^◌, List, ℕ, drop, length, IfOk};
+ghost use Rattle.std.specs.Prelude.{◌≡◌, true, ◌+◌, ◌≤◌, ◌^◌, List, ℕ, drop, length, IfOk};
 ghost use Rattle.std.specs.List.{AllByRecursion};
 ghost use Rattle.key_msgs.specs.Templates.{seen};
 ghost use Rattle.keyset_model.specs.Keyset.{IsShort};
+ghost use Rattle.seal_wrap.specs.Unwrapped.{is_wrapped};
 ghost use Rattle.tinkey_plans.specs.Ends.{World};
 ghost use Rattle.tinkey_words.specs.Words.{seen_name};
-ghost use Rattle.tinkey_plans.specs.Steps.{refusal_of, json_refusal_of, keyset_in, loads_bytes, reads_bytes, takes_bytes, loads_keyset, reads_input, finds_template, Passes, PassesAs};
+ghost use Rattle.tinkey_plans.specs.Steps.{refusal_of, fault_status, json_refusal_of, OrStarved, keyset_in, loads_bytes, reads_bytes, takes_bytes, loads_keyset, reads_input, finds_template, Passes, PassesAs};
 
 use key_msgs::{Template, TemplateFault, template_named};
 use keyset_json::{JsonError, read_json};
-use keyset_model::{Keyset, ReadError, read_binary};
+use keyset_model::{Keyset, KeysetFault, ReadError, read_binary};
+use seal_wrap::is_wrapped;
 use std::alloc::Global;
-use tink_base::{Bytes, Loaded, ReadAllFault, Source, Store, StoreError, read_all, read_behind};
+use tink_base::{
+    Bytes, Loaded, NoMemory, ReadAllFault, Source, Store, StoreError, read_all, read_behind,
+};
 use tinkey_plans::Status;
 use tinkey_words::Format;
 
@@ -107,7 +111,7 @@ pub(crate) fn keyset_of(alloc: Global, form: Format, bytes: &[u8]) -> Result<Key
     match form {
         Format::Json => match read_json(alloc, bytes) {
             Ok(keyset) => Ok(keyset),
-            Err(e) => Err(json_refusal(e)),
+            Err(e) => Err(json_refusal(alloc, bytes, e)),
         },
         Format::Binary => match read_binary(alloc, bytes) {
             Ok(keyset) => Ok(keyset),
@@ -116,15 +120,30 @@ pub(crate) fn keyset_of(alloc: Global, form: Format, bytes: &[u8]) -> Result<Key
     }
 }
 
-/// The status of a keyset that can't be read as JSON.
-fn json_refusal(e: JsonError) -> Status
-    ensures { result ≡ json_refusal_of e }
+/// The status of a keyset that can't be read from these bytes as JSON.
+fn json_refusal(alloc: Global, bytes: &[u8], e: JsonError) -> Status
+    ensures { OrStarved (json_refusal_of (is_wrapped true bytes.now) e) result }
 {
     match e {
         JsonError::NotJson => Status::NotJson,
         JsonError::Shape(path) => Status::Shape(path),
-        JsonError::Fault(fault) => Status::Keyset(fault),
+        JsonError::Fault(fault) => fault_status(alloc, bytes, fault),
         JsonError::NoMemory => Status::NoMemory,
+    }
+}
+
+/// The status of a keyset with this fault, read from these bytes as JSON: one that has no key because it is
+/// encrypted is told as that.
+fn fault_status(alloc: Global, bytes: &[u8], fault: KeysetFault) -> Status
+    ensures { OrStarved (fault_status (is_wrapped true bytes.now) fault) result }
+{
+    match fault {
+        KeysetFault::Empty => match is_wrapped(alloc, bytes, true) {
+            Ok(true) => Status::KeysetLocked,
+            Ok(false) => Status::Keyset(fault),
+            Err(NoMemory) => Status::NoMemory,
+        },
+        _ => Status::Keyset(fault),
     }
 }
 

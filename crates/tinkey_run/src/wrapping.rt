@@ -7,16 +7,17 @@ ghost use Rattle.keyset_model.specs.Keyset.{Keys, IsShort};
 ghost use Rattle.keyset_model.specs.Writing.{binary_of};
 ghost use Rattle.wrapped_prims.specs.Making.{IsOver};
 ghost use Rattle.tinkey_plans.specs.Ends.{World};
-ghost use Rattle.tinkey_plans.specs.Steps.{Passes};
+ghost use Rattle.tinkey_plans.specs.Steps.{OrStarved, Passes};
 ghost use Rattle.tinkey_plans.specs.Handles.{IsServing};
-ghost use Rattle.tinkey_plans.specs.Wrapping.{is_json, makes_wrapped, unwrap_refusal, unwraps};
+ghost use Rattle.tinkey_plans.specs.Wrapping.{is_json, is_keyset, makes_wrapped, unopened_status, unwrap_refusal, unwraps};
 
 use crate::output::within;
-use keyset_model::Keyset;
+use keyset_json::{JsonError, read_json};
+use keyset_model::{Keyset, ReadError, read_binary};
 use managers::{KeyTable, Managers};
 use seal_wrap::{UnwrapFault, WrapFault, unwrap_keyset, wrap};
 use std::alloc::Global;
-use tink_base::{Bytes, Entropy};
+use tink_base::{Bytes, Entropy, NoMemory};
 use tinkey_plans::Status;
 use tinkey_words::Format;
 use wrapped_prims::Handle;
@@ -66,21 +67,53 @@ pub(crate) fn unwrap_under(
 {
     match unwrap_keyset(alloc, handle, text, is_json(form)) {
         Ok(keyset) => Ok(keyset),
-        Err(fault) => Err(refusal(fault)),
+        Err(fault) => Err(refusal(alloc, text, form, fault)),
     }
 }
 
-/// The status of a text that gives no keyset.
-fn refusal(fault: UnwrapFault) -> Status
-    ensures { result ≡ unwrap_refusal fault }
+/// The status of this text, which gives no keyset.
+fn refusal(alloc: Global, text: &[u8], form: Format, fault: UnwrapFault) -> Status
+    requires bound { length text.now ≤ 4194304 }
+    ensures { OrStarved (unwrap_refusal (is_keyset form text.now) fault) result }
 {
     match fault {
         UnwrapFault::OuterWire(at) | UnwrapFault::InnerWire(at) => Status::BadProto(at),
         UnwrapFault::NotJson => Status::NotJson,
         UnwrapFault::Member => Status::WrappedMember,
-        UnwrapFault::NotOpened => Status::OpenFailed,
+        UnwrapFault::NotOpened => unopened(alloc, text, form),
         UnwrapFault::Fault(fault) => Status::Keyset(fault),
         UnwrapFault::NoMemory => Status::NoMemory,
+    }
+}
+
+/// The status of a text that the master doesn't open: a keyset in clear is told as one.
+fn unopened(alloc: Global, text: &[u8], form: Format) -> Status
+    requires bound { length text.now ≤ 4194304 }
+    ensures { OrStarved (unopened_status (is_keyset form text.now)) result }
+{
+    match is_keyset(alloc, text, form) {
+        Ok(true) => Status::KeysetInClear,
+        Ok(false) => Status::OpenFailed,
+        Err(NoMemory) => Status::NoMemory,
+    }
+}
+
+/// Whether the bytes are a keyset in clear, in this form.
+fn is_keyset(alloc: Global, bytes: &[u8], form: Format) -> Result<bool, NoMemory>
+    requires bound { length bytes.now ≤ 4194304 }
+    ensures { IfOk result (λ clear. clear ≡ is_keyset form bytes.now) }
+{
+    match form {
+        Format::Json => match read_json(alloc, bytes) {
+            Ok(_) => Ok(true),
+            Err(JsonError::NoMemory) => Err(NoMemory),
+            Err(JsonError::NotJson | JsonError::Shape(_) | JsonError::Fault(_)) => Ok(false),
+        },
+        Format::Binary => match read_binary(alloc, bytes) {
+            Ok(_) => Ok(true),
+            Err(ReadError::NoMemory) => Err(NoMemory),
+            Err(ReadError::Wire(_) | ReadError::Fault(_)) => Ok(false),
+        },
     }
 }
 
