@@ -48,25 +48,27 @@ pub(crate) enum Column {
     Unlike,
     /// The most bytes of files that the run may be given; without any, they aren't counted.
     Given,
+    /// The bytes of the file `l`, or `none` where there is none.
+    Other,
 }
 
 /// The names of the columns, in the order of `Column`.
-const NAMES: [&str; 19] = [
+const NAMES: [&str; 20] = [
     "shows", "words", "file", "input", "random", "piece", "fails", "status", "line", "output",
-    "made", "drawn", "managers", "calls", "each", "changed", "keep", "unlike", "given",
+    "made", "drawn", "managers", "calls", "each", "changed", "keep", "unlike", "given", "other",
 ];
 
 /// What a row runs, and how the run has to end: a cell for each column.
 #[derive(Clone, Copy)]
 pub(crate) struct Row<'a> {
-    cells: [&'a str; 19],
+    cells: [&'a str; 20],
 }
 
 /// The row that a table starts from: nothing fails, and nothing is written.
 pub(crate) const PLAIN: Row<'static> = Row {
     cells: [
         "", "", "none", "", "", "4096", "none 0", "", "", "", "none", "0", "program", "", "", "",
-        "", "none", "",
+        "", "none", "", "none",
     ],
 };
 
@@ -77,7 +79,7 @@ impl<'a> Row<'a> {
     }
 
     /// The cells, in the order of the columns.
-    pub(crate) fn cells(&self) -> [&'a str; 19] {
+    pub(crate) fn cells(&self) -> [&'a str; 20] {
         self.cells
     }
 

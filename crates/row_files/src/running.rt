@@ -169,11 +169,13 @@ pub(crate) fn outcome_of<R: Runner>(
 ) -> Result<Outcome, Fail> {
     let words = words_of(alloc, row.cell(Column::Words))?;
     let file = file_of(alloc, names, row.cell(Column::File))?;
+    let other = file_of(alloc, names, row.cell(Column::Other))?;
     let objects = Objects {
         managers: row.cell(Column::Managers),
         piece: row.cell(Column::Piece).parse::<usize>()?,
         fails: failing(row.cell(Column::Fails))?,
         file: file.as_deref(),
+        other: other.as_deref(),
         input: bytes_of(alloc, names, row.cell(Column::Input))?,
         random: bytes_of(alloc, names, row.cell(Column::Random))?,
     };
