@@ -14,7 +14,7 @@ use Rattle.tinkey_cmds.specs.declared.command.CmdFault.{CmdFault}
 use Rattle.tinkey_plans.proofs.EachLemmas.{AreAll, IsClosed, IsOpen, dek_each, edit_each, envelope_each, fit_each, loaded_each, lock_each, locked_each, made_each, new_lock_each, row_each, scheme_each, stretch_each, under_each, work_each, written_under_each}
 use Rattle.tinkey_plans.specs.Commands.{asked_plan, command_plan, plan_of}
 use Rattle.tinkey_plans.specs.Locks.{puts_under, writes_under}
-use Rattle.tinkey_plans.specs.Plan.{Of, Plan, ends, writes, creates, looks, allocates, loads, reads_all, ranges, draws, pumps, exchanges, keysets}
+use Rattle.tinkey_plans.specs.Plan.{Of, Plan, ends, writes, creates, looks, allocates, loads, reads_all, reads_front, ranges, draws, pumps, exchanges, keysets}
 use Rattle.tinkey_plans.specs.SelfTesting.{tells_counts}
 use Rattle.tinkey_plans.specs.Session.{finds_free, holds_session, saves_as}
 use Rattle.tinkey_plans.specs.Steps.{makes_keyset, puts}
@@ -39,6 +39,7 @@ IsDrawing (allocates next) = IsDrawing next
 IsDrawing (loads name limit absent long a l next) = (bytes : List ℕ) → IsDrawing (next bytes)
 IsDrawing (ranges x absent a next) = (opened : Opened) → IsDrawing (next opened)
 IsDrawing (reads_all limit long stated next) = (all : List ℕ) → IsDrawing (next all)
+IsDrawing (reads_front size next) = (front : List ℕ) → IsDrawing (next front)
 IsDrawing (draws kind give next) =
     ((used : Step) × IsStep kind give used) × ((given : Result (Of kind) CmdFault) → IsDrawing (next given))
 IsDrawing (pumps part) = Unit {0}

@@ -13,7 +13,7 @@ use Rattle.random_draws.specs.Steps.{step_fills}
 use Rattle.tink_spec.specs.Files.{Files}
 use Rattle.tink_spec.specs.Outside.{EntropyState}
 use Rattle.tinkey_plans.specs.Commands.{plan_of}
-use Rattle.tinkey_plans.specs.Plan.{Plan, ends, writes, creates, looks, allocates, loads, reads_all, ranges, draws, pumps, exchanges}
+use Rattle.tinkey_plans.specs.Plan.{Plan, ends, writes, creates, looks, allocates, loads, reads_all, reads_front, ranges, draws, pumps, exchanges}
 use Rattle.tinkey_plans.specs.Promises.{IsLeft, Moved}
 use Rattle.tinkey_plans.specs.declared.status.Status.{Status}
 use Rattle.tinkey_session.proofs.Options.{map_some}
@@ -62,6 +62,9 @@ slices_of settled is_turns (ranges x absent a next) drawing files s moved (inr o
     slices_of settled is_turns (next on.0) (drawing on.0) files s moved on.2 stream rest place stands
 slices_of settled is_turns (reads_all limit long stated next) drawing files s moved (inl here) stream rest place stands = ([], refl, none place _)
 slices_of settled is_turns (reads_all limit long stated next) drawing files s moved (inr on) stream rest place stands =
+    slices_of settled is_turns (next on.0) (drawing on.0) files s (record moved { taken = on.1 }) on.4 stream rest place stands
+slices_of settled is_turns (reads_front size next) drawing files s moved (inl here) stream rest place stands = ([], refl, none place _)
+slices_of settled is_turns (reads_front size next) drawing files s moved (inr on) stream rest place stands =
     slices_of settled is_turns (next on.0) (drawing on.0) files s (record moved { taken = on.1 }) on.4 stream rest place stands
 slices_of settled is_turns (draws kind give next) drawing files s moved (inl here) stream rest place stands = ([], refl, none place _)
 slices_of settled is_turns (draws kind give next) drawing files s moved (inr on) stream rest place stands =

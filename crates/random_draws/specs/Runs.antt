@@ -15,7 +15,7 @@ use Rattle.tink_spec.specs.Files.{Files}
 use Rattle.tink_spec.specs.Outside.{EntropyState}
 use Rattle.tinkey_plans.specs.Commands.{plan_of}
 use Rattle.tinkey_plans.specs.Ends.{World}
-use Rattle.tinkey_plans.specs.Plan.{Plan, ends, writes, creates, looks, allocates, loads, reads_all, ranges, draws, pumps, exchanges}
+use Rattle.tinkey_plans.specs.Plan.{Plan, ends, writes, creates, looks, allocates, loads, reads_all, reads_front, ranges, draws, pumps, exchanges}
 use Rattle.tinkey_plans.specs.Promises.{IsLeft, Leaves, Moved}
 use Rattle.tinkey_plans.specs.declared.status.Status.{Status}
 use Rattle.tinkey_session.specs.Lines.{line_of}
@@ -89,6 +89,9 @@ HasDrawn stream place (ranges x absent a next) files s moved (inr on) mine =
     HasDrawn stream place (next on.0) files s moved on.2 mine
 HasDrawn stream place (reads_all limit long stated next) files s moved (inl here) mine = mine ≡ []
 HasDrawn stream place (reads_all limit long stated next) files s moved (inr on) mine =
+    HasDrawn stream place (next on.0) files s (record moved { taken = on.1 }) on.4 mine
+HasDrawn stream place (reads_front size next) files s moved (inl here) mine = mine ≡ []
+HasDrawn stream place (reads_front size next) files s moved (inr on) mine =
     HasDrawn stream place (next on.0) files s (record moved { taken = on.1 }) on.4 mine
 HasDrawn stream place (draws kind give next) files s moved (inl here) mine = mine ≡ []
 HasDrawn stream place (draws kind give next) files s moved (inr on) mine =

@@ -16,8 +16,8 @@ use Rattle.tinkey_session.specs.declared.talk.TalkFault.{TalkFault}
 use Rattle.tinkey_session.specs.declared.talk.TalkFault.TheVariants as talk_faults
 use Rattle.tinkey_plans.specs.declared.status.Status.{Status}
 use Rattle.tinkey_plans.specs.declared.status.Status.TheVariants as status
-use Rattle.tinkey_plans.specs.Plan.{Plan, ends, writes, creates, looks, allocates, loads, reads_all, ranges, draws, pumps, exchanges, stream_status, limit_status, IsStated}
-use Rattle.tinkey_plans.specs.Ends.{World, Ends, OnlyStreams, pump_status, OnlySource, OnlySink, OnlyStore, OnlyEntropy, loaded, load_absent, load_long, load_failed, load_starved, ranged, range_absent, range_failed, range_starved, wrote, write_failed, made, name_taken, create_failed, create_starved, look_free, look_taken, look_failed, read, too_long, read_failed, read_starved, settled, draw_failed, draw_starved, talk_status, sides_of, exchanged, exchange_ended}
+use Rattle.tinkey_plans.specs.Plan.{Plan, ends, writes, creates, looks, allocates, loads, reads_all, reads_front, ranges, draws, pumps, exchanges, stream_status, limit_status, IsStated}
+use Rattle.tinkey_plans.specs.Ends.{World, Ends, OnlyStreams, pump_status, OnlySource, OnlySink, OnlyStore, OnlyEntropy, loaded, load_absent, load_long, load_failed, load_starved, ranged, range_absent, range_failed, range_starved, wrote, write_failed, made, name_taken, create_failed, create_starved, look_free, look_taken, look_failed, read, too_long, read_failed, read_starved, front_read, front_failed, settled, draw_failed, draw_starved, talk_status, sides_of, exchanged, exchange_ended}
 use Rattle.tinkey_plans.specs.Promises.{HasCause, ShowsFaults, NoneFailed, Completes}
 
 -- a stated status is no fault, and no want of memory
@@ -156,6 +156,10 @@ has_cause (reads_all limit long stated next) old s new (read all source gave sto
 has_cause (reads_all limit long stated next) old s new (too_long is only stood count) = no_fault old new s (rw is stated)
 has_cause (reads_all limit long stated next) old s new (read_failed is only rose upto) = record { read = λ h. rose; write = λ h. absurd (cc); store = λ h. absurd (cc); entropy = λ h. absurd (cc) }
 has_cause (reads_all limit long stated next) old s new (read_starved is only stood upto) = starved_cause old new s is
+has_cause (reads_front size next) old s new (front_read front source gave stood within end run) =
+    let later = has_cause (next front) (record old { source = source }) s new run in
+    record { read = λ h. rose_after _ _ _ gave.faults (later.read h); write = later.write; store = later.store; entropy = later.entropy }
+has_cause (reads_front size next) old s new (front_failed piece is only rose gave few) = record { read = λ h. rose; write = λ h. absurd (cc); store = λ h. absurd (cc); entropy = λ h. absurd (cc) }
 has_cause (draws kind give next) old s new (settled drawn entropy given drew stood settles run) =
     let later = has_cause (next given) (record old { entropy = entropy }) s new run in
     record { read = later.read; write = later.write; store = later.store; entropy = λ h. rose_after _ _ _ drew.faults (later.entropy h) }
@@ -258,6 +262,10 @@ shows_faults (reads_all limit long stated next) old s new (read all source gave 
 shows_faults (reads_all limit long stated next) old s new (too_long is only stood count) = source_shown old new s only (λ other. stood)
 shows_faults (reads_all limit long stated next) old s new (read_failed is only rose upto) = source_shown old new s only (λ other. absurd (other is))
 shows_faults (reads_all limit long stated next) old s new (read_starved is only stood upto) = source_shown old new s only (λ other. stood)
+shows_faults (reads_front size next) old s new (front_read front source gave stood within end run) =
+    let later = shows_faults (next front) (record old { source = source }) s new run in
+    record { read = λ other. later.read other ∙ stood; write = later.write; store = later.store; entropy = later.entropy }
+shows_faults (reads_front size next) old s new (front_failed piece is only rose gave few) = source_shown old new s only (λ other. absurd (other is))
 shows_faults (draws kind give next) old s new (settled drawn entropy given drew stood settles run) =
     let later = shows_faults (next given) (record old { entropy = entropy }) s new run in
     record { read = later.read; write = later.write; store = later.store; entropy = λ other. later.entropy other ∙ stood }
@@ -316,6 +324,9 @@ completes_from (reads_all limit long stated next) old s new (read all source gav
 completes_from (reads_all limit long stated next) old s new (too_long is only stood count) none memory = rw is stated
 completes_from (reads_all limit long stated next) old s new (read_failed is only rose upto) none memory = absurd (none.read rose)
 completes_from (reads_all limit long stated next) old s new (read_starved is only stood upto) none memory = absurd (memory is)
+completes_from (reads_front size next) old s new (front_read front source gave stood within end run) none memory =
+    completes_from (next front) (record old { source = source }) s new run (record { read = λ rose. none.read (rose_after _ _ _ gave.faults rose); write = none.write; store = none.store; entropy = none.entropy }) memory
+completes_from (reads_front size next) old s new (front_failed piece is only rose gave few) none memory = absurd (none.read rose)
 completes_from (draws kind give next) old s new (settled drawn entropy given drew stood settles run) none memory =
     completes_from (next given) (record old { entropy = entropy }) s new run (record { read = none.read; write = none.write; store = none.store; entropy = λ rose. none.entropy (rose_after _ _ _ drew.faults rose) }) memory
 completes_from (draws kind give next) old s new (draw_failed is only out) none memory = absurd (none.entropy out.rose)

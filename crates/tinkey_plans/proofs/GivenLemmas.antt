@@ -2,8 +2,8 @@
 use Rattle.std.proofs.Common.{arith, ◌≡◌, inl, inr, refl, sym, ap, subst, ℕ, ◌+◌, length, Option}
 use Rattle.tink_spec.specs.Files.{Files, StoreState}
 use Rattle.tinkey_plans.specs.declared.status.Status.{Status}
-use Rattle.tinkey_plans.specs.Plan.{Plan, ends, writes, creates, looks, allocates, loads, reads_all, ranges, draws, pumps, exchanges}
-use Rattle.tinkey_plans.specs.Ends.{World, Ends, GaveWithin, loaded, load_absent, load_long, load_failed, load_starved, ranged, range_absent, range_failed, range_starved, wrote, write_failed, made, name_taken, create_failed, create_starved, look_free, look_taken, look_failed, read, too_long, read_failed, read_starved, settled, draw_failed, draw_starved, exchanged, exchange_ended}
+use Rattle.tinkey_plans.specs.Plan.{Plan, ends, writes, creates, looks, allocates, loads, reads_all, reads_front, ranges, draws, pumps, exchanges}
+use Rattle.tinkey_plans.specs.Ends.{World, Ends, GaveWithin, loaded, load_absent, load_long, load_failed, load_starved, ranged, range_absent, range_failed, range_starved, wrote, write_failed, made, name_taken, create_failed, create_starved, look_free, look_taken, look_failed, read, too_long, read_failed, read_starved, front_read, front_failed, settled, draw_failed, draw_starved, exchanged, exchange_ended}
 use Rattle.tinkey_plans.specs.Promises.{MayGive, Reads}
 
 -- nothing was given
@@ -62,6 +62,9 @@ reads (reads_all limit long stated next) old s new (read all source gave stood w
 reads (reads_all limit long stated next) old s new (too_long is only stood count) = given_none _ old new (inl refl) (none_given _ _ only.store)
 reads (reads_all limit long stated next) old s new (read_failed is only rose upto) = given_none _ old new (inl refl) (none_given _ _ only.store)
 reads (reads_all limit long stated next) old s new (read_starved is only stood upto) = given_none _ old new (inl refl) (none_given _ _ only.store)
+reads (reads_front size next) old s new (front_read front source gave stood within end run) =
+    given_later _ (next front) old (record old { source = source }) new refl (none_given old.store old.store refl) (λ n may. inr (front, may)) (reads (next front) (record old { source = source }) s new run)
+reads (reads_front size next) old s new (front_failed piece is only rose gave few) = given_none _ old new (inl refl) (none_given _ _ only.store)
 reads (draws kind give next) old s new (settled drawn entropy given drew stood settles run) =
     given_later _ (next given) old (record old { entropy = entropy }) new refl (none_given old.store old.store refl) (λ n may. inr (given, may)) (reads (next given) (record old { entropy = entropy }) s new run)
 reads (draws kind give next) old s new (draw_failed is only out) = given_none _ old new (inl refl) (none_given _ _ only.store)

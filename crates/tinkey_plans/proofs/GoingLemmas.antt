@@ -1,5 +1,5 @@
 -- That a plan comes to its end exactly where none of its steps refuses.
-use Rattle.std.proofs.Common.{arith, ◌≡◌, ◌≢◌, sym, refl, subst, ℕ, ◌≤◌, Bool, true, false, List, [], length, nat_le, Option, Some, None, Result, Ok, Err}
+use Rattle.std.proofs.Common.{arith, ◌≡◌, ◌≢◌, sym, refl, subst, ℕ, ◌≤◌, Bool, true, false, List, [], length, take, drop, nat_le, Option, Some, None, Result, Ok, Err}
 use Rattle.std.specs.Prelude.{◌↔◌, if◌then◌else◌}
 use Rattle.std.specs.FinMap as map
 use Rattle.std.proofs.lemmas.Bool.Decides.{nat_tests}
@@ -20,7 +20,7 @@ use Rattle.tinkey_plans.specs.declared.status.Status.{Status}
 use Rattle.tinkey_plans.specs.declared.status.Status.TheVariants as status
 use Rattle.tinkey_words.specs.declared.words.rows.Format.{Format}
 use Rattle.tinkey_plans.specs.Going.{DoneExactly, NoneRefuses}
-use Rattle.tinkey_plans.specs.Plan.{Answer, Of, Plan, Told, answer, create_answer, draw_answer, load_answer, look_answer, range_answer, pump_answer, refused, stream_status, talk_answer, limit_status, ends, writes, creates, looks, allocates, loads, reads_all, ranges, draws, pumps, exchanges}
+use Rattle.tinkey_plans.specs.Plan.{Answer, Of, Plan, Told, answer, create_answer, draw_answer, load_answer, look_answer, range_answer, pump_answer, refused, stream_status, talk_answer, limit_status, ends, writes, creates, looks, allocates, loads, reads_all, reads_front, ranges, draws, pumps, exchanges}
 use Rattle.tinkey_plans.specs.Locks.{puts_under}
 use Rattle.tinkey_plans.specs.Steps.{makes_keyset, puts}
 use Rattle.tinkey_plans.specs.Using.{hex_line, puts_output, shows}
@@ -47,6 +47,7 @@ IsProper (allocates next) = IsProper next
 IsProper (loads name limit absent long a l next) = (absent ≢ status.Done) × (long ≢ status.Done) × ((bytes : List ℕ) → IsProper (next bytes))
 IsProper (ranges x absent a next) = (absent ≢ status.Done) × ((opened : Opened) → IsProper (next opened))
 IsProper (reads_all limit long stated next) = (long ≢ status.Done) × ((all : List ℕ) → IsProper (next all))
+IsProper (reads_front size next) = (front : List ℕ) → IsProper (next front)
 IsProper (draws kind give next) = (given : Result (Of kind) CmdFault) → IsProper (next given)
 IsProper (pumps part) = Unit {0}
 IsProper (exchanges exchange next) = (keys : Keys) → IsProper (next keys)
@@ -137,6 +138,7 @@ done_exactly (allocates next) told proper = done_exactly next told proper
 done_exactly (loads name limit absent long a l next) told proper = loaded (map.get told.files name) limit told absent long _ _ proper.0 proper.1 (λ bytes. done_exactly (next bytes) told (proper.2 bytes))
 done_exactly (ranges x absent a next) told proper = stretched (map.get told.files x.name) x told absent _ _ proper.0 (λ opened. done_exactly (next opened) told (proper.1 opened))
 done_exactly (reads_all limit long stated next) told proper = read_in told.input limit _ _ _ proper.0 (done_exactly (next told.input) (record told { input = [] }) (proper.1 told.input))
+done_exactly (reads_front size next) told proper = done_exactly (next (take size told.input)) (record told { input = drop size told.input }) (proper (take size told.input))
 done_exactly (draws kind give next) told proper = drawn_in (give told.random) told _ _ (λ drawn. done_exactly (next drawn.answer) (record told { random = drawn.left }) (proper drawn.answer))
 done_exactly (pumps part) told proper = pumped part told (part.refusal told.input true)
 done_exactly (exchanges exchange next) told proper =

@@ -1,7 +1,7 @@
 -- Each promise, proved once for every end of every plan.
-use Rattle.std.proofs.Common.{◌≡◌, ◌⊎◌, inl, inr, ℕ, ◌+◌, ◌<◌, ◌≤◌, List, [], ◌++◌, length, drop, refl, sym, ◌∙◌, ap, subst, arith, append-nil, length-append, ◌≢◌}
+use Rattle.std.proofs.Common.{◌≡◌, ◌⊎◌, inl, inr, ℕ, ◌+◌, ◌<◌, ◌≤◌, List, [], ◌++◌, length, take, drop, refl, sym, ◌∙◌, ap, subst, arith, append-nil, length-append, ◌≢◌}
 use Rattle.std.specs.Prelude.{Option, Some, None, option_map, IfSome, Result, Ok, Err, nat_le, Bool, true, false}
-use Rattle.std.proofs.lemmas.List.{drop_at}
+use Rattle.std.proofs.lemmas.List.{drop_all, drop_at, take_all, take_at}
 use Rattle.std.proofs.lemmas.Bool.Decides.{nat_tests}
 use Rattle.tink_spec.specs.Outside.{SourceState, SinkState, EntropyState, Gave, GaveCount, Took, TookPrefix, Drew, DrewLosing, IsAtEnd}
 use Rattle.tink_spec.specs.Files.{Files, StoreState, KeptFiles, Holds, HoldsSome, HoldsLonger, Added, AddedFront, MayAdd}
@@ -22,8 +22,8 @@ use Rattle.tinkey_session.specs.declared.talk.TalkFault.{TalkFault}
 use Rattle.tinkey_session.specs.declared.talk.TalkFault.TheVariants as talk_faults
 use Rattle.tinkey_plans.specs.declared.status.Status.{Status}
 use Rattle.tinkey_plans.specs.declared.status.Status.TheVariants as status
-use Rattle.tinkey_plans.specs.Plan.{Plan, ends, writes, creates, looks, allocates, loads, reads_all, ranges, draws, pumps, exchanges, Told, Answer, answer, refused, stream_status, limit_status, talk_answer, load_answer, range_answer, create_answer, look_answer, draw_answer, IsStated}
-use Rattle.tinkey_plans.specs.Ends.{World, Ends, Settles, IsLasting, OnlyStreams, pump_status, OnlySource, OnlySink, OnlyStore, loaded, load_absent, load_long, load_failed, load_starved, ranged, range_absent, range_failed, range_starved, wrote, write_failed, made, name_taken, create_failed, create_starved, look_free, look_taken, look_failed, read, too_long, read_failed, read_starved, settled, draw_failed, draw_starved, talk_status, sides_of, exchanged, exchange_ended}
+use Rattle.tinkey_plans.specs.Plan.{Plan, ends, writes, creates, looks, allocates, loads, reads_all, reads_front, ranges, draws, pumps, exchanges, Told, Answer, answer, refused, stream_status, limit_status, talk_answer, load_answer, range_answer, create_answer, look_answer, draw_answer, IsStated}
+use Rattle.tinkey_plans.specs.Ends.{World, Ends, Settles, IsLasting, OnlyStreams, pump_status, OnlySource, OnlySink, OnlyStore, loaded, load_absent, load_long, load_failed, load_starved, ranged, range_absent, range_failed, range_starved, wrote, write_failed, made, name_taken, create_failed, create_starved, look_free, look_taken, look_failed, read, too_long, read_failed, read_starved, front_read, front_failed, settled, draw_failed, draw_starved, talk_status, sides_of, exchanged, exchange_ended}
 use Rattle.tinkey_plans.specs.Promises.{Tells, IsAnswer, Answers, IsFront, Moved, nothing, IsPassLeft, pass_done, pass_refused, pass_unread, pass_unwritten, HasReplied, IsTalkLeft, talk_passed, talk_unread, talk_undrawn, talk_unwritten, talk_starved, then_moved, IsWhole, IsLeft, Leaves, IsTorn, Stands, Promised}
 use Rattle.tinkey_plans.specs.Stretch.{Opened, Stretch, HoldsStretch, stretch_in}
 use Rattle.tinkey_plans.proofs.GivenLemmas.{reads}
@@ -45,6 +45,29 @@ whole_input old source input all told gave end =
     let split = split_told source.left old.left input all told gave.left in
     let none = at_end source.left split.0 split.1 end in
     (split.1 ∙ ap (λ (r : List ℕ). Some r) none, split.2 ∙ ap (λ (r : List ℕ). all ++ r) none ∙ append-nil all)
+
+-- the front of an input that is told, and what is left behind it
+front_split : (front rest : List ℕ) (size : ℕ) → length front ≤ size → (length front < size → rest ≡ []) → (drop size (front ++ rest) ≡ rest) × (take size (front ++ rest) ≡ front)
+front_split front rest size within end = by (nat_le size (length front)) refl
+  where
+    by : (b : Bool) → nat_le size (length front) ≡ b → (drop size (front ++ rest) ≡ rest) × (take size (front ++ rest) ≡ front)
+    by true is = let le : size ≤ length front = grind (arith, nat_tests, is) in let e : length front ≡ size = omega (arith, le, within) in (drop_at front rest size e, take_at front rest size e)
+    by false is =
+        let lt : length front < size = grind (arith, nat_tests, is) in
+        let none = end lt in
+        let le : length front ≤ size = within in
+        let e : front ++ rest ≡ front = ap (λ (r : List ℕ). front ++ r) none ∙ append-nil front in (
+          ap (λ (l : List ℕ). drop size l) e ∙ drop_all size front le ∙ sym none,
+          ap (λ (l : List ℕ). take size l) e ∙ take_all size front le,
+        )
+
+front_input : (old source : SourceState) (input front : List ℕ) (size : ℕ) → old.left ≡ Some input → Gave old source front → length front ≤ size → (length front < size → IsAtEnd source) → (source.left ≡ Some (drop size input)) × (take size input ≡ front)
+front_input old source input front size told gave within end =
+    let split = split_told source.left old.left input front told gave.left in
+    let whole = front_split front split.0 size within (λ lt. at_end source.left split.0 split.1 (end lt)) in (
+      split.1 ∙ ap (λ (l : List ℕ). Some l) (sym (ap (λ (l : List ℕ). drop size l) split.2 ∙ whole.0)),
+      ap (λ (l : List ℕ). take size l) split.2 ∙ whole.1,
+    )
 
 after_count : (old new : SourceState) (input : List ℕ) (n : ℕ) → old.left ≡ Some input → GaveCount old new n → (n ≤ length input) × (new.left ≡ Some (drop n input))
 after_count old new input n told count =
@@ -158,6 +181,10 @@ read_answer limit long stated next told all is le = rw (is, fits_test (length al
 
 long_answer : (limit : ℕ) (long : Status) (stated : IsStated long) (next : List ℕ → Plan) (told : Told) → limit < length told.input → answer (reads_all limit long stated next) told ≡ record (refused told long) { input = Some (drop (limit + 1) told.input) }
 long_answer limit long stated next told lt = rw (past_test (length told.input) limit lt) refl
+
+-- the answer goes on behind the front of the input
+front_answer : (size : ℕ) (next : List ℕ → Plan) (told : Told) (front : List ℕ) → take size told.input ≡ front → answer (reads_front size next) told ≡ answer (next front) (record told { input = drop size told.input })
+front_answer size next told front is = rw is refl
 
 -- the answer of a pass that comes to its end, and of one that is refused
 done_answer : (part : Part) (told : Told) → part.refusal told.input true ≡ None → answer (pumps part) told ≡ record (refused told status.Done) { input = Some []; output = part.output told.input true }
@@ -321,6 +348,12 @@ answers_over (reads_all limit long stated next) old s new (too_long is only stoo
     })
 answers_over (reads_all limit long stated next) old s new (read_failed is only rose upto) told tells ok = absurd (not_read_fault s ok is)
 answers_over (reads_all limit long stated next) old s new (read_starved is only stood upto) told tells ok = absurd (not_no_memory s ok is)
+answers_over (reads_front size next) old s new (front_read front source gave stood within end run) told tells ok =
+    let split = front_input old.source source told.input front size tells.input gave within end in
+    let later = answers_over (next front) (record old { source = source }) s new run (record told { input = drop size told.input }) (record { input = split.0; files = tells.files; random = tells.random }) ok in
+    subst (λ (a : Answer). IsAnswer a old s new) (sym (front_answer size next told front split.1))
+    (record { status = later.status; input = later.input; output = later.output; files = later.files; random = later.random })
+answers_over (reads_front size next) old s new (front_failed piece is only rose gave few) told tells ok = absurd (not_read_fault s ok is)
 answers_over (draws kind give next) old s new (settled drawn entropy given drew stood settles run) told tells ok =
     let split = split_told entropy.left old.entropy.left told.random drawn tells.random drew.left in
     let later = answers_over (next given) (record old { entropy = entropy }) s new run (record told { random = split.0 }) (record { input = tells.input; files = tells.files; random = split.1 }) ok in
@@ -454,6 +487,12 @@ stands (reads_all limit long stated next) old s new (read all source gave stood 
 stands (reads_all limit long stated next) old s new (too_long is only stood count) = untouched (reads_all limit long stated next) old s new (λ h. not_write_fault long stated (sym is ∙ h)) only.sink (same_files _ _ only.store)
 stands (reads_all limit long stated next) old s new (read_failed is only rose upto) = untouched (reads_all limit long stated next) old s new (λ h. absurd (cc)) only.sink (same_files _ _ only.store)
 stands (reads_all limit long stated next) old s new (read_starved is only stood upto) = untouched (reads_all limit long stated next) old s new (λ h. absurd (cc)) only.sink (same_files _ _ only.store)
+stands (reads_front size next) old s new (front_read front source gave stood within end run) =
+    goes_on (reads_front size next) (next front) old (record old { source = source }) s new (λ whole. whole front) (same_files old.store old.store refl) refl
+    (λ told tells. let split = front_input old.source source told.input front size tells.input gave within end in
+    (record told { input = drop size told.input }, record { input = split.0; files = tells.files; random = tells.random }, refl, front_answer size next told front split.1))
+    (stands (next front) (record old { source = source }) s new run)
+stands (reads_front size next) old s new (front_failed piece is only rose gave few) = untouched (reads_front size next) old s new (λ h. absurd (cc)) only.sink (same_files _ _ only.store)
 stands (draws kind give next) old s new (settled drawn entropy given drew stood settles run) =
     goes_on (draws kind give next) (next given) old (record old { entropy = entropy }) s new (λ whole. whole given) (same_files old.store old.store refl) refl
     (λ told tells. let split = split_told entropy.left old.entropy.left told.random drawn tells.random drew.left in
@@ -587,6 +626,10 @@ leaves (reads_all limit long stated next) old s new (read all source gave stood 
 leaves (reads_all limit long stated next) old s new (too_long is only stood count) = some_taken _ old s new count.piece count.gave only (inl (refl, inl (is, count.exact)))
 leaves (reads_all limit long stated next) old s new (read_failed is only rose upto) = some_taken _ old s new upto.piece upto.gave only (inl (refl, inr (inl is, upto.within)))
 leaves (reads_all limit long stated next) old s new (read_starved is only stood upto) = some_taken _ old s new upto.piece upto.gave only (inl (refl, inr (inr is, upto.within)))
+leaves (reads_front size next) old s new (front_read front source gave stood within end run) =
+    let later = leaves (next front) (record old { source = source }) s new run in
+    record { moved = record later.moved { taken = front ++ later.moved.taken }; gave = gave_more _ _ _ _ _ gave later.gave; gone = later.gone; none_lost = later.none_lost; took = later.took; is = inr (front, later.moved.taken, refl, within, later.is) }
+leaves (reads_front size next) old s new (front_failed piece is only rose gave few) = some_taken _ old s new piece gave only (inl (is, few, refl))
 leaves (draws kind give next) old s new (settled drawn entropy given drew stood settles run) =
     let later = leaves (next given) (record old { entropy = entropy }) s new run in
     record { moved = record later.moved { drawn = drawn ++ later.moved.drawn }; gave = later.gave; gone = lost_later _ _ _ _ _ drew later.gone; none_lost = later.none_lost; took = later.took; is = inr (drawn, later.moved.drawn, given, refl, settles, later.is) }

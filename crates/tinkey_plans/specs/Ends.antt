@@ -1,5 +1,5 @@
 -- How a run of a plan may end, whatever fails.
-use Rattle.std.specs.Prelude.{◌≡◌, ◌⊎◌, ℕ, ◌+◌, ◌≤◌, List, [], ◌++◌, length, true, false, Some, None, Result, Ok, Err}
+use Rattle.std.specs.Prelude.{◌≡◌, ◌⊎◌, ℕ, ◌+◌, ◌<◌, ◌≤◌, List, [], ◌++◌, length, true, false, Some, None, Result, Ok, Err}
 use Rattle.tink_spec.specs.Files.{StoreState, KeptFiles, Holds, HoldsSome, HoldsLonger, Added, MayAdd}
 use Rattle.tink_spec.specs.Outside.{SourceState, SinkState, EntropyState, Rose, Stood, Gave, GaveUpTo, GaveCount, Took, TookPrefix, Drew, IsAtEnd}
 use Rattle.segment_stream.specs.Opening.{StreamRefusal}
@@ -17,7 +17,7 @@ use Rattle.tinkey_session.specs.declared.talk.TalkFault.TheVariants as talk_faul
 use Rattle.tinkey_plans.specs.Stretch.{Opened, Stretch, GivesAtMost, HoldsStretch, IsShortPast}
 use Rattle.tinkey_plans.specs.declared.status.Status.{Status}
 use Rattle.tinkey_plans.specs.declared.status.Status.TheVariants as status
-use Rattle.tinkey_plans.specs.Plan.{Plan, ends, writes, creates, looks, allocates, loads, reads_all, ranges, draws, pumps, exchanges, Made, Of, IsMadeInParts}
+use Rattle.tinkey_plans.specs.Plan.{Plan, ends, writes, creates, looks, allocates, loads, reads_all, reads_front, ranges, draws, pumps, exchanges, Made, Of, IsMadeInParts}
 
 -- the outside objects at one moment
 pub record World : Type 0 where
@@ -161,6 +161,18 @@ pub data EndsReading (limit : ℕ) (long : Status) (Then : List ℕ → World �
       Stood old.source.faults new.source.faults → GaveUpTo old.source new.source limit →
       EndsReading limit long Then old s new
 
+-- so many bytes were read, or all of them where there are fewer, and then it went on; or the source failed
+-- before that
+pub data EndsReadingFront (size : ℕ) (Then : List ℕ → World → Status → World → Type 0)
+    (old : World) (s : Status) (new : World) : Type 0 where
+  front_read : (front : List ℕ) (source : SourceState) → Gave old.source source front →
+      Stood old.source.faults source.faults → length front ≤ size →
+      (length front < size → IsAtEnd source) → Then front (record old { source = source }) s new →
+      EndsReadingFront size Then old s new
+  front_failed : (piece : List ℕ) → s ≡ status.ReadFault → OnlySource old new →
+      Rose old.source.faults new.source.faults → Gave old.source new.source piece →
+      length piece < size → EndsReadingFront size Then old s new
+
 -- these bytes are all that is drawn, whatever stands behind them, and they give this
 abbrev pub Settles : {A : Type 0} → Draw A → (drawn : List ℕ) → Result A CmdFault → Type 0
 Settles give drawn given = (more : List ℕ) → give (drawn ++ more) ≡ answered given more
@@ -247,6 +259,7 @@ Ends (ranges stretch absent a next) old s new =
     EndsRanging stretch absent (λ opened. Ends (next opened)) old s new
 Ends (reads_all limit long stated next) old s new =
     EndsReading limit long (λ all. Ends (next all)) old s new
+Ends (reads_front size next) old s new = EndsReadingFront size (λ front. Ends (next front)) old s new
 Ends (draws kind give next) old s new =
     EndsDrawing kind give (λ given. Ends (next given)) old s new
 Ends (pumps part) old s new = EndsPumping part old s new

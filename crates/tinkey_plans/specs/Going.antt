@@ -2,7 +2,7 @@
 --
 --   NoneRefuses   no step of a plan refuses, over what is told
 --   DoneExactly   that is where the stated answer is Done
-use Rattle.std.specs.Prelude.{◌≡◌, ◌↔◌, ℕ, ◌≤◌, List, [], length, true, Some, None}
+use Rattle.std.specs.Prelude.{◌≡◌, ◌↔◌, ℕ, ◌≤◌, List, [], length, take, drop, true, Some, None}
 use Rattle.std.specs.FinMap as map
 use Rattle.key_msgs.specs.declared.key.KeyKind.{KeyKind}
 use Rattle.key_msgs.specs.declared.primitive.Primitive.TheVariants.{Aead}
@@ -16,7 +16,7 @@ use Rattle.tinkey_plans.specs.declared.status.Status.TheVariants as status
 use Rattle.tinkey_plans.specs.Commands.{command_plan}
 use Rattle.tinkey_plans.specs.Laws.{IsFit}
 use Rattle.tinkey_plans.specs.Stretch.{stretch_in}
-use Rattle.tinkey_plans.specs.Plan.{Of, Plan, Told, answer, ends, writes, creates, looks, allocates, loads, reads_all, ranges, draws, pumps, exchanges}
+use Rattle.tinkey_plans.specs.Plan.{Of, Plan, Told, answer, ends, writes, creates, looks, allocates, loads, reads_all, reads_front, ranges, draws, pumps, exchanges}
 use Rattle.tinkey_words.specs.Words.{Asked}
 
 -- The end is Done; the name of a new file is free; a file to load is there, within its limit, and one to
@@ -36,6 +36,8 @@ NoneRefuses (ranges x absent a next) told =
     × NoneRefuses (next (stretch_in x bytes)) told
 NoneRefuses (reads_all limit long stated next) told =
     (length told.input ≤ limit) × NoneRefuses (next told.input) (record told { input = [] })
+NoneRefuses (reads_front size next) told =
+    NoneRefuses (next (take size told.input)) (record told { input = drop size told.input })
 NoneRefuses (draws kind give next) told =
     (drawn : Drawn (Of kind)) × (give told.random ≡ Some drawn)
     × NoneRefuses (next drawn.answer) (record told { random = drawn.left })

@@ -1,6 +1,6 @@
 -- What a command does, step by step in the order of refusals, and the answer that it has where
 -- nothing fails.
-use Rattle.std.specs.Prelude.{ℕ, ◌+◌, List, [], ◌++◌, length, drop, true, Option, Some, None, Result, nat_le, if◌then◌else◌}
+use Rattle.std.specs.Prelude.{ℕ, ◌+◌, List, [], ◌++◌, length, take, drop, true, Option, Some, None, Result, nat_le, if◌then◌else◌}
 use Rattle.std.specs.FinMap as map
 use Rattle.tink_spec.specs.Files.{Files}
 use Rattle.key_msgs.specs.declared.rule.Rule.{Rule}
@@ -59,6 +59,9 @@ pub data Plan : Type 0 where
       (next : List ℕ → Plan) → Plan
   -- the whole source is read; one of more bytes than the limit is answered so
   reads_all : (limit : ℕ) (long : Status) → IsStated long → (next : List ℕ → Plan) → Plan
+  -- the first bytes of the source are read, so many, or all of them where there are fewer; no byte behind them
+  -- is taken
+  reads_front : (size : ℕ) → (next : List ℕ → Plan) → Plan
   -- a stretch of the stream in a file is opened; it or its refusal goes on, and a file that is missing is
   -- answered so
   ranges : (stretch : Stretch) (absent : Status) → IsStated absent → (next : Opened → Plan) → Plan
@@ -176,6 +179,8 @@ answer (loads name limit absent long a l next) told =
 answer (reads_all limit long stated next) told =
     if nat_le (length told.input) limit then answer (next told.input) (record told { input = [] })
     else record (refused told long) { input = Some (drop (limit + 1) told.input) }
+answer (reads_front size next) told =
+    answer (next (take size told.input)) (record told { input = drop size told.input })
 answer (ranges stretch absent a next) told =
     range_answer (map.get told.files stretch.name) stretch (refused told absent)
     (λ opened. answer (next opened) told)

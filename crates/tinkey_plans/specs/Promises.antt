@@ -10,7 +10,7 @@ use Rattle.tinkey_cmds.specs.declared.command.CmdFault.{CmdFault}
 use Rattle.tinkey_session.specs.Talking.{Exchange, Limit, Stop, goes, wants, passes}
 use Rattle.tinkey_plans.specs.declared.status.Status.{Status}
 use Rattle.tinkey_plans.specs.declared.status.Status.TheVariants as status
-use Rattle.tinkey_plans.specs.Plan.{Plan, ends, writes, creates, looks, allocates, loads, reads_all, ranges, draws, pumps, exchanges, Of, IsMadeInParts, Told, Answer, answer, stream_status, limit_status, IsStated}
+use Rattle.tinkey_plans.specs.Plan.{Plan, ends, writes, creates, looks, allocates, loads, reads_all, reads_front, ranges, draws, pumps, exchanges, Of, IsMadeInParts, Told, Answer, answer, stream_status, limit_status, IsStated}
 use Rattle.tinkey_plans.specs.Ends.{World, Ends, GaveWithin, Settles}
 use Rattle.tinkey_plans.specs.Stretch.{Opened, GivesAtMost, HoldsStretch, IsShortPast}
 
@@ -154,6 +154,11 @@ IsLeft (reads_all limit long stated next) files s moved =
     ⊎ (((s ≡ status.ReadFault) ⊎ (s ≡ status.NoMemory)) × (length moved.taken ≤ limit))))
     ⊎ ((all : List ℕ) × (more : List ℕ) × (all ++ more ≡ moved.taken) × (length all ≤ limit)
     × IsLeft (next all) files s (record moved { taken = more }))
+IsLeft (reads_front size next) files s moved =
+    ((s ≡ status.ReadFault) × (length moved.taken < size)
+    × (moved ≡ record nothing { taken = moved.taken }))
+    ⊎ ((front : List ℕ) × (more : List ℕ) × (front ++ more ≡ moved.taken) × (length front ≤ size)
+    × IsLeft (next front) files s (record moved { taken = more }))
 IsLeft (draws kind give next) files s moved =
     (((s ≡ status.EntropyFault) ⊎ ((s ≡ status.NoMemory) × IsMadeInParts kind))
     × (give moved.drawn ≡ None) × (moved ≡ record nothing { drawn = moved.drawn }))
@@ -178,6 +183,7 @@ IsWhole (allocates next) = IsWhole next
 IsWhole (loads name limit absent long a l next) = (bytes : List ℕ) → IsWhole (next bytes)
 IsWhole (ranges x absent a next) = (opened : Opened) → IsWhole (next opened)
 IsWhole (reads_all limit long stated next) = (all : List ℕ) → IsWhole (next all)
+IsWhole (reads_front size next) = (front : List ℕ) → IsWhole (next front)
 IsWhole (draws kind give next) = (given : Result (Of kind) CmdFault) → IsWhole (next given)
 IsWhole (pumps part) = ⊥
 IsWhole (exchanges exchange next) = ⊥
@@ -213,6 +219,8 @@ MayGive (ranges x absent a next) files given =
     × (given ≡ most + more) × MayGive (next opened) files more)
 MayGive (reads_all limit long stated next) files given =
     (given ≡ 0) ⊎ ((all : List ℕ) × MayGive (next all) files given)
+MayGive (reads_front size next) files given =
+    (given ≡ 0) ⊎ ((front : List ℕ) × MayGive (next front) files given)
 MayGive (draws kind give next) files given =
     (given ≡ 0) ⊎ ((drawn : Result (Of kind) CmdFault) × MayGive (next drawn) files given)
 MayGive (pumps part) files given = given ≡ 0

@@ -9,8 +9,8 @@ use Rattle.std.proofs.lemmas.Map.Lookups.{exact_bytes}
 use Rattle.std.proofs.lemmas.Option.{same_Some}
 use Rattle.tink_spec.specs.Files.{Added, Files, KeptFiles, MayAdd, StoreState}
 use Rattle.tinkey_session.proofs.Options.{clash, no_truth}
-use Rattle.tinkey_plans.specs.Ends.{Ends, World, wrote, write_failed, made, name_taken, create_failed, create_starved, look_free, look_taken, look_failed, loaded, load_absent, load_long, load_failed, load_starved, ranged, range_absent, range_failed, range_starved, read, too_long, read_failed, read_starved, settled, draw_failed, draw_starved, exchanged, exchange_ended}
-use Rattle.tinkey_plans.specs.Plan.{Plan, ends, writes, creates, looks, allocates, loads, reads_all, ranges, draws, pumps, exchanges}
+use Rattle.tinkey_plans.specs.Ends.{Ends, World, wrote, write_failed, made, name_taken, create_failed, create_starved, look_free, look_taken, look_failed, loaded, load_absent, load_long, load_failed, load_starved, ranged, range_absent, range_failed, range_starved, read, too_long, read_failed, read_starved, front_read, front_failed, settled, draw_failed, draw_starved, exchanged, exchange_ended}
+use Rattle.tinkey_plans.specs.Plan.{Plan, ends, writes, creates, looks, allocates, loads, reads_all, reads_front, ranges, draws, pumps, exchanges}
 use Rattle.tinkey_plans.specs.declared.status.Status.{Status}
 use Rattle.tinkey_readable.specs.KeptRuns.{FilesStay, Has}
 
@@ -78,6 +78,8 @@ stays (reads_all limit long stated next) old s new name bytes (read all source g
 stays (reads_all limit long stated next) old s new name bytes (too_long is only stood count) has = same_has _ _ name bytes only.store has
 stays (reads_all limit long stated next) old s new name bytes (read_failed is only rose upto) has = same_has _ _ name bytes only.store has
 stays (reads_all limit long stated next) old s new name bytes (read_starved is only stood upto) has = same_has _ _ name bytes only.store has
+stays (reads_front size next) old s new name bytes (front_read front source gave stood within end run) has = stays (next front) (record old { source = source }) s new name bytes run has
+stays (reads_front size next) old s new name bytes (front_failed piece is only rose gave few) has = same_has _ _ name bytes only.store has
 stays (draws kind give next) old s new name bytes (settled drawn entropy given drew stood settles run) has = stays (next given) (record old { entropy = entropy }) s new name bytes run has
 stays (draws kind give next) old s new name bytes (draw_failed is only out) has = same_has _ _ name bytes only.store has
 stays (draws kind give next) old s new name bytes (draw_starved parts is only drawn drew stood none) has = same_has _ _ name bytes only.store has
