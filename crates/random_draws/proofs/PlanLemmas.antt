@@ -11,8 +11,9 @@ use Rattle.segment_stream.specs.StreamKeys as streams
 use Rattle.tinkey_cmds.specs.Draws.{Draw}
 use Rattle.tinkey_cmds.specs.Edits.{first, step}
 use Rattle.tinkey_cmds.specs.declared.command.CmdFault.{CmdFault}
-use Rattle.tinkey_plans.proofs.EachLemmas.{AreAll, IsClosed, IsOpen, dek_each, edit_each, envelope_each, fit_each, loaded_each, lock_each, locked_each, made_each, new_lock_each, row_each, scheme_each, stretch_each, under_each, work_each, written_under_each}
+use Rattle.tinkey_plans.proofs.EachLemmas.{AreAll, IsClosed, IsOpen, dek_each, edit_each, envelope_each, fit_each, lines_each, loaded_each, lock_each, locked_each, made_each, new_lock_each, row_each, scheme_each, stretch_each, under_each, work_each, written_under_each}
 use Rattle.tinkey_plans.specs.Commands.{asked_plan, command_plan, plan_of}
+use Rattle.tinkey_plans.specs.KeyOf.{front_in, key_of_answer}
 use Rattle.tinkey_plans.specs.Locks.{puts_under, writes_under}
 use Rattle.tinkey_plans.specs.Plan.{Of, Plan, ends, writes, creates, looks, allocates, loads, reads_all, reads_front, ranges, draws, pumps, exchanges, keysets}
 use Rattle.tinkey_plans.specs.SelfTesting.{tells_counts}
@@ -27,7 +28,7 @@ use Rattle.tinkey_selftest.specs.declared.counts.Counts.{Counts}
 use Rattle.tinkey_session.specs.Talking.{talk}
 use Rattle.tinkey_words.specs.declared.words.misuse.Misuse.{Misuse}
 use Rattle.tinkey_words.specs.declared.words.rows.Format.{Format}
-use Rattle.tinkey_words.specs.Words.{Asked, Lock, Place, primitive_for, create_keyset, edit_keyset, list_keyset, convert_keyset, list_key_templates, use_keyset, use_envelope, seal_stream, open_stream, open_range, self_test, session, help, version, words_of}
+use Rattle.tinkey_words.specs.Words.{Asked, Lock, Place, primitive_for, create_keyset, edit_keyset, list_keyset, key_of, convert_keyset, list_key_templates, use_keyset, use_envelope, seal_stream, open_stream, open_range, self_test, session, help, version, words_of}
 use Rattle.wrapped_prims.specs.Fitness.{unfit}
 
 abbrev pub IsDrawing : Plan → Type 0
@@ -105,6 +106,7 @@ commands_are_drawing : (table : Table) (asked : Asked) → IsDrawing (command_pl
 commands_are_drawing table (create_keyset lock name out) = row_each IsDrawing closed (row_named name) name _ (λ row. lock_each IsDrawing open_drawing table lock _ (λ master. made_drawing (first row) (creation row) refl _ (out_drawing table master out)))
 commands_are_drawing table (edit_keyset lock edit in' out) = edit_each IsDrawing closed edit _ (λ edit. lock_each IsDrawing open_drawing table lock _ (λ master. under_each IsDrawing open_drawing table master in' _ (λ keys. made_drawing (step keys edit) (edition keys edit) refl _ (out_drawing table master out))))
 commands_are_drawing table (list_keyset lock in') = locked_each IsDrawing open_drawing table lock in' _ (λ keys. tt)
+commands_are_drawing table (key_of lock name form kind) = loaded_each IsDrawing open_drawing table lock name form _ (λ keys front. lines_each IsDrawing closed (key_of_answer keys (front_in kind front)) writes (λ lines. tt))
 commands_are_drawing table (convert_keyset lock new in' out) = lock_each IsDrawing open_drawing table lock _ (λ taken. new_lock_each IsDrawing open_drawing table new taken _ (λ put. under_each IsDrawing open_drawing table taken in' _ (out_drawing table put out)))
 commands_are_drawing table list_key_templates = tt
 commands_are_drawing table (use_keyset lock name form work out) = loaded_each IsDrawing open_drawing table lock name form _ (λ keys. fit_each IsDrawing closed (unfit keys (primitive_for work) table) _ (λ input. work_each IsDrawing closed table keys work input (λ plain ad next all. ((sealing table keys plain ad, refl), all)) (puts_output out) (shown_drawing out.hex out.file)))

@@ -33,6 +33,7 @@ use Rattle.key_msgs.specs.declared.rule.Rule.{Rule}
 use Rattle.managers.specs.Schemes.{Scheme}
 use Rattle.seal_wrap.specs.Enveloped.{open_envelope_of}
 use Rattle.segment_stream.specs.Range.{stream_failed, past_end}
+use Rattle.tinkey_plans.specs.KeyOf.{with_lines}
 use Rattle.tinkey_plans.specs.Ranging.{with_stretch}
 use Rattle.tinkey_plans.specs.Stretch.{Opened}
 use Rattle.tinkey_plans.specs.Envelopes.{envelopes, finds_dek, seals_envelope, with_aead, with_enveloped, with_scheme}
@@ -162,6 +163,10 @@ loaded_each P o table lock name form next all = locked_each P o table lock (reco
 pub written_under_each : (P : Plan → Type 0) → IsClosed P → (table : Table) (master : Option Keys) (form : Format) (keys : Keys) → ((m : Keys) → IsClosedAt P sealings (wraps keys m table form)) → (next : List ℕ → Plan) → AreAll P next → P (writes_under table master form keys next)
 written_under_each P c table None form keys drawn next all = written_each P c form keys next all
 written_under_each P c table (Some m) form keys drawn next all = written_each P c formats.Binary keys (λ plain. makes_wrapped keys m table form next) (λ plain. wrapped_each P c keys m table form (drawn m) next all)
+
+pub lines_each : (P : Plan → Type 0) → IsClosed P → (found : Option (List ℕ)) (next : List ℕ → Plan) → AreAll P next → P (with_lines found next)
+lines_each P c None next all = c.ended _ _
+lines_each P c (Some lines) next all = c.allocated _ (all lines)
 
 pub stretch_each : (P : Plan → Type 0) → IsClosed P → (opened : Opened) (next : List ℕ → Plan) → AreAll P next → P (with_stretch opened next)
 stretch_each P c (Ok plain) next all = all plain

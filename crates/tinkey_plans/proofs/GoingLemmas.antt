@@ -21,6 +21,7 @@ use Rattle.tinkey_plans.specs.declared.status.Status.TheVariants as status
 use Rattle.tinkey_words.specs.declared.words.rows.Format.{Format}
 use Rattle.tinkey_plans.specs.Going.{DoneExactly, NoneRefuses}
 use Rattle.tinkey_plans.specs.Plan.{Answer, Of, Plan, Told, answer, create_answer, draw_answer, load_answer, look_answer, range_answer, pump_answer, refused, stream_status, talk_answer, limit_status, ends, writes, creates, looks, allocates, loads, reads_all, reads_front, ranges, draws, pumps, exchanges}
+use Rattle.tinkey_plans.specs.KeyOf.{front_in, key_of_answer}
 use Rattle.tinkey_plans.specs.Locks.{puts_under}
 use Rattle.tinkey_plans.specs.Steps.{makes_keyset, puts}
 use Rattle.tinkey_plans.specs.Using.{hex_line, puts_output, shows}
@@ -34,8 +35,8 @@ use Rattle.tinkey_plans.specs.Stretch.{Opened, Stretch, stretch_in}
 use Rattle.tinkey_session.proofs.Options.{clash}
 use Rattle.tinkey_session.specs.Talking.{Stop, goes, wants, passes, long_line, many_lines, Talk, Limit}
 use Rattle.tinkey_plans.specs.Commands.{command_plan}
-use Rattle.tinkey_words.specs.Words.{Asked, self_test, Place, primitive_for, create_keyset, edit_keyset, list_keyset, convert_keyset, list_key_templates, use_keyset, use_envelope, seal_stream, open_stream, open_range, session, help, version}
-use Rattle.tinkey_plans.proofs.EachLemmas.{AreAll, IsClosed, IsOpen, dek_each, envelope_each, scheme_each, stretch_each, edit_each, fit_each, loaded_each, lock_each, locked_each, made_each, new_lock_each, row_each, under_each, work_each, written_under_each}
+use Rattle.tinkey_words.specs.Words.{Asked, self_test, Place, primitive_for, create_keyset, edit_keyset, list_keyset, key_of, convert_keyset, list_key_templates, use_keyset, use_envelope, seal_stream, open_stream, open_range, session, help, version}
+use Rattle.tinkey_plans.proofs.EachLemmas.{AreAll, IsClosed, IsOpen, dek_each, envelope_each, scheme_each, stretch_each, edit_each, fit_each, lines_each, loaded_each, lock_each, locked_each, made_each, new_lock_each, row_each, under_each, work_each, written_under_each}
 
 -- the refusals of its steps aren't Done
 abbrev IsProper : Plan → Type 0
@@ -196,6 +197,7 @@ commands_are_proper : (table : Table) (asked : Asked) → IsProper (command_plan
 commands_are_proper table (create_keyset lock name out) = (row_each IsProper closed (row_named name) name _ (λ row. lock_each IsProper open' table lock _ (λ master. draw_proper (first row) _ (out_proper table master out))))
 commands_are_proper table (edit_keyset lock edit in' out) = (edit_each IsProper closed edit _ (λ edit. lock_each IsProper open' table lock _ (λ master. under_each IsProper open' table master in' _ (λ keys. draw_proper (step keys edit) _ (out_proper table master out)))))
 commands_are_proper table (list_keyset lock in') = (locked_each IsProper open' table lock in' _ (λ keys. tt))
+commands_are_proper table (key_of lock name form kind) = loaded_each IsProper open' table lock name form _ (λ keys front. lines_each IsProper closed (key_of_answer keys (front_in kind front)) writes (λ lines. tt))
 commands_are_proper table (convert_keyset lock new in' out) = (lock_each IsProper open' table lock _ (λ taken. new_lock_each IsProper open' table new taken _ (λ put. under_each IsProper open' table taken in' _ (out_proper table put out))))
 commands_are_proper table list_key_templates = tt
 commands_are_proper table (use_keyset lock name form work out) = (loaded_each IsProper open' table lock name form _ (λ keys. fit_each IsProper closed (unfit keys (primitive_for work) table) _ (λ e. cc, λ input. work_each IsProper closed table keys work input (λ plain ad next all. all) (puts_output out) (shown_proper out.hex out.file))))

@@ -13,7 +13,8 @@ use Rattle.tinkey_words.specs.declared.words.rows.Format.{Format}
 use Rattle.tinkey_plans.specs.Laws.{CommandsAreWhole}
 use Rattle.tinkey_plans.specs.Plan.{writes, Plan}
 use Rattle.tinkey_plans.specs.Promises.{IsWhole}
-use Rattle.tinkey_plans.proofs.EachLemmas.{AreAll, IsClosed, IsOpen, dek_each, envelope_each, scheme_each, stretch_each, edit_each, fit_each, loaded_each, lock_each, locked_each, made_each, new_lock_each, row_each, under_each, work_each, written_under_each}
+use Rattle.tinkey_plans.proofs.EachLemmas.{AreAll, IsClosed, IsOpen, dek_each, envelope_each, scheme_each, stretch_each, edit_each, fit_each, lines_each, loaded_each, lock_each, locked_each, made_each, new_lock_each, row_each, under_each, work_each, written_under_each}
+use Rattle.tinkey_plans.specs.KeyOf.{front_in, key_of_answer}
 use Rattle.tinkey_plans.specs.Locks.{puts_under}
 use Rattle.tinkey_plans.specs.Steps.{makes_keyset, puts}
 use Rattle.tinkey_plans.specs.Using.{hex_line, puts_output, shows}
@@ -23,7 +24,7 @@ use Rattle.segment_stream.specs.StreamKeys as streams
 use Rattle.tinkey_plans.specs.Streaming as streaming
 use Rattle.tinkey_selftest.specs.declared.counts.Counts.{Counts}
 use Rattle.tinkey_plans.specs.SelfTesting.{tells_counts}
-use Rattle.tinkey_words.specs.Words.{self_test, Place, primitive_for, create_keyset, edit_keyset, list_keyset, convert_keyset, list_key_templates, use_keyset, use_envelope, seal_stream, open_stream, open_range, session, help, version}
+use Rattle.tinkey_words.specs.Words.{self_test, Place, primitive_for, create_keyset, edit_keyset, list_keyset, key_of, convert_keyset, list_key_templates, use_keyset, use_envelope, seal_stream, open_stream, open_range, session, help, version}
 
 closed : IsClosed IsWhole
 closed = record { ended = λ s stated. tt; allocated = λ next all. all }
@@ -62,6 +63,7 @@ pub commands_are_whole : CommandsAreWhole
 commands_are_whole table (create_keyset lock name out) = inl (row_each IsWhole closed (row_named name) name _ (λ row. lock_each IsWhole open' table lock _ (λ master. draw_whole (first row) _ (out_whole table master out))))
 commands_are_whole table (edit_keyset lock edit in' out) = inl (edit_each IsWhole closed edit _ (λ edit. lock_each IsWhole open' table lock _ (λ master. under_each IsWhole open' table master in' _ (λ keys. draw_whole (step keys edit) _ (out_whole table master out)))))
 commands_are_whole table (list_keyset lock in') = inl (locked_each IsWhole open' table lock in' _ (λ keys. tt))
+commands_are_whole table (key_of lock name form kind) = inl (loaded_each IsWhole open' table lock name form _ (λ keys front. lines_each IsWhole closed (key_of_answer keys (front_in kind front)) writes (λ lines. tt)))
 commands_are_whole table (convert_keyset lock new in' out) = inl (lock_each IsWhole open' table lock _ (λ taken. new_lock_each IsWhole open' table new taken _ (λ put. under_each IsWhole open' table taken in' _ (out_whole table put out))))
 commands_are_whole table list_key_templates = inl tt
 commands_are_whole table (use_keyset lock name form work out) = inl (loaded_each IsWhole open' table lock name form _ (λ keys. fit_each IsWhole closed (unfit keys (primitive_for work) table) _ (λ input. work_each IsWhole closed table keys work input (λ plain ad next all. all) (puts_output out) (shown_whole out.hex out.file))))

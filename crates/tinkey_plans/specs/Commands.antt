@@ -1,5 +1,5 @@
 -- The plan of each command: its steps, in the order of refusals. What a keyset answers is said apart
--- from plans, in keyset_model's Listing, in wrapped_prims' Answers and in seal_wrap's Wrapped, Unwrapped and
+-- from plans, in KeyOf, in keyset_model's Listing, in wrapped_prims' Answers and in seal_wrap's Wrapped, Unwrapped and
 -- Enveloped.
 use Rattle.std.specs.Prelude.{ℕ, List, [], ◌∷◌, ◌++◌, Option, Result, Ok, Err, codes}
 use Rattle.std.specs.List.{flat_map}
@@ -13,6 +13,7 @@ use Rattle.tinkey_plans.specs.Plan.{Plan, ends, writes}
 use Rattle.tinkey_plans.specs.Locks.{opens_lock, opens_new_lock, puts_under, takes_locked, takes_under}
 use Rattle.tinkey_plans.specs.Session.{session_plan}
 use Rattle.tinkey_plans.specs.Envelopes.{envelope_output}
+use Rattle.tinkey_plans.specs.KeyOf.{key_of_output}
 use Rattle.tinkey_plans.specs.Help.{help_text, version_text}
 use Rattle.tinkey_plans.specs.Ranging.{range_output}
 use Rattle.tinkey_plans.specs.SelfTesting.{self_test_output}
@@ -20,7 +21,7 @@ use Rattle.tinkey_plans.specs.Steps.{works_out, finds_template, finds_edit, make
 use Rattle.tinkey_plans.specs.Streaming.{loads_stream_keys, seals_stream, opens_stream}
 use Rattle.tinkey_plans.specs.Using.{puts_output, use_output}
 use Rattle.tinkey_words.specs.declared.words.misuse.Misuse.{Misuse}
-use Rattle.tinkey_words.specs.Words.{Place, AskedEdit, Asked, Lock, NewLock, create_keyset, edit_keyset, list_keyset, convert_keyset, list_key_templates, use_keyset, use_envelope, seal_stream, open_stream, open_range, self_test, session, help, version, words_of}
+use Rattle.tinkey_words.specs.Words.{Place, AskedEdit, Asked, Lock, NewLock, create_keyset, edit_keyset, list_keyset, key_of, convert_keyset, list_key_templates, use_keyset, use_envelope, seal_stream, open_stream, open_range, self_test, session, help, version, words_of}
 
 -- create-keyset: a keyset of one new key, and the master that it is put under
 abbrev pub create_output : Table → Lock → List ℕ → (Option Keys → Keys → Plan) → Plan
@@ -61,6 +62,7 @@ command_plan table (create_keyset lock template out) =
 command_plan table (edit_keyset lock edit in' out) =
     edit_output table lock edit in' (λ master. puts_under table master out)
 command_plan table (list_keyset lock in') = list_keyset_output table lock in' writes
+command_plan table (key_of lock name form kind) = key_of_output table lock name form kind writes
 command_plan table (convert_keyset lock new in' out) =
     convert_output table lock new in' (λ master. puts_under table master out)
 command_plan table list_key_templates = writes template_names

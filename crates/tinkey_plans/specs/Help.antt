@@ -22,6 +22,7 @@ list_text =
     ++ codes "  delete-key          removes a key; this can't be undone\n\n"
     ++ codes "Look at a keyset, and keep it:\n"
     ++ codes "  list-keyset         lists a keyset without key material\n"
+    ++ codes "  key-of              tells which keys may have sealed a text or an envelope, or made a tag\n"
     ++ codes "  list-key-templates  lists the names of the templates for new keys\n"
     ++ codes "  convert-keyset      writes a keyset in another form or place\n"
     ++ codes "  wrap-keyset         seals a keyset under another one, the master\n"
@@ -67,6 +68,10 @@ exit_text =
     ++ codes "1  verify failed\n"
     ++ codes "     No ENABLED key makes this tag of this input. Give the whole tag with its prefix, in\n"
     ++ codes "     hexadecimal, as tag --hex prints it.\n\n"
+    ++ codes "1  no key of the keyset\n"
+    ++ codes "     No key of the keyset has the output prefix in front of these bytes, and none is RAW:\n"
+    ++ codes "     another keyset sealed them, or they are no sealed text. For an envelope give --as\n"
+    ++ codes "     envelope; a stream has no prefix.\n\n"
     ++ codes "1  stream failed at segment {segment}\n"
     ++ codes "     From this segment on the stream is damaged or cut, or the key or the associated data\n"
     ++ codes "     are not the ones it was sealed with; at segment 0 it may be no stream at all. What was\n"
@@ -302,7 +307,7 @@ abbrev pub codes_012345678 : List ℕ
 codes_012345678 =
     codes "\nExit codes:\n"
     ++ code_0
-    ++ codes "  1  what was given doesn't open, doesn't verify, or is no whole stream\n"
+    ++ codes "  1  what was given doesn't open, doesn't verify, is no whole stream, or is of no key\n"
     ++ code_2 ++ code_3 ++ code_4 ++ code_5 ++ code_6 ++ code_7 ++ code_8
     ++ codes "\nExample:\n"
 
@@ -314,13 +319,6 @@ options_of_promote_key =
     ++ codes "Optional:\n"
     ++ in_31 ++ in_format_31 ++ out_31 ++ out_format_31 ++ master_31 ++ master_format_31
 
-abbrev pub options_of_wrap_keyset : List ℕ
-options_of_wrap_keyset =
-    codes "\nRequired:\n"
-    ++ master_31
-    ++ codes "\nOptional:\n"
-    ++ master_format_31 ++ in_31 ++ in_format_31 ++ out_31 ++ out_format_31
-
 abbrev pub keyset_31 : List ℕ
 keyset_31 =
     codes "  --keyset FILE                the file of the keyset to use: a file's name, of one byte or\n"
@@ -330,6 +328,13 @@ abbrev pub keyset_format_31 : List ℕ
 keyset_format_31 =
     codes "  --keyset-format json|binary  the form of that keyset: json or binary, in upper or lower\n"
     ++ codes "                               case; json if it isn't given\n"
+
+abbrev pub options_of_wrap_keyset : List ℕ
+options_of_wrap_keyset =
+    codes "\nRequired:\n"
+    ++ master_31
+    ++ codes "\nOptional:\n"
+    ++ master_format_31 ++ in_31 ++ in_format_31 ++ out_31 ++ out_format_31
 
 abbrev pub ad_31 : List ℕ
 ad_31 =
@@ -482,6 +487,25 @@ command_text commands.ListKeyset =
     ++ codes_012345678
     ++ codes "  tinkey create-keyset --key-template AES256_GCM --out listed.json\n"
     ++ codes "  tinkey list-keyset --in listed.json\n"
+command_text commands.KeyOf =
+    codes "tinkey key-of: tells which keys may have sealed a text or an envelope, or made a tag\n\n"
+    ++ codes "  tinkey key-of --keyset FILE [--keyset-format json|binary] [--master FILE]\n"
+    ++ codes "      [--master-format json|binary] [--as text|envelope]\n\n"
+    ++ codes "Required:\n"
+    ++ keyset_31
+    ++ codes "\nOptional:\n"
+    ++ keyset_format_31 ++ master_31 ++ master_format_31
+    ++ codes "  --as text|envelope           what the input is: a sealed text or a tag, or an envelope:\n"
+    ++ codes "                               text or envelope, in upper or lower case; text if it isn't\n"
+    ++ codes "                               given\n\n"
+    ++ codes "Reads  the keyset, and the first 5 bytes of standard input, or the first 9 with --as\n"
+    ++ codes "       envelope; of a stream it tells nothing, as streams have no output prefix\n"
+    ++ codes "Gives  a line for each key, of any status, whose output prefix stands in front, and one that\n"
+    ++ codes "       counts the keys without one, on standard output\n"
+    ++ codes_012345678
+    ++ codes "  tinkey create-keyset --key-template AES256_GCM --out sealer.json\n"
+    ++ codes "  echo 'Dear Ada' | tinkey seal --keyset sealer.json --out sealed.text\n"
+    ++ codes "  tinkey key-of --keyset sealer.json < sealed.text\n"
 command_text commands.ListKeyTemplates =
     codes "tinkey list-key-templates: lists the names of the templates for new keys\n\n"
     ++ codes "  tinkey list-key-templates\n"

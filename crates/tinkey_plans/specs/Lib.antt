@@ -3,6 +3,7 @@ pub mod Ends
 pub mod Envelopes
 pub mod Handles
 pub mod Help
+pub mod KeyOf
 pub mod Laws
 pub mod Locks
 pub mod Misfits

@@ -107,6 +107,7 @@ fn push_text(line: &mut ShortText, status: Status)
         Status::Done => {}
         Status::OpenFailed | Status::KeysetInClear => push_refusal(line, Refusal::OpenFailed),
         Status::VerifyFailed => push_refusal(line, Refusal::VerifyFailed),
+        Status::NoKeyOf => line.push("no key of the keyset"),
         Status::StreamFailed(number) => push_segment(line, number),
         Status::NoWords => line.push("usage: word 0"),
         Status::Usage(misuse) => {

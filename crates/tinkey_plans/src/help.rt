@@ -109,7 +109,7 @@ Gives  the keyset after that edit, in a new file of --out, or on standard output
     ([$($said:literal)*] codes_012345678 $($rest:tt)*) => {
         text!([$($said)*] "
 Exit codes:
-" code_0 "  1  what was given doesn't open, doesn't verify, or is no whole stream
+" code_0 "  1  what was given doesn't open, doesn't verify, is no whole stream, or is of no key
 " code_2 code_3 code_4 code_5 code_6 code_7 code_8 "
 Example:
 " $($rest)*)
@@ -123,13 +123,6 @@ Required:
 Optional:
 " in_31 in_format_31 out_31 out_format_31 master_31 master_format_31 $($rest)*)
     };
-    ([$($said:literal)*] options_of_wrap_keyset $($rest:tt)*) => {
-        text!([$($said)*] "
-Required:
-" master_31 "
-Optional:
-" master_format_31 in_31 in_format_31 out_31 out_format_31 $($rest)*)
-    };
     ([$($said:literal)*] keyset_31 $($rest:tt)*) => {
         text!([$($said)* "  --keyset FILE                the file of the keyset to use: a file's name, of one byte or
                                more
@@ -139,6 +132,13 @@ Optional:
         text!([$($said)* "  --keyset-format json|binary  the form of that keyset: json or binary, in upper or lower
                                case; json if it isn't given
 "] $($rest)*)
+    };
+    ([$($said:literal)*] options_of_wrap_keyset $($rest:tt)*) => {
+        text!([$($said)*] "
+Required:
+" master_31 "
+Optional:
+" master_format_31 in_31 in_format_31 out_31 out_format_31 $($rest)*)
     };
     ([$($said:literal)*] ad_31 $($rest:tt)*) => {
         text!([$($said)* "  --ad TEXT                    the associated data: a text of at most 1,048,576 bytes, taken
@@ -250,6 +250,7 @@ Make and change a keyset:
 
 Look at a keyset, and keep it:
   list-keyset         lists a keyset without key material
+  key-of              tells which keys may have sealed a text or an envelope, or made a tag
   list-key-templates  lists the names of the templates for new keys
   convert-keyset      writes a keyset in another form or place
   wrap-keyset         seals a keyset under another one, the master
@@ -306,6 +307,11 @@ A command that fails prints a line on standard error and ends with an exit code.
 1  verify failed
      No ENABLED key makes this tag of this input. Give the whole tag with its prefix, in
      hexadecimal, as tag --hex prints it.
+
+1  no key of the keyset
+     No key of the keyset has the output prefix in front of these bytes, and none is RAW:
+     another keyset sealed them, or they are no sealed text. For an envelope give --as
+     envelope; a stream has no prefix.
 
 1  stream failed at segment {segment}
      From this segment on the stream is damaged or cut, or the key or the associated data
@@ -586,6 +592,27 @@ tinkey list-keyset: lists a keyset without key material
 Optional:
 " in_31 in_format_31 master_31 master_format_31 read_by_add_key "Gives  its listing, on standard output\n" codes_012345678 "  tinkey create-keyset --key-template AES256_GCM --out listed.json
   tinkey list-keyset --in listed.json
+"),
+        CommandName::KeyOf => text!([] "\
+tinkey key-of: tells which keys may have sealed a text or an envelope, or made a tag
+
+  tinkey key-of --keyset FILE [--keyset-format json|binary] [--master FILE]
+      [--master-format json|binary] [--as text|envelope]
+
+Required:
+" keyset_31 "
+Optional:
+" keyset_format_31 master_31 master_format_31 "  --as text|envelope           what the input is: a sealed text or a tag, or an envelope:
+                               text or envelope, in upper or lower case; text if it isn't
+                               given
+
+Reads  the keyset, and the first 5 bytes of standard input, or the first 9 with --as
+       envelope; of a stream it tells nothing, as streams have no output prefix
+Gives  a line for each key, of any status, whose output prefix stands in front, and one that
+       counts the keys without one, on standard output
+" codes_012345678 "  tinkey create-keyset --key-template AES256_GCM --out sealer.json
+  echo 'Dear Ada' | tinkey seal --keyset sealer.json --out sealed.text
+  tinkey key-of --keyset sealer.json < sealed.text
 "),
         CommandName::ListKeyTemplates => text!([] "\
 tinkey list-key-templates: lists the names of the templates for new keys

@@ -23,6 +23,8 @@ pub enum Status {
     KeysetInClear,
     /// The tag is none of the keyset's keys.
     VerifyFailed,
+    /// No key of the keyset has the output prefix in front of the input, and each has one.
+    NoKeyOf,
     /// This segment of the stream, counted from 0, is the first that doesn't authenticate in its place.
     StreamFailed(u64),
     /// There is no word.
@@ -101,6 +103,7 @@ impl Status {
             Status::OpenFailed
             | Status::KeysetInClear
             | Status::VerifyFailed
+            | Status::NoKeyOf
             | Status::StreamFailed(_) => 1,
             Status::NoWords
             | Status::Usage(_)

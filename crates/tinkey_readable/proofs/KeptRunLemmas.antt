@@ -44,7 +44,7 @@ use Rattle.tinkey_readable.proofs.RunLemmas.{each_of, hands_within, template_row
 use Rattle.tinkey_readable.specs.KeptRuns.{CommandIdsStayDistinct, CreatedIdsAreDistinct, DataStaysByCommands, Event, EventDraws, GivenBackByEnable, HaveLed, HasLed, IsPut, KeptByCommands, KeptByItsIdAlone, HavePassed, OfAsked, OfEvent, OfEvents, OfLocked, Passes, PassesOn, PassesUnder, PassesWrapped, StaysIn, TookPlace, passed_by, passed_on, passed_wrapped}
 use Rattle.tinkey_readable.specs.Runs.{AreLocked, Does, GoesLocked, Handing, Hands, HandsOn, HandsUnder, HoldsBytes, ReadIsStored, Run, RunStep, Written, bytes_at, edit_of, keyset_of}
 use Rattle.tinkey_words.specs.declared.words.rows.Format.{Format}
-use Rattle.tinkey_words.specs.Words.{Asked, AskedEdit, Lock, Place, create_keyset, edit_keyset, list_keyset, convert_keyset, list_key_templates, use_keyset, use_envelope, seal_stream, open_stream, open_range, self_test, session, help, version}
+use Rattle.tinkey_words.specs.Words.{Asked, AskedEdit, Lock, Place, create_keyset, edit_keyset, list_keyset, key_of, convert_keyset, list_key_templates, use_keyset, use_envelope, seal_stream, open_stream, open_range, self_test, session, help, version}
 
 -- ---- one run
 
@@ -71,6 +71,7 @@ run_keeps P table told (convert_keyset lock how in' out) old new p each does = s
 run_keeps P table told (session lock name form out) old new p each does = subst P does.2 (each.by_session lock name form out refl does.0 does.1)
 run_keeps P table told (create_keyset lock template out) old new p each does = absurd does
 run_keeps P table told (list_keyset lock in') old new p each does = absurd does
+run_keeps P table told (key_of lock name form kind) old new p each does = absurd does
 run_keeps P table told list_key_templates old new p each does = absurd does
 run_keeps P table told (use_keyset lock name form work out) old new p each does = absurd does
 run_keeps P table told (use_envelope lock name form template work out) old new p each does = absurd does

@@ -49,7 +49,7 @@ use Rattle.tinkey_readable.specs.Runs.{Handing, hands_on, session_handing, AreRu
 use Rattle.tinkey_plans.specs.Laws.{FitKeysetsAnswer}
 use Rattle.tinkey_plans.specs.Steps.{input_limit, sealed_limit, keyset_limit, takes_keyset, makes_keyset, puts_keyset, with_made, written_in}
 use Rattle.tinkey_plans.specs.Using.{as_drawn, limit_for, made_bytes, with_opened, with_verified, works, puts_output}
-use Rattle.tinkey_words.specs.Words.{Asked, AskedEdit, AskedWork, Output, Place, create_keyset, edit_keyset, list_keyset, as_taken, in_clear, under, convert_keyset, list_key_templates, use_keyset, use_envelope, seal_stream, open_stream, open_range, self_test, session, to_seal, to_dseal, to_tag, primitive_for, help, version}
+use Rattle.tinkey_words.specs.Words.{Asked, AskedEdit, AskedWork, Output, Place, create_keyset, edit_keyset, list_keyset, key_of, as_taken, in_clear, under, convert_keyset, list_key_templates, use_keyset, use_envelope, seal_stream, open_stream, open_range, self_test, session, to_seal, to_dseal, to_tag, primitive_for, help, version}
 use Rattle.seal_wrap.specs.Sealings.{DsealingsFit, SealingsFit}
 use Rattle.tinkey_readable.proofs.ReachLemmas.{load_done, load_within, IsDoneAnswer, UsedKeys, behind, found_edit, made_done, put_done, taken_done, taken_within, used_done, used_reached, used_within}
 use Rattle.tinkey_readable.proofs.PutLemmas.{made_is, made_put, made_written, worked}
@@ -333,6 +333,7 @@ by_asked law binary json keeps keeps_stored turns sessions edited keep_sessions 
 by_asked law binary json keeps keeps_stored turns sessions edited keep_sessions table (session (Some master) name form' out) told before after old h e done form read put_form put random is stored = clash e
 by_asked law binary json keeps keeps_stored turns sessions edited keep_sessions table (create_keyset lock template out) told before after old h e done form read put_form put random is stored = clash e
 by_asked law binary json keeps keeps_stored turns sessions edited keep_sessions table (list_keyset lock in') told before after old h e done form read put_form put random is stored = clash e
+by_asked law binary json keeps keeps_stored turns sessions edited keep_sessions table (key_of lock name form' kind) told before after old h e done form read put_form put random is stored = clash e
 by_asked law binary json keeps keeps_stored turns sessions edited keep_sessions table list_key_templates told before after old h e done form read put_form put random is stored = clash e
 by_asked law binary json keeps keeps_stored turns sessions edited keep_sessions table (use_keyset lock name form' work out) told before after old h e done form read put_form put random is stored = clash e
 by_asked law binary json keeps keeps_stored turns sessions edited keep_sessions table (use_envelope lock name form' template work out) told before after old h e done form read put_form put random is stored = clash e
@@ -362,6 +363,7 @@ asked_within table (convert_keyset None (under master) in' out) told bytes h e d
 asked_within table (session (Some master) name form' out) told bytes h e done read = clash e
 asked_within table (create_keyset lock template out) told bytes h e done read = clash e
 asked_within table (list_keyset lock in') told bytes h e done read = clash e
+asked_within table (key_of lock name form kind) told bytes h e done read = clash e
 asked_within table list_key_templates told bytes h e done read = clash e
 asked_within table (use_keyset lock name form work out) told bytes h e done read = clash e
 asked_within table (use_envelope lock name form template work out) told bytes h e done read = clash e
@@ -395,6 +397,7 @@ done_edits sessions table told (convert_keyset lock how in' out) old new does = 
 done_edits sessions table told (session lock name form out) old new does = subst (λ k. IsEdited old k) does.2 (sessions table old (asked_in told.input) told.random does.0 does.1)
 done_edits sessions table told (create_keyset lock template out) old new does = absurd does
 done_edits sessions table told (list_keyset lock in') old new does = absurd does
+done_edits sessions table told (key_of lock name form kind) old new does = absurd does
 done_edits sessions table told list_key_templates old new does = absurd does
 done_edits sessions table told (use_keyset lock name form work out) old new does = absurd does
 done_edits sessions table told (use_envelope lock name form template work out) old new does = absurd does

@@ -1,5 +1,6 @@
 pub mod EnvelopeLemmas
 pub mod GivenLemmas
+pub mod KeyOfLemmas
 pub mod KeysetLemmas
 pub mod LockLemmas
 pub mod RangingLemmas

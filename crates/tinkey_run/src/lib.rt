@@ -8,6 +8,7 @@
 mod converting;
 mod edits;
 mod enveloping;
+mod key_of;
 pub mod laws;
 mod list;
 mod locks;

@@ -13,6 +13,7 @@ ghost use Rattle.tinkey_words.specs.Words.{seen_command};
 use crate::converting::convert_keyset;
 use crate::edits::{create_keyset, edit_keyset};
 use crate::enveloping::use_envelope;
+use crate::key_of::tell_keys;
 use crate::list::list_keyset;
 use crate::output::{finish_output, shown, write_output};
 use crate::ranging::open_stretch;
@@ -145,6 +146,15 @@ fn dispatch<S: Source, K: Sink, E: Lookahead, D: Store>(
         Request::ListKeyset { lock, input } => {
             let listing = list_keyset(alloc, managers, lock, input, source, store);
             finish_output(alloc, None, sink, store, listing)
+        }
+        Request::KeyOf {
+            lock,
+            keyset,
+            form,
+            kind,
+        } => {
+            let told = tell_keys(alloc, managers, lock, keyset, form, kind, source, store);
+            finish_output(alloc, None, sink, store, told)
         }
         Request::ConvertKeyset {
             lock,

@@ -41,6 +41,7 @@ command_found commands.UnwrapKeyset = refl
 command_found commands.Eseal = refl
 command_found commands.Eopen = refl
 command_found commands.Srange = refl
+command_found commands.KeyOf = refl
 
 -- how long its word is
 pub command_short : (command : CommandName) → length (row_of command).word ≤ 18
@@ -73,6 +74,7 @@ command_short commands.UnwrapKeyset = omega arith
 command_short commands.Eseal = omega arith
 command_short commands.Eopen = omega arith
 command_short commands.Srange = omega arith
+command_short commands.KeyOf = omega arith
 
 -- an option is found by its word, which has no equals sign, and by its place
 pub record IsFound (name : OptionName) : Type 0 where
@@ -104,6 +106,7 @@ is_found options.DekTemplate = record { word = refl; plain = refl; place = refl 
 is_found options.File = record { word = refl; plain = refl; place = refl }
 is_found options.From = record { word = refl; plain = refl; place = refl }
 is_found options.Hex = record { word = refl; plain = refl; place = refl }
+is_found options.As = record { word = refl; plain = refl; place = refl }
 
 -- how long its word is
 pub option_short : (name : OptionName) → length (option_row name).word ≤ 19
@@ -129,6 +132,7 @@ option_short options.DekTemplate = omega arith
 option_short options.File = omega arith
 option_short options.From = omega arith
 option_short options.Hex = omega arith
+option_short options.As = omega arith
 
 -- options that exclude each other do so both ways, and are two
 abbrev AreRivals : OptionName → OptionName → Type 0
@@ -157,6 +161,7 @@ are_rivals options.DekTemplate b is = absurd (cc)
 are_rivals options.File b is = absurd (cc)
 are_rivals options.From b is = absurd (cc)
 are_rivals options.Hex b is = absurd (cc)
+are_rivals options.As b is = absurd (cc)
 
 length_flag : (command : CommandName) → is_flag (length_form command) ≡ false
 length_flag commands.CreateKeyset = refl
@@ -188,6 +193,7 @@ length_flag commands.UnwrapKeyset = refl
 length_flag commands.Eseal = refl
 length_flag commands.Eopen = refl
 length_flag commands.Srange = refl
+length_flag commands.KeyOf = refl
 
 -- a flag is one for every command
 pub flag_form : (name : OptionName) (command : CommandName) → is_flag (form_for name command) ≡ is_flag (option_row name).form
@@ -213,3 +219,4 @@ flag_form options.DekTemplate command = refl
 flag_form options.File command = refl
 flag_form options.From command = refl
 flag_form options.Hex command = refl
+flag_form options.As command = refl

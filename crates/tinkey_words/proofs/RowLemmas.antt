@@ -15,13 +15,14 @@ use Rattle.std.proofs.lemmas.Slice.Eq.{bytes_eq-Decides, starts_is}
 use Rattle.std.proofs.lemmas.Bool.Decides.{Decides-eqb}
 use Rattle.tinkey_words.specs.declared.words.names.CommandName.{CommandName}
 use Rattle.tinkey_words.specs.declared.words.rows.Format.TheVariants as formats
+use Rattle.tinkey_words.specs.declared.words.rows.SealedForm.TheVariants as sealed
 use Rattle.tinkey_words.specs.declared.words.rows.Form.{Form}
 use Rattle.tinkey_words.specs.declared.words.rows.Form.TheVariants as forms
 use Rattle.tinkey_words.specs.declared.words.names.OptionName.{OptionName}
 use Rattle.tinkey_words.specs.declared.words.names.OptionName.TheVariants as options
 use Rattle.hex.specs.Hex.{is_hex_digit}
 use Rattle.tinkey_words.specs.Names.{row_of, all_commands, option_row, all_options}
-use Rattle.tinkey_words.specs.Rows.{command_of, option_of, same, datum_limit, is_line_count, most_lines, is_range_length, most_range, offset_in, format_of, is_hex, is_value, is_flag, aside, begins_aside, is_aside}
+use Rattle.tinkey_words.specs.Rows.{command_of, option_of, same, datum_limit, is_line_count, most_lines, is_range_length, most_range, offset_in, format_of, sealed_form_of, is_hex, is_value, is_flag, aside, begins_aside, is_aside}
 use Rattle.tinkey_words.specs.Words.{is_equals, own_value}
 use Rattle.tinkey_words.proofs.NameLemmas.{is_found}
 use Rattle.tinkey_words.specs.Grammar.{IsAside, IsHex, IsLineCount, IsNumber, IsOffset, IsRangeLength, IsValue}
@@ -192,16 +193,16 @@ new_file_formed value is =
     (some_byte value tests.0, λ named. let clash : false ≡ true = ap not (sym (is_aside' value named)) ∙ tests.1 in cc)
 
 -- one of two names
-one_of_both : (a b : Bool) → (a ≡ true) ⊎ (b ≡ true) → is_some (if a then Some formats.Json else (if b then Some formats.Binary else None)) ≡ true
-one_of_both true b one = refl
-one_of_both false true one = refl
-one_of_both false false (inl is) = absurd (cc)
-one_of_both false false (inr is) = absurd (cc)
+one_of_both : {X : Type 0} (x y : X) (a b : Bool) → (a ≡ true) ⊎ (b ≡ true) → is_some (if a then Some x else (if b then Some y else None)) ≡ true
+one_of_both x y true b one = refl
+one_of_both x y false true one = refl
+one_of_both x y false false (inl is) = absurd (cc)
+one_of_both x y false false (inr is) = absurd (cc)
 
-which_one : (a b : Bool) → is_some (if a then Some formats.Json else (if b then Some formats.Binary else None)) ≡ true → (a ≡ true) ⊎ (b ≡ true)
-which_one true b is = inl refl
-which_one false true is = inr refl
-which_one false false is = absurd (cc)
+which_one : {X : Type 0} (x y : X) (a b : Bool) → is_some (if a then Some x else (if b then Some y else None)) ≡ true → (a ≡ true) ⊎ (b ≡ true)
+which_one x y true b is = inl refl
+which_one x y false true is = inr refl
+which_one x y false false is = absurd (cc)
 
 lowered_is : (value name : List ℕ) → str_to_ascii_lowercase name ≡ name → str_to_ascii_lowercase value ≡ name → str_eq_ignore_ascii_case value name ≡ true
 lowered_is value name low is = (bytes_eq-Decides (str_to_ascii_lowercase value) (str_to_ascii_lowercase name)).1 (is ∙ sym low)
@@ -211,14 +212,26 @@ is_lowered value name low test = same_text (str_to_ascii_lowercase value) (str_t
 
 format_taken : (value : List ℕ) → IsValue forms.Format value → is_some (format_of value) ≡ true
 unfolding format_of
-format_taken value (inl json) = one_of_both (str_eq_ignore_ascii_case value (codes "json")) (str_eq_ignore_ascii_case value (codes "binary")) (inl (lowered_is value (codes "json") refl json))
-format_taken value (inr binary) = one_of_both (str_eq_ignore_ascii_case value (codes "json")) (str_eq_ignore_ascii_case value (codes "binary")) (inr (lowered_is value (codes "binary") refl binary))
+format_taken value (inl json) = one_of_both formats.Json formats.Binary (str_eq_ignore_ascii_case value (codes "json")) (str_eq_ignore_ascii_case value (codes "binary")) (inl (lowered_is value (codes "json") refl json))
+format_taken value (inr binary) = one_of_both formats.Json formats.Binary (str_eq_ignore_ascii_case value (codes "json")) (str_eq_ignore_ascii_case value (codes "binary")) (inr (lowered_is value (codes "binary") refl binary))
 
 format_formed : (value : List ℕ) → is_some (format_of value) ≡ true → IsValue forms.Format value
 unfolding format_of
-format_formed value is = elim (which_one (str_eq_ignore_ascii_case value (codes "json")) (str_eq_ignore_ascii_case value (codes "binary")) is) [
+format_formed value is = elim (which_one formats.Json formats.Binary (str_eq_ignore_ascii_case value (codes "json")) (str_eq_ignore_ascii_case value (codes "binary")) is) [
   | inl json ↦ inl (is_lowered value (codes "json") refl json)
   | inr binary ↦ inr (is_lowered value (codes "binary") refl binary)
+]
+
+sealed_taken : (value : List ℕ) → IsValue forms.SealedForm value → is_some (sealed_form_of value) ≡ true
+unfolding sealed_form_of
+sealed_taken value (inl text) = one_of_both sealed.Text sealed.Envelope (str_eq_ignore_ascii_case value (codes "text")) (str_eq_ignore_ascii_case value (codes "envelope")) (inl (lowered_is value (codes "text") refl text))
+sealed_taken value (inr envelope) = one_of_both sealed.Text sealed.Envelope (str_eq_ignore_ascii_case value (codes "text")) (str_eq_ignore_ascii_case value (codes "envelope")) (inr (lowered_is value (codes "envelope") refl envelope))
+
+sealed_formed : (value : List ℕ) → is_some (sealed_form_of value) ≡ true → IsValue forms.SealedForm value
+unfolding sealed_form_of
+sealed_formed value is = elim (which_one sealed.Text sealed.Envelope (str_eq_ignore_ascii_case value (codes "text")) (str_eq_ignore_ascii_case value (codes "envelope")) is) [
+  | inl text ↦ inl (is_lowered value (codes "text") refl text)
+  | inr envelope ↦ inr (is_lowered value (codes "envelope") refl envelope)
 ]
 
 three_pass : (a b c : Bool) → (a && b && c) ≡ true → (a ≡ true) × (b ≡ true) × (c ≡ true)
@@ -259,6 +272,7 @@ value_taken forms.LineCount value other formed = count_taken value formed
 value_taken forms.RangeLength value other formed = range_taken value formed
 value_taken forms.Offset value other formed = offset_taken value formed
 value_taken forms.Format value other formed = format_taken value formed
+value_taken forms.SealedForm value other formed = sealed_taken value formed
 value_taken forms.Datum value other formed = datum_taken value formed
 value_taken forms.Hex value other formed = hex_taken value formed
 value_taken forms.Flag value other formed = absurd (cc)
@@ -273,6 +287,7 @@ value_formed forms.LineCount value is = count_formed value is
 value_formed forms.RangeLength value is = range_formed value is
 value_formed forms.Offset value is = offset_formed value is
 value_formed forms.Format value is = format_formed value is
+value_formed forms.SealedForm value is = sealed_formed value is
 value_formed forms.Datum value is = datum_formed value is
 value_formed forms.Hex value is = hex_formed value is
 value_formed forms.Flag value is = absurd (cc)
@@ -287,6 +302,7 @@ value_other forms.LineCount value is = refl
 value_other forms.RangeLength value is = refl
 value_other forms.Offset value is = refl
 value_other forms.Format value is = refl
+value_other forms.SealedForm value is = refl
 value_other forms.Datum value is = refl
 value_other forms.Hex value is = refl
 value_other forms.Flag value is = absurd (cc)
@@ -301,6 +317,7 @@ flag_is forms.LineCount is = absurd (cc)
 flag_is forms.RangeLength is = absurd (cc)
 flag_is forms.Offset is = absurd (cc)
 flag_is forms.Format is = absurd (cc)
+flag_is forms.SealedForm is = absurd (cc)
 flag_is forms.Datum is = absurd (cc)
 flag_is forms.Hex is = absurd (cc)
 flag_is forms.Flag is = refl

@@ -78,6 +78,9 @@ IsValue forms.Offset value = IsOffset value
 IsValue forms.Format value =
     (str_to_ascii_lowercase value ≡ codes "json")
     ⊎ (str_to_ascii_lowercase value ≡ codes "binary")
+IsValue forms.SealedForm value =
+    (str_to_ascii_lowercase value ≡ codes "text")
+    ⊎ (str_to_ascii_lowercase value ≡ codes "envelope")
 IsValue forms.Datum value = length value ≤ datum_limit
 IsValue forms.Hex value = IsHex value
 IsValue forms.Flag value = value ≡ []

@@ -89,6 +89,9 @@ eseal_requires = options.Keyset ∷ options.DekTemplate ∷ []
 abbrev pub srange_requires : List OptionName
 srange_requires = options.Keyset ∷ options.File ∷ options.From ∷ options.Length ∷ []
 
+abbrev pub key_of_may : List OptionName
+key_of_may = options.KeysetFormat ∷ options.Master ∷ options.MasterFormat ∷ options.As ∷ []
+
 -- the row of each command
 abbrev pub row_of : CommandName → Row
 row_of commands.CreateKeyset = row (codes "create-keyset") create_keyset_requires create_keyset_may
@@ -120,6 +123,7 @@ row_of commands.UnwrapKeyset = row (codes "unwrap-keyset") wrap_keyset_requires 
 row_of commands.Eseal = row (codes "eseal") eseal_requires seal_may
 row_of commands.Eopen = row (codes "eopen") eseal_requires seal_may
 row_of commands.Srange = row (codes "srange") srange_requires seal_may
+row_of commands.KeyOf = row (codes "key-of") seal_requires key_of_may
 
 -- all commands
 abbrev pub all_commands : List CommandName
@@ -130,7 +134,7 @@ all_commands =
     ∷ commands.Open ∷ commands.Dseal ∷ commands.Dopen ∷ commands.Reseal ∷ commands.Dreseal
     ∷ commands.Sseal ∷ commands.Sopen ∷ commands.Tag ∷ commands.Verify ∷ commands.Derive
     ∷ commands.Session ∷ commands.Selftest ∷ commands.WrapKeyset ∷ commands.UnwrapKeyset
-    ∷ commands.Eseal ∷ commands.Eopen ∷ commands.Srange ∷ []
+    ∷ commands.Eseal ∷ commands.Eopen ∷ commands.Srange ∷ commands.KeyOf ∷ []
 
 -- The options.
 
@@ -168,6 +172,7 @@ option_row options.DekTemplate = option 18 (codes "--dek-template") forms.Text
 option_row options.File = option 19 (codes "--file") forms.FileName
 option_row options.From = option 20 (codes "--from") forms.Offset
 option_row options.Hex = option 21 (codes "--hex") forms.Flag
+option_row options.As = option 22 (codes "--as") forms.SealedForm
 
 -- all options, in the order of their places
 abbrev pub all_options : List OptionName
@@ -176,7 +181,7 @@ all_options =
     ∷ options.OutFormat ∷ options.Keyset ∷ options.KeysetFormat ∷ options.Ad ∷ options.AdHex
     ∷ options.TagHex ∷ options.Length ∷ options.Seed ∷ options.Lines ∷ options.Master
     ∷ options.MasterFormat ∷ options.NewMaster ∷ options.NewMasterFormat ∷ options.DekTemplate
-    ∷ options.File ∷ options.From ∷ options.Hex ∷ []
+    ∷ options.File ∷ options.From ∷ options.Hex ∷ options.As ∷ []
 
 -- the option that must not stand beside this one, which gives the same thing
 abbrev pub rival : OptionName → Option OptionName

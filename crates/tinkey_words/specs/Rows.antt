@@ -8,6 +8,8 @@ use Rattle.hex.specs.Hex.{is_hex_digit}
 use Rattle.tink_base.specs.Decimal.{number_in}
 use Rattle.tinkey_words.specs.declared.words.rows.Format.{Format}
 use Rattle.tinkey_words.specs.declared.words.rows.Format.TheVariants as formats
+use Rattle.tinkey_words.specs.declared.words.rows.SealedForm.{SealedForm}
+use Rattle.tinkey_words.specs.declared.words.rows.SealedForm.TheVariants as sealed
 use Rattle.tinkey_words.specs.declared.words.rows.Form.{Form}
 use Rattle.tinkey_words.specs.declared.words.rows.Form.TheVariants as forms
 use Rattle.tinkey_words.specs.declared.words.names.CommandName.{CommandName}
@@ -96,6 +98,13 @@ format_of text =
     else (if str_eq_ignore_ascii_case text (codes "binary") then Some formats.Binary
     else None)
 
+-- the form of a sealed text, a tag or an envelope, of this name, in letters of either case
+unfoldable pub sealed_form_of : List ℕ → Option SealedForm
+sealed_form_of text =
+    if str_eq_ignore_ascii_case text (codes "text") then Some sealed.Text
+    else (if str_eq_ignore_ascii_case text (codes "envelope") then Some sealed.Envelope
+    else None)
+
 -- a datum of more bytes is too long
 abbrev pub datum_limit : ℕ
 datum_limit = 1048576
@@ -111,8 +120,8 @@ is_hex text =
 
 -- the text is a value of this form: any text, the name of a file, which isn't empty, that of a new one,
 -- which isn't a name aside either, a number, a count
--- of lines, the length of a range, an offset in a file, the name of a keyset's form, or a datum as it stands
--- or in hexadecimal; a flag has none
+-- of lines, the length of a range, an offset in a file, the name of a keyset's form or of what key-of is given, or a
+-- datum as it stands or in hexadecimal; a flag has none
 unfoldable pub is_value : Form → List ℕ → Bool
 is_value forms.Text text = true
 is_value forms.FileName text = nat_lt 0 (length text)
@@ -122,6 +131,7 @@ is_value forms.LineCount text = is_line_count (number_in text)
 is_value forms.RangeLength text = is_range_length (number_in text)
 is_value forms.Offset text = is_some (offset_in text)
 is_value forms.Format text = is_some (format_of text)
+is_value forms.SealedForm text = is_some (sealed_form_of text)
 is_value forms.Datum text = is_datum text
 is_value forms.Hex text = is_hex text
 is_value forms.Flag text = false

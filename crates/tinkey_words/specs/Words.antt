@@ -43,13 +43,15 @@ use Rattle.tinkey_words.specs.declared.words.misuse.Misuse.{Misuse}
 use Rattle.tinkey_words.specs.declared.words.rows.Form.{Form}
 use Rattle.tinkey_words.specs.declared.words.rows.Format.{Format}
 use Rattle.tinkey_words.specs.declared.words.rows.Format.TheVariants as formats
+use Rattle.tinkey_words.specs.declared.words.rows.SealedForm.{SealedForm}
+use Rattle.tinkey_words.specs.declared.words.rows.SealedForm.TheVariants as sealed
 use Rattle.tinkey_words.specs.declared.words.names.CommandName.{CommandName}
 use Rattle.tinkey_words.specs.declared.words.names.CommandName.TheVariants as commands
 use Rattle.tinkey_words.specs.declared.words.names.OptionName.{OptionName}
 use Rattle.tinkey_words.specs.declared.words.names.OptionName.TheVariants as options
 use Rattle.tink_base.specs.Decimal.{number_in}
 use Rattle.tinkey_words.specs.Names.{row_of, option_row, form_for, rival, needs}
-use Rattle.tinkey_words.specs.Rows.{command_of, option_of, same, takes, datum_limit, most_range, format_of, is_aside, is_new_file, is_value, offset_in, is_flag}
+use Rattle.tinkey_words.specs.Rows.{command_of, option_of, same, takes, datum_limit, most_range, format_of, sealed_form_of, is_aside, is_new_file, is_value, offset_in, is_flag}
 
 -- What is asked.
 
@@ -134,6 +136,8 @@ pub data Asked : Type 0 where
   edit_keyset : (lock : Lock) (edit : AskedEdit) (in' out : Place) → Asked
   -- the listing of a keyset
   list_keyset : (lock : Lock) (in' : Place) → Asked
+  -- the keys under which the input stands, of the keyset in the file of this name
+  key_of : (lock : Lock) (keyset : List ℕ) (form : Format) (kind : SealedForm) → Asked
   -- a keyset, in another place, and where it is asked for under another master or in clear
   convert_keyset : (lock : Lock) (new : NewLock) (in' out : Place) → Asked
   -- the names of the templates
@@ -238,6 +242,15 @@ known_form (Some form) = form
 abbrev pub form_in : Option (List ℕ) → Format
 form_in value = known_form (format_of (text value))
 
+-- what key-of is given, a text where it isn't said
+abbrev pub known_sealed : Option SealedForm → SealedForm
+known_sealed None = sealed.Text
+known_sealed (Some kind) = kind
+
+-- what an option says that it is
+abbrev pub sealed_in : Option (List ℕ) → SealedForm
+sealed_in value = known_sealed (sealed_form_of (text value))
+
 -- where a keyset is taken from
 abbrev pub taken_from : Values → Place
 taken_from values = record { file = values options.In; form = form_in (values options.InFormat) }
@@ -341,6 +354,9 @@ asked_with commands.Eopen values = enveloped (to_eopen (ad values)) values
 asked_with commands.Srange values =
     open_range (lock values) (text (values options.Keyset)) (form_in (values options.KeysetFormat))
     (ad values) (range values) (values options.Out)
+asked_with commands.KeyOf values =
+    key_of (lock values) (text (values options.Keyset)) (form_in (values options.KeysetFormat))
+    (sealed_in (values options.As))
 
 -- The words, one after another.
 
@@ -616,6 +632,7 @@ seen_command (asks.CreateKeyset lock template output) =
 seen_command (asks.EditKeyset lock edit input output) =
     edit_keyset (seen_lock lock) (seen_edit edit) (seen_place input) (seen_place output)
 seen_command (asks.ListKeyset lock input) = list_keyset (seen_lock lock) (seen_place input)
+seen_command (asks.KeyOf lock keyset form kind) = key_of (seen_lock lock) keyset.now form kind
 seen_command (asks.ConvertKeyset lock new input output) =
     convert_keyset (seen_lock lock) (seen_new_lock new) (seen_place input) (seen_place output)
 seen_command asks.ListKeyTemplates = list_key_templates

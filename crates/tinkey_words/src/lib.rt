@@ -9,5 +9,5 @@ mod words;
 
 pub use words::{
     CommandName, DATUM_LIMIT, Datum, Envelope, Form, Format, Master, Misfit, Misuse, NewLock,
-    OptionName, Output, Place, Range, Request, Topic, Work, parse,
+    OptionName, Output, Place, Range, Request, SealedForm, Topic, Work, parse,
 };

@@ -3,8 +3,8 @@
 ghost use Rattle.std.specs.Prelude.{◌≡◌, ◌<◌, ◌≤◌, ◌^◌, Some, length, map, option_map, slice_set, string_bytes};
 ghost use Rattle.tinkey_words.specs.Names.{needs, option_row};
 ghost use Rattle.tinkey_words.specs.Rows.{option_of, is_flag};
-ghost use Rattle.tinkey_words.specs.declared.words.names.OptionName.TheVariants.{Lines};
-ghost use Rattle.tinkey_words.specs.Words.{words_of, by_itself, command_words, help_words, topic_words, with_options, topic_of, given_in, lines_in, next_word, option_word, own_value, misvalued, is_barred, bar, unbarred, new_option, with_value, no_options, lacking, complete, unmet, unmet_none, asked_with, text, number, id, template, ad, edited, enveloped, worked, seen_command, seen_datum, seen_edit, seen_envelope, seen_name, seen_options, seen_range, seen_work, offset, range, range_length, Reads, form_in, taken_from, put_to, seen_place, alone, output_in, seen_output, convert_keyset, lock, lock_of, new_lock, relocked, seen_lock, seen_new_lock};
+ghost use Rattle.tinkey_words.specs.declared.words.names.OptionName.TheVariants.{As, Lines};
+ghost use Rattle.tinkey_words.specs.Words.{words_of, by_itself, command_words, help_words, topic_words, with_options, topic_of, given_in, lines_in, next_word, option_word, own_value, misvalued, is_barred, bar, unbarred, new_option, with_value, no_options, lacking, complete, unmet, unmet_none, asked_with, text, number, id, template, ad, edited, enveloped, worked, seen_command, seen_datum, seen_edit, seen_envelope, seen_name, seen_options, seen_range, seen_work, offset, range, range_length, Reads, form_in, sealed_in, taken_from, put_to, seen_place, alone, output_in, seen_output, convert_keyset, lock, lock_of, new_lock, relocked, seen_lock, seen_new_lock};
 
 mod help;
 mod lock;
@@ -21,8 +21,11 @@ pub use misuse::{Misfit, Misuse};
 use names::{NEEDS, OPTION_COUNT};
 pub use names::{CommandName, OptionName};
 pub use range::Range;
-pub use rows::{DATUM_LIMIT, Form, Format};
-use rows::{MOST_RANGE, format_named, is_aside, is_flag, is_value, offset_in, option_named, takes};
+pub use rows::{DATUM_LIMIT, Form, Format, SealedForm};
+use rows::{
+    MOST_RANGE, format_named, is_aside, is_flag, is_value, offset_in, option_named,
+    sealed_form_named, takes,
+};
 use tink_base::number_in;
 use tinkey_cmds::Command as Edit;
 
@@ -58,6 +61,17 @@ pub enum Request<'a> {
         lock: Option<Master<'a>>,
         /// Where the keyset is taken from.
         input: Place<'a>,
+    },
+    /// Tell the keys of a keyset under which the input stands.
+    KeyOf {
+        /// The master of the keyset, if it lies under one.
+        lock: Option<Master<'a>>,
+        /// The file of the keyset.
+        keyset: &'a str,
+        /// The form of the keyset.
+        form: Format,
+        /// What the input is.
+        kind: SealedForm,
     },
     /// Put a keyset elsewhere, in another form, or under another master.
     ConvertKeyset {
@@ -431,6 +445,12 @@ fn command_with<'a>(command: CommandName, given: &Options<'a>) -> Request<'a>
             range: given.range(),
             output: given.value(OptionName::Out),
         },
+        CommandName::KeyOf => Request::KeyOf {
+            lock: given.lock(),
+            keyset: given.text(OptionName::Keyset),
+            form: given.form(OptionName::KeysetFormat),
+            kind: given.kind(),
+        },
     }
 }
 
@@ -518,6 +538,16 @@ impl<'a> Options<'a> {
         match format_named(self.text(name)) {
             Some(form) => form,
             None => Format::Json,
+        }
+    }
+
+    /// What key-of is given, a text where it isn't said.
+    fn kind(&self) -> SealedForm
+        ensures { result ≡ sealed_in ((seen_options self.now).values As) }
+    {
+        match sealed_form_named(self.text(OptionName::As)) {
+            Some(kind) => kind,
+            None => SealedForm::Text,
         }
     }
 

@@ -66,6 +66,8 @@ pub enum CommandName {
     Eopen,
     /// `srange`
     Srange,
+    /// `key-of`
+    KeyOf,
 }
 
 /// An option by its name.
@@ -115,13 +117,15 @@ pub enum OptionName {
     From,
     /// `--hex`, writes the output in hexadecimal.
     Hex,
+    /// `--as`, what the input is: a sealed text or a tag, or an envelope.
+    As,
 }
 
 /// How many commands there are.
-const COMMAND_COUNT: usize = 29;
+const COMMAND_COUNT: usize = 30;
 
 /// How many options there are.
-pub const OPTION_COUNT: usize = 22;
+pub const OPTION_COUNT: usize = 23;
 
 /// A command's word, the options that it requires, and those that it may have.
 #[derive(Clone, Copy)]
@@ -192,6 +196,7 @@ impl CommandName {
             CommandName::Eseal => row("eseal", &ESEAL_REQUIRES, &SEAL_MAY),
             CommandName::Eopen => row("eopen", &ESEAL_REQUIRES, &SEAL_MAY),
             CommandName::Srange => row("srange", &SRANGE_REQUIRES, &SEAL_MAY),
+            CommandName::KeyOf => row("key-of", &SEAL_REQUIRES, &KEY_OF_MAY),
         }
     }
 }
@@ -303,6 +308,13 @@ const SRANGE_REQUIRES: [OptionName; 4] = [
     OptionName::Length,
 ];
 
+const KEY_OF_MAY: [OptionName; 4] = [
+    OptionName::KeysetFormat,
+    OptionName::Master,
+    OptionName::MasterFormat,
+    OptionName::As,
+];
+
 fn row(
     word: &'static str,
     required: &'static [OptionName],
@@ -353,6 +365,7 @@ impl OptionName {
             OptionName::File => option("--file", Form::FileName),
             OptionName::From => option("--from", Form::Offset),
             OptionName::Hex => option("--hex", Form::Flag),
+            OptionName::As => option("--as", Form::SealedForm),
         }
     }
 
@@ -440,6 +453,7 @@ pub const COMMANDS: [CommandName; COMMAND_COUNT] = [
     CommandName::Eseal,
     CommandName::Eopen,
     CommandName::Srange,
+    CommandName::KeyOf,
 ];
 
 /// All options, in the order of their places.
@@ -466,4 +480,5 @@ pub const OPTIONS: [OptionName; OPTION_COUNT] = [
     OptionName::File,
     OptionName::From,
     OptionName::Hex,
+    OptionName::As,
 ];

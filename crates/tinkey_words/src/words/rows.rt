@@ -3,7 +3,7 @@
 ghost use Rattle.std.specs.Prelude.{◌≡◌};
 ghost use Rattle.std.specs.List.{list_all};
 ghost use Rattle.hex.specs.Hex.{is_hex_digit};
-ghost use Rattle.tinkey_words.specs.Rows.{command_of, option_of, is_one_of, takes, format_of, is_hex, is_line_count, is_range_length, is_aside, is_value, offset_in, is_flag};
+ghost use Rattle.tinkey_words.specs.Rows.{command_of, option_of, is_one_of, takes, format_of, sealed_form_of, is_hex, is_line_count, is_range_length, is_aside, is_value, offset_in, is_flag};
 
 use super::names::{COMMANDS, CommandName, OPTIONS, OptionName};
 use std::path::Path;
@@ -33,6 +33,15 @@ pub enum Format {
     Binary,
 }
 
+/// The form of what key-of is given.
+#[derive(Clone, Copy)]
+pub enum SealedForm {
+    /// A sealed text, or a tag.
+    Text,
+    /// An envelope.
+    Envelope,
+}
+
 /// The form of an option's value.
 #[derive(Clone, Copy)]
 pub enum Form {
@@ -52,6 +61,8 @@ pub enum Form {
     Offset,
     /// The form of a keyset: `json` or `binary`, in letters of either case.
     Format,
+    /// The form of what key-of is given: `text` or `envelope`, in letters of either case.
+    SealedForm,
     /// A text of at most 1,048,576 bytes, which are meant.
     Datum,
     /// An even number of hexadecimal digits of either case, at most 2,097,152.
@@ -109,6 +120,7 @@ pub fn is_value(form: Form, text: &str) -> bool
         Form::RangeLength => is_range_length(number_in(text)),
         Form::Offset => offset_in(text).is_some(),
         Form::Format => format_named(text).is_some(),
+        Form::SealedForm => sealed_form_named(text).is_some(),
         Form::Datum => text.len() <= DATUM_LIMIT,
         Form::Hex => is_hex(text),
         Form::Flag => false,
@@ -195,6 +207,20 @@ pub fn format_named(text: &str) -> Option<Format>
         Some(Format::Json)
     } else if text.eq_ignore_ascii_case("binary") {
         Some(Format::Binary)
+    } else {
+        None
+    }
+}
+
+/// The form of what key-of is given, of this name.
+#[tactic(auto, unfolding(crate::specs::Rows::sealed_form_of))]
+pub fn sealed_form_named(text: &str) -> Option<SealedForm>
+    ensures { result ≡ sealed_form_of text.now }
+{
+    if text.eq_ignore_ascii_case("text") {
+        Some(SealedForm::Text)
+    } else if text.eq_ignore_ascii_case("envelope") {
+        Some(SealedForm::Envelope)
     } else {
         None
     }

@@ -38,6 +38,10 @@ pub returns-in-ListKeyset : goal.returns-in-ListKeyset
 unfolding command_text
 returns-in-ListKeyset c = rw c.in-ListKeyset.is refl
 
+pub returns-in-KeyOf : goal.returns-in-KeyOf
+unfolding command_text
+returns-in-KeyOf c = rw c.in-KeyOf.is refl
+
 pub returns-in-ListKeyTemplates : goal.returns-in-ListKeyTemplates
 unfolding command_text
 returns-in-ListKeyTemplates c = rw c.in-ListKeyTemplates.is refl

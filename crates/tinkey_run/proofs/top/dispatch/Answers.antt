@@ -2,6 +2,7 @@ use Rattle.std.proofs.Common.{◌∙◌}
 use Rattle.tinkey_plans.specs.Commands.{list_keyset_output}
 use Rattle.tinkey_plans.specs.Ends.{world}
 use Rattle.tinkey_plans.specs.Envelopes.{envelope_output}
+use Rattle.tinkey_plans.specs.KeyOf.{key_of_output}
 use Rattle.tinkey_plans.specs.Ranging.{range_output}
 use Rattle.tinkey_plans.specs.SelfTesting.{self_test_output}
 use Rattle.tinkey_plans.specs.Streaming.{loads_stream_keys}
@@ -21,6 +22,12 @@ pub returns-in-ListKeyset : goal.returns-in-ListKeyset
 returns-in-ListKeyset g c =
     let w = world (g.S.Source.state c.args.source.now) (g.K.Sink.state c.args.sink.now) (g.D.Store.state c.args.store.now) (g.E.Entropy.state c.args.entropy.now) in
     rw c.in-ListKeyset.is (c.finish_output.ensures (list_keyset_output _ (seen_lock c.in-ListKeyset.lock) (seen_place c.in-ListKeyset.input)) w (record w { source = g.S.Source.state c.list_keyset-listing.new.source; store = g.D.Store.state c.list_keyset-listing.new.store }) (c.list_keyset-listing.ensures w))
+
+pub returns-in-KeyOf : goal.returns-in-KeyOf
+returns-in-KeyOf g c =
+    let w = world (g.S.Source.state c.args.source.now) (g.K.Sink.state c.args.sink.now) (g.D.Store.state c.args.store.now) (g.E.Entropy.state c.args.entropy.now) in
+    let x = c.in-KeyOf in
+    rw x.is (c.finish_output-in-KeyOf.ensures (key_of_output _ (seen_lock x.lock) x.keyset.now x.form x.kind) w (record w { source = g.S.Source.state c.tell_keys-told.new.source; store = g.D.Store.state c.tell_keys-told.new.store }) (c.tell_keys-told.ensures w))
 
 pub returns-in-ConvertKeyset : goal.returns-in-ConvertKeyset
 returns-in-ConvertKeyset g c = rw c.in-ConvertKeyset.is c.convert_keyset.ensures
