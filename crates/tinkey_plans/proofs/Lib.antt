@@ -4,6 +4,7 @@ pub mod FaultLemmas
 pub mod RangeLemmas
 pub mod GivenLemmas
 pub mod PromiseLemmas
+pub mod NamingLemmas
 pub mod ReportLemmas
 pub mod StepLemmas
 pub mod StreamFitLemmas

@@ -6,6 +6,7 @@ pub mod Help
 pub mod KeyOf
 pub mod Laws
 pub mod Locks
+pub mod Naming
 pub mod Misfits
 pub mod Plan
 pub mod Promises

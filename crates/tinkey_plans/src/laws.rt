@@ -1,6 +1,7 @@
 //! Laws of what the program answers. These functions do nothing: their contracts are the laws.
 
 ghost use Rattle.tinkey_plans.specs.Going.{DoneExactly, FitKeysetsSeal};
+ghost use Rattle.tinkey_plans.specs.Naming.{KeyOfTells};
 ghost use Rattle.tinkey_plans.specs.Laws.{CommandsAreWhole, DataKeysCome, FitKeysetsAnswer, RangesReadLittle, SelfTestRuns, SelfTestsTell};
 
 use seal_wrap::laws::standard_data_keys;
@@ -52,4 +53,11 @@ pub fn data_keys_come()
 /// it is given the keyset and its master alone.
 pub fn ranges_read_little()
     ensures { RangesReadLittle }
+{}
+
+/// Of what a primary key with an output prefix sealed, tagged, or sealed in an envelope, `key-of` names
+/// exactly the records with that prefix, of any status and in any keyset; so every one with its id and its
+/// output prefix type. It is refused exactly where it names none and no record is RAW.
+pub fn key_of_tells()
+    ensures { KeyOfTells }
 {}

@@ -194,7 +194,7 @@ dopens_somehow_anywhere sizes fits fit kept ad plain sealed r was =
 
 -- ---- tags
 
-tag_maker : FitKeysetsAnswer → ReadKeysFit → (tag body : List ℕ) (r : Record) → WasMadeBy to_tag body tag r → Maker body input_limit (λ keys. tag_answer keys standard_table body ≡ Some tag) r
+pub tag_maker : FitKeysetsAnswer → ReadKeysFit → (tag body : List ℕ) (r : Record) → WasMadeBy to_tag body tag r → Maker body input_limit (λ keys. tag_answer keys standard_table body ≡ Some tag) r
 unfolding serve
 tag_maker fits fit tag body r was = maker fit to_tag body tag r (λ keys. tag_answer keys standard_table body ≡ Some tag)
     (λ old told k b same. ap (λ i. tag_answer old standard_table i) (sym same) ∙ tagged_by fits old told tag k b)

@@ -30,3 +30,4 @@ pub mod StreamKeyLemmas
 pub mod StreamRunLemmas
 pub mod WrappedRunLemmas
 pub mod WrittenBytesLemmas
+pub mod NamedRunLemmas

@@ -13,3 +13,4 @@ pub mod Readable
 pub mod Resealing
 pub mod Runs
 pub mod StreamRuns
+pub mod NamedRuns

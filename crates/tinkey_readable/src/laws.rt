@@ -11,6 +11,7 @@ ghost use Rattle.tinkey_readable.specs.KeptRuns.{CommandIdsStayDistinct, Created
 ghost use Rattle.tinkey_readable.specs.KeptTexts.{ReadsAfterCommands, ReadsByItsIdAlone};
 ghost use Rattle.tinkey_readable.specs.LineRuns.{MadeDopens, MadeDopensPresent, MadeOpens, MadeOpensPresent, MadeVerifies};
 ghost use Rattle.tinkey_readable.specs.LockedHiding.{LockedRunsPut, LockedSessionsSave, SealedAlike};
+ghost use Rattle.tinkey_readable.specs.NamedRuns.{KeysAreNamed};
 ghost use Rattle.tinkey_readable.specs.RangeRuns.{RunsOpenRange};
 ghost use Rattle.tinkey_readable.specs.Readable.{AnswersAreReadable, SessionsAreReadable};
 ghost use Rattle.tinkey_readable.specs.Resealing.{ResealedDopens, ResealedOpens};
@@ -155,6 +156,17 @@ pub fn kept_wrapped()
     session_is_edits();
     edited_kept();
     sound_usable();
+}
+
+/// What a run of `seal`, `dseal` or `tag`, or a line of a session, made under a key with an output prefix, by
+/// a keyset in clear or under a master: over each keyset in clear, within its limit, that has a record with
+/// the key's id and output prefix type, of any status, `key-of` is Done and prints the records with that
+/// prefix, and that record is one of them.
+pub fn keys_are_named()
+    ensures { KeysAreNamed }
+{
+    fit_keysets_answer();
+    read_keysets_fit();
 }
 
 /// No run takes a file away or changes it, whatever it is asked and however it ends: a keyset that lies in
