@@ -18,13 +18,13 @@ list_text =
     ++ codes "  promote-key         makes an enabled key the primary\n"
     ++ codes "  enable-key          makes a key ENABLED\n"
     ++ codes "  disable-key         makes a key DISABLED: it isn't used, and can be enabled again\n"
-    ++ codes "  destroy-key         destroys a key's material; this can't be undone\n"
-    ++ codes "  delete-key          removes a key; this can't be undone\n\n"
+    ++ codes "  destroy-key         destroys a key's material for good: what it sealed never opens again\n"
+    ++ codes "  delete-key          removes a key for good: what it sealed never opens again\n\n"
     ++ codes "Look at a keyset, and keep it:\n"
     ++ codes "  list-keyset         lists a keyset without key material\n"
     ++ codes "  key-of              tells which keys may have sealed a text or an envelope, or made a tag\n"
     ++ codes "  list-key-templates  lists the names of the templates for new keys\n"
-    ++ codes "  convert-keyset      writes a keyset in another form or place\n"
+    ++ codes "  convert-keyset      writes a keyset in another form, or under another master\n"
     ++ codes "  wrap-keyset         seals a keyset under another one, the master\n"
     ++ codes "  unwrap-keyset       opens a keyset that was wrapped\n\n"
     ++ codes "Seal and open:\n"
@@ -98,8 +98,7 @@ exit_text =
     ++ codes "     piped to wc -c, shows how long it is.\n\n"
     ++ codes "3  bad protobuf at byte {at}\n"
     ++ codes "     The keyset isn't one in the binary form. If it is JSON, give no form, or json. If it is\n"
-    ++ codes "     an encrypted keyset, unwrap-keyset opens it. Otherwise it is damaged from about that\n"
-    ++ codes "     byte on.\n\n"
+    ++ codes "     an encrypted keyset, give --master. Otherwise it is damaged from about that byte on.\n\n"
     ++ codes "3  not JSON\n"
     ++ codes "     The keyset isn't JSON: it is empty, cut or damaged, or in the binary form. If it is in\n"
     ++ codes "     that form, say so: --in-format binary, --keyset-format binary or --master-format\n"
@@ -193,11 +192,13 @@ exit_text =
     ++ codes "6  too many segments\n"
     ++ codes "     The input of a stream is too long for its segments: use a template with larger ones.\n\n"
     ++ codes "6  line too long\n"
-    ++ codes "     A line of a session has at most 65,536 bytes. The replies before it are valid; the\n"
-    ++ codes "     session's keyset is lost, and --out makes no file.\n\n"
+    ++ codes "     A line of a session has at most 65,536 bytes. The replies before it are valid, but the\n"
+    ++ codes "     session's keyset is lost, and --out makes no file: what was sealed under a key that the\n"
+    ++ codes "     session made never opens again.\n\n"
     ++ codes "6  too many lines\n"
-    ++ codes "     A session has at most 100,000 lines. Its replies are valid; its keyset is lost, and\n"
-    ++ codes "     --out makes no file. Count the lines first, and split them over several sessions.\n\n"
+    ++ codes "     A session has at most 100,000 lines. Its replies are valid, but its keyset is lost, and\n"
+    ++ codes "     --out makes no file: what was sealed under a key that the session made never opens\n"
+    ++ codes "     again. Count the lines first, and split them over several sessions.\n\n"
     ++ codes "7  out of memory\n"
     ++ codes "     Memory was refused. No new file was made; what a stream or a session had written before\n"
     ++ codes "     is valid.\n\n"
@@ -212,13 +213,14 @@ exit_text =
 
 abbrev pub key_template_31 : List ℕ
 key_template_31 =
-    codes "  --key-template NAME          the template of the new key: any text; it is looked up as the\n"
-    ++ codes "                               name of a template\n"
+    codes "  --key-template NAME          the template of the new key: a name that list-key-templates\n"
+    ++ codes "                               prints; any text is taken as a word, and then looked up\n"
 
 abbrev pub out_31 : List ℕ
 out_31 =
-    codes "  --out FILE                   the file to make: a file's name, of one byte or more, whose\n"
-    ++ codes "                               last part doesn't begin with .tinkey-new-\n"
+    codes "  --out FILE                   the file to make: the name of a file that isn't there yet, of\n"
+    ++ codes "                               one byte or more; its last part doesn't begin with\n"
+    ++ codes "                               .tinkey-new-\n"
 
 abbrev pub out_format_31 : List ℕ
 out_format_31 =
@@ -227,8 +229,8 @@ out_format_31 =
 
 abbrev pub master_31 : List ℕ
 master_31 =
-    codes "  --master FILE                the file of the master, the keyset that others are sealed\n"
-    ++ codes "                               under: a file's name, of one byte or more\n"
+    codes "  --master FILE                the file of the master, the keyset under which this one lies\n"
+    ++ codes "                               encrypted: a file's name, of one byte or more\n"
 
 abbrev pub master_format_31 : List ℕ
 master_format_31 =
@@ -300,8 +302,8 @@ read_by_add_key =
 
 abbrev pub given_by_add_key : List ℕ
 given_by_add_key =
-    codes "Gives  the keyset after that edit, in a new file of --out, or on standard output if there is\n"
-    ++ codes "       no --out\n"
+    codes "Gives  the keyset after that edit (no file is replaced: to edit one in place, mv the new\n"
+    ++ codes "       file over it), in a new file of --out, or on standard output if there is no --out\n"
 
 abbrev pub codes_012345678 : List ℕ
 codes_012345678 =
@@ -358,19 +360,19 @@ abbrev pub read_by_seal : List ℕ
 read_by_seal =
     codes "\nReads  the keyset in the file of --keyset, and all of standard input\n"
 
+abbrev pub given_by_open : List ℕ
+given_by_open =
+    codes "Gives  what the input opens to, in a new file of --out, or on standard output if there is no\n"
+    ++ codes "       --out\n"
+
 abbrev pub options_of_eseal : List ℕ
 options_of_eseal =
     codes "\nRequired:\n"
     ++ keyset_31
-    ++ codes "  --dek-template NAME          the template of the data key: any text; it is looked up as\n"
-    ++ codes "                               the name of a template\n\n"
+    ++ codes "  --dek-template NAME          the template of the data key: a name that list-key-templates\n"
+    ++ codes "                               prints; any text is taken as a word, and then looked up\n\n"
     ++ codes "Optional:\n"
     ++ keyset_format_31 ++ ad_31 ++ ad_hex_31 ++ out_31 ++ master_31 ++ master_format_31
-
-abbrev pub given_by_dseal : List ℕ
-given_by_dseal =
-    codes "Gives  as seal and open, without an IV, in a new file of --out, or on standard output if\n"
-    ++ codes "       there is no --out\n"
 
 abbrev pub options_of_sseal : List ℕ
 options_of_sseal =
@@ -382,10 +384,6 @@ options_of_sseal =
 abbrev pub read_by_sseal : List ℕ
 read_by_sseal =
     codes "\nReads  the keyset, and standard input as a stream\n"
-
-abbrev pub given_by_sseal : List ℕ
-given_by_sseal =
-    codes "Gives  as seal and open, of a stream, written while it is read\n"
 
 abbrev pub length_31 : List ℕ
 length_31 =
@@ -458,7 +456,7 @@ command_text commands.DisableKey =
     ++ codes "  id=$(tinkey list-keyset --in busy.json | sed -n 's/^  key_id: //p' | head -n 1)\n"
     ++ codes "  tinkey disable-key --key-id $id --in busy.json --out disabled.json\n"
 command_text commands.DestroyKey =
-    codes "tinkey destroy-key: destroys a key's material; this can't be undone\n\n"
+    codes "tinkey destroy-key: destroys a key's material for good: what it sealed never opens again\n\n"
     ++ codes "  tinkey destroy-key --key-id N [--in FILE] [--in-format json|binary] [--out FILE]\n"
     ++ codes "      [--out-format json|binary] [--master FILE] [--master-format json|binary]\n"
     ++ options_of_promote_key ++ read_by_add_key ++ given_by_add_key
@@ -468,7 +466,7 @@ command_text commands.DestroyKey =
     ++ codes "  id=$(tinkey list-keyset --in full.json | sed -n 's/^  key_id: //p' | head -n 1)\n"
     ++ codes "  tinkey destroy-key --key-id $id --in full.json --out destroyed.json\n"
 command_text commands.DeleteKey =
-    codes "tinkey delete-key: removes a key; this can't be undone\n\n"
+    codes "tinkey delete-key: removes a key for good: what it sealed never opens again\n\n"
     ++ codes "  tinkey delete-key --key-id N [--in FILE] [--in-format json|binary] [--out FILE]\n"
     ++ codes "      [--out-format json|binary] [--master FILE] [--master-format json|binary]\n"
     ++ options_of_promote_key ++ read_by_add_key ++ given_by_add_key
@@ -516,7 +514,7 @@ command_text commands.ListKeyTemplates =
     ++ codes "\nExample:\n"
     ++ codes "  tinkey list-key-templates\n"
 command_text commands.ConvertKeyset =
-    codes "tinkey convert-keyset: writes a keyset in another form or place\n\n"
+    codes "tinkey convert-keyset: writes a keyset in another form, or under another master\n\n"
     ++ codes "  tinkey convert-keyset [--in FILE] [--in-format json|binary] [--out FILE]\n"
     ++ codes "      [--out-format json|binary] [--master FILE] [--master-format json|binary]\n"
     ++ codes "      [--new-master FILE] [--new-master-format json|binary]\n\n"
@@ -525,12 +523,13 @@ command_text commands.ConvertKeyset =
     ++ codes "                                   byte or more\n"
     ++ codes "  --in-format json|binary          the form of that keyset: json or binary, in upper or\n"
     ++ codes "                                   lower case; json if it isn't given\n"
-    ++ codes "  --out FILE                       the file to make: a file's name, of one byte or more,\n"
-    ++ codes "                                   whose last part doesn't begin with .tinkey-new-\n"
+    ++ codes "  --out FILE                       the file to make: the name of a file that isn't there\n"
+    ++ codes "                                   yet, of one byte or more; its last part doesn't begin\n"
+    ++ codes "                                   with .tinkey-new-\n"
     ++ codes "  --out-format json|binary         the form of the keyset to write: json or binary, in upper\n"
     ++ codes "                                   or lower case; json if it isn't given\n"
-    ++ codes "  --master FILE                    the file of the master, the keyset that others are sealed\n"
-    ++ codes "                                   under: a file's name, of one byte or more\n"
+    ++ codes "  --master FILE                    the file of the master, the keyset under which this one\n"
+    ++ codes "                                   lies encrypted: a file's name, of one byte or more\n"
     ++ codes "  --master-format json|binary      the form of the master: json or binary, in upper or lower\n"
     ++ codes "                                   case; json if it isn't given\n"
     ++ codes "  --new-master FILE                the file of the master that the keyset is put under: a\n"
@@ -542,6 +541,8 @@ command_text commands.ConvertKeyset =
     ++ codes_012345678
     ++ codes "  tinkey create-keyset --key-template AES256_GCM --out text.json\n"
     ++ codes "  tinkey convert-keyset --in text.json --out keyset.bin --out-format binary\n"
+    ++ codes "  tinkey create-keyset --key-template AES256_GCM --out other.json\n"
+    ++ codes "  tinkey convert-keyset --in text.json --new-master other.json --out hidden.json\n"
 command_text commands.WrapKeyset =
     codes "tinkey wrap-keyset: seals a keyset under another one, the master\n\n"
     ++ codes "  tinkey wrap-keyset --master FILE [--master-format json|binary] [--in FILE]\n"
@@ -582,9 +583,7 @@ command_text commands.Open =
     codes "tinkey open: opens what any enabled key sealed\n\n"
     ++ codes "  tinkey open --keyset FILE [--keyset-format json|binary] [--ad TEXT] [--ad-hex HEX]\n"
     ++ codes "      [--out FILE] [--master FILE] [--master-format json|binary]\n"
-    ++ options_of_seal ++ read_by_seal
-    ++ codes "Gives  what the input opens to, in a new file of --out, or on standard output if there is no\n"
-    ++ codes "       --out\n"
+    ++ options_of_seal ++ read_by_seal ++ given_by_open
     ++ codes_012345678
     ++ codes "  tinkey create-keyset --key-template AES256_GCM --out open.json\n"
     ++ codes "  echo 'Dear Ada' | tinkey seal --keyset open.json --ad 'to Ada' --out open.sealed\n"
@@ -614,7 +613,9 @@ command_text commands.Dseal =
     codes "tinkey dseal: seals deterministically: equal texts give equal bytes\n\n"
     ++ codes "  tinkey dseal --keyset FILE [--keyset-format json|binary] [--ad TEXT] [--ad-hex HEX]\n"
     ++ codes "      [--out FILE] [--master FILE] [--master-format json|binary]\n"
-    ++ options_of_seal ++ read_by_seal ++ given_by_dseal
+    ++ options_of_seal ++ read_by_seal
+    ++ codes "Gives  the input sealed under the primary key, without an IV, in a new file of --out, or on\n"
+    ++ codes "       standard output if there is no --out\n"
     ++ codes_012345678
     ++ codes "  tinkey create-keyset --key-template AES256_SIV --out dseal.json\n"
     ++ codes "  echo 'Dear Ada' | tinkey dseal --keyset dseal.json --out same.sealed\n"
@@ -622,7 +623,7 @@ command_text commands.Dopen =
     codes "tinkey dopen: opens what dseal sealed\n\n"
     ++ codes "  tinkey dopen --keyset FILE [--keyset-format json|binary] [--ad TEXT] [--ad-hex HEX]\n"
     ++ codes "      [--out FILE] [--master FILE] [--master-format json|binary]\n"
-    ++ options_of_seal ++ read_by_seal ++ given_by_dseal
+    ++ options_of_seal ++ read_by_seal ++ given_by_open
     ++ codes_012345678
     ++ codes "  tinkey create-keyset --key-template AES256_SIV --out dopen.json\n"
     ++ codes "  echo 'Dear Ada' | tinkey dseal --keyset dopen.json --out dopen.sealed\n"
@@ -655,7 +656,8 @@ command_text commands.Sseal =
     codes "tinkey sseal: seals a stream of any length, in one pass\n\n"
     ++ codes "  tinkey sseal --keyset FILE [--keyset-format json|binary] [--ad TEXT] [--ad-hex HEX]\n"
     ++ codes "      [--master FILE] [--master-format json|binary]\n"
-    ++ options_of_sseal ++ read_by_sseal ++ given_by_sseal
+    ++ options_of_sseal ++ read_by_sseal
+    ++ codes "Gives  the input sealed as a stream, on standard output, written while it is read\n"
     ++ codes_012345678
     ++ codes "  tinkey create-keyset --key-template AES256_GCM_HKDF_1MB --out sseal.json\n"
     ++ codes "  echo 'Dear Ada' | tinkey sseal --keyset sseal.json > letter.stream\n"
@@ -663,7 +665,8 @@ command_text commands.Sopen =
     codes "tinkey sopen: opens such a stream; it is complete only if the exit code is 0\n\n"
     ++ codes "  tinkey sopen --keyset FILE [--keyset-format json|binary] [--ad TEXT] [--ad-hex HEX]\n"
     ++ codes "      [--master FILE] [--master-format json|binary]\n"
-    ++ options_of_sseal ++ read_by_sseal ++ given_by_sseal
+    ++ options_of_sseal ++ read_by_sseal
+    ++ codes "Gives  the plaintext of the stream, on standard output, each segment once it is verified\n"
     ++ codes_012345678
     ++ codes "  tinkey create-keyset --key-template AES256_GCM_HKDF_1MB --out sopen.json\n"
     ++ codes "  echo 'Dear Ada' | tinkey sseal --keyset sopen.json > sopen.stream\n"
@@ -742,8 +745,9 @@ command_text commands.Session =
     ++ codes "       tag HEX, verify HEX HEX (a tag, its text), derive N HEX, add NAME and rotate NAME (a\n"
     ++ codes "       template), promote N, enable N, disable N, destroy N, delete N (a key id); - stands\n"
     ++ codes "       for no bytes\n"
-    ++ codes "Gives  one reply for each line, on standard output; and then the last keyset in the new file\n"
-    ++ codes "       of --out, if one is given\n"
+    ++ codes "Gives  one reply for each line, on standard output: ok and what the line gives, or no and\n"
+    ++ codes "       the reason, and the session goes on; and then the last keyset in the new file of\n"
+    ++ codes "       --out. Without --out the edits are lost\n"
     ++ codes_012345678
     ++ codes "  tinkey create-keyset --key-template AES256_GCM --out session.json\n"
     ++ codes "  (echo seal 00 -; echo rotate AES256_GCM) |\n"

@@ -14,13 +14,14 @@ macro_rules! text {
         text!([$($said)* $line] $($rest)*)
     };
     ([$($said:literal)*] key_template_31 $($rest:tt)*) => {
-        text!([$($said)* "  --key-template NAME          the template of the new key: any text; it is looked up as the
-                               name of a template
+        text!([$($said)* "  --key-template NAME          the template of the new key: a name that list-key-templates
+                               prints; any text is taken as a word, and then looked up
 "] $($rest)*)
     };
     ([$($said:literal)*] out_31 $($rest:tt)*) => {
-        text!([$($said)* "  --out FILE                   the file to make: a file's name, of one byte or more, whose
-                               last part doesn't begin with .tinkey-new-
+        text!([$($said)* "  --out FILE                   the file to make: the name of a file that isn't there yet, of
+                               one byte or more; its last part doesn't begin with
+                               .tinkey-new-
 "] $($rest)*)
     };
     ([$($said:literal)*] out_format_31 $($rest:tt)*) => {
@@ -29,8 +30,8 @@ macro_rules! text {
 "] $($rest)*)
     };
     ([$($said:literal)*] master_31 $($rest:tt)*) => {
-        text!([$($said)* "  --master FILE                the file of the master, the keyset that others are sealed
-                               under: a file's name, of one byte or more
+        text!([$($said)* "  --master FILE                the file of the master, the keyset under which this one lies
+                               encrypted: a file's name, of one byte or more
 "] $($rest)*)
     };
     ([$($said:literal)*] master_format_31 $($rest:tt)*) => {
@@ -102,8 +103,8 @@ Reads  a keyset, from the file of --in, or from standard input if there is no --
     };
     ([$($said:literal)*] given_by_add_key $($rest:tt)*) => {
         text!([$($said)* "\
-Gives  the keyset after that edit, in a new file of --out, or on standard output if there is
-       no --out
+Gives  the keyset after that edit (no file is replaced: to edit one in place, mv the new
+       file over it), in a new file of --out, or on standard output if there is no --out
 "] $($rest)*)
     };
     ([$($said:literal)*] codes_012345678 $($rest:tt)*) => {
@@ -163,20 +164,20 @@ Optional:
 Reads  the keyset in the file of --keyset, and all of standard input
 "] $($rest)*)
     };
+    ([$($said:literal)*] given_by_open $($rest:tt)*) => {
+        text!([$($said)* "\
+Gives  what the input opens to, in a new file of --out, or on standard output if there is no
+       --out
+"] $($rest)*)
+    };
     ([$($said:literal)*] options_of_eseal $($rest:tt)*) => {
         text!([$($said)*] "
 Required:
-" keyset_31 "  --dek-template NAME          the template of the data key: any text; it is looked up as
-                               the name of a template
+" keyset_31 "  --dek-template NAME          the template of the data key: a name that list-key-templates
+                               prints; any text is taken as a word, and then looked up
 
 Optional:
 " keyset_format_31 ad_31 ad_hex_31 out_31 master_31 master_format_31 $($rest)*)
-    };
-    ([$($said:literal)*] given_by_dseal $($rest:tt)*) => {
-        text!([$($said)* "\
-Gives  as seal and open, without an IV, in a new file of --out, or on standard output if
-       there is no --out
-"] $($rest)*)
     };
     ([$($said:literal)*] options_of_sseal $($rest:tt)*) => {
         text!([$($said)*] "
@@ -188,11 +189,6 @@ Optional:
     ([$($said:literal)*] read_by_sseal $($rest:tt)*) => {
         text!([$($said)* "
 Reads  the keyset, and standard input as a stream
-"] $($rest)*)
-    };
-    ([$($said:literal)*] given_by_sseal $($rest:tt)*) => {
-        text!([$($said)* "\
-Gives  as seal and open, of a stream, written while it is read
 "] $($rest)*)
     };
     ([$($said:literal)*] length_31 $($rest:tt)*) => {
@@ -245,14 +241,14 @@ Make and change a keyset:
   promote-key         makes an enabled key the primary
   enable-key          makes a key ENABLED
   disable-key         makes a key DISABLED: it isn't used, and can be enabled again
-  destroy-key         destroys a key's material; this can't be undone
-  delete-key          removes a key; this can't be undone
+  destroy-key         destroys a key's material for good: what it sealed never opens again
+  delete-key          removes a key for good: what it sealed never opens again
 
 Look at a keyset, and keep it:
   list-keyset         lists a keyset without key material
   key-of              tells which keys may have sealed a text or an envelope, or made a tag
   list-key-templates  lists the names of the templates for new keys
-  convert-keyset      writes a keyset in another form or place
+  convert-keyset      writes a keyset in another form, or under another master
   wrap-keyset         seals a keyset under another one, the master
   unwrap-keyset       opens a keyset that was wrapped
 
@@ -346,8 +342,7 @@ A command that fails prints a line on standard error and ends with an exit code.
 
 3  bad protobuf at byte {at}
      The keyset isn't one in the binary form. If it is JSON, give no form, or json. If it is
-     an encrypted keyset, unwrap-keyset opens it. Otherwise it is damaged from about that
-     byte on.
+     an encrypted keyset, give --master. Otherwise it is damaged from about that byte on.
 
 3  not JSON
      The keyset isn't JSON: it is empty, cut or damaged, or in the binary form. If it is in
@@ -478,12 +473,14 @@ A command that fails prints a line on standard error and ends with an exit code.
      The input of a stream is too long for its segments: use a template with larger ones.
 
 6  line too long
-     A line of a session has at most 65,536 bytes. The replies before it are valid; the
-     session's keyset is lost, and --out makes no file.
+     A line of a session has at most 65,536 bytes. The replies before it are valid, but the
+     session's keyset is lost, and --out makes no file: what was sealed under a key that the
+     session made never opens again.
 
 6  too many lines
-     A session has at most 100,000 lines. Its replies are valid; its keyset is lost, and
-     --out makes no file. Count the lines first, and split them over several sessions.
+     A session has at most 100,000 lines. Its replies are valid, but its keyset is lost, and
+     --out makes no file: what was sealed under a key that the session made never opens
+     again. Count the lines first, and split them over several sessions.
 
 7  out of memory
      Memory was refused. No new file was made; what a stream or a session had written before
@@ -564,7 +561,7 @@ tinkey disable-key: makes a key DISABLED: it isn't used, and can be enabled agai
   tinkey disable-key --key-id $id --in busy.json --out disabled.json
 "),
         CommandName::DestroyKey => text!([] "\
-tinkey destroy-key: destroys a key's material; this can't be undone
+tinkey destroy-key: destroys a key's material for good: what it sealed never opens again
 
   tinkey destroy-key --key-id N [--in FILE] [--in-format json|binary] [--out FILE]
       [--out-format json|binary] [--master FILE] [--master-format json|binary]
@@ -574,7 +571,7 @@ tinkey destroy-key: destroys a key's material; this can't be undone
   tinkey destroy-key --key-id $id --in full.json --out destroyed.json
 "),
         CommandName::DeleteKey => text!([] "\
-tinkey delete-key: removes a key; this can't be undone
+tinkey delete-key: removes a key for good: what it sealed never opens again
 
   tinkey delete-key --key-id N [--in FILE] [--in-format json|binary] [--out FILE]
       [--out-format json|binary] [--master FILE] [--master-format json|binary]
@@ -627,7 +624,7 @@ Example:
   tinkey list-key-templates
 "),
         CommandName::ConvertKeyset => text!([] "\
-tinkey convert-keyset: writes a keyset in another form or place
+tinkey convert-keyset: writes a keyset in another form, or under another master
 
   tinkey convert-keyset [--in FILE] [--in-format json|binary] [--out FILE]
       [--out-format json|binary] [--master FILE] [--master-format json|binary]
@@ -638,12 +635,13 @@ Optional:
                                    byte or more
   --in-format json|binary          the form of that keyset: json or binary, in upper or
                                    lower case; json if it isn't given
-  --out FILE                       the file to make: a file's name, of one byte or more,
-                                   whose last part doesn't begin with .tinkey-new-
+  --out FILE                       the file to make: the name of a file that isn't there
+                                   yet, of one byte or more; its last part doesn't begin
+                                   with .tinkey-new-
   --out-format json|binary         the form of the keyset to write: json or binary, in upper
                                    or lower case; json if it isn't given
-  --master FILE                    the file of the master, the keyset that others are sealed
-                                   under: a file's name, of one byte or more
+  --master FILE                    the file of the master, the keyset under which this one
+                                   lies encrypted: a file's name, of one byte or more
   --master-format json|binary      the form of the master: json or binary, in upper or lower
                                    case; json if it isn't given
   --new-master FILE                the file of the master that the keyset is put under: a
@@ -654,6 +652,8 @@ Optional:
 Gives  the same keyset, in a new file of --out, or on standard output if there is no --out
 " codes_012345678 "  tinkey create-keyset --key-template AES256_GCM --out text.json
   tinkey convert-keyset --in text.json --out keyset.bin --out-format binary
+  tinkey create-keyset --key-template AES256_GCM --out other.json
+  tinkey convert-keyset --in text.json --new-master other.json --out hidden.json
 "),
         CommandName::WrapKeyset => text!([] "\
 tinkey wrap-keyset: seals a keyset under another one, the master
@@ -699,10 +699,7 @@ tinkey open: opens what any enabled key sealed
 
   tinkey open --keyset FILE [--keyset-format json|binary] [--ad TEXT] [--ad-hex HEX]
       [--out FILE] [--master FILE] [--master-format json|binary]
-" options_of_seal read_by_seal "\
-Gives  what the input opens to, in a new file of --out, or on standard output if there is no
-       --out
-" codes_012345678 "  tinkey create-keyset --key-template AES256_GCM --out open.json
+" options_of_seal read_by_seal given_by_open codes_012345678 "  tinkey create-keyset --key-template AES256_GCM --out open.json
   echo 'Dear Ada' | tinkey seal --keyset open.json --ad 'to Ada' --out open.sealed
   tinkey open --keyset open.json --ad 'to Ada' < open.sealed
 "),
@@ -734,7 +731,10 @@ tinkey dseal: seals deterministically: equal texts give equal bytes
 
   tinkey dseal --keyset FILE [--keyset-format json|binary] [--ad TEXT] [--ad-hex HEX]
       [--out FILE] [--master FILE] [--master-format json|binary]
-" options_of_seal read_by_seal given_by_dseal codes_012345678 "  tinkey create-keyset --key-template AES256_SIV --out dseal.json
+" options_of_seal read_by_seal "\
+Gives  the input sealed under the primary key, without an IV, in a new file of --out, or on
+       standard output if there is no --out
+" codes_012345678 "  tinkey create-keyset --key-template AES256_SIV --out dseal.json
   echo 'Dear Ada' | tinkey dseal --keyset dseal.json --out same.sealed
 "),
         CommandName::Dopen => text!([] "\
@@ -742,7 +742,7 @@ tinkey dopen: opens what dseal sealed
 
   tinkey dopen --keyset FILE [--keyset-format json|binary] [--ad TEXT] [--ad-hex HEX]
       [--out FILE] [--master FILE] [--master-format json|binary]
-" options_of_seal read_by_seal given_by_dseal codes_012345678 "  tinkey create-keyset --key-template AES256_SIV --out dopen.json
+" options_of_seal read_by_seal given_by_open codes_012345678 "  tinkey create-keyset --key-template AES256_SIV --out dopen.json
   echo 'Dear Ada' | tinkey dseal --keyset dopen.json --out dopen.sealed
   tinkey dopen --keyset dopen.json < dopen.sealed
 "),
@@ -777,7 +777,9 @@ tinkey sseal: seals a stream of any length, in one pass
 
   tinkey sseal --keyset FILE [--keyset-format json|binary] [--ad TEXT] [--ad-hex HEX]
       [--master FILE] [--master-format json|binary]
-" options_of_sseal read_by_sseal given_by_sseal codes_012345678 "  tinkey create-keyset --key-template AES256_GCM_HKDF_1MB --out sseal.json
+" options_of_sseal read_by_sseal "\
+Gives  the input sealed as a stream, on standard output, written while it is read
+" codes_012345678 "  tinkey create-keyset --key-template AES256_GCM_HKDF_1MB --out sseal.json
   echo 'Dear Ada' | tinkey sseal --keyset sseal.json > letter.stream
 "),
         CommandName::Sopen => text!([] "\
@@ -785,7 +787,9 @@ tinkey sopen: opens such a stream; it is complete only if the exit code is 0
 
   tinkey sopen --keyset FILE [--keyset-format json|binary] [--ad TEXT] [--ad-hex HEX]
       [--master FILE] [--master-format json|binary]
-" options_of_sseal read_by_sseal given_by_sseal codes_012345678 "  tinkey create-keyset --key-template AES256_GCM_HKDF_1MB --out sopen.json
+" options_of_sseal read_by_sseal "\
+Gives  the plaintext of the stream, on standard output, each segment once it is verified
+" codes_012345678 "  tinkey create-keyset --key-template AES256_GCM_HKDF_1MB --out sopen.json
   echo 'Dear Ada' | tinkey sseal --keyset sopen.json > sopen.stream
   tinkey sopen --keyset sopen.json < sopen.stream > opened.txt && echo whole
 "),
@@ -872,8 +876,9 @@ Reads  the keyset, and lines on standard input: seal HEX HEX and dseal HEX HEX (
        tag HEX, verify HEX HEX (a tag, its text), derive N HEX, add NAME and rotate NAME (a
        template), promote N, enable N, disable N, destroy N, delete N (a key id); - stands
        for no bytes
-Gives  one reply for each line, on standard output; and then the last keyset in the new file
-       of --out, if one is given
+Gives  one reply for each line, on standard output: ok and what the line gives, or no and
+       the reason, and the session goes on; and then the last keyset in the new file of
+       --out. Without --out the edits are lost
 " codes_012345678 "  tinkey create-keyset --key-template AES256_GCM --out session.json
   (echo seal 00 -; echo rotate AES256_GCM) |
       tinkey session --keyset session.json --out after.json

@@ -101,7 +101,7 @@ pub enum OptionName {
     Seed,
     /// `--lines`, how many lines it has.
     Lines,
-    /// `--master`, the file of the master, the keyset that others are sealed under.
+    /// `--master`, the file of the master, the keyset under which this one lies encrypted.
     Master,
     /// `--master-format`, the form of the master.
     MasterFormat,
