@@ -1,9 +1,8 @@
 #!/usr/bin/env bash
 # Refuses each allocation in turn to the program, as `make run` leaves it: a run of each command with the
 # first allocation refused, then with the second, and so on, until a run meets no refusal. Each run must
-# end as the plain one, or with exit code 7, with `tinkey: out of memory` or, where memory is refused
-# before the words are there, with no line. At 7 nothing was written, but for a session's first replies,
-# and there is no new file. The files that were there stay.
+# end as the plain one, or with exit code 7 and `tinkey: out of memory`. At 7 nothing was written, but for
+# a session's first replies, and there is no new file. The files that were there stay.
 #
 #     tools/fail_alloc.sh [NAME ..]    of all cases, or of these
 #
@@ -144,7 +143,7 @@ looked() {
     is_plain && { echo plain; return; }
     [ "$code" = 7 ] || { echo 'neither plain nor refused'; return; }
     [ ! -e "$work/new" ] || { echo 'a file was made'; return; }
-    case $(cat "$work/err") in 'tinkey: out of memory' | '') ;; *) echo 'another line'; return ;; esac
+    case $(cat "$work/err") in 'tinkey: out of memory') ;; *) echo 'another line'; return ;; esac
     if [ "$how" = replies ]; then
         case $wanted in "$(shaped replies < "$work/out")"*) ;; *) echo 'other replies'; return ;; esac
     elif [ -s "$work/out" ]; then
@@ -256,6 +255,9 @@ refuse dreseal dreseal --keyset siv --ad-hex 000e
 hex "$sealed" | takes
 ends size 49 none
 refuse reseal reseal --keyset gcm --keyset-format binary
+keys='key_id: 16909060 status: ENABLED output_prefix_type: TINK type_url: "type.googleapis.com/google.crypto.tink.AesGcmKey"'
+ends same "$(text "$keys"$'\n'"raw_keys: 0")" none
+refuse key-of key-of --keyset gcm --keyset-format binary
 ends same '' 'size 49'
 refuse resealed-file reseal --keyset gcm --keyset-format binary --out n
 printf 'Hi There' | takes
