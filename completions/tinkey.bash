@@ -57,6 +57,21 @@ _tinkey() {
             srange) words='--keyset --file --from --length --keyset-format --ad --ad-hex --out --master --master-format --help' ;;
             key-of) words='--keyset --keyset-format --master --master-format --as --help' ;;
             esac
+            # --help comes right after the command and alone, every option once, and none with one that
+            # excludes it
+            [ "$COMP_CWORD" -eq 2 ] || words=${words%--help}
+            case "${COMP_WORDS[2]}" in
+            --help | -h) [ "$COMP_CWORD" -eq 2 ] || words= ;;
+            esac
+            local at
+            for ((at = 2; at < COMP_CWORD; at++)); do
+                words=" $words "
+                words=${words/ "${COMP_WORDS[at]}" / }
+                case "${COMP_WORDS[at]}" in
+                --ad) words=${words/ --ad-hex / } ;;
+                --ad-hex) words=${words/ --ad / } ;;
+                esac
+            done
         fi ;;
     esac
     mapfile -t COMPREPLY < <(compgen -W "$words" -- "$word")
