@@ -81,6 +81,7 @@ fn open_begun<V: Device>(
         ≤ (V.state device.old).given + (covering key from to + 1) * key.size }
     ensures given_past { IsErrOf result RangeFault.PastEnd →
         (V.state device.new).given ≤ (V.state device.old).given + begun.old.sizes.segment }
+    ensures memory { IsErrOf result RangeFault.NoMemory → ⊥ }
     ensures no_fault { (IsErrOf result RangeFault.ReadFault → ⊥) →
         Stood (V.state device.old).faults (V.state device.new).faults }
     ensures failed { IsErrOf result RangeFault.ReadFault →
@@ -146,6 +147,7 @@ fn open_into<V: Device>(
     ensures given_past { IsErrOf result RangeFault.PastEnd →
         (V.state device.new).given
         ≤ (V.state device.old).given + 2 * largest_of keys.now.keys }
+    ensures memory { IsErrOf result RangeFault.NoMemory → ⊥ }
     ensures no_fault { (IsErrOf result RangeFault.ReadFault → ⊥) →
         Stood (V.state device.old).faults (V.state device.new).faults }
     ensures failed { IsErrOf result RangeFault.ReadFault →
@@ -202,6 +204,8 @@ pub fn open_range<V: Device>(
     ensures given_past { IsErrOf result RangeFault.PastEnd →
         (V.state device.new).given
         ≤ (V.state device.old).given + 2 * largest_of keys.now.keys }
+    ensures unread { IsErrOf result RangeFault.NoMemory →
+        V.state device.new ≡ V.state device.old }
     ensures no_fault { (IsErrOf result RangeFault.ReadFault → ⊥) →
         Stood (V.state device.old).faults (V.state device.new).faults }
     ensures failed { IsErrOf result RangeFault.ReadFault →
