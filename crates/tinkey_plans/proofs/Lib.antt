@@ -6,6 +6,7 @@ pub mod GivenLemmas
 pub mod PromiseLemmas
 pub mod NamingLemmas
 pub mod ReportLemmas
+pub mod RetiringLemmas
 pub mod StepLemmas
 pub mod StreamFitLemmas
 pub mod WholeLemmas

@@ -12,6 +12,7 @@ pub mod Plan
 pub mod Promises
 pub mod SelfTesting
 pub mod Ranging
+pub mod Retiring
 pub mod Session
 pub mod Status
 pub mod Steps

@@ -2,6 +2,7 @@
 
 ghost use Rattle.tinkey_plans.specs.Going.{DoneExactly, FitKeysetsSeal};
 ghost use Rattle.tinkey_plans.specs.Naming.{KeyOfTells};
+ghost use Rattle.tinkey_plans.specs.Retiring.{RetiringLosesNothing};
 ghost use Rattle.tinkey_plans.specs.Laws.{CommandsAreWhole, DataKeysCome, FitKeysetsAnswer, RangesReadLittle, SelfTestRuns, SelfTestsTell};
 
 use seal_wrap::laws::standard_data_keys;
@@ -60,4 +61,10 @@ pub fn ranges_read_little()
 /// output prefix type. It is refused exactly where it names none and no record is RAW.
 pub fn key_of_tells()
     ensures { KeyOfTells }
+{}
+
+/// What a text, a tag or an envelope opens to isn't changed if a key is disabled, destroyed or deleted for which
+/// `key-of` doesn't name it, and which isn't RAW.
+pub fn retiring_loses_nothing()
+    ensures { RetiringLosesNothing }
 {}

@@ -66,6 +66,7 @@ pub use tinkey_plans::laws::done_exactly;
 pub use tinkey_plans::laws::fit_keysets_answer;
 pub use tinkey_plans::laws::key_of_tells;
 pub use tinkey_plans::laws::ranges_read_little;
+pub use tinkey_plans::laws::retiring_loses_nothing;
 pub use tinkey_plans::laws::self_tests_tell;
 pub use tinkey_readable::laws::created_serve;
 pub use tinkey_readable::laws::edits_done;
