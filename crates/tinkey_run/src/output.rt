@@ -1,6 +1,6 @@
 //! The last step of a command: its output is written, or becomes a new file.
 
-ghost use Rattle.std.specs.Prelude.{◌≡◌, ◌≤◌, ◌++◌, List, ℕ, codes, length, IfOk};
+ghost use Rattle.std.specs.Prelude.{◌≡◌, ◌≤◌, List, ℕ, length, IfOk};
 ghost use Rattle.std.specs.List.{AllByRecursion};
 ghost use Rattle.keyset_model.specs.Keyset.{IsShort};
 ghost use Rattle.tinkey_plans.specs.Plan.{Plan, writes, creates};
@@ -11,6 +11,7 @@ ghost use Rattle.tinkey_words.specs.Words.{seen_name};
 ghost use Rattle.tinkey_plans.specs.declared.status.Status.TheVariants as status;
 
 use crate::steps::KEYSET_LIMIT;
+use hex_lanes::encode_onto;
 use keyset_json::write_json;
 use keyset_model::{Keyset, write_binary};
 use std::alloc::Global;
@@ -60,18 +61,8 @@ pub(crate) fn shown(alloc: Global, hex: bool, made: Result<Bytes, Status>) -> Re
 fn hex_line(alloc: Global, bytes: &[u8]) -> Result<Vec<u8>, NoMemory>
     ensures { IfOk result (λ line. line.items ≡ hex_line bytes.now) }
 {
-    match hex::encode(alloc, bytes) {
-        Ok(digits) => line_of(alloc, digits.as_bytes()),
-        Err(_) => Err(NoMemory),
-    }
-}
-
-/// A text, and the end of its line.
-fn line_of(alloc: Global, text: &[u8]) -> Result<Vec<u8>, NoMemory>
-    ensures { IfOk result (λ line. line.items ≡ text.now ++ codes "\n") }
-{
     let mut line = Vec::new(alloc);
-    line.extend_from_slice(text)?;
+    encode_onto(&mut line, bytes)?;
     line.push(b'\n')?;
     Ok(line)
 }

@@ -15,6 +15,7 @@ ghost use Rattle.tinkey_words.specs.Words.{primitive_for, datum_as, datum_of_hex
 use crate::locks::load_locked;
 use crate::steps::read_input_behind;
 use hex::FromHexError;
+use hex_lanes::decode;
 use key_msgs::Primitive;
 use keyset_model::Keyset;
 use managers::{KeyTable, Managers};
@@ -428,7 +429,7 @@ fn hex_datum(alloc: Global, text: &str) -> Result<Bytes, NoMemory>
     if text.len() > 2 * DATUM_LIMIT {
         return Ok(Bytes::own(Vec::new(alloc)));
     }
-    match hex::decode(alloc, text) {
+    match decode(alloc, text.as_bytes()) {
         Ok(bytes) => Ok(Bytes::own(bytes)),
         Err(FromHexError::OutOfMemory) => Err(NoMemory),
         Err(_) => Ok(Bytes::own(Vec::new(alloc))),

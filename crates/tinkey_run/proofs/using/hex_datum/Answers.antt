@@ -4,6 +4,6 @@ use Rattle.tinkey_run.proofs.using.hex_datum.Goals as goal
 
 pub returns-in-Ok-clause-within : goal.returns-in-Ok-clause-within
 returns-in-Ok-clause-within c =
-    let half = decoded_length c.args.text.now c.in-Ok.bytes.items c.in-Ok.ensures.ok in
+    let half = decoded_length c.as_bytes.result.now c.in-Ok.bytes.items c.in-Ok.ensures.ok in
     let same = ap length c.own-in-Ok.ensures in
-    omega (arith, half, c.if-text.false, same)
+    omega (arith, half, c.as_bytes.ensures.len, c.if-text.false, same)
