@@ -15,15 +15,15 @@ _tinkey() {
         mapfile -t COMPREPLY < <(compgen -f -- "$word")
         return ;;
     --in-format | --out-format | --keyset-format | --master-format | --new-master-format) words='json binary' ;;
-    --as) words='text envelope' ;;
+    --as) words='text envelope stream' ;;
     --key-template | --dek-template)
         words=$("${COMP_WORDS[0]/#\~/$HOME}" list-key-templates 2>/dev/null) ;;
     --key-id | --ad | --ad-hex | --tag-hex | --length | --seed | --lines | --from) return ;;
     *)
         if [ "$COMP_CWORD" -eq 1 ]; then
-            words='create-keyset add-key rotate-keyset promote-key enable-key disable-key destroy-key delete-key list-keyset convert-keyset list-key-templates seal open dseal dopen reseal dreseal sseal sopen tag verify derive session selftest wrap-keyset unwrap-keyset eseal eopen srange key-of help version'
+            words='create-keyset add-key rotate-keyset promote-key enable-key disable-key destroy-key delete-key list-keyset convert-keyset list-key-templates seal open dseal dopen reseal dreseal sseal sopen sreseal tag verify derive session selftest wrap-keyset unwrap-keyset eseal eopen ereseal srange key-of help version'
         elif [ "$COMP_CWORD" -eq 2 ] && [ "$before" = help ]; then
-            words='create-keyset add-key rotate-keyset promote-key enable-key disable-key destroy-key delete-key list-keyset convert-keyset list-key-templates seal open dseal dopen reseal dreseal sseal sopen tag verify derive session selftest wrap-keyset unwrap-keyset eseal eopen srange key-of exit'
+            words='create-keyset add-key rotate-keyset promote-key enable-key disable-key destroy-key delete-key list-keyset convert-keyset list-key-templates seal open dseal dopen reseal dreseal sseal sopen sreseal tag verify derive session selftest wrap-keyset unwrap-keyset eseal eopen ereseal srange key-of exit'
         else
             case "${COMP_WORDS[1]}" in
             create-keyset) words='--key-template --out --out-format --master --master-format --help' ;;
@@ -45,6 +45,7 @@ _tinkey() {
             dreseal) words='--keyset --keyset-format --ad --ad-hex --out --master --master-format --help' ;;
             sseal) words='--keyset --keyset-format --ad --ad-hex --master --master-format --help' ;;
             sopen) words='--keyset --keyset-format --ad --ad-hex --master --master-format --help' ;;
+            sreseal) words='--keyset --keyset-format --ad --ad-hex --master --master-format --help' ;;
             tag) words='--keyset --keyset-format --out --hex --master --master-format --help' ;;
             verify) words='--keyset --tag-hex --keyset-format --master --master-format --help' ;;
             derive) words='--keyset --length --keyset-format --out --hex --master --master-format --help' ;;
@@ -54,8 +55,9 @@ _tinkey() {
             unwrap-keyset) words='--master --master-format --in --in-format --out --out-format --help' ;;
             eseal) words='--keyset --dek-template --keyset-format --ad --ad-hex --out --master --master-format --help' ;;
             eopen) words='--keyset --dek-template --keyset-format --ad --ad-hex --out --master --master-format --help' ;;
+            ereseal) words='--keyset --dek-template --keyset-format --out --master --master-format --help' ;;
             srange) words='--keyset --file --from --length --keyset-format --ad --ad-hex --out --master --master-format --help' ;;
-            key-of) words='--keyset --keyset-format --master --master-format --as --help' ;;
+            key-of) words='--keyset --keyset-format --ad --ad-hex --master --master-format --as --help' ;;
             esac
             # --help comes right after the command and alone, every option once, and none with one that
             # excludes it

@@ -33,12 +33,16 @@ list_text =
     ++ codes "  eseal               seals under a fresh data key, and that key under the keyset: an\n"
     ++ codes "                      envelope\n"
     ++ codes "  eopen               opens an envelope\n"
+    ++ codes "  ereseal             opens an envelope's data key, and seals that again under the primary\n"
+    ++ codes "                      key\n"
     ++ codes "  dseal               seals deterministically: equal texts give equal bytes\n"
     ++ codes "  dopen               opens what dseal sealed\n"
     ++ codes "  reseal              opens, and seals again under the primary key\n"
     ++ codes "  dreseal             as reseal, of what dseal sealed\n"
     ++ codes "  sseal               seals a stream of any length, in one pass\n"
     ++ codes "  sopen               opens such a stream; it is complete only if the exit code is 0\n"
+    ++ codes "  sreseal             opens such a stream, and seals it again under the primary key, in one\n"
+    ++ codes "                      pass\n"
     ++ codes "  srange              opens a range of such a stream in a file\n\n"
     ++ codes "Tag, verify and derive:\n"
     ++ codes "  tag                 tags standard input under the primary key\n"
@@ -331,13 +335,6 @@ keyset_format_31 =
     codes "  --keyset-format json|binary  the form of that keyset: json or binary, in upper or lower\n"
     ++ codes "                               case; json if it isn't given\n"
 
-abbrev pub options_of_wrap_keyset : List ℕ
-options_of_wrap_keyset =
-    codes "\nRequired:\n"
-    ++ master_31
-    ++ codes "\nOptional:\n"
-    ++ master_format_31 ++ in_31 ++ in_format_31 ++ out_31 ++ out_format_31
-
 abbrev pub ad_31 : List ℕ
 ad_31 =
     codes "  --ad TEXT                    the associated data: a text of at most 1,048,576 bytes, taken\n"
@@ -348,6 +345,13 @@ ad_hex_31 =
     codes "  --ad-hex HEX                 the associated data in hexadecimal: an even number of\n"
     ++ codes "                               hexadecimal digits of either case, at most 2,097,152, or\n"
     ++ codes "                               none; not beside --ad\n"
+
+abbrev pub options_of_wrap_keyset : List ℕ
+options_of_wrap_keyset =
+    codes "\nRequired:\n"
+    ++ master_31
+    ++ codes "\nOptional:\n"
+    ++ master_format_31 ++ in_31 ++ in_format_31 ++ out_31 ++ out_format_31
 
 abbrev pub options_of_seal : List ℕ
 options_of_seal =
@@ -365,13 +369,16 @@ given_by_open =
     codes "Gives  what the input opens to, in a new file of --out, or on standard output if there is no\n"
     ++ codes "       --out\n"
 
+abbrev pub dek_template_31 : List ℕ
+dek_template_31 =
+    codes "  --dek-template NAME          the template of the data key: a name that list-key-templates\n"
+    ++ codes "                               prints; any text is taken as a word, and then looked up\n"
+
 abbrev pub options_of_eseal : List ℕ
 options_of_eseal =
     codes "\nRequired:\n"
-    ++ keyset_31
-    ++ codes "  --dek-template NAME          the template of the data key: a name that list-key-templates\n"
-    ++ codes "                               prints; any text is taken as a word, and then looked up\n\n"
-    ++ codes "Optional:\n"
+    ++ keyset_31 ++ dek_template_31
+    ++ codes "\nOptional:\n"
     ++ keyset_format_31 ++ ad_31 ++ ad_hex_31 ++ out_31 ++ master_31 ++ master_format_31
 
 abbrev pub options_of_sseal : List ℕ
@@ -487,15 +494,15 @@ command_text commands.ListKeyset =
     ++ codes "  tinkey list-keyset --in listed.json\n"
 command_text commands.KeyOf =
     codes "tinkey key-of: tells which keys may have sealed a text or an envelope, or made a tag\n\n"
-    ++ codes "  tinkey key-of --keyset FILE [--keyset-format json|binary] [--master FILE]\n"
-    ++ codes "      [--master-format json|binary] [--as text|envelope]\n\n"
+    ++ codes "  tinkey key-of --keyset FILE [--keyset-format json|binary] [--ad TEXT] [--ad-hex HEX]\n"
+    ++ codes "      [--master FILE] [--master-format json|binary] [--as text|envelope|stream]\n\n"
     ++ codes "Required:\n"
     ++ keyset_31
     ++ codes "\nOptional:\n"
-    ++ keyset_format_31 ++ master_31 ++ master_format_31
-    ++ codes "  --as text|envelope           what the input is: a sealed text or a tag, or an envelope:\n"
-    ++ codes "                               text or envelope, in upper or lower case; text if it isn't\n"
-    ++ codes "                               given\n\n"
+    ++ keyset_format_31 ++ ad_31 ++ ad_hex_31 ++ master_31 ++ master_format_31
+    ++ codes "  --as text|envelope|stream    what the input is: a sealed text or a tag, an envelope, or a\n"
+    ++ codes "                               stream: text, envelope or stream, in upper or lower case;\n"
+    ++ codes "                               text if it isn't given\n\n"
     ++ codes "Reads  the keyset, and the first 5 bytes of standard input, or the first 9 with --as\n"
     ++ codes "       envelope; of a stream it tells nothing, as streams have no output prefix\n"
     ++ codes "Gives  a line for each key, of any status, whose output prefix stands in front, and one that\n"
@@ -609,6 +616,22 @@ command_text commands.Eopen =
     ++ codes "  tinkey create-keyset --key-template AES256_GCM --out eopen.json\n"
     ++ codes "  echo 'Dear Ada' | tinkey eseal --keyset eopen.json --dek-template AES128_GCM --out eopen.sealed\n"
     ++ codes "  tinkey eopen --keyset eopen.json --dek-template AES128_GCM < eopen.sealed\n"
+command_text commands.Ereseal =
+    codes "tinkey ereseal: opens an envelope's data key, and seals that again under the primary key\n\n"
+    ++ codes "  tinkey ereseal --keyset FILE --dek-template NAME [--keyset-format json|binary]\n"
+    ++ codes "      [--out FILE] [--master FILE] [--master-format json|binary]\n\n"
+    ++ codes "Required:\n"
+    ++ keyset_31 ++ dek_template_31
+    ++ codes "\nOptional:\n"
+    ++ keyset_format_31 ++ out_31 ++ master_31 ++ master_format_31 ++ read_by_seal
+    ++ codes "Gives  the envelope with its data key sealed again under the primary key; the payload behind\n"
+    ++ codes "       it stays as it is, and isn't opened, in a new file of --out, or on standard output if\n"
+    ++ codes "       there is no --out\n"
+    ++ codes_012345678
+    ++ codes "  tinkey create-keyset --key-template AES256_GCM --out outer.json\n"
+    ++ codes "  echo 'Dear Ada' | tinkey eseal --keyset outer.json --dek-template AES128_GCM --out outer.sealed\n"
+    ++ codes "  tinkey rotate-keyset --key-template AES256_GCM --in outer.json --out ereseal.json\n"
+    ++ codes "  tinkey ereseal --keyset ereseal.json --dek-template AES128_GCM < outer.sealed > eresealed\n"
 command_text commands.Dseal =
     codes "tinkey dseal: seals deterministically: equal texts give equal bytes\n\n"
     ++ codes "  tinkey dseal --keyset FILE [--keyset-format json|binary] [--ad TEXT] [--ad-hex HEX]\n"
@@ -671,6 +694,18 @@ command_text commands.Sopen =
     ++ codes "  tinkey create-keyset --key-template AES256_GCM_HKDF_1MB --out sopen.json\n"
     ++ codes "  echo 'Dear Ada' | tinkey sseal --keyset sopen.json > sopen.stream\n"
     ++ codes "  tinkey sopen --keyset sopen.json < sopen.stream > opened.txt && echo whole\n"
+command_text commands.Sreseal =
+    codes "tinkey sreseal: opens such a stream, and seals it again under the primary key, in one pass\n\n"
+    ++ codes "  tinkey sreseal --keyset FILE [--keyset-format json|binary] [--ad TEXT] [--ad-hex HEX]\n"
+    ++ codes "      [--master FILE] [--master-format json|binary]\n"
+    ++ options_of_sseal ++ read_by_sseal
+    ++ codes "Gives  the plaintext of the stream, sealed again as a stream, on standard output, written\n"
+    ++ codes "       while it is read\n"
+    ++ codes_012345678
+    ++ codes "  tinkey create-keyset --key-template AES256_GCM_HKDF_1MB --out former.json\n"
+    ++ codes "  echo 'Dear Ada' | tinkey sseal --keyset former.json > former.stream\n"
+    ++ codes "  tinkey rotate-keyset --key-template AES256_GCM_HKDF_1MB --in former.json --out sreseal.json\n"
+    ++ codes "  tinkey sreseal --keyset sreseal.json < former.stream > sresealed && echo whole\n"
 command_text commands.Srange =
     codes "tinkey srange: opens a range of such a stream in a file\n\n"
     ++ codes "  tinkey srange --keyset FILE --file FILE --from N --length N [--keyset-format json|binary]\n"

@@ -134,13 +134,6 @@ Optional:
                                case; json if it isn't given
 "] $($rest)*)
     };
-    ([$($said:literal)*] options_of_wrap_keyset $($rest:tt)*) => {
-        text!([$($said)*] "
-Required:
-" master_31 "
-Optional:
-" master_format_31 in_31 in_format_31 out_31 out_format_31 $($rest)*)
-    };
     ([$($said:literal)*] ad_31 $($rest:tt)*) => {
         text!([$($said)* "  --ad TEXT                    the associated data: a text of at most 1,048,576 bytes, taken
                                as they stand; not beside --ad-hex
@@ -151,6 +144,13 @@ Optional:
                                hexadecimal digits of either case, at most 2,097,152, or
                                none; not beside --ad
 "] $($rest)*)
+    };
+    ([$($said:literal)*] options_of_wrap_keyset $($rest:tt)*) => {
+        text!([$($said)*] "
+Required:
+" master_31 "
+Optional:
+" master_format_31 in_31 in_format_31 out_31 out_format_31 $($rest)*)
     };
     ([$($said:literal)*] options_of_seal $($rest:tt)*) => {
         text!([$($said)*] "
@@ -170,12 +170,15 @@ Gives  what the input opens to, in a new file of --out, or on standard output if
        --out
 "] $($rest)*)
     };
+    ([$($said:literal)*] dek_template_31 $($rest:tt)*) => {
+        text!([$($said)* "  --dek-template NAME          the template of the data key: a name that list-key-templates
+                               prints; any text is taken as a word, and then looked up
+"] $($rest)*)
+    };
     ([$($said:literal)*] options_of_eseal $($rest:tt)*) => {
         text!([$($said)*] "
 Required:
-" keyset_31 "  --dek-template NAME          the template of the data key: a name that list-key-templates
-                               prints; any text is taken as a word, and then looked up
-
+" keyset_31 dek_template_31 "
 Optional:
 " keyset_format_31 ad_31 ad_hex_31 out_31 master_31 master_format_31 $($rest)*)
     };
@@ -258,12 +261,16 @@ Seal and open:
   eseal               seals under a fresh data key, and that key under the keyset: an
                       envelope
   eopen               opens an envelope
+  ereseal             opens an envelope's data key, and seals that again under the primary
+                      key
   dseal               seals deterministically: equal texts give equal bytes
   dopen               opens what dseal sealed
   reseal              opens, and seals again under the primary key
   dreseal             as reseal, of what dseal sealed
   sseal               seals a stream of any length, in one pass
   sopen               opens such a stream; it is complete only if the exit code is 0
+  sreseal             opens such a stream, and seals it again under the primary key, in one
+                      pass
   srange              opens a range of such a stream in a file
 
 Tag, verify and derive:
@@ -593,15 +600,15 @@ Optional:
         CommandName::KeyOf => text!([] "\
 tinkey key-of: tells which keys may have sealed a text or an envelope, or made a tag
 
-  tinkey key-of --keyset FILE [--keyset-format json|binary] [--master FILE]
-      [--master-format json|binary] [--as text|envelope]
+  tinkey key-of --keyset FILE [--keyset-format json|binary] [--ad TEXT] [--ad-hex HEX]
+      [--master FILE] [--master-format json|binary] [--as text|envelope|stream]
 
 Required:
 " keyset_31 "
 Optional:
-" keyset_format_31 master_31 master_format_31 "  --as text|envelope           what the input is: a sealed text or a tag, or an envelope:
-                               text or envelope, in upper or lower case; text if it isn't
-                               given
+" keyset_format_31 ad_31 ad_hex_31 master_31 master_format_31 "  --as text|envelope|stream    what the input is: a sealed text or a tag, an envelope, or a
+                               stream: text, envelope or stream, in upper or lower case;
+                               text if it isn't given
 
 Reads  the keyset, and the first 5 bytes of standard input, or the first 9 with --as
        envelope; of a stream it tells nothing, as streams have no output prefix
@@ -726,6 +733,24 @@ Gives  what the envelope opens to, in a new file of --out, or on standard output
   echo 'Dear Ada' | tinkey eseal --keyset eopen.json --dek-template AES128_GCM --out eopen.sealed
   tinkey eopen --keyset eopen.json --dek-template AES128_GCM < eopen.sealed
 "),
+        CommandName::Ereseal => text!([] "\
+tinkey ereseal: opens an envelope's data key, and seals that again under the primary key
+
+  tinkey ereseal --keyset FILE --dek-template NAME [--keyset-format json|binary]
+      [--out FILE] [--master FILE] [--master-format json|binary]
+
+Required:
+" keyset_31 dek_template_31 "
+Optional:
+" keyset_format_31 out_31 master_31 master_format_31 read_by_seal "\
+Gives  the envelope with its data key sealed again under the primary key; the payload behind
+       it stays as it is, and isn't opened, in a new file of --out, or on standard output if
+       there is no --out
+" codes_012345678 "  tinkey create-keyset --key-template AES256_GCM --out outer.json
+  echo 'Dear Ada' | tinkey eseal --keyset outer.json --dek-template AES128_GCM --out outer.sealed
+  tinkey rotate-keyset --key-template AES256_GCM --in outer.json --out ereseal.json
+  tinkey ereseal --keyset ereseal.json --dek-template AES128_GCM < outer.sealed > eresealed
+"),
         CommandName::Dseal => text!([] "\
 tinkey dseal: seals deterministically: equal texts give equal bytes
 
@@ -792,6 +817,19 @@ Gives  the plaintext of the stream, on standard output, each segment once it is 
 " codes_012345678 "  tinkey create-keyset --key-template AES256_GCM_HKDF_1MB --out sopen.json
   echo 'Dear Ada' | tinkey sseal --keyset sopen.json > sopen.stream
   tinkey sopen --keyset sopen.json < sopen.stream > opened.txt && echo whole
+"),
+        CommandName::Sreseal => text!([] "\
+tinkey sreseal: opens such a stream, and seals it again under the primary key, in one pass
+
+  tinkey sreseal --keyset FILE [--keyset-format json|binary] [--ad TEXT] [--ad-hex HEX]
+      [--master FILE] [--master-format json|binary]
+" options_of_sseal read_by_sseal "\
+Gives  the plaintext of the stream, sealed again as a stream, on standard output, written
+       while it is read
+" codes_012345678 "  tinkey create-keyset --key-template AES256_GCM_HKDF_1MB --out former.json
+  echo 'Dear Ada' | tinkey sseal --keyset former.json > former.stream
+  tinkey rotate-keyset --key-template AES256_GCM_HKDF_1MB --in former.json --out sreseal.json
+  tinkey sreseal --keyset sreseal.json < former.stream > sresealed && echo whole
 "),
         CommandName::Srange => text!([] "\
 tinkey srange: opens a range of such a stream in a file

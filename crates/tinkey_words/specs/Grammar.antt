@@ -81,6 +81,7 @@ IsValue forms.Format value =
 IsValue forms.SealedForm value =
     (str_to_ascii_lowercase value ≡ codes "text")
     ⊎ (str_to_ascii_lowercase value ≡ codes "envelope")
+    ⊎ (str_to_ascii_lowercase value ≡ codes "stream")
 IsValue forms.Datum value = length value ≤ datum_limit
 IsValue forms.Hex value = IsHex value
 IsValue forms.Flag value = value ≡ []

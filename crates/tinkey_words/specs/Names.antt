@@ -86,11 +86,15 @@ wrap_keyset_may = options.MasterFormat ∷ options.In ∷ options.InFormat ∷ o
 abbrev pub eseal_requires : List OptionName
 eseal_requires = options.Keyset ∷ options.DekTemplate ∷ []
 
+abbrev pub ereseal_may : List OptionName
+ereseal_may = options.KeysetFormat ∷ options.Out ∷ options.Master ∷ options.MasterFormat ∷ []
+
 abbrev pub srange_requires : List OptionName
 srange_requires = options.Keyset ∷ options.File ∷ options.From ∷ options.Length ∷ []
 
 abbrev pub key_of_may : List OptionName
-key_of_may = options.KeysetFormat ∷ options.Master ∷ options.MasterFormat ∷ options.As ∷ []
+key_of_may = options.KeysetFormat ∷ options.Ad ∷ options.AdHex ∷ options.Master ∷ options.MasterFormat
+    ∷ options.As ∷ []
 
 -- the row of each command
 abbrev pub row_of : CommandName → Row
@@ -113,6 +117,7 @@ row_of commands.Reseal = row (codes "reseal") seal_requires seal_may
 row_of commands.Dreseal = row (codes "dreseal") seal_requires seal_may
 row_of commands.Sseal = row (codes "sseal") seal_requires sseal_may
 row_of commands.Sopen = row (codes "sopen") seal_requires sseal_may
+row_of commands.Sreseal = row (codes "sreseal") seal_requires sseal_may
 row_of commands.Tag = row (codes "tag") seal_requires tag_may
 row_of commands.Verify = row (codes "verify") verify_requires verify_may
 row_of commands.Derive = row (codes "derive") derive_requires tag_may
@@ -122,6 +127,7 @@ row_of commands.WrapKeyset = row (codes "wrap-keyset") wrap_keyset_requires wrap
 row_of commands.UnwrapKeyset = row (codes "unwrap-keyset") wrap_keyset_requires wrap_keyset_may
 row_of commands.Eseal = row (codes "eseal") eseal_requires seal_may
 row_of commands.Eopen = row (codes "eopen") eseal_requires seal_may
+row_of commands.Ereseal = row (codes "ereseal") eseal_requires ereseal_may
 row_of commands.Srange = row (codes "srange") srange_requires seal_may
 row_of commands.KeyOf = row (codes "key-of") seal_requires key_of_may
 
@@ -132,9 +138,10 @@ all_commands =
     ∷ commands.EnableKey ∷ commands.DisableKey ∷ commands.DestroyKey ∷ commands.DeleteKey
     ∷ commands.ListKeyset ∷ commands.ConvertKeyset ∷ commands.ListKeyTemplates ∷ commands.Seal
     ∷ commands.Open ∷ commands.Dseal ∷ commands.Dopen ∷ commands.Reseal ∷ commands.Dreseal
-    ∷ commands.Sseal ∷ commands.Sopen ∷ commands.Tag ∷ commands.Verify ∷ commands.Derive
-    ∷ commands.Session ∷ commands.Selftest ∷ commands.WrapKeyset ∷ commands.UnwrapKeyset
-    ∷ commands.Eseal ∷ commands.Eopen ∷ commands.Srange ∷ commands.KeyOf ∷ []
+    ∷ commands.Sseal ∷ commands.Sopen ∷ commands.Sreseal ∷ commands.Tag ∷ commands.Verify
+    ∷ commands.Derive ∷ commands.Session ∷ commands.Selftest ∷ commands.WrapKeyset
+    ∷ commands.UnwrapKeyset ∷ commands.Eseal ∷ commands.Eopen ∷ commands.Ereseal ∷ commands.Srange
+    ∷ commands.KeyOf ∷ []
 
 -- The options.
 

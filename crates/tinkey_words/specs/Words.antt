@@ -120,6 +120,9 @@ pub record Output : Type 0 where
 pub data AskedEnvelope : Type 0 where
   to_eseal : (ad : List ℕ) → AskedEnvelope
   to_eopen : (ad : List ℕ) → AskedEnvelope
+  -- the data key of an envelope is opened and sealed again; its payload isn't opened, so no associated data
+  -- take part
+  to_ereseal : AskedEnvelope
 
 -- so many bytes of a plaintext from this offset on, of the stream in the file of this name
 pub record AskedRange : Type 0 where
@@ -136,8 +139,9 @@ pub data Asked : Type 0 where
   edit_keyset : (lock : Lock) (edit : AskedEdit) (in' out : Place) → Asked
   -- the listing of a keyset
   list_keyset : (lock : Lock) (in' : Place) → Asked
-  -- the keys under which the input stands, of the keyset in the file of this name
-  key_of : (lock : Lock) (keyset : List ℕ) (form : Format) (kind : SealedForm) → Asked
+  -- the keys under which the input stands, of the keyset in the file of this name; a stream has these
+  -- associated data
+  key_of : (lock : Lock) (keyset : List ℕ) (form : Format) (kind : SealedForm) (ad : List ℕ) → Asked
   -- a keyset, in another place, and where it is asked for under another master or in clear
   convert_keyset : (lock : Lock) (new : NewLock) (in' out : Place) → Asked
   -- the names of the templates
@@ -151,6 +155,8 @@ pub data Asked : Type 0 where
   -- the input as a stream, sealed or opened by such a keyset, with this associated data
   seal_stream : (lock : Lock) (keyset : List ℕ) (form : Format) (ad : List ℕ) → Asked
   open_stream : (lock : Lock) (keyset : List ℕ) (form : Format) (ad : List ℕ) → Asked
+  -- the same, opened, and the plaintext sealed, both with this associated data
+  reseal_stream : (lock : Lock) (keyset : List ℕ) (form : Format) (ad : List ℕ) → Asked
   -- a range of the stream in a file, opened by such a keyset, with this associated data, and the new file
   -- that it becomes
   open_range : (lock : Lock) (keyset : List ℕ) (form : Format) (ad : List ℕ) (range : AskedRange)
@@ -336,6 +342,9 @@ asked_with commands.Sseal values =
 asked_with commands.Sopen values =
     open_stream (lock values) (text (values options.Keyset)) (form_in (values options.KeysetFormat))
     (ad values)
+asked_with commands.Sreseal values =
+    reseal_stream (lock values) (text (values options.Keyset)) (form_in (values options.KeysetFormat))
+    (ad values)
 asked_with commands.Tag values = worked to_tag values
 asked_with commands.Verify values =
     worked (to_verify (datum_of_hex (text (values options.TagHex)))) values
@@ -351,12 +360,13 @@ asked_with commands.UnwrapKeyset values =
     convert_keyset (lock values) in_clear (taken_from values) (put_to values)
 asked_with commands.Eseal values = enveloped (to_eseal (ad values)) values
 asked_with commands.Eopen values = enveloped (to_eopen (ad values)) values
+asked_with commands.Ereseal values = enveloped to_ereseal values
 asked_with commands.Srange values =
     open_range (lock values) (text (values options.Keyset)) (form_in (values options.KeysetFormat))
     (ad values) (range values) (values options.Out)
 asked_with commands.KeyOf values =
     key_of (lock values) (text (values options.Keyset)) (form_in (values options.KeysetFormat))
-    (sealed_in (values options.As))
+    (sealed_in (values options.As)) (ad values)
 
 -- The words, one after another.
 
@@ -620,6 +630,7 @@ seen_work (works.Derive size) = to_derive size
 abbrev pub seen_envelope : Envelope → AskedEnvelope
 seen_envelope (envelopes.Seal ad) = to_eseal (seen_datum ad)
 seen_envelope (envelopes.Open ad) = to_eopen (seen_datum ad)
+seen_envelope envelopes.Reseal = to_ereseal
 
 -- a range, with the name of its file as bytes
 abbrev pub seen_range : CodeRange → AskedRange
@@ -632,7 +643,8 @@ seen_command (asks.CreateKeyset lock template output) =
 seen_command (asks.EditKeyset lock edit input output) =
     edit_keyset (seen_lock lock) (seen_edit edit) (seen_place input) (seen_place output)
 seen_command (asks.ListKeyset lock input) = list_keyset (seen_lock lock) (seen_place input)
-seen_command (asks.KeyOf lock keyset form kind) = key_of (seen_lock lock) keyset.now form kind
+seen_command (asks.KeyOf lock keyset form kind ad) =
+    key_of (seen_lock lock) keyset.now form kind (seen_datum ad)
 seen_command (asks.ConvertKeyset lock new input output) =
     convert_keyset (seen_lock lock) (seen_new_lock new) (seen_place input) (seen_place output)
 seen_command asks.ListKeyTemplates = list_key_templates
@@ -642,6 +654,8 @@ seen_command (asks.SealStream lock keyset form ad) =
     seal_stream (seen_lock lock) keyset.now form (seen_datum ad)
 seen_command (asks.OpenStream lock keyset form ad) =
     open_stream (seen_lock lock) keyset.now form (seen_datum ad)
+seen_command (asks.ResealStream lock keyset form ad) =
+    reseal_stream (seen_lock lock) keyset.now form (seen_datum ad)
 seen_command (asks.OpenRange lock keyset form ad range output) =
     open_range (seen_lock lock) keyset.now form (seen_datum ad) (seen_range range) (seen_name output)
 seen_command (asks.Session lock keyset form output) =

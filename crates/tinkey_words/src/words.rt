@@ -72,6 +72,8 @@ pub enum Request<'a> {
         form: Format,
         /// What the input is.
         kind: SealedForm,
+        /// The associated data of a stream.
+        ad: Datum<'a>,
     },
     /// Put a keyset elsewhere, in another form, or under another master.
     ConvertKeyset {
@@ -112,6 +114,17 @@ pub enum Request<'a> {
     },
     /// Open the input as a stream.
     OpenStream {
+        /// The master of the keyset, if it lies under one.
+        lock: Option<Master<'a>>,
+        /// The file of the keyset.
+        keyset: &'a str,
+        /// The form of the keyset.
+        form: Format,
+        /// The associated data.
+        ad: Datum<'a>,
+    },
+    /// Open the input as a stream, and seal the plaintext, both with this associated data.
+    ResealStream {
         /// The master of the keyset, if it lies under one.
         lock: Option<Master<'a>>,
         /// The file of the keyset.
@@ -185,6 +198,8 @@ pub enum Envelope<'a> {
     Seal(Datum<'a>),
     /// Open it, with this associated data.
     Open(Datum<'a>),
+    /// Open its data key, and seal that again; the payload isn't opened.
+    Reseal,
 }
 
 /// What is done with the whole input by the keys of a keyset.
@@ -418,6 +433,12 @@ fn command_with<'a>(command: CommandName, given: &Options<'a>) -> Request<'a>
             form: given.form(OptionName::KeysetFormat),
             ad: given.ad(),
         },
+        CommandName::Sreseal => Request::ResealStream {
+            lock: given.lock(),
+            keyset: given.text(OptionName::Keyset),
+            form: given.form(OptionName::KeysetFormat),
+            ad: given.ad(),
+        },
         CommandName::Tag => given.worked(Work::Tag),
         CommandName::Verify => given.worked(Work::Verify(Datum::Hex(given.text(
             OptionName::TagHex,
@@ -437,6 +458,7 @@ fn command_with<'a>(command: CommandName, given: &Options<'a>) -> Request<'a>
         CommandName::UnwrapKeyset => given.converted(given.lock(), NewLock::InClear),
         CommandName::Eseal => given.enveloped(Envelope::Seal(given.ad())),
         CommandName::Eopen => given.enveloped(Envelope::Open(given.ad())),
+        CommandName::Ereseal => given.enveloped(Envelope::Reseal),
         CommandName::Srange => Request::OpenRange {
             lock: given.lock(),
             keyset: given.text(OptionName::Keyset),
@@ -450,6 +472,7 @@ fn command_with<'a>(command: CommandName, given: &Options<'a>) -> Request<'a>
             keyset: given.text(OptionName::Keyset),
             form: given.form(OptionName::KeysetFormat),
             kind: given.kind(),
+            ad: given.ad(),
         },
     }
 }

@@ -46,6 +46,8 @@ pub enum CommandName {
     Sseal,
     /// `sopen`
     Sopen,
+    /// `sreseal`
+    Sreseal,
     /// `tag`
     Tag,
     /// `verify`
@@ -64,6 +66,8 @@ pub enum CommandName {
     Eseal,
     /// `eopen`
     Eopen,
+    /// `ereseal`
+    Ereseal,
     /// `srange`
     Srange,
     /// `key-of`
@@ -117,12 +121,12 @@ pub enum OptionName {
     From,
     /// `--hex`, writes the output in hexadecimal.
     Hex,
-    /// `--as`, what the input is: a sealed text or a tag, or an envelope.
+    /// `--as`, what the input is: a sealed text or a tag, an envelope, or a stream.
     As,
 }
 
 /// How many commands there are.
-const COMMAND_COUNT: usize = 30;
+const COMMAND_COUNT: usize = 32;
 
 /// How many options there are.
 pub const OPTION_COUNT: usize = 23;
@@ -182,6 +186,7 @@ impl CommandName {
             CommandName::Dreseal => row("dreseal", &SEAL_REQUIRES, &SEAL_MAY),
             CommandName::Sseal => row("sseal", &SEAL_REQUIRES, &SSEAL_MAY),
             CommandName::Sopen => row("sopen", &SEAL_REQUIRES, &SSEAL_MAY),
+            CommandName::Sreseal => row("sreseal", &SEAL_REQUIRES, &SSEAL_MAY),
             CommandName::Tag => row("tag", &SEAL_REQUIRES, &TAG_MAY),
             CommandName::Verify => row("verify", &VERIFY_REQUIRES, &VERIFY_MAY),
             CommandName::Derive => row("derive", &DERIVE_REQUIRES, &TAG_MAY),
@@ -195,6 +200,7 @@ impl CommandName {
             ),
             CommandName::Eseal => row("eseal", &ESEAL_REQUIRES, &SEAL_MAY),
             CommandName::Eopen => row("eopen", &ESEAL_REQUIRES, &SEAL_MAY),
+            CommandName::Ereseal => row("ereseal", &ESEAL_REQUIRES, &ERESEAL_MAY),
             CommandName::Srange => row("srange", &SRANGE_REQUIRES, &SEAL_MAY),
             CommandName::KeyOf => row("key-of", &SEAL_REQUIRES, &KEY_OF_MAY),
         }
@@ -301,6 +307,13 @@ const WRAP_KEYSET_MAY: [OptionName; 5] = [
 
 const ESEAL_REQUIRES: [OptionName; 2] = [OptionName::Keyset, OptionName::DekTemplate];
 
+const ERESEAL_MAY: [OptionName; 4] = [
+    OptionName::KeysetFormat,
+    OptionName::Out,
+    OptionName::Master,
+    OptionName::MasterFormat,
+];
+
 const SRANGE_REQUIRES: [OptionName; 4] = [
     OptionName::Keyset,
     OptionName::File,
@@ -308,8 +321,10 @@ const SRANGE_REQUIRES: [OptionName; 4] = [
     OptionName::Length,
 ];
 
-const KEY_OF_MAY: [OptionName; 4] = [
+const KEY_OF_MAY: [OptionName; 6] = [
     OptionName::KeysetFormat,
+    OptionName::Ad,
+    OptionName::AdHex,
     OptionName::Master,
     OptionName::MasterFormat,
     OptionName::As,
@@ -443,6 +458,7 @@ pub const COMMANDS: [CommandName; COMMAND_COUNT] = [
     CommandName::Dreseal,
     CommandName::Sseal,
     CommandName::Sopen,
+    CommandName::Sreseal,
     CommandName::Tag,
     CommandName::Verify,
     CommandName::Derive,
@@ -452,6 +468,7 @@ pub const COMMANDS: [CommandName; COMMAND_COUNT] = [
     CommandName::UnwrapKeyset,
     CommandName::Eseal,
     CommandName::Eopen,
+    CommandName::Ereseal,
     CommandName::Srange,
     CommandName::KeyOf,
 ];

@@ -74,6 +74,10 @@ pub returns-in-Eopen : goal.returns-in-Eopen
 unfolding command_text
 returns-in-Eopen c = rw c.in-Eopen.is refl
 
+pub returns-in-Ereseal : goal.returns-in-Ereseal
+unfolding command_text
+returns-in-Ereseal c = rw c.in-Ereseal.is refl
+
 pub returns-in-Dseal : goal.returns-in-Dseal
 unfolding command_text
 returns-in-Dseal c = rw c.in-Dseal.is refl
@@ -97,6 +101,10 @@ returns-in-Sseal c = rw c.in-Sseal.is refl
 pub returns-in-Sopen : goal.returns-in-Sopen
 unfolding command_text
 returns-in-Sopen c = rw c.in-Sopen.is refl
+
+pub returns-in-Sreseal : goal.returns-in-Sreseal
+unfolding command_text
+returns-in-Sreseal c = rw c.in-Sreseal.is refl
 
 pub returns-in-Srange : goal.returns-in-Srange
 unfolding command_text
