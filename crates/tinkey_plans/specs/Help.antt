@@ -335,6 +335,13 @@ keyset_format_31 =
     codes "  --keyset-format json|binary  the form of that keyset: json or binary, in upper or lower\n"
     ++ codes "                               case; json if it isn't given\n"
 
+abbrev pub options_of_wrap_keyset : List ℕ
+options_of_wrap_keyset =
+    codes "\nRequired:\n"
+    ++ master_31
+    ++ codes "\nOptional:\n"
+    ++ master_format_31 ++ in_31 ++ in_format_31 ++ out_31 ++ out_format_31
+
 abbrev pub ad_31 : List ℕ
 ad_31 =
     codes "  --ad TEXT                    the associated data: a text of at most 1,048,576 bytes, taken\n"
@@ -345,13 +352,6 @@ ad_hex_31 =
     codes "  --ad-hex HEX                 the associated data in hexadecimal: an even number of\n"
     ++ codes "                               hexadecimal digits of either case, at most 2,097,152, or\n"
     ++ codes "                               none; not beside --ad\n"
-
-abbrev pub options_of_wrap_keyset : List ℕ
-options_of_wrap_keyset =
-    codes "\nRequired:\n"
-    ++ master_31
-    ++ codes "\nOptional:\n"
-    ++ master_format_31 ++ in_31 ++ in_format_31 ++ out_31 ++ out_format_31
 
 abbrev pub options_of_seal : List ℕ
 options_of_seal =
@@ -499,7 +499,13 @@ command_text commands.KeyOf =
     ++ codes "Required:\n"
     ++ keyset_31
     ++ codes "\nOptional:\n"
-    ++ keyset_format_31 ++ ad_31 ++ ad_hex_31 ++ master_31 ++ master_format_31
+    ++ keyset_format_31
+    ++ codes "  --ad TEXT                    the associated data, only with --as stream: a text of at most\n"
+    ++ codes "                               1,048,576 bytes, taken as they stand; not beside --ad-hex\n"
+    ++ codes "  --ad-hex HEX                 the associated data in hexadecimal, only with --as stream: an\n"
+    ++ codes "                               even number of hexadecimal digits of either case, at most\n"
+    ++ codes "                               2,097,152, or none; not beside --ad\n"
+    ++ master_31 ++ master_format_31
     ++ codes "  --as text|envelope|stream    what the input is: a sealed text or a tag, an envelope, or a\n"
     ++ codes "                               stream: text, envelope or stream, in upper or lower case;\n"
     ++ codes "                               text if it isn't given\n\n"

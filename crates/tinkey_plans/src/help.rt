@@ -134,6 +134,13 @@ Optional:
                                case; json if it isn't given
 "] $($rest)*)
     };
+    ([$($said:literal)*] options_of_wrap_keyset $($rest:tt)*) => {
+        text!([$($said)*] "
+Required:
+" master_31 "
+Optional:
+" master_format_31 in_31 in_format_31 out_31 out_format_31 $($rest)*)
+    };
     ([$($said:literal)*] ad_31 $($rest:tt)*) => {
         text!([$($said)* "  --ad TEXT                    the associated data: a text of at most 1,048,576 bytes, taken
                                as they stand; not beside --ad-hex
@@ -144,13 +151,6 @@ Optional:
                                hexadecimal digits of either case, at most 2,097,152, or
                                none; not beside --ad
 "] $($rest)*)
-    };
-    ([$($said:literal)*] options_of_wrap_keyset $($rest:tt)*) => {
-        text!([$($said)*] "
-Required:
-" master_31 "
-Optional:
-" master_format_31 in_31 in_format_31 out_31 out_format_31 $($rest)*)
     };
     ([$($said:literal)*] options_of_seal $($rest:tt)*) => {
         text!([$($said)*] "
@@ -606,7 +606,12 @@ tinkey key-of: tells which keys may have sealed a text or an envelope, or made a
 Required:
 " keyset_31 "
 Optional:
-" keyset_format_31 ad_31 ad_hex_31 master_31 master_format_31 "  --as text|envelope|stream    what the input is: a sealed text or a tag, an envelope, or a
+" keyset_format_31 "  --ad TEXT                    the associated data, only with --as stream: a text of at most
+                               1,048,576 bytes, taken as they stand; not beside --ad-hex
+  --ad-hex HEX                 the associated data in hexadecimal, only with --as stream: an
+                               even number of hexadecimal digits of either case, at most
+                               2,097,152, or none; not beside --ad
+" master_31 master_format_31 "  --as text|envelope|stream    what the input is: a sealed text or a tag, an envelope, or a
                                stream: text, envelope or stream, in upper or lower case;
                                text if it isn't given
 

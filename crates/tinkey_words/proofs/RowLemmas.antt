@@ -23,7 +23,7 @@ use Rattle.tinkey_words.specs.declared.words.names.OptionName.TheVariants as opt
 use Rattle.hex.specs.Hex.{is_hex_digit}
 use Rattle.tinkey_words.specs.Names.{row_of, all_commands, option_row, all_options}
 use Rattle.tinkey_words.specs.Rows.{command_of, option_of, same, datum_limit, is_line_count, most_lines, is_range_length, most_range, offset_in, format_of, sealed_form_of, is_hex, is_value, is_flag, aside, begins_aside, is_aside}
-use Rattle.tinkey_words.specs.Words.{is_equals, own_value}
+use Rattle.tinkey_words.specs.Words.{is_equals, own_value, is_stream, known_sealed, sealed_in}
 use Rattle.tinkey_words.proofs.NameLemmas.{is_found}
 use Rattle.tinkey_words.specs.Grammar.{IsAside, IsHex, IsLineCount, IsNumber, IsOffset, IsRangeLength, IsValue}
 
@@ -254,6 +254,21 @@ sealed_formed value is = by (which_of_three sealed.Text sealed.Envelope sealed.S
     by (inl text) = inl (is_lowered value (codes "text") refl text)
     by (inr (inl envelope)) = inr (inl (is_lowered value (codes "envelope") refl envelope))
     by (inr (inr stream)) = inr (inr (is_lowered value (codes "stream") refl stream))
+
+-- a stream is named so, and what is named so is one
+third_of : (a b c : Bool) → is_stream (known_sealed (if a then Some sealed.Text else (if b then Some sealed.Envelope else (if c then Some sealed.Stream else None)))) ≡ true → c ≡ true
+third_of true b c is = let clash : false ≡ true = is in absurd (cc)
+third_of false true c is = let clash : false ≡ true = is in absurd (cc)
+third_of false false true is = refl
+third_of false false false is = let clash : false ≡ true = is in absurd (cc)
+
+pub stream_named : (value : List ℕ) → is_stream (sealed_in (Some value)) ≡ true → str_to_ascii_lowercase value ≡ codes "stream"
+unfolding sealed_form_of
+stream_named value is = is_lowered value (codes "stream") refl (third_of (str_eq_ignore_ascii_case value (codes "text")) (str_eq_ignore_ascii_case value (codes "envelope")) (str_eq_ignore_ascii_case value (codes "stream")) is)
+
+pub named_stream : (value : List ℕ) → str_to_ascii_lowercase value ≡ codes "stream" → is_stream (sealed_in (Some value)) ≡ true
+unfolding sealed_form_of
+named_stream value low = rw low refl
 
 three_pass : (a b c : Bool) → (a && b && c) ≡ true → (a ≡ true) × (b ≡ true) × (c ≡ true)
 three_pass true true true is = (refl, refl, refl)

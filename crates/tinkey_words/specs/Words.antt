@@ -4,8 +4,9 @@
 --
 -- The answer is a command, or the first word at fault, by its place and by why it is so: an unknown
 -- command or option, one that the command doesn't have, a repeat, the second of two that exclude each
--- other, or one that holds a value that isn't of its form, as a name aside for a new file; of help, a topic that isn't known, or a word
--- too many. Where a value, a required option, or one that another needs is missing at the end, the place is the
+-- other, or one that holds a value that isn't of its form, as a name aside for a new file; of help, a topic that isn't
+-- known, or a word too many. Where a value, a required option, or one that another needs is missing at the end, or
+-- an option is there that means something for a stream alone and no word says that there is one, the place is the
 -- number of words; they are looked for in this order. Places count from 0.
 use Rattle.std.specs.Prelude.{◌≡◌, ℕ, ◌+◌, ◌*◌, List, [], ◌∷◌, length, Bool, false, ◌&&◌, ◌||◌, Option, Some, None, is_some, option_map, not, Result, Ok, Err, ◌==◌, nat_lt, nat_le, if◌then◌else◌, slice_index_or, codes, true}
 use Rattle.std.specs.List.{find, position_or_len, before_first, after_first}
@@ -50,7 +51,7 @@ use Rattle.tinkey_words.specs.declared.words.names.CommandName.TheVariants as co
 use Rattle.tinkey_words.specs.declared.words.names.OptionName.{OptionName}
 use Rattle.tinkey_words.specs.declared.words.names.OptionName.TheVariants as options
 use Rattle.tink_base.specs.Decimal.{number_in}
-use Rattle.tinkey_words.specs.Names.{row_of, option_row, form_for, rival, needs}
+use Rattle.tinkey_words.specs.Names.{row_of, option_row, form_for, rival, needs, for_streams}
 use Rattle.tinkey_words.specs.Rows.{command_of, option_of, same, takes, datum_limit, most_range, format_of, sealed_form_of, is_aside, is_new_file, is_value, offset_in, is_flag}
 
 -- What is asked.
@@ -497,9 +498,33 @@ lacking names given = find (λ name. not (is_given name given)) names
 abbrev pub unmet : List (OptionName × OptionName) → Options → Option (OptionName × OptionName)
 unmet pairs given = find (λ need. is_given need.0 given && not (is_given need.1 given)) pairs
 
--- the command with its options, where each that needs another has it; the number of words is behind them
+-- the words say that the input is a stream
+abbrev pub is_stream : SealedForm → Bool
+is_stream sealed.Stream = true
+is_stream _ = false
+
+-- the first of these options that is given
+abbrev pub first_given : List OptionName → Options → Option OptionName
+first_given names given = find (λ name. is_given name given) names
+
+-- the first of these options, which mean something for a stream alone, that is given where there is none
+abbrev pub idle : (stream : Bool) → List OptionName → Options → Option OptionName
+idle true names given = None
+idle false names given = first_given names given
+
+-- the same of the options of the command
+abbrev pub idle_of : CommandName → Options → Option OptionName
+idle_of command given =
+    idle (is_stream (sealed_in (given.values options.As))) (for_streams command) given
+
+-- the command with its options, where none is for a stream that isn't there; the number of words is behind them
+abbrev pub idle_none : Option OptionName → CommandName → ℕ → Options → Result Asked Misuse
+idle_none None command count given = Ok (asked_with command given.values)
+idle_none (Some name) command count given = Err (misuse_at count (misfits.NoStream command name))
+
+-- the same, where each option that needs another has it
 abbrev pub unmet_none : Option (OptionName × OptionName) → CommandName → ℕ → Options → Result Asked Misuse
-unmet_none None command count given = Ok (asked_with command given.values)
+unmet_none None command count given = idle_none (idle_of command given) command count given
 unmet_none (Some need) command count given = Err (misuse_at count (misfits.Without command need.0 need.1))
 
 -- the same, where it lacks none that it requires

@@ -1,7 +1,7 @@
 //! The names of commands and options, and their rows; made by tools/words of words.table.
 
 ghost use Rattle.std.specs.Prelude.{◌≡◌, ◌<◌};
-ghost use Rattle.tinkey_words.specs.Names.{form_for, length_form, option_row, rival, row, row_of, seen_row};
+ghost use Rattle.tinkey_words.specs.Names.{for_streams, form_for, length_form, option_row, rival, row, row_of, seen_row};
 
 use super::rows::Form;
 
@@ -205,6 +205,16 @@ impl CommandName {
             CommandName::KeyOf => row("key-of", &SEAL_REQUIRES, &KEY_OF_MAY),
         }
     }
+
+    /// The options of the command that mean something for a stream alone.
+    pub fn for_streams(self) -> &'static [OptionName]
+        ensures { result.now ≡ for_streams self }
+    {
+        match self {
+            CommandName::KeyOf => &KEY_OF_STREAMS,
+            _ => &[],
+        }
+    }
 }
 
 // What commands require or may have, named after the first one that it is so of.
@@ -329,6 +339,8 @@ const KEY_OF_MAY: [OptionName; 6] = [
     OptionName::MasterFormat,
     OptionName::As,
 ];
+
+const KEY_OF_STREAMS: [OptionName; 2] = [OptionName::Ad, OptionName::AdHex];
 
 fn row(
     word: &'static str,
