@@ -4,16 +4,16 @@
 --   encrypted_in   the encrypted bytes of the fields of an `EncryptedKeyset` message
 --   encrypted_of   those of a JSON value
 --   sealed_in      those of a text in one of the two forms
---   is_wrapped     the text has such bytes
 --   unwrap_of      the keyset of a text, or the refusal of the first step that fails
+--   is_wrapped_json, is_wrapped_binary   the text is an encrypted keyset, by what it shows in clear
 --
 -- Places are those of tags, counted in bytes from 0.
-use Rattle.std.specs.Prelude.{ℕ, Bool, false, ◌||◌, ◌==◌, nat_lt, List, [], length, codes, filter, if◌then◌else◌, Option, Some, None, Result, Ok, Err}
+use Rattle.std.specs.Prelude.{ℕ, Bool, false, not, ◌||◌, ◌&&◌, ◌==◌, nat_lt, List, [], length, codes, filter, if◌then◌else◌, Option, Some, None, Result, Ok, Err}
 use Rattle.std.specs.Option.{option_and_then, option_or}
 use Rattle.serde_json.specs.Data.{Data, null}
 use Rattle.serde_json.specs.Find.{get}
 use Rattle.tink_spec.specs.Wire.{WireField, cut}
-use Rattle.tink_spec.specs.Messages.{is_bytes, of_number, first_other, unless_at, last_bytes}
+use Rattle.tink_spec.specs.Messages.{is_bytes, of_number, first_other, unless_at, last_bytes, number_in, bytes_in}
 use Rattle.tink_spec.specs.Messages as messages
 use Rattle.keyset_model.specs.declared.keyset.KeysetFault.{KeysetFault}
 use Rattle.keyset_model.specs.Keyset.{Keys}
@@ -102,15 +102,6 @@ sealed_in_json text = of_value (json_value (without_newline text))
 abbrev pub sealed_in : (json : Bool) → (text : List ℕ) → Result (List ℕ) Refusal
 sealed_in json text = if json then sealed_in_json text else sealed_in_binary text
 
--- there are encrypted bytes, at least one
-abbrev pub has_sealed : Result (List ℕ) Refusal → Bool
-has_sealed (Ok sealed) = nat_lt 0 (length sealed)
-has_sealed (Err refusal) = false
-
--- the text is an encrypted keyset: its encrypted bytes are read, and aren't empty
-unfoldable pub is_wrapped : (json : Bool) → (text : List ℕ) → Bool
-is_wrapped json text = has_sealed (sealed_in json text)
-
 -- the plaintext, where there is one
 abbrev pub or_not_opened : Option (List ℕ) → Result (List ℕ) Refusal
 or_not_opened None = Err NotOpened
@@ -132,3 +123,42 @@ open_keyset master table sealed =
 -- the keyset of a text, or the refusal of the first step that fails
 abbrev pub unwrap_of : (master : Keys) → Table → (text : List ℕ) → (json : Bool) → Result Keys Refusal
 unwrap_of master table text json = sealed_in json text >>= open_keyset master table
+
+-- ---- is a text an encrypted keyset?
+
+-- bytes are read, at least one
+abbrev pub has_sealed : {E : Type 0} → Result (List ℕ) E → Bool
+has_sealed (Ok sealed) = nat_lt 0 (length sealed)
+has_sealed (Err why) = false
+
+-- as JSON: its encrypted bytes are read, and aren't empty
+unfoldable pub is_wrapped_json : (text : List ℕ) → Bool
+is_wrapped_json text = has_sealed (sealed_in_json text)
+
+-- an id is read, and is 0, as one that is missing
+abbrev pub is_no_id : Result ℕ ℕ → Bool
+is_no_id (Ok id) = id == 0
+is_no_id (Err at) = false
+
+-- bytes are read, at least one, wherever they are
+abbrev pub has_info : Result (ℕ × List ℕ) ℕ → Bool
+has_info (Ok (start, info)) = nat_lt 0 (length info)
+has_info (Err at) = false
+
+-- In the binary form: there are encrypted bytes, and no primary_key_id, 1. A `Keyset` in clear has that, and
+-- its keys have the number of the encrypted bytes. Where an info is wanted, there is one: keyset_info, 3,
+-- which a `Keyset` hasn't, and an `EncryptedKeyset` may leave out.
+abbrev pub is_encrypted : (informed : Bool) → List WireField → Bool
+is_encrypted informed fields =
+    has_sealed (encrypted_in fields)
+    && is_no_id (number_in 1 fields)
+    && (not informed || has_info (bytes_in 3 fields))
+
+-- the same of fields that can be cut
+abbrev pub are_encrypted : Result (List WireField) ℕ → (informed : Bool) → Bool
+are_encrypted (Ok fields) informed = is_encrypted informed fields
+are_encrypted (Err at) informed = false
+
+-- the same of a text
+unfoldable pub is_wrapped_binary : (text : List ℕ) → (informed : Bool) → Bool
+is_wrapped_binary text informed = are_encrypted (cut 0 text) informed

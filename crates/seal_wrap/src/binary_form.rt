@@ -3,13 +3,14 @@
 
 ghost use Rattle.std.specs.Prelude.{◌≡◌, ◌≤◌, ◌+◌, ◌^◌, Ok, Err, length, IfOk, IfErr};
 ghost use Rattle.std.specs.List.{AllByRecursion};
+ghost use Rattle.tink_spec.specs.Messages.{bytes_in, number_in};
 ghost use Rattle.proto_wire.specs.Fields.{seen_all, IsOf};
 ghost use Rattle.proto_wire.specs.Written.{written_all};
 ghost use Rattle.keyset_model.specs.Keyset.{HasSizes};
 ghost use Rattle.keyset_model.specs.Writing.{binary_of};
 ghost use Rattle.seal_wrap.specs.Info.{info_of, key_info_of};
 ghost use Rattle.seal_wrap.specs.Wrapped.{info_written, key_info_entries, wrapped_binary};
-ghost use Rattle.seal_wrap.specs.Unwrapped.{encrypted_in, sealed_in_binary};
+ghost use Rattle.seal_wrap.specs.Unwrapped.{encrypted_in, has_info, has_sealed, is_encrypted, is_no_id, is_wrapped_binary, sealed_in_binary};
 ghost use Rattle.seal_wrap.specs.Steps.{IsBytesOf, IsNoBytes};
 ghost use Rattle.seal_wrap.specs.Wrapping.{IsRefusal};
 
@@ -24,7 +25,7 @@ const ENCRYPTED_KEYSET: u32 = 2;
 
 const KEYSET_INFO: u32 = 3;
 
-// The field numbers of `KeysetInfo`.
+// The field numbers of `KeysetInfo`; the first one is that of a `Keyset`, too.
 const PRIMARY_KEY_ID: u32 = 1;
 
 const KEY_INFO: u32 = 2;
@@ -136,4 +137,60 @@ fn bytes_at(text: &[u8], field: Field) -> Result<&[u8], Wire>
         return Err(Wire { at: field.at });
     }
     Ok(&text[field.start..field.end])
+}
+
+/// Whether the text is an encrypted keyset in the binary form: an `EncryptedKeyset` message with encrypted
+/// bytes, at least one, and without the primary id that a `Keyset` has; if an info is wanted, with that, too.
+///
+/// The keys of a keyset in clear have the number of the encrypted bytes. So if the fields of that number are
+/// all keys, ask with an info. No master is needed: what is in clear is looked at, and not believed.
+#[tactic(auto, unfolding(crate::specs::Unwrapped::is_wrapped_binary))]
+pub fn is_wrapped_binary(alloc: Global, text: &[u8], informed: bool) -> Result<bool, NoMemory>
+    ensures { IfOk result (λ wrapped. wrapped ≡ is_wrapped_binary text.now informed) }
+{
+    match fields(alloc, text, 0, text.len()) {
+        Ok(message) => Ok(is_encrypted(text, &message, informed)),
+        Err(FieldsError::Wire(_)) => Ok(false),
+        Err(FieldsError::NoMemory) => Err(NoMemory),
+    }
+}
+
+/// Whether these fields are those of an encrypted keyset.
+fn is_encrypted(text: &[u8], message: &Fields, informed: bool) -> bool
+    requires of_source { AllByRecursion (IsOf text.now) message.now }
+    ensures { result ≡ is_encrypted informed (seen_all text.now message.now) }
+{
+    has_sealed(text, message) && is_no_id(text, message) && (!informed || has_info(text, message))
+}
+
+/// Whether there are encrypted bytes, at least one.
+fn has_sealed(text: &[u8], message: &Fields) -> bool
+    requires of_source { AllByRecursion (IsOf text.now) message.now }
+    ensures { result ≡ has_sealed (encrypted_in (seen_all text.now message.now)) }
+{
+    match encrypted_bytes(text, message) {
+        Ok(sealed) => !sealed.is_empty(),
+        Err(_) => false,
+    }
+}
+
+/// Whether there is no primary id, or 0.
+fn is_no_id(text: &[u8], message: &Fields) -> bool
+    ensures { result ≡ is_no_id (number_in 1 (seen_all text.now message.now)) }
+{
+    match message.number_of(PRIMARY_KEY_ID) {
+        Ok(id) => id == 0,
+        Err(_) => false,
+    }
+}
+
+/// Whether there is an info, of at least one byte.
+fn has_info(text: &[u8], message: &Fields) -> bool
+    requires of_source { AllByRecursion (IsOf text.now) message.now }
+    ensures { result ≡ has_info (bytes_in 3 (seen_all text.now message.now)) }
+{
+    match message.span_of(KEYSET_INFO) {
+        Ok((start, end)) => start < end,
+        Err(_) => false,
+    }
 }

@@ -14,7 +14,8 @@ pub mod laws;
 mod unwrapping;
 mod wrapping;
 
+pub use binary_form::is_wrapped_binary;
 pub use data_keys::{DataKeyFault, data_key};
 pub use envelope::{ENVELOPE_ROOM, EnvelopeFault, envelope_open, envelope_seal};
-pub use unwrapping::{UnwrapFault, is_wrapped, unwrap_keyset};
+pub use unwrapping::{UnwrapFault, is_wrapped_json, unwrap_keyset};
 pub use wrapping::{WrapFault, wrap};

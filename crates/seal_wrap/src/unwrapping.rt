@@ -1,11 +1,11 @@
 //! A wrapped keyset is read and opened under a master keyset.
 
-ghost use Rattle.std.specs.Prelude.{◌≡◌, ◌≤◌, Bool, length, List, ℕ, IfOk};
+ghost use Rattle.std.specs.Prelude.{◌≡◌, ◌≤◌, length, List, ℕ, IfOk};
 ghost use Rattle.std.specs.List.{AllByRecursion};
 ghost use Rattle.key_msgs.specs.declared.primitive.Primitive.TheVariants.{Aead};
 ghost use Rattle.keyset_model.specs.Keyset.{IsShort, IsWithin, Keys};
 ghost use Rattle.wrapped_prims.specs.Making.{IsOver};
-ghost use Rattle.seal_wrap.specs.Unwrapped.{has_sealed, is_wrapped, open_keyset, sealed_in, unwrap_of};
+ghost use Rattle.seal_wrap.specs.Unwrapped.{has_sealed, is_wrapped_json, open_keyset, sealed_in_json, unwrap_of};
 ghost use Rattle.seal_wrap.specs.Wrapping.{GivesKeyset, IsRefusal};
 
 use crate::binary_form::read_wrapped_binary;
@@ -75,29 +75,22 @@ pub fn unwrap_keyset(
     }
 }
 
-/// Whether the text is an encrypted keyset, as JSON or else in the binary form: its encrypted bytes are read,
-/// as `unwrap_keyset` reads them, and aren't empty.
-#[tactic(auto, unfolding(crate::specs::Unwrapped::is_wrapped))]
-pub fn is_wrapped(alloc: Global, text: &[u8], json: bool) -> Result<bool, NoMemory>
-    ensures { IfOk result (λ wrapped. wrapped ≡ is_wrapped json text.now) }
+/// Whether the text is an encrypted keyset as JSON: its encrypted bytes are read, as `unwrap_keyset` reads
+/// them, and aren't empty.
+#[tactic(auto, unfolding(crate::specs::Unwrapped::is_wrapped_json))]
+pub fn is_wrapped_json(alloc: Global, text: &[u8]) -> Result<bool, NoMemory>
+    ensures { IfOk result (λ wrapped. wrapped ≡ is_wrapped_json text.now) }
 {
-    if json {
-        match read_wrapped_json(alloc, text) {
-            Ok(sealed) => Ok(!sealed.as_slice().is_empty()),
-            Err(fault) => unless_starved(fault),
-        }
-    } else {
-        match read_wrapped_binary(alloc, text) {
-            Ok(sealed) => Ok(!sealed.is_empty()),
-            Err(fault) => unless_starved(fault),
-        }
+    match read_wrapped_json(alloc, text) {
+        Ok(sealed) => Ok(!sealed.as_slice().is_empty()),
+        Err(fault) => unless_starved(fault),
     }
 }
 
 /// A text that is refused so is no encrypted keyset, unless memory was refused.
 fn unless_starved(fault: UnwrapFault) -> Result<bool, NoMemory>
-    ensures { IfOk result (λ wrapped. (json : Bool) (text : List ℕ)
-        → IsRefusal fault (sealed_in json text) → wrapped ≡ has_sealed (sealed_in json text)) }
+    ensures { IfOk result (λ wrapped. (text : List ℕ)
+        → IsRefusal fault (sealed_in_json text) → wrapped ≡ has_sealed (sealed_in_json text)) }
 {
     match fault {
         UnwrapFault::NoMemory => Err(NoMemory),

@@ -22,7 +22,7 @@ use Rattle.tinkey_plans.specs.Using.{seals, with_opened, with_verified, with_der
 use Rattle.tinkey_plans.specs.Locks.{keyset_under, limit_under, loads_locked, opens_lock, opens_master, opens_new_lock, takes_locked, takes_under, writes_under}
 use Rattle.tinkey_plans.specs.Wrapping.{is_json, is_keyset, makes_wrapped, with_unwrapped, wrapped_limit, wraps}
 use Rattle.seal_wrap.specs.Unwrapped as unwrapped
-use Rattle.seal_wrap.specs.Unwrapped.{is_wrapped, unwrap_of}
+use Rattle.seal_wrap.specs.Unwrapped.{is_wrapped_binary, is_wrapped_json, unwrap_of}
 use Rattle.tinkey_words.specs.Words.{AskedEdit, AskedEnvelope, AskedWork, Lock, Master, NewLock, Place, as_taken, in_clear, under, to_eseal, to_eopen, to_seal, to_open, to_dseal, to_dopen, to_reseal, to_dreseal, to_tag, to_verify, to_derive}
 use Rattle.tinkey_plans.specs.Plan.{IsStated, Made, Of, allocates, draws, envelopings, sealings}
 use Rattle.tinkey_plans.specs.declared.status.Status.{Status}
@@ -52,24 +52,24 @@ abbrev pub IsClosedAt : (P : Plan → Type 0) (kind : Made) → Draw (Of kind) �
 IsClosedAt P kind give =
     (next : Result (Of kind) CmdFault → Plan) → AreAll P next → P (draws kind give next)
 
-pub with_keyset_each : (P : Plan → Type 0) → IsClosed P → (r : Result Keys Refusal) (next : Keys → Plan) → AreAll P next → P (with_keyset r next)
-with_keyset_each P c (Err (Wire at)) next all = c.ended _ _
-with_keyset_each P c (Err (Fault fault)) next all = c.ended _ _
-with_keyset_each P c (Ok keys) next all = all keys
-
 ended_each : (P : Plan → Type 0) → IsClosed P → (b : Bool) (s t : Status) (a : IsStated s) (other : IsStated t) → P (if b then ends s a else ends t other)
 ended_each P c true s t a other = c.ended s a
 ended_each P c false s t a other = c.ended t other
 
+pub with_keyset_each : (P : Plan → Type 0) → IsClosed P → (locked : Bool → Bool) (r : Result Keys Refusal) (next : Keys → Plan) → AreAll P next → P (with_keyset locked r next)
+with_keyset_each P c locked (Err (Wire at)) next all = ended_each P c (locked false) (status.ProtoLocked at) (status.BadProto at) tt tt
+with_keyset_each P c locked (Err (Fault fault)) next all = ended_each P c (locked true) (status.KeysetLocked fault) (status.Keyset fault) tt tt
+with_keyset_each P c locked (Ok keys) next all = all keys
+
 pub with_json_each : (P : Plan → Type 0) → IsClosed P → (locked : Bool) (r : Result Keys Json.Refusal) (next : Keys → Plan) → AreAll P next → P (with_json locked r next)
 with_json_each P c locked (Err Json.NotJson) next all = c.ended _ _
 with_json_each P c locked (Err (Json.Shape path)) next all = c.ended _ _
-with_json_each P c locked (Err (Json.Fault fault)) next all = ended_each P c (locked && has_no_key fault) status.KeysetLocked (status.Keyset fault) tt tt
+with_json_each P c locked (Err (Json.Fault fault)) next all = ended_each P c (locked && has_no_key fault) (status.KeysetLocked fault) (status.Keyset fault) tt tt
 with_json_each P c locked (Ok keys) next all = all keys
 
 pub keyset_each : (P : Plan → Type 0) → IsClosed P → (form : Format) (bytes : List ℕ) (next : Keys → Plan) → AreAll P next → P (keyset_in form bytes next)
-keyset_each P c formats.Json bytes next all = c.allocated _ (with_json_each P c (is_wrapped true bytes) (reads_json bytes) next all)
-keyset_each P c formats.Binary bytes next all = c.allocated _ (with_keyset_each P c (reads_binary bytes) next all)
+keyset_each P c formats.Json bytes next all = c.allocated _ (with_json_each P c (is_wrapped_json bytes) (reads_json bytes) next all)
+keyset_each P c formats.Binary bytes next all = c.allocated _ (with_keyset_each P c (is_wrapped_binary bytes) (reads_binary bytes) next all)
 
 pub no_row_each : (P : Plan → Type 0) → IsClosed P → (b : Bool) → P (if b then ends status.AsymmetricTemplate tt else ends status.UnknownTemplate tt)
 no_row_each P c true = c.ended _ _

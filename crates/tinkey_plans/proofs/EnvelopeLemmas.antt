@@ -22,7 +22,7 @@ use Rattle.seal_wrap.specs.EnvelopeLaws.{DataKeysAreServed, DataKeysAreValid, Is
 use Rattle.seal_wrap.specs.Enveloped.{Enveloped, behind_data_key, data_key_of, envelope, envelope_of, open_envelope_of, under_data_key}
 use Rattle.seal_wrap.specs.Enveloping.{url_made}
 use Rattle.seal_wrap.specs.Unwrapped as unwrapped
-use Rattle.seal_wrap.specs.Unwrapped.{is_wrapped, unwrap_of}
+use Rattle.seal_wrap.specs.Unwrapped.{is_wrapped_binary, is_wrapped_json, unwrap_of}
 use Rattle.tinkey_cmds.specs.Draws.{Drawn}
 use Rattle.tinkey_cmds.specs.declared.command.CmdFault.{CmdFault}
 use Rattle.wrapped_prims.specs.Answers.{Sealed, seal_answer, seal_behind}
@@ -152,24 +152,24 @@ clear_unfit (Some (i, NoManager)) next clear = clear_end (status.NoManager i) tt
 clear_unfit (Some (i, BadKey rule)) next clear = clear_end (status.BadKey i rule) tt (λ d. d)
 clear_unfit (Some (i, NotRaw)) next clear = clear_end (status.NotRaw i) tt (λ d. d)
 
-clear_binary : (r : Result Keys Refusal) (next : Keys → Plan) → ((keys : Keys) → Clears (next keys)) → Clears (with_keyset r next)
-clear_binary (Err (Wire at)) next clear = clear_end (status.BadProto at) tt (λ d. d)
-clear_binary (Err (Fault fault)) next clear = clear_end (status.Keyset fault) tt (λ d. d)
-clear_binary (Ok keys) next clear = clear keys
-
 clear_either : (b : Bool) (s t : Status) (a : IsStated s) (other : IsStated t) → (IsDekStatus s → ⊥) → (IsDekStatus t → ⊥) → Clears (if b then ends s a else ends t other)
 clear_either true s t a other first second = clear_end s a first
 clear_either false s t a other first second = clear_end t other second
 
+clear_binary : (locked : Bool → Bool) (r : Result Keys Refusal) (next : Keys → Plan) → ((keys : Keys) → Clears (next keys)) → Clears (with_keyset locked r next)
+clear_binary locked (Err (Wire at)) next clear = clear_either (locked false) (status.ProtoLocked at) (status.BadProto at) tt tt (λ d. d) (λ d. d)
+clear_binary locked (Err (Fault fault)) next clear = clear_either (locked true) (status.KeysetLocked fault) (status.Keyset fault) tt tt (λ d. d) (λ d. d)
+clear_binary locked (Ok keys) next clear = clear keys
+
 clear_json : (locked : Bool) (r : Result Keys Json.Refusal) (next : Keys → Plan) → ((keys : Keys) → Clears (next keys)) → Clears (with_json locked r next)
 clear_json locked (Err Json.NotJson) next clear = clear_end status.NotJson tt (λ d. d)
 clear_json locked (Err (Json.Shape path)) next clear = clear_end (status.Shape path) tt (λ d. d)
-clear_json locked (Err (Json.Fault fault)) next clear = clear_either (locked && has_no_key fault) status.KeysetLocked (status.Keyset fault) tt tt (λ d. d) (λ d. d)
+clear_json locked (Err (Json.Fault fault)) next clear = clear_either (locked && has_no_key fault) (status.KeysetLocked fault) (status.Keyset fault) tt tt (λ d. d) (λ d. d)
 clear_json locked (Ok keys) next clear = clear keys
 
 clear_keyset : (form : Format) (bytes : List ℕ) (next : Keys → Plan) → ((keys : Keys) → Clears (next keys)) → Clears (keyset_in form bytes next)
-clear_keyset formats.Json bytes next clear = clear_memory _ (clear_json (is_wrapped true bytes) (reads_json bytes) next clear)
-clear_keyset formats.Binary bytes next clear = clear_memory _ (clear_binary (reads_binary bytes) next clear)
+clear_keyset formats.Json bytes next clear = clear_memory _ (clear_json (is_wrapped_json bytes) (reads_json bytes) next clear)
+clear_keyset formats.Binary bytes next clear = clear_memory _ (clear_binary (is_wrapped_binary bytes) (reads_binary bytes) next clear)
 
 clear_load : (limit : ℕ) (name : List ℕ) (next : List ℕ → Plan) → ((bytes : List ℕ) → Clears (next bytes)) → Clears (loads_bytes limit name next)
 clear_load limit name next clear old s new (loaded bytes store kept stood given within holds run) d = clear bytes (record old { store = store }) s new run d

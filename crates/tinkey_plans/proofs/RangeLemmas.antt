@@ -9,7 +9,7 @@ use Rattle.keyset_model.specs.Keyset.{Keys}
 use Rattle.keyset_model.specs.Reading.{Refusal, Wire, Fault, reads_binary}
 use Rattle.keyset_model.specs.declared.keyset.KeysetFault.{KeysetFault}
 use Rattle.managers.specs.Table.{Table}
-use Rattle.seal_wrap.specs.Unwrapped.{is_wrapped, unwrap_of}
+use Rattle.seal_wrap.specs.Unwrapped.{is_wrapped_binary, is_wrapped_json, unwrap_of}
 use Rattle.seal_wrap.specs.Unwrapped as unwrapping
 use Rattle.segment_stream.specs.KeysModel.{KeysForStreams}
 use Rattle.segment_stream.specs.Range.{stream_failed, past_end}
@@ -88,9 +88,13 @@ record WentOn {A : Type 0} (Is : A → Type 0) (next : A → Plan) (old : World)
   is : Is value
   run : Ends (next value) old s new
 
-faulty_ends : (b : Bool) (fault : KeysetFault) (old : World) (s : Status) (new : World) → Ends (if b then ends status.KeysetLocked tt else ends (status.Keyset fault) tt) old s new → old ≡ new
+faulty_ends : (b : Bool) (fault : KeysetFault) (old : World) (s : Status) (new : World) → Ends (if b then ends (status.KeysetLocked fault) tt else ends (status.Keyset fault) tt) old s new → old ≡ new
 faulty_ends true fault old s new (is, same) = same
 faulty_ends false fault old s new (is, same) = same
+
+wire_ends : (b : Bool) (at : ℕ) (old : World) (s : Status) (new : World) → Ends (if b then ends (status.ProtoLocked at) tt else ends (status.BadProto at) tt) old s new → old ≡ new
+wire_ends true at old s new (is, same) = same
+wire_ends false at old s new (is, same) = same
 
 json_ends : (locked : Bool) (r : Result Keys Json.Refusal) (bytes : List ℕ) (next : Keys → Plan) (old : World) (s : Status) (new : World) → reads_json bytes ≡ r → Ends (with_json locked r next) old s new → (old ≡ new) ⊎ WentOn (λ keys. reads_json bytes ≡ Ok keys) next old s new
 json_ends locked (Err Json.NotJson) bytes next old s new r (is, same) = inl same
@@ -98,15 +102,15 @@ json_ends locked (Err (Json.Shape path)) bytes next old s new r (is, same) = inl
 json_ends locked (Err (Json.Fault fault)) bytes next old s new r run = inl (faulty_ends (locked && has_no_key fault) fault old s new run)
 json_ends locked (Ok keys) bytes next old s new r run = inr (record { value = keys; is = r; run = run })
 
-binary_ends : (r : Result Keys Refusal) (bytes : List ℕ) (next : Keys → Plan) (old : World) (s : Status) (new : World) → reads_binary bytes ≡ r → Ends (with_keyset r next) old s new → (old ≡ new) ⊎ WentOn (λ keys. reads_binary bytes ≡ Ok keys) next old s new
-binary_ends (Err (Wire at)) bytes next old s new r (is, same) = inl same
-binary_ends (Err (Fault fault)) bytes next old s new r (is, same) = inl same
-binary_ends (Ok keys) bytes next old s new r run = inr (record { value = keys; is = r; run = run })
+binary_ends : (locked : Bool → Bool) (r : Result Keys Refusal) (bytes : List ℕ) (next : Keys → Plan) (old : World) (s : Status) (new : World) → reads_binary bytes ≡ r → Ends (with_keyset locked r next) old s new → (old ≡ new) ⊎ WentOn (λ keys. reads_binary bytes ≡ Ok keys) next old s new
+binary_ends locked (Err (Wire at)) bytes next old s new r run = inl (wire_ends (locked false) at old s new run)
+binary_ends locked (Err (Fault fault)) bytes next old s new r run = inl (faulty_ends (locked true) fault old s new run)
+binary_ends locked (Ok keys) bytes next old s new r run = inr (record { value = keys; is = r; run = run })
 
 keyset_ends : (form : Format) (bytes : List ℕ) (next : Keys → Plan) (old : World) (s : Status) (new : World) → Ends (keyset_in form bytes next) old s new → (old ≡ new) ⊎ WentOn (λ keys. IsKeysetIn form bytes keys) next old s new
-keyset_ends formats.Json bytes next old s new (inl run) = json_ends (is_wrapped true bytes) (reads_json bytes) bytes next old s new refl run
+keyset_ends formats.Json bytes next old s new (inl run) = json_ends (is_wrapped_json bytes) (reads_json bytes) bytes next old s new refl run
 keyset_ends formats.Json bytes next old s new (inr (is, same)) = inl same
-keyset_ends formats.Binary bytes next old s new (inl run) = binary_ends (reads_binary bytes) bytes next old s new refl run
+keyset_ends formats.Binary bytes next old s new (inl run) = binary_ends (is_wrapped_binary bytes) (reads_binary bytes) bytes next old s new refl run
 keyset_ends formats.Binary bytes next old s new (inr (is, same)) = inl same
 
 -- under a master

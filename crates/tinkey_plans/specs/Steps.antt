@@ -14,7 +14,7 @@ use Rattle.keyset_model.specs.declared.keyset.KeysetFault.{KeysetFault}
 use Rattle.keyset_model.specs.declared.keyset.KeysetFault.TheVariants as keyset_faults
 use Rattle.keyset_model.specs.declared.reading.ReadError.{ReadError}
 use Rattle.keyset_model.specs.declared.reading.ReadError.TheVariants as errors
-use Rattle.seal_wrap.specs.Unwrapped.{is_wrapped}
+use Rattle.seal_wrap.specs.Unwrapped.{is_wrapped_binary, is_wrapped_json}
 use Rattle.tinkey_cmds.specs.Draws.{Draw}
 use Rattle.tinkey_cmds.specs.Edits.{Edit, edit_then}
 use Rattle.tinkey_cmds.specs.declared.command.CmdError.{CmdError}
@@ -41,56 +41,70 @@ input_limit = 16777216
 abbrev pub sealed_limit : ℕ
 sealed_limit = 16778240
 
--- the status of a keyset that can't be read, and of want of memory
-abbrev pub refusal_of : ReadError → Status
-refusal_of (errors.Wire wire) = status.BadProto wire.at
-refusal_of (errors.Fault fault) = status.Keyset fault
-refusal_of errors.NoMemory = status.NoMemory
+-- The status of a keyset with a field that can't be cut or read, or with this fault. One that is an encrypted
+-- keyset is told as that, too.
+abbrev pub wire_status : (locked : Bool) → (at : ℕ) → Status
+wire_status locked at = if locked then status.ProtoLocked at else status.BadProto at
+
+abbrev pub fault_status : (locked : Bool) → KeysetFault → Status
+fault_status locked fault = if locked then status.KeysetLocked fault else status.Keyset fault
+
+-- they are the answer
+abbrev pub ends_at : (locked : Bool) → (at : ℕ) → Plan
+ends_at locked at = if locked then ends (status.ProtoLocked at) tt else ends (status.BadProto at) tt
+
+abbrev pub ends_faulty : (locked : Bool) → KeysetFault → Plan
+ends_faulty locked fault =
+    if locked then ends (status.KeysetLocked fault) tt else ends (status.Keyset fault) tt
+
+-- the status is this one, or memory was refused while it was settled
+abbrev pub OrStarved : Status → Status → Type 0
+OrStarved s result = (result ≡ s) ⊎ (result ≡ status.NoMemory)
+
+-- ---- the binary form
+
+-- The status of a keyset that can't be read, and of want of memory. Where all of its keys are read, it takes an
+-- info to tell it from a keyset in clear.
+abbrev pub refusal_of : (locked : (informed : Bool) → Bool) → ReadError → Status
+refusal_of locked (errors.Wire wire) = wire_status (locked false) wire.at
+refusal_of locked (errors.Fault fault) = fault_status (locked true) fault
+refusal_of locked errors.NoMemory = status.NoMemory
 
 -- the keyset goes on, or its refusal is the answer
-abbrev pub with_keyset : Result Keys Refusal → (Keys → Plan) → Plan
-with_keyset (Err (Wire at)) next = ends (status.BadProto at) tt
-with_keyset (Err (Fault fault)) next = ends (status.Keyset fault) tt
-with_keyset (Ok keys) next = next keys
+abbrev pub with_keyset : (locked : (informed : Bool) → Bool) → Result Keys Refusal → (Keys → Plan) → Plan
+with_keyset locked (Err (Wire at)) next = ends_at (locked false) at
+with_keyset locked (Err (Fault fault)) next = ends_faulty (locked true) fault
+with_keyset locked (Ok keys) next = next keys
+
+-- ---- JSON
 
 -- the keyset has no key
 abbrev pub has_no_key : KeysetFault → Bool
 has_no_key keyset_faults.Empty = true
 has_no_key _ = false
 
--- The status of a keyset with this fault, the text of which is an encrypted keyset or isn't: one that has no key
--- because it is encrypted is told as that.
-abbrev pub fault_status : (locked : Bool) → KeysetFault → Status
-fault_status locked fault = if locked && has_no_key fault then status.KeysetLocked else status.Keyset fault
-
--- it is the answer
-abbrev pub ends_faulty : (locked : Bool) → KeysetFault → Plan
-ends_faulty locked fault =
-    if locked && has_no_key fault then ends status.KeysetLocked tt else ends (status.Keyset fault) tt
-
--- the status is this one, or memory was refused while it was settled
-abbrev pub OrStarved : Status → Status → Type 0
-OrStarved s result = (result ≡ s) ⊎ (result ≡ status.NoMemory)
-
 -- the status of a keyset that can't be read as JSON, and of want of memory
 abbrev pub json_refusal_of : (locked : Bool) → JsonError → Status
 json_refusal_of locked json_errors.NotJson = status.NotJson
 json_refusal_of locked (json_errors.Shape path) = status.Shape path
-json_refusal_of locked (json_errors.Fault fault) = fault_status locked fault
+json_refusal_of locked (json_errors.Fault fault) = fault_status (locked && has_no_key fault) fault
 json_refusal_of locked json_errors.NoMemory = status.NoMemory
 
--- the keyset goes on, or what is wrong with its JSON is the answer
+-- The keyset goes on, or what is wrong with its JSON is the answer. One that has no key because it is encrypted
+-- is told as that.
 abbrev pub with_json : (locked : Bool) → Result Keys Json.Refusal → (Keys → Plan) → Plan
 with_json locked (Err Json.NotJson) next = ends status.NotJson tt
 with_json locked (Err (Json.Shape path)) next = ends (status.Shape path) tt
-with_json locked (Err (Json.Fault fault)) next = ends_faulty locked fault
+with_json locked (Err (Json.Fault fault)) next = ends_faulty (locked && has_no_key fault) fault
 with_json locked (Ok keys) next = next keys
 
--- The keyset of these bytes, in this form. In the binary form the encrypted bytes stand in the field of keys, so
--- that no encrypted keyset is read as one without keys.
+-- ---- a keyset in either form
+
+-- the keyset of these bytes
 abbrev pub keyset_in : Format → List ℕ → (Keys → Plan) → Plan
-keyset_in formats.Json bytes next = allocates (with_json (is_wrapped true bytes) (reads_json bytes) next)
-keyset_in formats.Binary bytes next = allocates (with_keyset (reads_binary bytes) next)
+keyset_in formats.Json bytes next = allocates (with_json (is_wrapped_json bytes) (reads_json bytes) next)
+keyset_in formats.Binary bytes next =
+    allocates (with_keyset (is_wrapped_binary bytes) (reads_binary bytes) next)
 
 -- the bytes of a keyset in the file of this name, within a limit
 abbrev pub loads_bytes : (limit : ℕ) → (name : List ℕ) → (List ℕ → Plan) → Plan

@@ -37,7 +37,9 @@ fn write_behind<G: Sink>(diag: &mut G, status: Status)
     match status {
         Status::NoWords => write_text(diag, help_text(Topic::Commands).as_bytes()),
         Status::Usage(misuse) => write_text(diag, misfit_line(misuse.why).as_slice()),
-        Status::KeysetLocked => write_text(diag, locked_line().as_slice()),
+        Status::ProtoLocked(_) | Status::KeysetLocked(_) => {
+            write_text(diag, locked_line().as_slice());
+        }
         Status::KeysetInClear => write_text(diag, in_clear_line().as_slice()),
         _ => write_text(diag, &[]),
     }
@@ -114,15 +116,11 @@ fn push_text(line: &mut ShortText, status: Status)
             line.push("usage: word ");
             line.push_number(misuse.place);
         }
-        Status::BadProto(at) => {
-            line.push("bad protobuf at byte ");
-            line.push_number(at);
-        }
+        Status::BadProto(at) | Status::ProtoLocked(at) => push_place(line, at),
         Status::NotJson => line.push("not JSON"),
         Status::Shape(path) => push_path(line, path),
         Status::WrappedMember => line.push("bad JSON member encryptedKeyset"),
-        Status::Keyset(fault) => push_fault(line, fault),
-        Status::KeysetLocked => push_fault(line, KeysetFault::Empty),
+        Status::Keyset(fault) | Status::KeysetLocked(fault) => push_fault(line, fault),
         Status::KeysetTooLong => line.push("keyset too long"),
         Status::InMissing => line.push("input file missing"),
         Status::NoManager(i) => push_refusal(line, Refusal::NoManager(i)),
@@ -159,6 +157,16 @@ fn push_segment(line: &mut ShortText, number: u64)
 {
     line.push("stream failed at segment ");
     line.push_number(number as usize);
+}
+
+/// Adds that a field of this place can't be cut or read, for which there is room.
+fn push_place(line: &mut ShortText, at: usize)
+    requires room { length line.old ≤ 16 }
+    ensures text { line.new ≡ line.old ++ (codes "bad protobuf at byte " ++ decimal at) }
+    ensures short { length line.new ≤ 127 }
+{
+    line.push("bad protobuf at byte ");
+    line.push_number(at);
 }
 
 /// Adds that the member of this path isn't of its form, for which there is room.

@@ -349,7 +349,8 @@ A command that fails prints a line on standard error and ends with an exit code.
 
 3  bad protobuf at byte {at}
      The keyset isn't one in the binary form. If it is JSON, give no form, or json. If it is
-     an encrypted keyset, give --master. Otherwise it is damaged from about that byte on.
+     an encrypted keyset, give --master; a second line says so. Otherwise it is damaged from
+     about that byte on.
 
 3  not JSON
      The keyset isn't JSON: it is empty, cut or damaged, or in the binary form. If it is in
@@ -367,7 +368,8 @@ A command that fails prints a line on standard error and ends with an exit code.
 
 3  keyset has no key
      An empty input in the binary form is such a keyset: check that the file isn't empty. An
-     encrypted keyset in JSON also gives this line: unwrap-keyset opens it.
+     encrypted keyset in JSON also gives this line, and a second one that says so: give
+     --master.
 
 3  keyset has too many keys
      A keyset has at most 1,000 keys. Delete some with the tool that made it.

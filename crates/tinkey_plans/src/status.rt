@@ -33,6 +33,8 @@ pub enum Status {
     Usage(Misuse),
     /// The field whose tag has this place can't be cut or read.
     BadProto(usize),
+    /// The same of a keyset, whose bytes are an encrypted keyset.
+    ProtoLocked(usize),
     /// The keyset isn't JSON.
     NotJson,
     /// This member of the keyset is the first that isn't of its form.
@@ -41,8 +43,8 @@ pub enum Status {
     WrappedMember,
     /// The keyset has this fault.
     Keyset(KeysetFault),
-    /// The keyset has no key, and its text is an encrypted keyset.
-    KeysetLocked,
+    /// The keyset has this fault, and its text is an encrypted keyset.
+    KeysetLocked(KeysetFault),
     /// The keyset has more than 1,048,576 bytes, or a wrapped one more than 4,194,304.
     KeysetTooLong,
     /// The file of the keyset, or of the stream, is missing.
@@ -113,11 +115,12 @@ impl Status {
             | Status::OutputTooLong(_, _)
             | Status::PastEnd => 2,
             Status::BadProto(_)
+            | Status::ProtoLocked(_)
             | Status::NotJson
             | Status::Shape(_)
             | Status::WrappedMember
             | Status::Keyset(_)
-            | Status::KeysetLocked
+            | Status::KeysetLocked(_)
             | Status::NoManager(_)
             | Status::BadKey(_, _)
             | Status::NotRaw(_)

@@ -33,7 +33,7 @@ use Rattle.tinkey_cmds.specs.declared.command.CmdFault.{CmdFault}
 use Rattle.wrapped_prims.specs.Fitness.{Unfit, NoManager, BadKey, NotRaw, unfit}
 use Rattle.wrapped_prims.specs.Laws.{IsKeyset}
 use Rattle.tinkey_plans.specs.declared.status.Status.{Status}
-use Rattle.seal_wrap.specs.Unwrapped.{is_wrapped}
+use Rattle.seal_wrap.specs.Unwrapped.{is_wrapped_binary, is_wrapped_json}
 use Rattle.tinkey_plans.specs.declared.status.Status.TheVariants as status
 use Rattle.tinkey_words.specs.declared.words.rows.Format.{Format}
 use Rattle.tinkey_words.specs.declared.words.rows.Format.TheVariants as formats
@@ -358,9 +358,9 @@ session_ends readable law table master out keys told old s new is tells run = by
 
 -- a keyset that is read goes on, or memory was wanting
 keyset_ends : (form : Format) (bytes : List ℕ) (keys : Keys) (next : Keys → Plan) (old : World) (s : Status) (new : World) → read_in form bytes ≡ Some keys → Ends (keyset_in form bytes next) old s new → Ends (next keys) old s new ⊎ ((s ≡ status.NoMemory) × (old ≡ new))
-keyset_ends formats.Json bytes keys next old s new read (inl run) = inl (subst (λ r. Ends (with_json (is_wrapped true bytes) r next) old s new) (ok_of (reads_json bytes) keys read) run)
+keyset_ends formats.Json bytes keys next old s new read (inl run) = inl (subst (λ r. Ends (with_json (is_wrapped_json bytes) r next) old s new) (ok_of (reads_json bytes) keys read) run)
 keyset_ends formats.Json bytes keys next old s new read (inr starved) = inr starved
-keyset_ends formats.Binary bytes keys next old s new read (inl run) = inl (subst (λ r. Ends (with_keyset r next) old s new) (ok_of (reads_binary bytes) keys read) run)
+keyset_ends formats.Binary bytes keys next old s new read (inl run) = inl (subst (λ r. Ends (with_keyset (is_wrapped_binary bytes) r next) old s new) (ok_of (reads_binary bytes) keys read) run)
 keyset_ends formats.Binary bytes keys next old s new read (inr starved) = inr starved
 
 -- and so under a master

@@ -17,7 +17,7 @@ use Rattle.keyset_model.specs.Writing.{ReadKeysFit}
 use Rattle.keyset_model.specs.declared.keyset.KeysetFault.{KeysetFault}
 use Rattle.managers.specs.Standard.{standard_table}
 use Rattle.managers.specs.Table.{Table}
-use Rattle.seal_wrap.specs.Unwrapped.{Fault, InnerWire, Member, NotJson, NotOpened, OuterWire, Refusal, is_wrapped, unwrap_of}
+use Rattle.seal_wrap.specs.Unwrapped.{Fault, InnerWire, Member, NotJson, NotOpened, OuterWire, Refusal, is_wrapped_binary, is_wrapped_json, unwrap_of}
 use Rattle.seal_wrap.specs.Wrapped.{Wrapped, wrap_of}
 use Rattle.tinkey_cmds.specs.Draws.{Drawn}
 use Rattle.wrapped_prims.specs.Fitness.{unfit}
@@ -65,24 +65,28 @@ bytes_taken limit None bytes next told there within =
 
 -- ---- a keyset
 
+not_faulty : (b : Bool) (fault : KeysetFault) (told : Told) → IsDoneAnswer (answer (if b then ends (status.KeysetLocked fault) tt else ends (status.Keyset fault) tt) told) → ⊥
+not_faulty true fault told done = cc
+not_faulty false fault told done = cc
+
+not_cut : (b : Bool) (at : ℕ) (told : Told) → IsDoneAnswer (answer (if b then ends (status.ProtoLocked at) tt else ends (status.BadProto at) tt) told) → ⊥
+not_cut true at told done = cc
+not_cut false at told done = cc
+
 read_there : (form : Format) (bytes : List ℕ) (next : Keys → Plan) (told : Told) → IsDoneAnswer (answer (keyset_in form bytes next) told) → (keys : Keys) × (read_in form bytes ≡ Some keys)
 read_there formats.Json bytes next told done = by (reads_json bytes) done
   where
-    faulty : (b : Bool) (fault : KeysetFault) → IsDoneAnswer (answer (if b then ends status.KeysetLocked tt else ends (status.Keyset fault) tt) told) → ⊥
-    faulty true fault done = cc
-    faulty false fault done = cc
-
-    by : (r : Result Keys json.Refusal) → IsDoneAnswer (answer (with_json (is_wrapped true bytes) r next) told) → (keys : Keys) × (result_ok r ≡ Some keys)
+    by : (r : Result Keys json.Refusal) → IsDoneAnswer (answer (with_json (is_wrapped_json bytes) r next) told) → (keys : Keys) × (result_ok r ≡ Some keys)
     by (Ok keys) done = (keys, refl)
     by (Err json.NotJson) done = absurd (cc)
     by (Err (json.Shape path)) done = absurd (cc)
-    by (Err (json.Fault fault)) done = absurd (faulty (is_wrapped true bytes && has_no_key fault) fault done)
+    by (Err (json.Fault fault)) done = absurd (not_faulty (is_wrapped_json bytes && has_no_key fault) fault told done)
 read_there formats.Binary bytes next told done = by (reads_binary bytes) done
   where
-    by : (r : Result Keys binary.Refusal) → IsDoneAnswer (answer (with_keyset r next) told) → (keys : Keys) × (result_ok r ≡ Some keys)
+    by : (r : Result Keys binary.Refusal) → IsDoneAnswer (answer (with_keyset (is_wrapped_binary bytes) r next) told) → (keys : Keys) × (result_ok r ≡ Some keys)
     by (Ok keys) done = (keys, refl)
-    by (Err (binary.Wire at)) done = absurd (cc)
-    by (Err (binary.Fault fault)) done = absurd (cc)
+    by (Err (binary.Wire at)) done = absurd (not_cut (is_wrapped_binary bytes false) at told done)
+    by (Err (binary.Fault fault)) done = absurd (not_faulty (is_wrapped_binary bytes true) fault told done)
 
 not_unopened : (clear : Bool) (told : Told) → IsDoneAnswer (answer (if clear then ends status.KeysetInClear tt else ends status.OpenFailed tt) told) → ⊥
 not_unopened true told done = cc

@@ -18,7 +18,7 @@ use Rattle.tinkey_cmds.specs.Edits as edits
 use Rattle.tinkey_cmds.specs.declared.command.CmdFault.{CmdFault}
 use Rattle.tinkey_session.proofs.Options.{clash}
 use Rattle.wrapped_prims.specs.Fitness.{Unfit, NoManager, BadKey, NotRaw, unfit}
-use Rattle.seal_wrap.specs.Unwrapped.{is_wrapped}
+use Rattle.seal_wrap.specs.Unwrapped.{is_wrapped_binary, is_wrapped_json}
 use Rattle.tinkey_plans.specs.declared.status.Status.TheVariants as status
 use Rattle.tinkey_words.specs.declared.words.rows.Format.{Format}
 use Rattle.tinkey_words.specs.declared.words.rows.Format.TheVariants as formats
@@ -51,8 +51,8 @@ same_ok (Ok y) x e = let h : y ≡ x = cc in ap Ok h
 same_ok (Err y) x e = clash e
 
 pub keyset_reached : (form : Format) (bytes : List ℕ) (keys : Keys) (next : Keys → Plan) (told : Told) → read_in form bytes ≡ Some keys → answer (keyset_in form bytes next) told ≡ answer (next keys) told
-keyset_reached formats.Json bytes keys next told e = ap (λ r. answer (with_json (is_wrapped true bytes) r next) told) (same_ok (reads_json bytes) keys e)
-keyset_reached formats.Binary bytes keys next told e = ap (λ r. answer (with_keyset r next) told) (same_ok (reads_binary bytes) keys e)
+keyset_reached formats.Json bytes keys next told e = ap (λ r. answer (with_json (is_wrapped_json bytes) r next) told) (same_ok (reads_json bytes) keys e)
+keyset_reached formats.Binary bytes keys next told e = ap (λ r. answer (with_keyset (is_wrapped_binary bytes) r next) told) (same_ok (reads_binary bytes) keys e)
 
 -- within its limit a file is loaded
 pub loaded : (found : Option (List ℕ)) (bytes : List ℕ) (limit : ℕ) (absent long : Answer) (next : List ℕ → Answer) → found ≡ Some bytes → length bytes ≤ limit → load_answer found limit absent long next ≡ next bytes

@@ -1,19 +1,19 @@
 //! The steps that commands share: a keyset, or the bytes of one, loaded or read, the whole input, and
 //! a template by its name.
 
-ghost use Rattle.std.specs.Prelude.{◌≡◌, true, ◌+◌, ◌≤◌, ◌^◌, List, ℕ, drop, length, IfOk};
+ghost use Rattle.std.specs.Prelude.{false, true, ◌&&◌, ◌+◌, ◌≤◌, ◌^◌, drop, length, IfOk};
 ghost use Rattle.std.specs.List.{AllByRecursion};
 ghost use Rattle.key_msgs.specs.Templates.{seen};
 ghost use Rattle.keyset_model.specs.Keyset.{IsShort};
-ghost use Rattle.seal_wrap.specs.Unwrapped.{is_wrapped};
+ghost use Rattle.seal_wrap.specs.Unwrapped.{is_wrapped_binary, is_wrapped_json};
 ghost use Rattle.tinkey_plans.specs.Ends.{World};
 ghost use Rattle.tinkey_words.specs.Words.{seen_name};
-ghost use Rattle.tinkey_plans.specs.Steps.{refusal_of, fault_status, json_refusal_of, OrStarved, keyset_in, loads_bytes, reads_bytes, takes_bytes, loads_keyset, reads_input, finds_template, Passes, PassesAs};
+ghost use Rattle.tinkey_plans.specs.Steps.{refusal_of, wire_status, fault_status, has_no_key, json_refusal_of, OrStarved, keyset_in, loads_bytes, reads_bytes, takes_bytes, loads_keyset, reads_input, finds_template, Passes, PassesAs};
 
 use key_msgs::{Template, TemplateFault, template_named};
 use keyset_json::{JsonError, read_json};
 use keyset_model::{Keyset, KeysetFault, ReadError, read_binary};
-use seal_wrap::is_wrapped;
+use seal_wrap::{is_wrapped_binary, is_wrapped_json};
 use std::alloc::Global;
 use tink_base::{
     Bytes, Loaded, NoMemory, ReadAllFault, Source, Store, StoreError, read_all, read_behind,
@@ -115,31 +115,31 @@ pub(crate) fn keyset_of(alloc: Global, form: Format, bytes: &[u8]) -> Result<Key
         },
         Format::Binary => match read_binary(alloc, bytes) {
             Ok(keyset) => Ok(keyset),
-            Err(e) => Err(refusal(e)),
+            Err(e) => Err(refusal(alloc, bytes, e)),
         },
     }
 }
 
 /// The status of a keyset that can't be read from these bytes as JSON.
 fn json_refusal(alloc: Global, bytes: &[u8], e: JsonError) -> Status
-    ensures { OrStarved (json_refusal_of (is_wrapped true bytes.now) e) result }
+    ensures { OrStarved (json_refusal_of (is_wrapped_json bytes.now) e) result }
 {
     match e {
         JsonError::NotJson => Status::NotJson,
         JsonError::Shape(path) => Status::Shape(path),
-        JsonError::Fault(fault) => fault_status(alloc, bytes, fault),
+        JsonError::Fault(fault) => json_fault(alloc, bytes, fault),
         JsonError::NoMemory => Status::NoMemory,
     }
 }
 
 /// The status of a keyset with this fault, read from these bytes as JSON: one that has no key because it is
 /// encrypted is told as that.
-fn fault_status(alloc: Global, bytes: &[u8], fault: KeysetFault) -> Status
-    ensures { OrStarved (fault_status (is_wrapped true bytes.now) fault) result }
+fn json_fault(alloc: Global, bytes: &[u8], fault: KeysetFault) -> Status
+    ensures { OrStarved (fault_status (is_wrapped_json bytes.now && has_no_key fault) fault) result }
 {
     match fault {
-        KeysetFault::Empty => match is_wrapped(alloc, bytes, true) {
-            Ok(true) => Status::KeysetLocked,
+        KeysetFault::Empty => match is_wrapped_json(alloc, bytes) {
+            Ok(true) => Status::KeysetLocked(fault),
             Ok(false) => Status::Keyset(fault),
             Err(NoMemory) => Status::NoMemory,
         },
@@ -147,14 +147,38 @@ fn fault_status(alloc: Global, bytes: &[u8], fault: KeysetFault) -> Status
     }
 }
 
-/// The status of a keyset that can't be read.
-fn refusal(e: ReadError) -> Status
-    ensures { result ≡ refusal_of e }
+/// The status of a keyset that can't be read from these bytes in the binary form: one that is encrypted is told
+/// as that.
+fn refusal(alloc: Global, bytes: &[u8], e: ReadError) -> Status
+    ensures { OrStarved (refusal_of (is_wrapped_binary bytes.now) e) result }
 {
     match e {
-        ReadError::Wire(wire) => Status::BadProto(wire.at),
-        ReadError::Fault(fault) => Status::Keyset(fault),
+        ReadError::Wire(wire) => wire_status(alloc, bytes, wire.at),
+        ReadError::Fault(fault) => fault_status(alloc, bytes, fault),
         ReadError::NoMemory => Status::NoMemory,
+    }
+}
+
+/// The status of these bytes, in which the field of this place can't be cut or read.
+fn wire_status(alloc: Global, bytes: &[u8], at: usize) -> Status
+    ensures { OrStarved (wire_status (is_wrapped_binary bytes.now false) at) result }
+{
+    match is_wrapped_binary(alloc, bytes, false) {
+        Ok(true) => Status::ProtoLocked(at),
+        Ok(false) => Status::BadProto(at),
+        Err(NoMemory) => Status::NoMemory,
+    }
+}
+
+/// The status of a keyset with this fault, all keys of which were read from these bytes: it takes an info to
+/// tell it from a keyset in clear.
+fn fault_status(alloc: Global, bytes: &[u8], fault: KeysetFault) -> Status
+    ensures { OrStarved (fault_status (is_wrapped_binary bytes.now true) fault) result }
+{
+    match is_wrapped_binary(alloc, bytes, true) {
+        Ok(true) => Status::KeysetLocked(fault),
+        Ok(false) => Status::Keyset(fault),
+        Err(NoMemory) => Status::NoMemory,
     }
 }
 

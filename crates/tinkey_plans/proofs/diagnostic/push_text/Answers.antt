@@ -6,10 +6,6 @@ pub returns-in-Usage-clause-text : goal.returns-in-Usage-clause-text
 unfolding text_of
 returns-in-Usage-clause-text c = rw (c.in-Usage.is, c.push_number.ensures.text, c.push-in-Usage.ensures) (simp append_assoc)
 
-pub returns-in-BadProto-clause-text : goal.returns-in-BadProto-clause-text
-unfolding text_of
-returns-in-BadProto-clause-text c = rw (c.in-BadProto.is, c.push_number-in-BadProto.ensures.text, c.push-in-BadProto.ensures) (simp append_assoc)
-
 pub returns-in-InputTooLong-clause-text : goal.returns-in-InputTooLong-clause-text
 unfolding text_of
 returns-in-InputTooLong-clause-text c = rw (c.in-InputTooLong.is, c.push-in-InputTooLong.ensures) refl
