@@ -17,6 +17,7 @@ pub mod Pass
 pub mod Trials
 pub mod First
 pub mod SealPass
+pub mod PushLemmas
 pub mod KeyLemmas
 pub mod KeysLemmas
 pub mod SegmentLemmas

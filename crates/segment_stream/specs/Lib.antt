@@ -13,4 +13,5 @@ pub mod KeysModel
 pub mod Streams
 pub mod Ending
 pub mod PumpModels
+pub mod Pushing
 pub mod Lending

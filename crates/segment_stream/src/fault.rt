@@ -24,3 +24,12 @@ pub enum SealPumpFault {
     /// The plaintext has a byte behind 2^32 full segments.
     TooManySegments,
 }
+
+/// Why plaintext that came wasn't sealed to its end.
+#[derive(Clone, Copy, Debug, PartialEq, Eq)]
+pub enum UpdateFault {
+    /// The sink failed.
+    WriteFault,
+    /// The plaintext has a byte behind 2^32 full segments.
+    TooManySegments,
+}

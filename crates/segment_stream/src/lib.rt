@@ -11,12 +11,14 @@ mod opener;
 mod opening;
 mod reading;
 mod sealer;
+mod sealing;
 mod segments;
 mod trying;
 
-pub use fault::{OpenPumpFault, SealPumpFault};
+pub use fault::{OpenPumpFault, SealPumpFault, UpdateFault};
 pub use key::StreamKey;
 pub use keys::{StreamKeys, StreamKeysFault};
 pub use opener::Opener;
 pub use sealer::{Sealer, SealerFault};
+pub use sealing::SealingStream;
 pub use segments::Stream;

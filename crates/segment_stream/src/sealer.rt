@@ -6,6 +6,7 @@ ghost use Rattle.tink_spec.specs.Outside.{Drew, IsAtEnd, RanShort, Rose, RoseOnc
 ghost use Rattle.segment_stream.specs.Cipher.{SegmentCipher};
 ghost use Rattle.segment_stream.specs.PumpModels.{HasRoom, IsHeader, IsMade, IsSealerFault, SealsUnder, pump_result};
 ghost use Rattle.segment_stream.specs.Pumping.{Pumps, ShowsFaults, sealing};
+ghost use Rattle.segment_stream.specs.Pushing.{HasSealed};
 ghost use Rattle.segment_stream.specs.Reading.{IsInPlace, ReadOn};
 ghost use Rattle.segment_stream.specs.Segments.{seals_under, tag_size_under};
 ghost use Rattle.segment_stream.specs.StreamKeys.{largest_of};
@@ -13,7 +14,7 @@ ghost use Rattle.segment_stream.specs.Streams.{IsUnder};
 
 use crate::buffer::{Buffer, fill, fill_until, lengthen, lengthen_to};
 use crate::segments::{LAST_NUMBER, Stream};
-use crate::{SealPumpFault, StreamKeys};
+use crate::{SealPumpFault, SealingStream, StreamKeys};
 use std::alloc::Global;
 use std::marker::Model;
 use tink_base::{Entropy, Failed, Sink, Source, write_all};
@@ -118,6 +119,34 @@ impl Sealer {
             Err(_) => Err(SealPumpFault::WriteFault),
         }
     }
+
+    /// Begins a stream whose plaintext comes in pieces: writes its header. `Failed` comes only where the
+    /// sink failed: a front of the header was written then. No memory is taken.
+    pub fn begin<K: Sink>(self, sink: &mut K) -> Result<SealingStream, Failed>
+        ensures begun { IfOk result (λ begun. (cipher : SegmentCipher) → SealsUnder self cipher
+            → HasSealed begun cipher self.header [] self.header) }
+        ensures header { OnOk result (Took (K.state sink.old) (K.state sink.new) self.header) }
+        ensures no_fault { OnOk result (Stood (K.state sink.old).faults (K.state sink.new).faults) }
+        ensures failed { OnErr result (Rose (K.state sink.old).faults (K.state sink.new).faults) }
+        ensures once { OnErr result
+            (RoseOnce (K.state sink.old).faults (K.state sink.new).faults) }
+        ensures front { OnErr result
+            (TookPrefix (K.state sink.old) (K.state sink.new) self.header) }
+    {
+        let stream = self.stream;
+        let header = self.header;
+        let buffer = self.buffer;
+        match write_all(sink, &buffer.as_slice()[..header]) {
+            Ok(()) => Ok(SealingStream {
+                stream,
+                header,
+                buffer,
+                held: header,
+                number: 0,
+            }),
+            Err(_) => Err(Failed),
+        }
+    }
 }
 
 /// Puts a header of so many bytes in front of the buffer: that number, and random bytes.
@@ -141,7 +170,7 @@ fn draw_header<E: Entropy>(buffer: &mut [u8], header: usize, entropy: &mut E) ->
 
 /// Seals the first `plain` bytes as a segment in their place, puts its tag behind them, over what stood
 /// there, and writes both at once.
-fn write_sealed<K: Sink>(
+pub(crate) fn write_sealed<K: Sink>(
     stream: &mut Stream,
     number: u64,
     last: bool,
@@ -171,7 +200,7 @@ fn write_sealed<K: Sink>(
 }
 
 /// Where the plaintext of a segment begins in the buffer: behind the header in the first.
-fn plain_from(number: u64, header: usize) -> usize
+pub(crate) fn plain_from(number: u64, header: usize) -> usize
     ensures first { number ≡ 0 → result ≡ header }
     ensures later { 0 < number → result ≡ 0 }
 {
