@@ -18,6 +18,8 @@ pub mod Trials
 pub mod First
 pub mod SealPass
 pub mod PushLemmas
+pub mod PassingLemmas
+pub mod ResealingLemmas
 pub mod KeyLemmas
 pub mod KeysLemmas
 pub mod SegmentLemmas

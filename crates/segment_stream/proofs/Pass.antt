@@ -60,7 +60,7 @@ pub later : (n number : ℕ) (part : List ℕ) → 1 ≤ number → behind_heade
 later n zero part h = absurd (omega arith)
 later n (suc i) part h = refl
 
-held_later : (key : SegmentCipher) (header : List ℕ) (number : ℕ) (last : Bool) (part : List ℕ) → 1 ≤ number → held_opens key header number last part ≡ key.opens header number last part
+pub held_later : (key : SegmentCipher) (header : List ℕ) (number : ℕ) (last : Bool) (part : List ℕ) → 1 ≤ number → held_opens key header number last part ≡ key.opens header number last part
 unfolding held_opens
 held_later key header number last part h = ap (λ (l : List ℕ). key.opens header number last l) (later key.header number part h)
 

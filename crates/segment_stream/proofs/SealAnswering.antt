@@ -19,7 +19,7 @@ use Rattle.segment_stream.proofs.SealingLemmas.{seals_at-more}
 use Rattle.segment_stream.proofs.SealStanding.{past}
 use Rattle.segment_stream.proofs.Answering.{told_left, told_all, gained}
 
-many_is : (n : ℕ) (r : StreamRefusal) → (if nat_le most_segments n then Some too_many else None) ≡ Some r → (most_segments ≤ n) × (r ≡ too_many)
+pub many_is : (n : ℕ) (r : StreamRefusal) → (if nat_le most_segments n then Some too_many else None) ≡ Some r → (most_segments ≤ n) × (r ≡ too_many)
 many_is n r e = elim (cases_lt n most_segments) [
   | inl few ↦ let t : nat_le most_segments n ≡ false = grind (arith, nat_tests) in let h : None ≡ Some r = sym (ap (λ (b : Bool). if b then Some too_many else None) t) ∙ e in absurd cc
   | inr many ↦ let t : nat_le most_segments n ≡ true = long_enough most_segments n many in let h : Some too_many ≡ Some r = sym (ap (λ (b : Bool). if b then Some too_many else None) t) ∙ e in (many, cc)
@@ -40,7 +40,7 @@ cut_off key header whole n le =
         let run : Run (seals_at key header whole) most_segments (concat (leading (seals_at key header whole) 0 most_segments)) = record { count = omega (arith, full, most); joined = refl } in
         run_stops (seals_at key header whole) most_segments (n - most_segments) _ run (past key header whole most_segments (omega arith))
 
-many_stays : (key : SegmentCipher) (header taken more : List ℕ) (ended : Bool) → IsCipher key → most_segments ≤ followed (plain_size key) (header ++ taken)
+pub many_stays : (key : SegmentCipher) (header taken more : List ℕ) (ended : Bool) → IsCipher key → most_segments ≤ followed (plain_size key) (header ++ taken)
     → (sealed_behind key header (taken ++ more) true ≡ sealed_behind key header taken ended) × (many_plain key header (taken ++ more) ≡ Some too_many)
 many_stays key header taken more ended is many =
     let w = plain_size key in

@@ -146,22 +146,23 @@ first_stands key taken p is full opens =
     let s = standing_begins key taken (opens_has key taken p 0 _ opens) in
     standing_next key (take key.header taken) taken 0 taken [] p is s full (omega arith) (sym (full_opens key (take key.header taken) taken 0 taken [] is s full (omega arith)) ∙ opens)
 
-pub pumps_unwritten : (ciphers : List SegmentCipher) (key : SegmentCipher) (was now : SourceState) (old new : SinkState) (taken p : List ℕ) (ended : Bool) → choose ciphers taken ended ≡ chosen key → IsCipher key → Gave was now taken → (ended ≡ true → IsAtEnd now) → is_decided key taken ended ≡ true
-    → opens_at key taken 0 ≡ Some p → Rose old.faults new.faults → TookPrefix old new p → Pumps (opening_any ciphers) [] [] false (Err fault.WriteFault) was now old new
-pumps_unwritten ciphers key was now old new taken p ended c is gave end decided opens rose t =
-    let r = front_of in
-    unwritten taken t.front (t.rest ++ r.0) ended refl rose gave (λ n. absurd cc) end t.took (omega (arith, t.some, length-append t.rest r.0))
-    (sym (append_assoc t.front t.rest r.0) ∙ ap (λ (l : List ℕ). l ++ r.0) t.whole ∙ r.1 ∙ sym (ap (λ (x : Choice). released_by x taken ended) c))
+-- a first segment that opens is a front of what is released
+pub first_front : (key : SegmentCipher) (taken p : List ℕ) (ended : Bool) → IsCipher key → is_decided key taken ended ≡ true → opens_at key taken 0 ≡ Some p → (rest : List ℕ) × (p ++ rest ≡ released_by (chosen key) taken ended)
+first_front key taken p ended is decided opens = elim (cases_lt key.size (length taken)) [
+  | inl full ↦ standing_front key (take key.header taken) taken 1 (drop key.size taken) p ended (first_stands key taken p is full opens)
+  | inr short ↦ ([], append-nil p ∙ sym ((first_last key taken p is short opens).released) ∙ ap (λ (b : Bool). released_by (chosen key) taken b) (sym (short_true ended decided short)))
+]
   where
     short_true : (e : Bool) → (e || nat_lt key.size (length taken)) ≡ true → length taken ≤ key.size → e ≡ true
     short_true true d h = refl
     short_true false d h = let no : nat_lt key.size (length taken) ≡ false = grind (arith, nat_tests) in absurd cc
 
-    front_of : (rest : List ℕ) × (p ++ rest ≡ released_by (chosen key) taken ended)
-    front_of = elim (cases_lt key.size (length taken)) [
-      | inl full ↦ standing_front key (take key.header taken) taken 1 (drop key.size taken) p ended (first_stands key taken p is full opens)
-      | inr short ↦ ([], append-nil p ∙ sym ((first_last key taken p is short opens).released) ∙ ap (λ (b : Bool). released_by (chosen key) taken b) (sym (short_true ended decided short)))
-    ]
+pub pumps_unwritten : (ciphers : List SegmentCipher) (key : SegmentCipher) (was now : SourceState) (old new : SinkState) (taken p : List ℕ) (ended : Bool) → choose ciphers taken ended ≡ chosen key → IsCipher key → Gave was now taken → (ended ≡ true → IsAtEnd now) → is_decided key taken ended ≡ true
+    → opens_at key taken 0 ≡ Some p → Rose old.faults new.faults → TookPrefix old new p → Pumps (opening_any ciphers) [] [] false (Err fault.WriteFault) was now old new
+pumps_unwritten ciphers key was now old new taken p ended c is gave end decided opens rose t =
+    let r = first_front key taken p ended is decided opens in
+    unwritten taken t.front (t.rest ++ r.0) ended refl rose gave (λ n. absurd cc) end t.took (omega (arith, t.some, length-append t.rest r.0))
+    (sym (append_assoc t.front t.rest r.0) ∙ ap (λ (l : List ℕ). l ++ r.0) t.whole ∙ r.1 ∙ sym (ap (λ (x : Choice). released_by x taken ended) c))
 
 -- no fault is hidden by a pass behind calls that met none
 pub shows_after : (result : Result (Unit {0}) OpenPumpFault) (was mid now : SourceState) (old halfway new : SinkState) → Stood was.faults mid.faults → Stood old.faults halfway.faults → ShowsFaults result mid now halfway new → ShowsFaults result was now old new

@@ -7,12 +7,13 @@ use Rattle.std.specs.List.{concat}
 use Rattle.segment_stream.specs.Cipher.{behind_header}
 use Rattle.segment_stream.specs.Opening.{choose, chosen, is_decided, fits, released, decides, released_by, decides_by, stream_answer, StreamRefusal, too_many}
 use Rattle.segment_stream.specs.Under.{Standing, SealStanding}
+use Rattle.segment_stream.specs.Resealing.{reseal_answer, reseal_decides, resealed, unfinished}
 use Rattle.segment_stream.specs.Range.{range_of, past_end}
 use Rattle.tink_spec.specs.Outside.{SourceState, SinkState}
 use Rattle.std.specs.Prelude.{Result, ◌⊎◌}
 use Rattle.segment_stream.specs.declared.fault.OpenPumpFault.{OpenPumpFault}
 use Rattle.segment_stream.specs.declared.fault.OpenPumpFault.TheVariants.{ReadFault, WriteFault}
-use Rattle.segment_stream.specs.Pumping.{Pumps, opening_any, sealing, result_of}
+use Rattle.segment_stream.specs.Pumping.{Pumps, opening_any, resealing, sealing, result_of}
 use Rattle.std.specs.Prelude.{Ok, Err, nat_lt}
 use Rattle.segment_stream.specs.KeysModel.{AreSound, KeysForStreams}
 use Rattle.segment_stream.specs.Segments.{cipher_of, ciphers_of, IsSound}
@@ -142,6 +143,41 @@ SealPassAnswers = (key : SegmentCipher) (header bytes before : List ℕ)
     ((result ≡ Err WriteFault) ⊎
     ((new.written ≡ Some (before ++ sealed_behind key header bytes true))
     × (result ≡ result_of (many_plain key header bytes))))
+
+-- the same of a pass that opens a stream and seals its plaintext again
+abbrev pub ResealPassAnswers : Type 0
+ResealPassAnswers = (keys : List SegmentCipher) (key : SegmentCipher) (header bytes before : List ℕ)
+    (result : Result (Unit {0}) OpenPumpFault) (was now : SourceState) (old new : SinkState)
+    → All IsCipher keys → IsCipher key
+    → Pumps (resealing keys key header) [] [] false result was now old new → was.left ≡ Some bytes
+    → old.written ≡ Some before
+    → (result ≡ Err ReadFault) ⊎
+    ((result ≡ Err WriteFault) ⊎
+    ((new.written ≡ Some (before ++ (reseal_answer keys key header bytes).0))
+    × (result ≡ result_of (reseal_answer keys key header bytes).1)))
+
+-- what is decided before the end stays decided, with its output, when bytes follow
+abbrev pub ResealStays : Type 0
+ResealStays = (keys : List SegmentCipher) (key : SegmentCipher) (header taken more : List ℕ)
+    (refusal : StreamRefusal) → All IsCipher keys → IsCipher key
+    → reseal_decides keys key header taken false ≡ Some refusal
+    → (reseal_decides keys key header (taken ++ more) true ≡ Some refusal)
+    × (resealed keys key header (taken ++ more) true ≡ resealed keys key header taken false)
+
+-- of a stream that is refused, each segment that is written is sealed as one that isn't the last
+abbrev pub RefusedUnfinished : Type 0
+RefusedUnfinished = (keys : List SegmentCipher) (key : SegmentCipher) (header bytes : List ℕ)
+    (refusal : StreamRefusal) → IsCipher key
+    → reseal_decides keys key header bytes true ≡ Some refusal
+    → resealed keys key header bytes true ≡ unfinished key header (released keys bytes true)
+
+-- a stream that opens to its end is resealed as its plaintext is sealed, and so opens to that again
+abbrev pub ResealedBack : Type 0
+ResealedBack = (keys : List SegmentCipher) (key : SegmentCipher) (random bytes plain : List ℕ)
+    → IsCipher key → length random + 1 ≡ key.header → stream_answer keys bytes ≡ (plain, None)
+    → seal_decides key random plain ≡ None
+    → (reseal_answer keys key (header_of key random) bytes ≡ (sealed key random plain true, None))
+    × (stream_answer (key ∷ []) (sealed key random plain true) ≡ (plain, None))
 
 -- a key with Tink's sizes gives a cipher of segments, under any associated data
 abbrev pub SchemesAreCiphers : Type 0

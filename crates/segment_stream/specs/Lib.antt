@@ -2,6 +2,7 @@ pub mod Pieces
 pub mod Cipher
 pub mod Opening
 pub mod Sealing
+pub mod Resealing
 pub mod Range
 pub mod Laws
 pub mod Pumping
@@ -14,4 +15,5 @@ pub mod Streams
 pub mod Ending
 pub mod PumpModels
 pub mod Pushing
+pub mod Passing
 pub mod Lending

@@ -6,6 +6,7 @@ use Rattle.segment_stream.specs.declared.fault.OpenPumpFault.TheVariants as faul
 use Rattle.segment_stream.specs.Cipher.{SegmentCipher}
 use Rattle.segment_stream.specs.Sealing.{sealed_behind, many_plain}
 use Rattle.segment_stream.specs.Opening.{StreamRefusal, too_many, failed, released, decides, released_by, decides_by, chosen}
+use Rattle.segment_stream.specs.Resealing.{resealed, reseal_decides}
 
 -- the part of a stream that is written, and the refusal that is decided, for the bytes taken and
 -- whether the end was seen
@@ -27,6 +28,13 @@ sealing key header = record {
   output = sealed_behind key header;
   refusal = λ taken ended. many_plain
       key header taken;
+}
+
+-- the stream opened under the first key that fits, and sealed under a cipher, behind this header
+abbrev pub resealing : List SegmentCipher → SegmentCipher → List ℕ → Part
+resealing keys cipher header = record {
+  output = resealed keys cipher header;
+  refusal = reseal_decides keys cipher header;
 }
 
 -- a refusal as the opener answers it

@@ -2,6 +2,7 @@
 
 ghost use Rattle.segment_stream.specs.Laws.{DecidedStays, HoldsMore, KeysAreCiphers};
 ghost use Rattle.segment_stream.specs.Laws.{OpensOneMore, PassAnswers, PiecesAreAll, RangeIsSlice, ReleasedPrefix, SealedLength};
+ghost use Rattle.segment_stream.specs.Laws.{RefusedUnfinished, ResealPassAnswers, ResealStays, ResealedBack};
 ghost use Rattle.segment_stream.specs.Laws.{SealPassAnswers, SealedPrefix, SealsOneMore, StandsReleased, StreamBack, TooManyOutput, TrialsInOrder, SchemesAreCiphers};
 
 /// The pieces, joined, are the bytes.
@@ -77,6 +78,27 @@ pub fn pass_answers()
 /// The same of a pass that seals.
 pub fn seal_pass_answers()
     ensures { SealPassAnswers }
+{}
+
+/// The same of a pass that opens a stream and seals its plaintext again.
+pub fn reseal_pass_answers()
+    ensures { ResealPassAnswers }
+{}
+
+/// What is decided of a stream that is resealed before its end stays decided, with its output, when bytes
+/// follow.
+pub fn reseal_stays()
+    ensures { ResealStays }
+{}
+
+/// Of a stream that is refused, each segment that resealing writes is sealed as one that isn't the last.
+pub fn refused_unfinished()
+    ensures { RefusedUnfinished }
+{}
+
+/// A stream that opens to its end is resealed as its plaintext is sealed, and opens to that again.
+pub fn resealed_back()
+    ensures { ResealedBack }
 {}
 
 /// Both of Tink's schemes are ciphers of segments, as these laws want them.

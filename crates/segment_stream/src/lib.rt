@@ -10,6 +10,7 @@ pub mod laws;
 mod opener;
 mod opening;
 mod reading;
+mod resealing;
 mod sealer;
 mod sealing;
 mod segments;

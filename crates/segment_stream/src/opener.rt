@@ -2,13 +2,16 @@
 
 ghost use Rattle.std.specs.Prelude.{◌≡◌, ◌+◌, [], false, IfOk};
 ghost use Rattle.tink_spec.specs.Outside.{StopsAtEnd};
-ghost use Rattle.segment_stream.specs.Pumping.{Pumps, ShowsFaults, opening_any};
+ghost use Rattle.segment_stream.specs.Cipher.{SegmentCipher};
+ghost use Rattle.segment_stream.specs.PumpModels.{SealsUnder};
+ghost use Rattle.segment_stream.specs.Pumping.{Pumps, ShowsFaults, opening_any, resealing};
 ghost use Rattle.segment_stream.specs.Segments.{ciphers_of};
 ghost use Rattle.segment_stream.specs.StreamKeys.{largest_of};
 
 use crate::buffer::Buffer;
+use crate::resealing::pass_any;
 use crate::trying::open_any;
-use crate::{OpenPumpFault, StreamKeys};
+use crate::{OpenPumpFault, Sealer, StreamKeys};
 use std::alloc::Global;
 use std::marker::Model;
 use tink_base::{NoMemory, Sink, Source};
@@ -72,5 +75,54 @@ impl<'k> Opener<'k> {
     {
         let mut buffer = self.buffer;
         open_any(self.keys.keys(), self.ad, &mut buffer, source, sink)
+    }
+
+    /// Opens the stream that the source gives, as `pump` does, and seals its plaintext again as it comes,
+    /// as this sealer does, whose header is written before the first read. The plaintext lies in the two
+    /// buffers alone. `Ok` says that the input was read to its end, each segment has opened, and the
+    /// whole plaintext was sealed.
+    ///
+    /// Where anything else is answered no segment was written that is sealed as the last one of its
+    /// stream, except that a front of it may have been where the sink failed at it. `TooManySegments`
+    /// comes exactly where the plaintext has too many segments for the sealer, or the bytes taken decide
+    /// it; and `StreamFailed` exactly where these decide that, and the plaintext before has not too many.
+    /// `ReadFault` comes only where the source failed before anything was decided, and `WriteFault` only
+    /// where the sink failed: then a front of what the bytes taken reseal to was written, and with every
+    /// other answer exactly that. Nothing is read after the end was seen, and nothing that failed is tried
+    /// again. No memory is taken.
+    pub fn reseal<S: Source, K: Sink>(
+        self,
+        sealer: Sealer,
+        source: &mut S,
+        sink: &mut K,
+    ) -> Result<(), OpenPumpFault>
+        ensures pumps { (cipher : SegmentCipher) → SealsUnder sealer cipher
+            → Pumps (resealing (ciphers_of self.entry.ad self.entry.keys.keys) cipher sealer.header)
+            [] [] false result (S.state source.old) (S.state source.new) (K.state sink.old)
+            (K.state sink.new) }
+        ensures stops { StopsAtEnd (S.state source.old) (S.state source.new) }
+        ensures shown { ShowsFaults result (S.state source.old) (S.state source.new)
+            (K.state sink.old) (K.state sink.new) }
+    {
+        let mut buffer = self.buffer;
+        let mut sealing = match sealer.begin(sink) {
+            Ok(sealing) => sealing,
+            Err(_) => return Err(OpenPumpFault::WriteFault),
+        };
+        match pass_any(
+            self.keys.keys(),
+            self.ad,
+            &mut buffer,
+            source,
+            &mut sealing,
+            sink,
+        ) {
+            Ok(()) => {}
+            Err(fault) => return Err(fault),
+        }
+        match sealing.finish(sink) {
+            Ok(()) => Ok(()),
+            Err(_) => Err(OpenPumpFault::WriteFault),
+        }
     }
 }

@@ -51,7 +51,7 @@ pub(crate) fn write_segment<K: Sink>(
 }
 
 /// The refusal where a segment that a byte follows doesn't open.
-fn refused(number: u64) -> OpenPumpFault
+pub(crate) fn refused(number: u64) -> OpenPumpFault
     ensures many { number + 1 ≡ 2 ^ 32 → result ≡ OpenPumpFault.TooManySegments }
     ensures few { number + 1 < 2 ^ 32 → result ≡ OpenPumpFault.StreamFailed number }
 {

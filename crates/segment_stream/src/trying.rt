@@ -30,7 +30,7 @@ pub(crate) enum Trial {
 
 /// Reads, unless the end was seen, until it is decided whether the first segment opens under a key
 /// of this segment size. Answers how many bytes the buffer holds, and whether the end was seen.
-fn decide<S: Source>(
+pub(crate) fn decide<S: Source>(
     source: &mut S,
     buffer: &mut Buffer,
     held: usize,
@@ -63,7 +63,7 @@ fn decide<S: Source>(
 }
 
 /// Whether a header of the key's length stands in front.
-fn begins(key: &StreamKey, taken: &[u8]) -> bool
+pub(crate) fn begins(key: &StreamKey, taken: &[u8]) -> bool
     requires { IsSound key.now }
     ensures { result ≡ has_header (cipher_of [] key.now) taken.now }
 {
