@@ -226,7 +226,7 @@ abbrev pub out_31 : List ℕ
 out_31 =
     codes "  --out FILE                   the file to make: the name of a file that isn't there yet, of\n"
     ++ codes "                               one byte or more; its last part doesn't begin with\n"
-    ++ codes "                               .tinkey-new-\n"
+    ++ codes "                               .tinkey-new-; or, but for session, - for standard output\n"
 
 abbrev pub out_format_31 : List ℕ
 out_format_31 =
@@ -236,7 +236,7 @@ out_format_31 =
 abbrev pub master_31 : List ℕ
 master_31 =
     codes "  --master FILE                the file of the master, the keyset under which this one lies\n"
-    ++ codes "                               encrypted: a file's name, of one byte or more\n"
+    ++ codes "                               encrypted: a file's name, of one byte or more, and not -\n"
 
 abbrev pub master_format_31 : List ℕ
 master_format_31 =
@@ -288,7 +288,7 @@ codes_02345678 =
 abbrev pub in_31 : List ℕ
 in_31 =
     codes "  --in FILE                    the file of the keyset to read: a file's name, of one byte or\n"
-    ++ codes "                               more\n"
+    ++ codes "                               more, or - for standard input\n"
 
 abbrev pub in_format_31 : List ℕ
 in_format_31 =
@@ -330,7 +330,7 @@ options_of_promote_key =
 abbrev pub keyset_31 : List ℕ
 keyset_31 =
     codes "  --keyset FILE                the file of the keyset to use: a file's name, of one byte or\n"
-    ++ codes "                               more\n"
+    ++ codes "                               more, and not -\n"
 
 abbrev pub keyset_format_31 : List ℕ
 keyset_format_31 =
@@ -535,20 +535,22 @@ command_text commands.ConvertKeyset =
     ++ codes "      [--new-master FILE] [--new-master-format json|binary]\n\n"
     ++ codes "Optional:\n"
     ++ codes "  --in FILE                        the file of the keyset to read: a file's name, of one\n"
-    ++ codes "                                   byte or more\n"
+    ++ codes "                                   byte or more, or - for standard input\n"
     ++ codes "  --in-format json|binary          the form of that keyset: json or binary, in upper or\n"
     ++ codes "                                   lower case; json if it isn't given\n"
     ++ codes "  --out FILE                       the file to make: the name of a file that isn't there\n"
     ++ codes "                                   yet, of one byte or more; its last part doesn't begin\n"
-    ++ codes "                                   with .tinkey-new-\n"
+    ++ codes "                                   with .tinkey-new-; or, but for session, - for standard\n"
+    ++ codes "                                   output\n"
     ++ codes "  --out-format json|binary         the form of the keyset to write: json or binary, in upper\n"
     ++ codes "                                   or lower case; json if it isn't given\n"
     ++ codes "  --master FILE                    the file of the master, the keyset under which this one\n"
-    ++ codes "                                   lies encrypted: a file's name, of one byte or more\n"
+    ++ codes "                                   lies encrypted: a file's name, of one byte or more, and\n"
+    ++ codes "                                   not -\n"
     ++ codes "  --master-format json|binary      the form of the master: json or binary, in upper or lower\n"
     ++ codes "                                   case; json if it isn't given\n"
     ++ codes "  --new-master FILE                the file of the master that the keyset is put under: a\n"
-    ++ codes "                                   file's name, of one byte or more\n"
+    ++ codes "                                   file's name, of one byte or more, and not -\n"
     ++ codes "  --new-master-format json|binary  the form of that master: json or binary, in upper or\n"
     ++ codes "                                   lower case; json if it isn't given\n"
     ++ read_by_add_key
@@ -720,8 +722,8 @@ command_text commands.Srange =
     ++ codes "      [--ad TEXT] [--ad-hex HEX] [--out FILE] [--master FILE] [--master-format json|binary]\n\n"
     ++ codes "Required:\n"
     ++ keyset_31
-    ++ codes "  --file FILE                  the file of the stream: a file's name, of one byte or more;\n"
-    ++ codes "                               the file is no folder and no pipe\n"
+    ++ codes "  --file FILE                  the file of the stream: a file's name, of one byte or more,\n"
+    ++ codes "                               and not -; the file is no folder and no pipe\n"
     ++ codes "  --from N                     the offset of the first byte to open: 1 to 19 decimal digits,\n"
     ++ codes "                               of a number up to 9,223,372,036,854,775,807\n"
     ++ length_31

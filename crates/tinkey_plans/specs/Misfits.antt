@@ -12,7 +12,9 @@ use Rattle.tinkey_words.specs.Rows.{aside}
 unfoldable pub form_text : Form → List ℕ
 form_text forms.Text = codes "a name"
 form_text forms.FileName = codes "the name of a file"
+form_text forms.Input = codes "the name of a file, or -"
 form_text forms.NewFile = codes "the name of a file"
+form_text forms.Output = codes "the name of a file, or -"
 form_text forms.Number = codes "a number from 0 to 4294967295"
 form_text forms.LineCount = codes "a number from 1 to 100000"
 form_text forms.RangeLength = codes "a number from 0 to 16777216"
@@ -22,6 +24,11 @@ form_text forms.SealedForm = codes "text, envelope or stream"
 form_text forms.Datum = codes "at most 1048576 bytes"
 form_text forms.Hex = codes "at most 1048576 bytes in hexadecimal"
 form_text forms.Flag = codes "no value"
+
+-- why a dash is none, and what to name in its place
+unfoldable pub dash_text : Form → List ℕ
+dash_text forms.NewFile = codes ": the replies are on standard output"
+dash_text _ = codes " for standard input: name /dev/stdin or /dev/fd/3"
 
 -- three pieces of text, and the command whose help tells more
 abbrev pub told_of : (a b c : List ℕ) → CommandName → List ℕ
@@ -42,6 +49,10 @@ misfit_text (misfits.BadValue command name) =
     told_of (option_row name).word (codes " takes ") (form_text (form_for name command)) command
 misfit_text (misfits.Aside command name) =
     told_of (option_row name).word (codes " takes no name that begins as tinkey's own do, ") aside command
+misfit_text (misfits.Dash command name) =
+    told_of (option_row name).word (codes " takes no -") (dash_text (form_for name command)) command
+misfit_text (misfits.OddHex command name) =
+    told_of (option_row name).word (codes " takes an even number of digits, two for each byte") [] command
 misfit_text (misfits.NoValue command name) =
     told_of (option_row name).word (codes " lacks its value, ") (form_text (form_for name command)) command
 misfit_text (misfits.Lacks command name) =

@@ -21,7 +21,7 @@ macro_rules! text {
     ([$($said:literal)*] out_31 $($rest:tt)*) => {
         text!([$($said)* "  --out FILE                   the file to make: the name of a file that isn't there yet, of
                                one byte or more; its last part doesn't begin with
-                               .tinkey-new-
+                               .tinkey-new-; or, but for session, - for standard output
 "] $($rest)*)
     };
     ([$($said:literal)*] out_format_31 $($rest:tt)*) => {
@@ -31,7 +31,7 @@ macro_rules! text {
     };
     ([$($said:literal)*] master_31 $($rest:tt)*) => {
         text!([$($said)* "  --master FILE                the file of the master, the keyset under which this one lies
-                               encrypted: a file's name, of one byte or more
+                               encrypted: a file's name, of one byte or more, and not -
 "] $($rest)*)
     };
     ([$($said:literal)*] master_format_31 $($rest:tt)*) => {
@@ -81,7 +81,7 @@ Example:
     };
     ([$($said:literal)*] in_31 $($rest:tt)*) => {
         text!([$($said)* "  --in FILE                    the file of the keyset to read: a file's name, of one byte or
-                               more
+                               more, or - for standard input
 "] $($rest)*)
     };
     ([$($said:literal)*] in_format_31 $($rest:tt)*) => {
@@ -126,7 +126,7 @@ Optional:
     };
     ([$($said:literal)*] keyset_31 $($rest:tt)*) => {
         text!([$($said)* "  --keyset FILE                the file of the keyset to use: a file's name, of one byte or
-                               more
+                               more, and not -
 "] $($rest)*)
     };
     ([$($said:literal)*] keyset_format_31 $($rest:tt)*) => {
@@ -646,20 +646,22 @@ tinkey convert-keyset: writes a keyset in another form, or under another master
 
 Optional:
   --in FILE                        the file of the keyset to read: a file's name, of one
-                                   byte or more
+                                   byte or more, or - for standard input
   --in-format json|binary          the form of that keyset: json or binary, in upper or
                                    lower case; json if it isn't given
   --out FILE                       the file to make: the name of a file that isn't there
                                    yet, of one byte or more; its last part doesn't begin
-                                   with .tinkey-new-
+                                   with .tinkey-new-; or, but for session, - for standard
+                                   output
   --out-format json|binary         the form of the keyset to write: json or binary, in upper
                                    or lower case; json if it isn't given
   --master FILE                    the file of the master, the keyset under which this one
-                                   lies encrypted: a file's name, of one byte or more
+                                   lies encrypted: a file's name, of one byte or more, and
+                                   not -
   --master-format json|binary      the form of the master: json or binary, in upper or lower
                                    case; json if it isn't given
   --new-master FILE                the file of the master that the keyset is put under: a
-                                   file's name, of one byte or more
+                                   file's name, of one byte or more, and not -
   --new-master-format json|binary  the form of that master: json or binary, in upper or
                                    lower case; json if it isn't given
 " read_by_add_key "\
@@ -845,8 +847,8 @@ tinkey srange: opens a range of such a stream in a file
       [--ad TEXT] [--ad-hex HEX] [--out FILE] [--master FILE] [--master-format json|binary]
 
 Required:
-" keyset_31 "  --file FILE                  the file of the stream: a file's name, of one byte or more;
-                               the file is no folder and no pipe
+" keyset_31 "  --file FILE                  the file of the stream: a file's name, of one byte or more,
+                               and not -; the file is no folder and no pipe
   --from N                     the offset of the first byte to open: 1 to 19 decimal digits,
                                of a number up to 9,223,372,036,854,775,807
 " length_31 "

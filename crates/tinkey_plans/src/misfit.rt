@@ -2,7 +2,7 @@
 
 ghost use Rattle.std.specs.Prelude.{◌≡◌, ◌+◌, ◌≤◌, ◌++◌, length};
 ghost use Rattle.tinkey_words.specs.Names.{form_for, option_row, row_of};
-ghost use Rattle.tinkey_plans.specs.Misfits.{form_text, misfit_line, misfit_text, told_of};
+ghost use Rattle.tinkey_plans.specs.Misfits.{dash_text, form_text, misfit_line, misfit_text, told_of};
 
 use tink_base::ASIDE;
 use tinkey_session::ShortText;
@@ -55,6 +55,14 @@ fn push_misfit(line: &mut ShortText, why: Misfit)
                 ASIDE,
                 command,
             );
+        }
+        Misfit::Dash(command, name) => {
+            let why = dash_text(name.form_for(command));
+            push_told(line, option_word(name), " takes no -", why, command);
+        }
+        Misfit::OddHex(command, name) => {
+            let takes = " takes an even number of digits, two for each byte";
+            push_told(line, option_word(name), takes, "", command);
         }
         Misfit::NoValue(command, name) => push_form(line, name, " lacks its value, ", command),
         Misfit::Lacks(command, name) => {
@@ -129,6 +137,18 @@ fn option_word(name: OptionName) -> &'static str
     name.word()
 }
 
+/// Why a dash is none, and what to name in its place.
+#[tactic(auto, unfolding(crate::specs::Misfits::dash_text))]
+fn dash_text(form: Form) -> &'static str
+    ensures text { result.now ≡ dash_text form }
+    ensures short { length result.now ≤ 50 }
+{
+    match form {
+        Form::NewFile => ": the replies are on standard output",
+        _ => " for standard input: name /dev/stdin or /dev/fd/3",
+    }
+}
+
 /// What a value of this form is.
 #[tactic(auto, unfolding(crate::specs::Misfits::form_text))]
 fn form_text(form: Form) -> &'static str
@@ -138,7 +158,9 @@ fn form_text(form: Form) -> &'static str
     match form {
         Form::Text => "a name",
         Form::FileName => "the name of a file",
+        Form::Input => "the name of a file, or -",
         Form::NewFile => "the name of a file",
+        Form::Output => "the name of a file, or -",
         Form::Number => "a number from 0 to 4294967295",
         Form::LineCount => "a number from 1 to 100000",
         Form::RangeLength => "a number from 0 to 16777216",

@@ -15,7 +15,7 @@ use Rattle.tinkey_words.specs.declared.words.names.OptionName.{OptionName}
 use Rattle.tinkey_words.specs.declared.words.names.OptionName.TheVariants as options
 use Rattle.tinkey_words.specs.Names.{row_of, form_for, rival, needs, for_streams}
 use Rattle.tinkey_words.specs.Rows.{same, is_one_of, sealed_form_of}
-use Rattle.tinkey_words.specs.Words.{◌>>=◌, Asked, Values, asked_with, Options, is_given, is_excluded, is_barred, put, options_of, no_options, given_in, lacking, lacking_none, unmet, unmet_none, is_stream, sealed_in, first_given, idle, idle_of, idle_none, misuse_at, complete, with_options, is_help_flag, help, version, first_of, by_itself, command_words, asked_of, words_of}
+use Rattle.tinkey_words.specs.Words.{◌>>=◌, Asked, Values, asked_by, Options, is_given, is_excluded, is_barred, put, options_of, no_options, given_in, lacking, lacking_none, unmet, unmet_none, is_stream, sealed_in, first_given, idle, idle_of, idle_none, misuse_at, complete, with_options, is_help_flag, help, version, first_of, by_itself, command_words, asked_of, words_of, asked_by}
 use Rattle.tinkey_words.specs.Grammar.{IsValue, Spelling, spelled, IsGiven, IsOnce, AreApart, IsOneOf, HasNeeded, SaysStream, Fits, values_of, Spells, Helps, the_list, its_help, the_version, WordsAreSpelled}
 use Rattle.tinkey_words.proofs.HelpLemmas.{first_found, first_is, flag_is, options_behind, alone_accepted, help_asked, helps_accepted}
 use Rattle.tinkey_words.proofs.NameLemmas.{are_rivals}
@@ -68,7 +68,7 @@ is_one name (other ∷ names) is = one_at (same name other) name other names ref
 abbrev New : Options → Spelling → Type 0
 New given s = is_barred s.name given ≡ false
 
-neither : (a b : Bool) → (a || b) ≡ false → (a ≡ false) × (b ≡ false)
+pub neither : (a b : Bool) → (a || b) ≡ false → (a ≡ false) × (b ≡ false)
 neither true b is = absurd (cc)
 neither false b is = (refl, is)
 
@@ -221,12 +221,12 @@ none_idle true command run runs all is = refl
 none_idle false command run runs all is = none_first (for_streams command) run (none_given (for_streams command) run (no_stream_said command run runs is) all)
 
 -- a command that has all that it requires is complete
-completed : (command : CommandName) (count : ℕ) (run : List Spelling) (asked : Asked) → Fits command run → Runs command no_options run → asked ≡ asked_with command (values_of run) → complete command count (all_put no_options run) ≡ Ok asked
+completed : (command : CommandName) (count : ℕ) (run : List Spelling) (asked : Asked) → Fits command run → Runs command no_options run → asked ≡ asked_by command (values_of run) → complete command count (all_put no_options run) ≡ Ok asked
 completed command count run asked fits runs asks =
     let there = all_there (row_of command).required run fits.complete in
     let has = all_met needs run fits.met in
     let used : idle_of command (all_put no_options run) ≡ None = none_idle (is_stream (sealed_in ((all_put no_options run).values options.As))) command run runs fits.streams refl in
-    rw (there, has, used) (ap (λ (values : Values). Ok (asked_with command values)) (values_run command run runs) ∙ ap Ok (sym asks))
+    rw (there, has, used) (ap (λ (values : Values). Ok (asked_by command values)) (values_run command run runs) ∙ ap Ok (sym asks))
 
 spelled_accepted : (words : List (List ℕ)) (asked : Asked) → Spells words asked → words_of words ≡ Ok asked
 unfolding words_of given_in
@@ -316,20 +316,20 @@ streams_of : (stream : Bool) (command : CommandName) (run : List Spelling) → R
 streams_of true command run runs test is = all_say (for_streams command) run (says_stream command run runs test)
 streams_of false command run runs test is = none_there (for_streams command) run is
 
-used_test : (lack : Option OptionName) (command : CommandName) (count : ℕ) (given : Options) (asked : Asked) → idle_none lack command count given ≡ Ok asked → (lack ≡ None) × (asked ≡ asked_with command given.values)
-used_test None command count given asked is = (refl, let same : Ok (asked_with command given.values) ≡ Ok asked = is in cc)
+used_test : (lack : Option OptionName) (command : CommandName) (count : ℕ) (given : Options) (asked : Asked) → idle_none lack command count given ≡ Ok asked → (lack ≡ None) × (asked ≡ asked_by command given.values)
+used_test None command count given asked is = (refl, let same : Ok (asked_by command given.values) ≡ Ok asked = is in cc)
 used_test (Some name) command count given asked is = let clash : Err (misuse_at count (misfits.NoStream command name)) ≡ Ok asked = is in absurd (cc)
 
-met_test : (lack : Option (OptionName × OptionName)) (command : CommandName) (count : ℕ) (given : Options) (asked : Asked) → unmet_none lack command count given ≡ Ok asked → (lack ≡ None) × (idle_of command given ≡ None) × (asked ≡ asked_with command given.values)
+met_test : (lack : Option (OptionName × OptionName)) (command : CommandName) (count : ℕ) (given : Options) (asked : Asked) → unmet_none lack command count given ≡ Ok asked → (lack ≡ None) × (idle_of command given ≡ None) × (asked ≡ asked_by command given.values)
 met_test None command count given asked is = let used = used_test (idle_of command given) command count given asked is in (refl, used.0, used.1)
 met_test (Some need) command count given asked is = let clash : Err (misuse_at count (misfits.Without command need.0 need.1)) ≡ Ok asked = is in absurd (cc)
 
-complete_test : (lack : Option OptionName) (command : CommandName) (count : ℕ) (given : Options) (asked : Asked) → lacking_none lack command count given ≡ Ok asked → (lack ≡ None) × (unmet needs given ≡ None) × (idle_of command given ≡ None) × (asked ≡ asked_with command given.values)
+complete_test : (lack : Option OptionName) (command : CommandName) (count : ℕ) (given : Options) (asked : Asked) → lacking_none lack command count given ≡ Ok asked → (lack ≡ None) × (unmet needs given ≡ None) × (idle_of command given ≡ None) × (asked ≡ asked_by command given.values)
 complete_test None command count given asked is = let met = met_test (unmet needs given) command count given asked is in (refl, met.0, met.1, met.2)
 complete_test (Some name) command count given asked is = let clash : Err (misuse_at count (misfits.Lacks command name)) ≡ Ok asked = is in absurd (cc)
 
 -- a run of a complete command fits
-fits_of : (command : CommandName) (count : ℕ) (run : List Spelling) (asked : Asked) → Runs command no_options run → complete command count (all_put no_options run) ≡ Ok asked → Fits command run × (asked ≡ asked_with command (values_of run))
+fits_of : (command : CommandName) (count : ℕ) (run : List Spelling) (asked : Asked) → Runs command no_options run → complete command count (all_put no_options run) ≡ Ok asked → Fits command run × (asked ≡ asked_by command (values_of run))
 fits_of command count run asked runs is =
     let done = complete_test (lacking (row_of command).required (all_put no_options run)) command count (all_put no_options run) asked is in (
       record {
@@ -341,10 +341,10 @@ fits_of command count run asked runs is =
         met = met_of needs run done.1;
         streams = streams_of (is_stream (sealed_in ((all_put no_options run).values options.As))) command run runs refl done.2;
       },
-      done.3 ∙ ap (asked_with command) (values_run command run runs),
+      done.3 ∙ ap (asked_by command) (values_run command run runs),
     )
 
-accepted_options : (command : CommandName) (words : List (List ℕ)) (asked : Asked) (r : Result Options Misuse) → options_of command 1 no_options words ≡ r → (r >>= complete command (1 + length words)) ≡ Ok asked → (run : List Spelling) × (words ≡ flat_map spelled run) × Fits command run × (asked ≡ asked_with command (values_of run))
+accepted_options : (command : CommandName) (words : List (List ℕ)) (asked : Asked) (r : Result Options Misuse) → options_of command 1 no_options words ≡ r → (r >>= complete command (1 + length words)) ≡ Ok asked → (run : List Spelling) × (words ≡ flat_map spelled run) × Fits command run × (asked ≡ asked_by command (values_of run))
 accepted_options command words asked (Err at) taken is = let clash : Err at ≡ Ok asked = is in absurd (cc)
 accepted_options command words asked (Ok last) taken is =
     let found = run_read command 1 no_options words last taken in

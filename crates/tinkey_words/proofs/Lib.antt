@@ -1,3 +1,4 @@
+pub mod DashLemmas
 pub mod FitLemmas
 pub mod GrammarLemmas
 pub mod HelpLemmas

@@ -12,13 +12,13 @@ use Rattle.tinkey_words.specs.declared.words.names.CommandName.{CommandName}
 use Rattle.tinkey_words.specs.declared.words.names.OptionName.{OptionName}
 use Rattle.tinkey_words.specs.declared.words.names.OptionName.TheVariants as options
 use Rattle.tinkey_words.specs.Names.{row_of, option_row, form_for, rival, needs, for_streams}
-use Rattle.tinkey_words.specs.Rows.{option_of, takes, is_aside, is_new_file, is_value, is_flag}
+use Rattle.tinkey_words.specs.Rows.{option_of, takes, is_aside, is_new_file, is_value, is_flag, is_dash, is_hex_form, is_named_file, is_odd_hex}
 use Rattle.tinkey_words.specs.Words.{◌>>=◌, Asked, Options, misuse_at, own_value, misvalued, is_given, is_excluded, is_barred, bar, new_option, put, with_value, alone, option_word, word_after, next_word, ended, options_of, no_options, given_in, lacking, lacking_none, unmet, unmet_none, is_stream, sealed_in, first_given, idle, idle_of, idle_none, complete, with_options, is_help_flag, help, version, topic_of, first_of, by_itself, topic_words, help_words, command_words, asked_of, words_of}
-use Rattle.tinkey_words.specs.Grammar.{IsValue, Spelling, spelled_as, spelled, IsGiven, HasNeeded, IsHelpWord, IsVersionWord, IsNameOf, IsOptionOf, Helps, the_list, a_topic, its_help, the_version, IsWordOf, IsTold, aside_told, bad_told, IsFault, no_option, twice, beside, own_value_bad, next_value_bad, value_missing, lacks, without, no_stream, SaysStream, IsMisused, no_word, no_command, no_topic, too_many, behind_options, MisusesAreTrue}
+use Rattle.tinkey_words.specs.Grammar.{IsValue, Spelling, spelled_as, spelled, IsGiven, HasNeeded, IsHelpWord, IsVersionWord, IsNameOf, IsOptionOf, Helps, the_list, a_topic, its_help, the_version, IsWordOf, IsTold, aside_told, bad_told, IsFault, no_option, twice, beside, own_value_bad, next_value_bad, value_missing, lacks, without, no_stream, SaysStream, IsMisused, no_word, no_command, no_topic, too_many, behind_options, MisusesAreTrue, dash_told, odd_told}
 use Rattle.tinkey_words.proofs.FitLemmas.{is_one, one_is, given_there, once_of, apart_of, taken_of, formed_of, there_of, all_of, met_of, values_run, no_stream_said}
 use Rattle.tinkey_words.proofs.NameLemmas.{flag_form}
 use Rattle.tinkey_words.proofs.HelpLemmas.{first_found, first_is, flag_is, topic_found, topic_is}
-use Rattle.tinkey_words.proofs.RowLemmas.{option_found, option_named, own_plain, own_joined, value_taken, aside_is, is_aside', flag_formed}
+use Rattle.tinkey_words.proofs.RowLemmas.{option_found, option_named, own_plain, own_joined, value_taken, two_pass, aside_is, is_aside', dash_is, is_dash', odd_is, is_odd', flag_formed}
 use Rattle.tinkey_words.proofs.SpellingLemmas.{Runs, all_put, run_read, own_cut, with_formed, Taken, option_is}
 
 -- Where the options stop.
@@ -245,13 +245,27 @@ all_given : (name : OptionName) (run : List Spelling) → is_given name (all_put
 all_given name run is = there_of name no_options run refl is
 
 -- why a value is told
-told_by : (command : CommandName) (name : OptionName) (value : List ℕ) (new there : Bool) → is_new_file (form_for name command) ≡ new → is_aside value ≡ there → IsTold command name value (if new && there then misfits.Aside command name else misfits.BadValue command name)
-told_by command name value true true new there = aside_told new (aside_is value there) refl
-told_by command name value true false new other = bad_told (λ is named. let clash : true ≡ false = sym (is_aside' value named) ∙ other in cc) refl
-told_by command name value false there old is = bad_told (λ new named. let clash : true ≡ false = sym new ∙ old in cc) refl
+not_both : (a b : Bool) → (a && b) ≡ false → a ≡ true → b ≡ true → ⊥
+not_both true true none one other = let clash : true ≡ false = none in absurd (cc)
+not_both true false none one other = let clash : false ≡ true = other in cc
+not_both false b none one other = let clash : false ≡ true = one in absurd (cc)
+
+told_by : (command : CommandName) (name : OptionName) (value : List ℕ) (aside dashed odd : Bool) → (is_new_file (form_for name command) && is_aside value) ≡ aside → (is_named_file (form_for name command) && is_dash value) ≡ dashed → (is_hex_form (form_for name command) && is_odd_hex value) ≡ odd → IsTold command name value (if aside then misfits.Aside command name else (if dashed then misfits.Dash command name else (if odd then misfits.OddHex command name else misfits.BadValue command name)))
+told_by command name value true dashed odd is dash_is_there odd_is_there =
+    let tests = two_pass (is_new_file (form_for name command)) (is_aside value) is in aside_told tests.0 (aside_is value tests.1) refl
+told_by command name value false true odd none is odd_is_there =
+    let tests = two_pass (is_named_file (form_for name command)) (is_dash value) is in dash_told tests.0 (dash_is value tests.1) refl
+told_by command name value false false true none named is =
+    let tests = two_pass (is_hex_form (form_for name command)) (is_odd_hex value) is in odd_told tests.0 (odd_is value tests.1) refl
+told_by command name value false false false none named even =
+    bad_told
+    (λ new there. not_both (is_new_file (form_for name command)) (is_aside value) none new (is_aside' value there))
+    (λ file there. not_both (is_named_file (form_for name command)) (is_dash value) named file (is_dash' value there))
+    (λ hex there. not_both (is_hex_form (form_for name command)) (is_odd_hex value) even hex (is_odd' value there))
+    refl
 
 told : (command : CommandName) (name : OptionName) (value : List ℕ) → IsTold command name value (misvalued (form_for name command) command name value)
-told command name value = told_by command name value _ _ refl refl
+told command name value = told_by command name value _ _ _ refl refl refl
 
 fault_of : (command : CommandName) (run : List Spelling) (place : ℕ) (rest : List (List ℕ)) (misuse : Misuse) → Halt command (all_put no_options run) place rest misuse → IsFault command run place rest misuse
 fault_of command run place rest misuse (halt_foreign word more are foreign is) = no_option word more are (λ name option named. foreign name (one_is name ((row_of command).required ++ (row_of command).optional) option) named) is

@@ -5,8 +5,8 @@ use Rattle.tinkey_words.specs.declared.words.names.CommandName.{CommandName}
 use Rattle.tinkey_words.specs.declared.words.names.CommandName.TheVariants as commands
 use Rattle.tinkey_words.specs.declared.words.names.OptionName.{OptionName}
 use Rattle.tinkey_words.specs.declared.words.names.OptionName.TheVariants as options
-use Rattle.tinkey_words.specs.Names.{row_of, option_row, all_options, rival, form_for, length_form}
-use Rattle.tinkey_words.specs.Rows.{command_of, option_of, is_flag}
+use Rattle.tinkey_words.specs.Names.{row_of, option_row, all_options, rival, form_for, out_form, length_form}
+use Rattle.tinkey_words.specs.Rows.{command_of, option_of, is_flag, is_one_of}
 use Rattle.tinkey_words.specs.Words.{is_equals}
 
 -- a command is found by its word
@@ -79,6 +79,41 @@ command_short commands.Eopen = omega arith
 command_short commands.Ereseal = omega arith
 command_short commands.Srange = omega arith
 command_short commands.KeyOf = omega arith
+
+-- no command requires an option whose file may be standard input or output
+pub never_required : (command : CommandName) → (is_one_of options.In (row_of command).required ≡ false) × (is_one_of options.Out (row_of command).required ≡ false)
+never_required commands.CreateKeyset = (refl, refl)
+never_required commands.AddKey = (refl, refl)
+never_required commands.RotateKeyset = (refl, refl)
+never_required commands.PromoteKey = (refl, refl)
+never_required commands.EnableKey = (refl, refl)
+never_required commands.DisableKey = (refl, refl)
+never_required commands.DestroyKey = (refl, refl)
+never_required commands.DeleteKey = (refl, refl)
+never_required commands.ListKeyset = (refl, refl)
+never_required commands.ConvertKeyset = (refl, refl)
+never_required commands.ListKeyTemplates = (refl, refl)
+never_required commands.Seal = (refl, refl)
+never_required commands.Open = (refl, refl)
+never_required commands.Dseal = (refl, refl)
+never_required commands.Dopen = (refl, refl)
+never_required commands.Reseal = (refl, refl)
+never_required commands.Dreseal = (refl, refl)
+never_required commands.Sseal = (refl, refl)
+never_required commands.Sopen = (refl, refl)
+never_required commands.Sreseal = (refl, refl)
+never_required commands.Tag = (refl, refl)
+never_required commands.Verify = (refl, refl)
+never_required commands.Derive = (refl, refl)
+never_required commands.Session = (refl, refl)
+never_required commands.Selftest = (refl, refl)
+never_required commands.WrapKeyset = (refl, refl)
+never_required commands.UnwrapKeyset = (refl, refl)
+never_required commands.Eseal = (refl, refl)
+never_required commands.Eopen = (refl, refl)
+never_required commands.Ereseal = (refl, refl)
+never_required commands.Srange = (refl, refl)
+never_required commands.KeyOf = (refl, refl)
 
 -- an option is found by its word, which has no equals sign, and by its place
 pub record IsFound (name : OptionName) : Type 0 where
@@ -167,6 +202,40 @@ are_rivals options.From b is = absurd (cc)
 are_rivals options.Hex b is = absurd (cc)
 are_rivals options.As b is = absurd (cc)
 
+out_flag : (command : CommandName) → is_flag (out_form command) ≡ false
+out_flag commands.CreateKeyset = refl
+out_flag commands.AddKey = refl
+out_flag commands.RotateKeyset = refl
+out_flag commands.PromoteKey = refl
+out_flag commands.EnableKey = refl
+out_flag commands.DisableKey = refl
+out_flag commands.DestroyKey = refl
+out_flag commands.DeleteKey = refl
+out_flag commands.ListKeyset = refl
+out_flag commands.ConvertKeyset = refl
+out_flag commands.ListKeyTemplates = refl
+out_flag commands.Seal = refl
+out_flag commands.Open = refl
+out_flag commands.Dseal = refl
+out_flag commands.Dopen = refl
+out_flag commands.Reseal = refl
+out_flag commands.Dreseal = refl
+out_flag commands.Sseal = refl
+out_flag commands.Sopen = refl
+out_flag commands.Sreseal = refl
+out_flag commands.Tag = refl
+out_flag commands.Verify = refl
+out_flag commands.Derive = refl
+out_flag commands.Session = refl
+out_flag commands.Selftest = refl
+out_flag commands.WrapKeyset = refl
+out_flag commands.UnwrapKeyset = refl
+out_flag commands.Eseal = refl
+out_flag commands.Eopen = refl
+out_flag commands.Ereseal = refl
+out_flag commands.Srange = refl
+out_flag commands.KeyOf = refl
+
 length_flag : (command : CommandName) → is_flag (length_form command) ≡ false
 length_flag commands.CreateKeyset = refl
 length_flag commands.AddKey = refl
@@ -207,7 +276,7 @@ flag_form options.KeyTemplate command = refl
 flag_form options.KeyId command = refl
 flag_form options.In command = refl
 flag_form options.InFormat command = refl
-flag_form options.Out command = refl
+flag_form options.Out command = out_flag command
 flag_form options.OutFormat command = refl
 flag_form options.Keyset command = refl
 flag_form options.KeysetFormat command = refl

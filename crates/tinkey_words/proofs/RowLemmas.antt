@@ -22,10 +22,10 @@ use Rattle.tinkey_words.specs.declared.words.names.OptionName.{OptionName}
 use Rattle.tinkey_words.specs.declared.words.names.OptionName.TheVariants as options
 use Rattle.hex.specs.Hex.{is_hex_digit}
 use Rattle.tinkey_words.specs.Names.{row_of, all_commands, option_row, all_options}
-use Rattle.tinkey_words.specs.Rows.{command_of, option_of, same, datum_limit, is_line_count, most_lines, is_range_length, most_range, offset_in, format_of, sealed_form_of, is_hex, is_value, is_flag, aside, begins_aside, is_aside}
+use Rattle.tinkey_words.specs.Rows.{command_of, option_of, same, datum_limit, is_line_count, most_lines, is_range_length, most_range, offset_in, format_of, sealed_form_of, is_hex, is_value, is_flag, aside, begins_aside, is_aside, is_odd_hex, dash, is_dash}
 use Rattle.tinkey_words.specs.Words.{is_equals, own_value, is_stream, known_sealed, sealed_in}
 use Rattle.tinkey_words.proofs.NameLemmas.{is_found}
-use Rattle.tinkey_words.specs.Grammar.{IsAside, IsHex, IsLineCount, IsNumber, IsOffset, IsRangeLength, IsValue}
+use Rattle.tinkey_words.specs.Grammar.{IsAside, IsHex, IsOddHex, IsLineCount, IsNumber, IsOffset, IsRangeLength, IsValue}
 
 pub same_option : {A : Type 0} (o : Option A) → option_map (λ x. x) o ≡ o
 same_option None = refl
@@ -107,10 +107,16 @@ number_formed text is =
 number_is : (text : List ℕ) → IsNumber text → number_in text ≡ Some (digits_value 10 text)
 number_is text formed = number_taken text formed.some formed.short formed.digits (let within = formed.within in omega (arith, within))
 
-two_pass : (a b : Bool) → (a && b) ≡ true → (a ≡ true) × (b ≡ true)
+pub two_pass : (a b : Bool) → (a && b) ≡ true → (a ≡ true) × (b ≡ true)
 two_pass true true is = (refl, refl)
 two_pass true false is = absurd (cc)
 two_pass false b is = absurd (cc)
+
+three_pass : (a b c : Bool) → (a && b && c) ≡ true → (a ≡ true) × (b ≡ true) × (c ≡ true)
+three_pass true true true is = (refl, refl, refl)
+three_pass true true false is = absurd (cc)
+three_pass true false c is = absurd (cc)
+three_pass false b c is = absurd (cc)
 
 count_taken : (text : List ℕ) → IsLineCount text → is_line_count (number_in text) ≡ true
 count_taken text formed =
@@ -180,17 +186,46 @@ pub is_aside' : (path : List ℕ) → IsAside path → is_aside path ≡ true
 unfolding is_aside
 is_aside' path (rest, are) = ap begins_aside are ∙ (starts_is Decides-eqb (aside ++ rest) aside _ refl).1 rest refl
 
-new_file_taken : (value : List ℕ) → (value ≢ []) × (IsAside value → ⊥) → (nat_lt 0 (length value) && not (is_aside value)) ≡ true
-new_file_taken value formed = by (is_aside value) refl
-  where
-    by : (b : Bool) → is_aside value ≡ b → (nat_lt 0 (length value) && not b) ≡ true
-    by true is = absurd (formed.1 (aside_is value is))
-    by false other = rw (not_empty value formed.0) refl
+-- a dash
+pub dash_is : (text : List ℕ) → is_dash text ≡ true → text ≡ dash
+dash_is text is = same_text text dash is
 
-new_file_formed : (value : List ℕ) → (nat_lt 0 (length value) && not (is_aside value)) ≡ true → (value ≢ []) × (IsAside value → ⊥)
-new_file_formed value is =
+pub is_dash' : (text : List ℕ) → text ≡ dash → is_dash text ≡ true
+is_dash' text is = (bytes_eq-Decides text dash).1 is
+
+-- a test of what isn't so
+is_off : {P : Type 0} (b : Bool) → (b ≡ true → P) → (P → ⊥) → b ≡ false
+is_off true is none = absurd (none (is refl))
+is_off false is none = refl
+
+off_is : {P : Type 0} (b : Bool) → (P → b ≡ true) → not b ≡ true → P → ⊥
+off_is true is off there = let clash : false ≡ true = off in cc
+off_is false is off there = let clash : false ≡ true = is there in cc
+
+file_taken : (value : List ℕ) → (value ≢ []) × (value ≢ dash) → (nat_lt 0 (length value) && not (is_dash value)) ≡ true
+file_taken value formed = rw (not_empty value formed.0, is_off (is_dash value) (dash_is value) formed.1) refl
+
+file_formed : (value : List ℕ) → (nat_lt 0 (length value) && not (is_dash value)) ≡ true → (value ≢ []) × (value ≢ dash)
+file_formed value is =
+    let tests = two_pass (nat_lt 0 (length value)) (not (is_dash value)) is in
+    (some_byte value tests.0, off_is (is_dash value) (is_dash' value) tests.1)
+
+output_taken : (value : List ℕ) → (value ≢ []) × (IsAside value → ⊥) → (nat_lt 0 (length value) && not (is_aside value)) ≡ true
+output_taken value formed = rw (not_empty value formed.0, is_off (is_aside value) (aside_is value) formed.1) refl
+
+output_formed : (value : List ℕ) → (nat_lt 0 (length value) && not (is_aside value)) ≡ true → (value ≢ []) × (IsAside value → ⊥)
+output_formed value is =
     let tests = two_pass (nat_lt 0 (length value)) (not (is_aside value)) is in
-    (some_byte value tests.0, λ named. let clash : false ≡ true = ap not (sym (is_aside' value named)) ∙ tests.1 in cc)
+    (some_byte value tests.0, off_is (is_aside value) (is_aside' value) tests.1)
+
+new_file_taken : (value : List ℕ) → (value ≢ []) × (value ≢ dash) × (IsAside value → ⊥) → (nat_lt 0 (length value) && not (is_dash value) && not (is_aside value)) ≡ true
+new_file_taken value formed =
+    rw (not_empty value formed.0, is_off (is_dash value) (dash_is value) formed.1, is_off (is_aside value) (aside_is value) formed.2) refl
+
+new_file_formed : (value : List ℕ) → (nat_lt 0 (length value) && not (is_dash value) && not (is_aside value)) ≡ true → (value ≢ []) × (value ≢ dash) × (IsAside value → ⊥)
+new_file_formed value is =
+    let tests = three_pass (nat_lt 0 (length value)) (not (is_dash value)) (not (is_aside value)) is in
+    (some_byte value tests.0, off_is (is_dash value) (is_dash' value) tests.1, off_is (is_aside value) (is_aside' value) tests.2)
 
 -- one of two names
 one_of_both : {X : Type 0} (x y : X) (a b : Bool) → (a ≡ true) ⊎ (b ≡ true) → is_some (if a then Some x else (if b then Some y else None)) ≡ true
@@ -270,12 +305,6 @@ pub named_stream : (value : List ℕ) → str_to_ascii_lowercase value ≡ codes
 unfolding sealed_form_of
 named_stream value low = rw low refl
 
-three_pass : (a b c : Bool) → (a && b && c) ≡ true → (a ≡ true) × (b ≡ true) × (c ≡ true)
-three_pass true true true is = (refl, refl, refl)
-three_pass true true false is = absurd (cc)
-three_pass true false c is = absurd (cc)
-three_pass false b c is = absurd (cc)
-
 hex_taken : (value : List ℕ) → IsHex value → is_hex value ≡ true
 hex_taken value formed =
     let a : nat_le (length value) (2 * datum_limit) ≡ true = grind (arith, nat_tests, formed.short) in
@@ -291,6 +320,21 @@ hex_formed value is =
       short = (let e = tests.0 in grind (arith, nat_tests));
     }
 
+pub odd_is : (value : List ℕ) → is_odd_hex value ≡ true → IsOddHex value
+odd_is value is =
+    let tests = three_pass (nat_le (length value) (2 * datum_limit)) (length value % 2 == 1) (list_all is_hex_digit value) is in
+    record {
+      digits = tests.2;
+      odd = (let e = tests.1 in grind (arith, nat_tests));
+      short = (let e = tests.0 in grind (arith, nat_tests));
+    }
+
+pub is_odd' : (value : List ℕ) → IsOddHex value → is_odd_hex value ≡ true
+is_odd' value formed =
+    let a : nat_le (length value) (2 * datum_limit) ≡ true = grind (arith, nat_tests, formed.short) in
+    let b : (length value % 2 == 1) ≡ true = grind (arith, nat_tests, formed.odd) in
+    rw (a, b, formed.digits) refl
+
 datum_taken : (value : List ℕ) → length value ≤ datum_limit → nat_le (length value) datum_limit ≡ true
 datum_taken value within = grind (arith, nat_tests)
 
@@ -301,8 +345,10 @@ datum_formed value is = grind (arith, nat_tests)
 pub value_taken : (form : Form) (value : List ℕ) → is_flag form ≡ false → IsValue form value → is_value form value ≡ true
 unfolding is_value
 value_taken forms.Text value other formed = refl
-value_taken forms.FileName value other formed = not_empty value formed
+value_taken forms.FileName value other formed = file_taken value formed
+value_taken forms.Input value other formed = not_empty value formed
 value_taken forms.NewFile value other formed = new_file_taken value formed
+value_taken forms.Output value other formed = output_taken value formed
 value_taken forms.Number value other formed = rw (number_is value formed) refl
 value_taken forms.LineCount value other formed = count_taken value formed
 value_taken forms.RangeLength value other formed = range_taken value formed
@@ -316,8 +362,10 @@ value_taken forms.Flag value other formed = absurd (cc)
 pub value_formed : (form : Form) (value : List ℕ) → is_value form value ≡ true → IsValue form value
 unfolding is_value
 value_formed forms.Text value is = tt
-value_formed forms.FileName value is = some_byte value is
+value_formed forms.FileName value is = file_formed value is
+value_formed forms.Input value is = some_byte value is
 value_formed forms.NewFile value is = new_file_formed value is
+value_formed forms.Output value is = output_formed value is
 value_formed forms.Number value is = number_formed value is
 value_formed forms.LineCount value is = count_formed value is
 value_formed forms.RangeLength value is = range_formed value is
@@ -332,7 +380,9 @@ pub value_other : (form : Form) (value : List ℕ) → is_value form value ≡ t
 unfolding is_value
 value_other forms.Text value is = refl
 value_other forms.FileName value is = refl
+value_other forms.Input value is = refl
 value_other forms.NewFile value is = refl
+value_other forms.Output value is = refl
 value_other forms.Number value is = refl
 value_other forms.LineCount value is = refl
 value_other forms.RangeLength value is = refl
@@ -347,7 +397,9 @@ value_other forms.Flag value is = absurd (cc)
 pub flag_is : (form : Form) → is_flag form ≡ true → form ≡ forms.Flag
 flag_is forms.Text is = absurd (cc)
 flag_is forms.FileName is = absurd (cc)
+flag_is forms.Input is = absurd (cc)
 flag_is forms.NewFile is = absurd (cc)
+flag_is forms.Output is = absurd (cc)
 flag_is forms.Number is = absurd (cc)
 flag_is forms.LineCount is = absurd (cc)
 flag_is forms.RangeLength is = absurd (cc)

@@ -1,6 +1,6 @@
 -- Words, one after another.
-use Rattle.std.proofs.Common.{◌≡◌, ◌≢◌, ℕ, suc, ◌+◌, ◌<◌, List, ◌∷◌, length, get_or, set, drop, map, refl, sym, ◌∙◌, ap, arith, add-one, drop-cons}
-use Rattle.std.specs.Prelude.{Bool, Option, Some, None, MatchOption, option_map, Result, Ok, Err, nat_lt, true, false, if◌then◌else◌}
+use Rattle.std.proofs.Common.{◌≡◌, ◌≢◌, ℕ, suc, ◌+◌, ◌<◌, List, ◌∷◌, length, get_or, set, drop, map, refl, sym, ◌∙◌, ap, subst, arith, add-one, drop-cons}
+use Rattle.std.specs.Prelude.{Bool, Option, Some, None, MatchOption, option_map, Result, Ok, Err, nat_lt, true, false, ◌&&◌, if◌then◌else◌}
 use Rattle.std.specs.List.{position_or_len, before_first, after_first}
 use Rattle.std.specs.Borrow.{Bor}
 use Rattle.std.proofs.Math.Path.{fun_ext}
@@ -12,7 +12,8 @@ use Rattle.tinkey_words.specs.declared.words.names.CommandName.{CommandName}
 use Rattle.tinkey_words.specs.declared.words.names.OptionName.{OptionName}
 use Rattle.tinkey_words.specs.Names.{option_row, form_for}
 use Rattle.tinkey_words.specs.Rows.{same, is_value}
-use Rattle.tinkey_words.specs.Words.{Values, Options, is_equals, own_value, with_value, next_word, options_of, seen_values}
+use Rattle.tinkey_words.proofs.RowLemmas.{same_is}
+use Rattle.tinkey_words.specs.Words.{Values, Options, is_equals, own_value, with_value, next_word, options_of, seen_values, holds_dash, without_dash}
 
 -- a word, and those behind it
 pub rest_of_words : {A : Type 0} (words : List A) (i : ℕ) (word : A) → i < length words → word ≡ get_or words i word → drop i words ≡ word ∷ drop (i + 1) words
@@ -53,3 +54,27 @@ pub value_put : (command : CommandName) (name : OptionName) (values : List (Opti
 value_put command name values waiting value place at is within formed =
     let same_values = fun_ext (λ other. value_set (same name other) name other values value refl (omega (arith, is))) in
     rw (formed, is) (ap with_values same_values)
+
+-- an option whose value is a dash is left out at its place
+left_at : (b : Bool) (name other : OptionName) (values : List (Option (Bor (List ℕ)))) → same name other ≡ b → (option_row name).place < length values → holds_dash (seen_values values name) ≡ true → seen_values (set values (option_row name).place None) other ≡ (if b && holds_dash (seen_values values other) then None else seen_values values other)
+left_at true name other values test within there =
+    let at : (option_row other).place ≡ (option_row name).place = grind (arith, nat_tests) in
+    let here : holds_dash (seen_values values other) ≡ true = subst (λ (n : OptionName). holds_dash (seen_values values n) ≡ true) (same_is name other test) there in
+    rw (get_or-set_at values (option_row name).place (option_row other).place None None at within, here) refl
+left_at false name other values test within there =
+    let at : (option_row other).place ≢ (option_row name).place = grind (arith, nat_tests) in
+    rw (get_or-set_other values (option_row name).place (option_row other).place None None at) refl
+
+pub dash_left : (name : OptionName) (values : List (Option (Bor (List ℕ)))) (at : ℕ) → at ≡ (option_row name).place → at < length values → holds_dash (seen_values values name) ≡ true → seen_values (set values at None) ≡ without_dash name (seen_values values)
+dash_left name values at is within there =
+    rw is (fun_ext (λ other. left_at (same name other) name other values refl (omega (arith, is, within)) there))
+
+-- and one with another value, or none, stays
+kept_at : (b : Bool) (name other : OptionName) (values : Values) → same name other ≡ b → holds_dash (values name) ≡ false → values other ≡ (if b && holds_dash (values other) then None else values other)
+kept_at true name other values test stays =
+    let here : holds_dash (values other) ≡ false = subst (λ (n : OptionName). holds_dash (values n) ≡ false) (same_is name other test) stays in
+    rw here refl
+kept_at false name other values test stays = refl
+
+pub dash_kept : (name : OptionName) (values : Values) → holds_dash (values name) ≡ false → values ≡ without_dash name values
+dash_kept name values stays = fun_ext (λ other. kept_at (same name other) name other values refl stays)

@@ -3,6 +3,7 @@
 --   PlacesAreDecided   a word at fault, and why it is so, depends on the words up to it alone
 --   WordsAreSpelled    words are accepted exactly where they spell a command's word and then
 --                      options that fit its row, in any order, or ask for help or for the version
+--   DashesAreLeftOut   `--in -` and `--out -` ask what leaving them out asks
 --   MisusesAreTrue     what is told of a word at fault is so
 --
 -- The commands and options are those of Names.
@@ -23,8 +24,8 @@ use Rattle.tinkey_words.specs.declared.words.names.OptionName.{OptionName}
 use Rattle.tinkey_words.specs.declared.words.names.OptionName.TheVariants as options
 use Rattle.hex.specs.Hex.{is_hex_digit}
 use Rattle.tinkey_words.specs.Names.{row_of, option_row, form_for, rival, needs, for_streams}
-use Rattle.tinkey_words.specs.Rows.{same, aside, datum_limit, most_lines, most_range, is_flag, is_new_file}
-use Rattle.tinkey_words.specs.Words.{Asked, Values, asked_with, help, version, misuse_at, words_of}
+use Rattle.tinkey_words.specs.Rows.{same, aside, datum_limit, most_lines, most_range, is_flag, is_new_file, dash, is_hex_form, is_named_file}
+use Rattle.tinkey_words.specs.Words.{Asked, Values, asked_by, help, version, misuse_at, words_of}
 
 -- where the word of a place is at fault, it is so, and for the same reason, whatever words stand behind it
 abbrev pub PlacesAreDecided : Type 0
@@ -63,6 +64,12 @@ pub record IsHex (text : List ℕ) : Type 0 where
   pub even : length text % 2 ≡ 0
   pub short : length text ≤ 2 * datum_limit
 
+-- the same but for their number, which is odd
+pub record IsOddHex (text : List ℕ) : Type 0 where
+  pub digits : list_all is_hex_digit text ≡ true
+  pub odd : length text % 2 ≡ 1
+  pub short : length text ≤ 2 * datum_limit
+
 -- the path is a name aside: its last part begins as those do
 abbrev pub IsAside : List ℕ → Type 0
 IsAside path = (rest : List ℕ) × (path_file_name path ≡ Some (aside ++ rest))
@@ -70,8 +77,10 @@ IsAside path = (rest : List ℕ) × (path_file_name path ≡ Some (aside ++ rest
 -- the value is of the form; that of a flag, which no word holds, is empty
 abbrev pub IsValue : Form → List ℕ → Type 0
 IsValue forms.Text value = Unit {0}
-IsValue forms.FileName value = value ≢ []
-IsValue forms.NewFile value = (value ≢ []) × (IsAside value → ⊥)
+IsValue forms.FileName value = (value ≢ []) × (value ≢ dash)
+IsValue forms.Input value = value ≢ []
+IsValue forms.NewFile value = (value ≢ []) × (value ≢ dash) × (IsAside value → ⊥)
+IsValue forms.Output value = (value ≢ []) × (IsAside value → ⊥)
 IsValue forms.Number value = IsNumber value
 IsValue forms.LineCount value = IsLineCount value
 IsValue forms.RangeLength value = IsRangeLength value
@@ -155,7 +164,7 @@ pub record Spells (words : List (List ℕ)) (asked : Asked) : Type 0 where
   pub given : List Spelling
   pub are : words ≡ (row_of command).word ∷ flat_map spelled given
   pub fits : Fits command given
-  pub asks : asked ≡ asked_with command (values_of given)
+  pub asks : asked ≡ asked_by command (values_of given)
 
 -- Help.
 
@@ -199,6 +208,24 @@ WordsAreSpelled =
     (words : List (List ℕ)) (asked : Asked) →
     (words_of words ≡ Ok asked) ↔ (Spells words asked ⊎ Helps words asked)
 
+-- Dashes.
+
+-- the option is --in or --out, and its value a dash
+pub record IsDash (s : Spelling) : Type 0 where
+  pub file : (s.name ≡ options.In) ⊎ (s.name ≡ options.Out)
+  pub stream : s.value ≡ dash
+
+-- a command's word, and these options
+abbrev pub words_with : CommandName → List Spelling → List (List ℕ)
+words_with command given = (row_of command).word ∷ flat_map spelled given
+
+-- where options fit a command, and one of them is --in or --out with a dash, the words ask what they ask without it
+abbrev pub DashesAreLeftOut : Type 0
+DashesAreLeftOut =
+    (command : CommandName) (before : List Spelling) (s : Spelling) (behind : List Spelling) →
+    IsDash s → Fits command (before ++ (s ∷ behind)) →
+    words_of (words_with command (before ++ (s ∷ behind))) ≡ words_of (words_with command (before ++ behind))
+
 -- Words at fault.
 
 -- the word is this option's, with or without a value of its own
@@ -211,11 +238,18 @@ IsWordOf name word =
 abbrev pub IsOptionOf : CommandName → OptionName → Type 0
 IsOptionOf command name = IsOneOf name ((row_of command).required ++ (row_of command).optional)
 
--- why a value that isn't of the form is told: it is a name aside for a new file, or it isn't such a one
+-- why a value that isn't of the form is told: it is a name aside for a new file, a dash where that stands for no file,
+-- or an odd number of digits; or it is none of these
 pub data IsTold (command : CommandName) (name : OptionName) (value : List ℕ) (why : Misfit) : Type 0 where
   aside_told : is_new_file (form_for name command) ≡ true → IsAside value →
       why ≡ misfits.Aside command name → IsTold command name value why
+  dash_told : is_named_file (form_for name command) ≡ true → value ≡ dash →
+      why ≡ misfits.Dash command name → IsTold command name value why
+  odd_told : is_hex_form (form_for name command) ≡ true → IsOddHex value →
+      why ≡ misfits.OddHex command name → IsTold command name value why
   bad_told : (is_new_file (form_for name command) ≡ true → IsAside value → ⊥) →
+      (is_named_file (form_for name command) ≡ true → value ≡ dash → ⊥) →
+      (is_hex_form (form_for name command) ≡ true → IsOddHex value → ⊥) →
       why ≡ misfits.BadValue command name → IsTold command name value why
 
 -- behind a command and these options, what is at fault with the rest, whose first word has this place

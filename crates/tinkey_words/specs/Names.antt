@@ -167,9 +167,9 @@ option place word form = record { place = place; word = word; form = form }
 abbrev pub option_row : OptionName → OptionRow
 option_row options.KeyTemplate = option 0 (codes "--key-template") forms.Text
 option_row options.KeyId = option 1 (codes "--key-id") forms.Number
-option_row options.In = option 2 (codes "--in") forms.FileName
+option_row options.In = option 2 (codes "--in") forms.Input
 option_row options.InFormat = option 3 (codes "--in-format") forms.Format
-option_row options.Out = option 4 (codes "--out") forms.NewFile
+option_row options.Out = option 4 (codes "--out") forms.Output
 option_row options.OutFormat = option 5 (codes "--out-format") forms.Format
 option_row options.Keyset = option 6 (codes "--keyset") forms.FileName
 option_row options.KeysetFormat = option 7 (codes "--keyset-format") forms.Format
@@ -209,6 +209,11 @@ abbrev pub needs : List (OptionName × OptionName)
 needs =
     (options.MasterFormat, options.Master) ∷ (options.NewMasterFormat, options.NewMaster) ∷ []
 
+-- the form of the value of --out
+abbrev pub out_form : CommandName → Form
+out_form commands.Session = forms.NewFile
+out_form _ = forms.Output
+
 -- the form of the value of --length
 abbrev pub length_form : CommandName → Form
 length_form commands.Srange = forms.RangeLength
@@ -216,5 +221,6 @@ length_form _ = forms.Number
 
 -- the form of the option's value, for the command
 abbrev pub form_for : OptionName → CommandName → Form
+form_for options.Out command = out_form command
 form_for options.Length command = length_form command
 form_for name command = (option_row name).form

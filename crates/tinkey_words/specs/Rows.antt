@@ -48,7 +48,27 @@ is_flag _ = false
 -- the value names a file that is made
 abbrev pub is_new_file : Form → Bool
 is_new_file forms.NewFile = true
+is_new_file forms.Output = true
 is_new_file _ = false
+
+-- the value names a file, and a dash would stand for no file
+abbrev pub is_named_file : Form → Bool
+is_named_file forms.FileName = true
+is_named_file forms.NewFile = true
+is_named_file _ = false
+
+-- the value is hexadecimal
+abbrev pub is_hex_form : Form → Bool
+is_hex_form forms.Hex = true
+is_hex_form _ = false
+
+-- what stands for standard input, or for standard output; a file of this name is `./-`
+abbrev pub dash : List ℕ
+dash = codes "-"
+
+-- the text is a dash
+abbrev pub is_dash : List ℕ → Bool
+is_dash text = bytes_eq text dash
 
 -- what a name aside begins with, under which a new file is filled
 abbrev pub aside : List ℕ
@@ -119,14 +139,21 @@ abbrev pub is_hex : List ℕ → Bool
 is_hex text =
     nat_le (length text) (2 * datum_limit) && (length text % 2 == 0) && list_all is_hex_digit text
 
--- the text is a value of this form: any text, the name of a file, which isn't empty, that of a new one,
--- which isn't a name aside either, a number, a count
--- of lines, the length of a range, an offset in a file, the name of a keyset's form or of what key-of is given, or a
+-- such digits, one too many or too few, and not too many otherwise
+abbrev pub is_odd_hex : List ℕ → Bool
+is_odd_hex text =
+    nat_le (length text) (2 * datum_limit) && (length text % 2 == 1) && list_all is_hex_digit text
+
+-- the text is a value of this form: any text; the name of a file, which isn't empty, and isn't a dash but where the
+-- file is read or made in place of standard input or output; that of a new one, which isn't a name aside either; a
+-- number, a count of lines, the length of a range, an offset in a file, the name of a keyset's form or of what key-of is given, or a
 -- datum as it stands or in hexadecimal; a flag has none
 unfoldable pub is_value : Form → List ℕ → Bool
 is_value forms.Text text = true
-is_value forms.FileName text = nat_lt 0 (length text)
-is_value forms.NewFile text = nat_lt 0 (length text) && not (is_aside text)
+is_value forms.FileName text = nat_lt 0 (length text) && not (is_dash text)
+is_value forms.Input text = nat_lt 0 (length text)
+is_value forms.NewFile text = nat_lt 0 (length text) && not (is_dash text) && not (is_aside text)
+is_value forms.Output text = nat_lt 0 (length text) && not (is_aside text)
 is_value forms.Number text = is_some (number_in text)
 is_value forms.LineCount text = is_line_count (number_in text)
 is_value forms.RangeLength text = is_range_length (number_in text)

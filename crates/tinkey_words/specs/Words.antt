@@ -4,9 +4,10 @@
 --
 -- The answer is a command, or the first word at fault, by its place and by why it is so: an unknown
 -- command or option, one that the command doesn't have, a repeat, the second of two that exclude each
--- other, or one that holds a value that isn't of its form, as a name aside for a new file; of help, a topic that isn't
--- known, or a word too many. Where a value, a required option, or one that another needs is missing at the end, or
--- an option is there that means something for a stream alone and no word says that there is one, the place is the
+-- other, or one that holds a value that isn't of its form, as a name aside for a new file, a dash where it stands for
+-- no file, or an odd number of hexadecimal digits; of help, a topic that isn't known, or a word too many. Where a value,
+-- a required option, or one that another needs is missing at the end, or an option is there that means something for
+-- a stream alone and no word says that there is one, the place is the
 -- number of words; they are looked for in this order. Places count from 0.
 use Rattle.std.specs.Prelude.{◌≡◌, ℕ, ◌+◌, ◌*◌, List, [], ◌∷◌, length, Bool, false, ◌&&◌, ◌||◌, Option, Some, None, is_some, option_map, not, Result, Ok, Err, ◌==◌, nat_lt, nat_le, if◌then◌else◌, slice_index_or, codes, true}
 use Rattle.std.specs.List.{find, position_or_len, before_first, after_first}
@@ -52,7 +53,7 @@ use Rattle.tinkey_words.specs.declared.words.names.OptionName.{OptionName}
 use Rattle.tinkey_words.specs.declared.words.names.OptionName.TheVariants as options
 use Rattle.tink_base.specs.Decimal.{number_in}
 use Rattle.tinkey_words.specs.Names.{row_of, option_row, form_for, rival, needs, for_streams}
-use Rattle.tinkey_words.specs.Rows.{command_of, option_of, same, takes, datum_limit, most_range, format_of, sealed_form_of, is_aside, is_new_file, is_value, offset_in, is_flag}
+use Rattle.tinkey_words.specs.Rows.{command_of, option_of, same, takes, datum_limit, most_range, format_of, sealed_form_of, is_aside, is_new_file, is_value, offset_in, is_flag, is_dash, is_hex_form, is_named_file, is_odd_hex}
 
 -- What is asked.
 
@@ -369,6 +370,25 @@ asked_with commands.KeyOf values =
     key_of (lock values) (text (values options.Keyset)) (form_in (values options.KeysetFormat))
     (sealed_in (values options.As)) (ad values)
 
+-- the value is there, and is a dash
+abbrev pub holds_dash : Option (List ℕ) → Bool
+holds_dash None = false
+holds_dash (Some value) = is_dash value
+
+-- the values, with none for this option where its own is a dash
+abbrev pub without_dash : OptionName → Values → Values
+without_dash name values other =
+    if same name other && holds_dash (values other) then None else values other
+
+-- the values as they are meant: `--in -` is standard input, and `--out -` standard output, as they are where the option
+-- isn't given
+abbrev pub meant : Values → Values
+meant values = without_dash options.Out (without_dash options.In values)
+
+-- what a command asks where these values were given
+abbrev pub asked_by : CommandName → Values → Asked
+asked_by command values = asked_with command (meant values)
+
 -- The words, one after another.
 
 infixl 10 ◌>>=◌
@@ -434,11 +454,14 @@ put name value given = record {
   waiting = None;
 }
 
--- why a value that isn't of this form is at fault: it is a name aside for a new file, or any other
+-- why a value that isn't of this form is at fault: it is a name aside for a new file, a dash where only a file's own
+-- name is one, an odd number of hexadecimal digits, or any other
 abbrev pub misvalued : Form → CommandName → OptionName → List ℕ → Misfit
 misvalued form command name value =
     if is_new_file form && is_aside value then misfits.Aside command name
-    else misfits.BadValue command name
+    else (if is_named_file form && is_dash value then misfits.Dash command name
+    else (if is_hex_form form && is_odd_hex value then misfits.OddHex command name
+    else misfits.BadValue command name))
 
 -- the option with its value, which stands in the word of this place and is of its form
 abbrev pub with_value : CommandName → OptionName → List ℕ → ℕ → Options → Result Options Misuse
@@ -519,7 +542,7 @@ idle_of command given =
 
 -- the command with its options, where none is for a stream that isn't there; the number of words is behind them
 abbrev pub idle_none : Option OptionName → CommandName → ℕ → Options → Result Asked Misuse
-idle_none None command count given = Ok (asked_with command given.values)
+idle_none None command count given = Ok (asked_by command given.values)
 idle_none (Some name) command count given = Err (misuse_at count (misfits.NoStream command name))
 
 -- the same, where each option that needs another has it

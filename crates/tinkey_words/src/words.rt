@@ -1,10 +1,10 @@
 //! The command's words, read by the grammar of `specs/Words.antt`. No memory is taken.
 
-ghost use Rattle.std.specs.Prelude.{◌≡◌, ◌<◌, ◌≤◌, ◌^◌, Some, length, map, option_map, slice_set, string_bytes};
+ghost use Rattle.std.specs.Prelude.{◌≡◌, ◌<◌, ◌≤◌, ◌^◌, Some, length, map, option_map, slice_set, string_bytes, None};
 ghost use Rattle.tinkey_words.specs.Names.{for_streams, needs, option_row};
 ghost use Rattle.tinkey_words.specs.Rows.{option_of, is_flag};
 ghost use Rattle.tinkey_words.specs.declared.words.names.OptionName.TheVariants.{As, Lines};
-ghost use Rattle.tinkey_words.specs.Words.{words_of, by_itself, command_words, help_words, topic_words, with_options, topic_of, given_in, lines_in, next_word, option_word, own_value, misvalued, is_barred, bar, unbarred, new_option, with_value, no_options, lacking, complete, unmet, unmet_none, idle, idle_of, idle_none, is_stream, first_given, asked_with, text, number, id, template, ad, edited, enveloped, worked, seen_command, seen_datum, seen_edit, seen_envelope, seen_name, seen_options, seen_range, seen_work, offset, range, range_length, Reads, form_in, sealed_in, taken_from, put_to, seen_place, alone, output_in, seen_output, convert_keyset, lock, lock_of, new_lock, relocked, seen_lock, seen_new_lock};
+ghost use Rattle.tinkey_words.specs.Words.{words_of, by_itself, command_words, help_words, topic_words, with_options, topic_of, given_in, lines_in, next_word, option_word, own_value, misvalued, is_barred, bar, unbarred, new_option, with_value, no_options, lacking, complete, unmet, unmet_none, idle, idle_of, idle_none, is_stream, first_given, asked_with, text, number, id, template, ad, edited, enveloped, worked, seen_command, seen_datum, seen_edit, seen_envelope, seen_name, seen_options, seen_range, seen_work, offset, range, range_length, Reads, form_in, sealed_in, taken_from, put_to, seen_place, alone, output_in, seen_output, convert_keyset, lock, lock_of, new_lock, relocked, seen_lock, seen_new_lock, holds_dash, without_dash, meant, asked_by};
 
 mod help;
 mod lock;
@@ -23,8 +23,8 @@ pub use names::{CommandName, OptionName};
 pub use range::Range;
 pub use rows::{DATUM_LIMIT, Form, Format, SealedForm};
 use rows::{
-    MOST_RANGE, format_named, is_aside, is_flag, is_value, offset_in, option_named,
-    sealed_form_named, takes,
+    MOST_RANGE, format_named, is_aside, is_dash, is_flag, is_odd_hex, is_value, offset_in,
+    option_named, sealed_form_named, takes,
 };
 use tink_base::number_in;
 use tinkey_cmds::Command as Edit;
@@ -381,7 +381,7 @@ fn idle_none<'a>(
         (idle_none (idle_of command (seen_options given.now)) command count (seen_options given.now)) }
 {
     match idle(command.for_streams(), given) {
-        None => Ok(command_with(command, given)),
+        None => Ok(command_with(command, &meant(given))),
         Some(name) => Err(misuse_at(count, Misfit::NoStream(command, name))),
     }
 }
@@ -426,6 +426,35 @@ fn lacking(names: &[OptionName], given: &Options<'_>) -> Option<OptionName>
         .iter()
         .copied()
         .find(|name| given.value(*name).is_none())
+}
+
+/// The options as they are meant: `-` names no file for `--in` and for `--out`.
+fn meant<'a>(given: &Options<'a>) -> Options<'a>
+    ensures { (seen_options result).values ≡ meant (seen_options given.now).values }
+{
+    let mut meant = *given;
+    leave_dash_out(OptionName::In, &mut meant);
+    leave_dash_out(OptionName::Out, &mut meant);
+    meant
+}
+
+/// Leaves an option out whose value is `-`.
+fn leave_dash_out(name: OptionName, given: &mut Options<'_>)
+    ensures { (seen_options given.new).values ≡ without_dash name (seen_options given.old).values }
+{
+    if holds_dash(given.value(name)) {
+        erase(&mut given.values, name.place());
+    }
+}
+
+/// Whether a value is there, and is `-`.
+fn holds_dash(value: Option<&str>) -> bool
+    ensures { result ≡ holds_dash (seen_name value.entry) }
+{
+    match value {
+        Some(text) => is_dash(text),
+        None => false,
+    }
 }
 
 /// What the command asks with these options.
@@ -921,7 +950,9 @@ fn misvalued(form: Form, command: CommandName, name: OptionName, value: &str) ->
     ensures { result ≡ misvalued form command name value.now }
 {
     match form {
-        Form::NewFile if is_aside(value) => Misfit::Aside(command, name),
+        Form::NewFile | Form::Output if is_aside(value) => Misfit::Aside(command, name),
+        Form::NewFile | Form::FileName if is_dash(value) => Misfit::Dash(command, name),
+        Form::Hex if is_odd_hex(value) => Misfit::OddHex(command, name),
         _ => Misfit::BadValue(command, name),
     }
 }
@@ -933,4 +964,13 @@ fn write<'a>(values: &mut [Option<&'a str>; OPTION_COUNT], place: usize, value: 
     ensures written { values.new ≡ slice_set values.old place (Some value.entry) }
 {
     values[place] = Some(value);
+}
+
+/// Keeps no value at this place.
+fn erase<'a>(values: &mut [Option<&'a str>; OPTION_COUNT], place: usize)
+    requires within { place < OPTION_COUNT }
+    ensures size { length values.old ≡ OPTION_COUNT }
+    ensures erased { values.new ≡ slice_set values.old place None }
+{
+    values[place] = None;
 }

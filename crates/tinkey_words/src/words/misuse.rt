@@ -29,10 +29,14 @@ pub enum Misfit {
     Twice(CommandName, OptionName),
     /// The first option excludes the second one, which was given before.
     Beside(CommandName, OptionName, OptionName),
-    /// The value isn't of the option's form.
+    /// The value isn't of the option's form, and none of the next three says why.
     BadValue(CommandName, OptionName),
     /// The value is a name aside, and the option's a new file.
     Aside(CommandName, OptionName),
+    /// The value is `-`, and the option's the own name of a file.
+    Dash(CommandName, OptionName),
+    /// The value is an odd number of hexadecimal digits, and the option's has two for each byte.
+    OddHex(CommandName, OptionName),
     /// The words end where the option's value is to stand.
     NoValue(CommandName, OptionName),
     /// The words end without this option, the first one that the command requires and that isn't given.

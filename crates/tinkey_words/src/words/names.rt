@@ -1,7 +1,7 @@
 //! The names of commands and options, and their rows; made by tools/words of words.table.
 
 ghost use Rattle.std.specs.Prelude.{◌≡◌, ◌<◌};
-ghost use Rattle.tinkey_words.specs.Names.{for_streams, form_for, length_form, option_row, rival, row, row_of, seen_row};
+ghost use Rattle.tinkey_words.specs.Names.{for_streams, form_for, length_form, option_row, out_form, rival, row, row_of, seen_row};
 
 use super::rows::Form;
 
@@ -372,9 +372,9 @@ impl OptionName {
         match self {
             OptionName::KeyTemplate => option("--key-template", Form::Text),
             OptionName::KeyId => option("--key-id", Form::Number),
-            OptionName::In => option("--in", Form::FileName),
+            OptionName::In => option("--in", Form::Input),
             OptionName::InFormat => option("--in-format", Form::Format),
-            OptionName::Out => option("--out", Form::NewFile),
+            OptionName::Out => option("--out", Form::Output),
             OptionName::OutFormat => option("--out-format", Form::Format),
             OptionName::Keyset => option("--keyset", Form::FileName),
             OptionName::KeysetFormat => option("--keyset-format", Form::Format),
@@ -401,6 +401,7 @@ impl OptionName {
         ensures { result ≡ form_for self command }
     {
         match self {
+            OptionName::Out => out_form(command),
             OptionName::Length => length_form(command),
             _ => self.row().form,
         }
@@ -423,6 +424,16 @@ impl OptionName {
             OptionName::AdHex => Some(OptionName::Ad),
             _ => None,
         }
+    }
+}
+
+/// The form of the value of `--out`.
+fn out_form(command: CommandName) -> Form
+    ensures { result ≡ out_form command }
+{
+    match command {
+        CommandName::Session => Form::NewFile,
+        _ => Form::Output,
     }
 }
 

@@ -3,7 +3,7 @@
 ghost use Rattle.std.specs.Prelude.{◌≡◌};
 ghost use Rattle.std.specs.List.{list_all};
 ghost use Rattle.hex.specs.Hex.{is_hex_digit};
-ghost use Rattle.tinkey_words.specs.Rows.{command_of, option_of, is_one_of, takes, format_of, sealed_form_of, is_hex, is_line_count, is_range_length, is_aside, is_value, offset_in, is_flag};
+ghost use Rattle.tinkey_words.specs.Rows.{command_of, option_of, is_one_of, takes, format_of, sealed_form_of, is_dash, is_hex, is_odd_hex, is_line_count, is_range_length, is_aside, is_value, offset_in, is_flag};
 
 use super::names::{COMMANDS, CommandName, OPTIONS, OptionName};
 use std::path::Path;
@@ -49,10 +49,14 @@ pub enum SealedForm {
 pub enum Form {
     /// Any text.
     Text,
-    /// The name of a file, which isn't empty.
+    /// The name of a file, which isn't empty, and isn't `-`.
     FileName,
-    /// The same, of a new file: it isn't a name aside, under which such a file is filled.
+    /// The same, or `-` for standard input.
+    Input,
+    /// The name of a new file: it isn't a name aside either, under which such a file is filled.
     NewFile,
+    /// The same, or `-` for standard output.
+    Output,
     /// 1 to 10 decimal digits, of a number up to 4,294,967,295.
     Number,
     /// The same, of a number from 1 to 100,000.
@@ -115,8 +119,10 @@ pub fn is_value(form: Form, text: &str) -> bool
 {
     match form {
         Form::Text => true,
-        Form::FileName => !text.is_empty(),
-        Form::NewFile => !text.is_empty() && !is_aside(text),
+        Form::FileName => !text.is_empty() && !is_dash(text),
+        Form::Input => !text.is_empty(),
+        Form::NewFile => !text.is_empty() && !is_dash(text) && !is_aside(text),
+        Form::Output => !text.is_empty() && !is_aside(text),
         Form::Number => number_in(text).is_some(),
         Form::LineCount => is_line_count(number_in(text)),
         Form::RangeLength => is_range_length(number_in(text)),
@@ -144,6 +150,13 @@ pub fn is_aside(path: &str) -> bool
         Some(last) => last.starts_with(ASIDE),
         None => false,
     }
+}
+
+/// Whether the text is `-`, which stands for standard input or output.
+pub fn is_dash(text: &str) -> bool
+    ensures { result ≡ is_dash text.now }
+{
+    text == "-"
 }
 
 /// Whether a number is there, and may be a count of lines.
@@ -184,6 +197,13 @@ fn is_hex(text: &str) -> bool
     ensures { result ≡ is_hex text.now }
 {
     text.len() <= 2 * DATUM_LIMIT && text.len().is_multiple_of(2) && has_hex_digits(text)
+}
+
+/// An odd number of hexadecimal digits, which isn't too great.
+pub fn is_odd_hex(text: &str) -> bool
+    ensures { result ≡ is_odd_hex text.now }
+{
+    text.len() <= 2 * DATUM_LIMIT && text.len() % 2 == 1 && has_hex_digits(text)
 }
 
 /// Hexadecimal digits of either case, and nothing else.

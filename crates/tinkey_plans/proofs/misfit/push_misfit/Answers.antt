@@ -1,7 +1,8 @@
-use Rattle.std.proofs.Common.{◌++◌, ◌∙◌, ap, ℕ, List}
+use Rattle.std.proofs.Common.{◌≡◌, ◌++◌, ◌∙◌, [], ap, ℕ, List}
 use Rattle.std.specs.Prelude.{codes}
+use Rattle.tinkey_words.specs.Names.{form_for, option_row}
 use Rattle.tinkey_words.specs.Rows.{aside}
-use Rattle.tinkey_plans.specs.Misfits.{misfit_text, told_of}
+use Rattle.tinkey_plans.specs.Misfits.{dash_text, misfit_text, told_of}
 use Rattle.tinkey_plans.proofs.misfit.push_misfit.Goals as goal
 
 pub returns-in-Aside-clause-text : goal.returns-in-Aside-clause-text
@@ -10,3 +11,19 @@ returns-in-Aside-clause-text c =
     rw c.in-Aside.is
     (c.push_told-in-Aside.ensures.text
     ∙ ap (λ (word : List ℕ). c.args.line.now ++ told_of word (codes " takes no name that begins as tinkey's own do, ") aside c.in-Aside.command) c.option_word-in-Aside.ensures.word)
+
+pub returns-in-Dash-clause-text : goal.returns-in-Dash-clause-text
+unfolding misfit_text
+returns-in-Dash-clause-text c =
+    let why : c.dash_text-why.result.now ≡ dash_text (form_for c.in-Dash.name c.in-Dash.command) = c.dash_text-why.ensures.text ∙ ap dash_text c.form_for.ensures in
+    rw c.in-Dash.is
+    (c.push_told-in-Dash.ensures.text
+    ∙ ap (λ (word : List ℕ). c.args.line.now ++ told_of word (codes " takes no -") c.dash_text-why.result.now c.in-Dash.command) c.option_word-in-Dash.ensures.word
+    ∙ ap (λ (text : List ℕ). c.args.line.now ++ told_of (option_row c.in-Dash.name).word (codes " takes no -") text c.in-Dash.command) why)
+
+pub returns-in-OddHex-clause-text : goal.returns-in-OddHex-clause-text
+unfolding misfit_text
+returns-in-OddHex-clause-text c =
+    rw c.in-OddHex.is
+    (c.push_told-in-OddHex.ensures.text
+    ∙ ap (λ (word : List ℕ). c.args.line.now ++ told_of word (codes " takes an even number of digits, two for each byte") [] c.in-OddHex.command) c.option_word-in-OddHex.ensures.word)
