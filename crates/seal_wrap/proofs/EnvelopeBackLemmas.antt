@@ -1,10 +1,10 @@
 -- What an envelope is made of, and that it opens.
-use Rattle.std.proofs.Common.{◌≡◌, ◌∙◌, refl, sym, ap, ℕ, ◌<◌, ◌^◌, ◌==◌, ◌||◌, ltb, ne_eqb, cond, Bool, true, false, List, [], ◌++◌, length, take, drop, Option, Some, None, Ok, Err, Result, arith}
+use Rattle.std.proofs.Common.{◌≡◌, ◌∙◌, refl, sym, ap, ℕ, ◌+◌, ◌<◌, ◌≤◌, ◌^◌, option_map, ◌==◌, ◌||◌, ltb, ne_eqb, cond, Bool, true, false, List, [], ◌++◌, length, take, drop, Option, Some, None, Ok, Err, Result, arith}
 use Rattle.std.specs.Prelude.{nat_lt}
 use Rattle.std.specs.Int.{from_be_bytes, to_be_bytes, w32}
 use Rattle.std.specs.Option.{option_and_then}
 use Rattle.std.proofs.lemmas.Bool.{ltb-false, or_from}
-use Rattle.std.proofs.lemmas.List.{drop_at, length-append, length-take-le, take_at}
+use Rattle.std.proofs.lemmas.List.{drop_at, length-append, length-drop, length-take-le, take-append-drop, take_at}
 use Rattle.std.proofs.lemmas.Nat.{from_be_bytes-to_be_bytes_4}
 use Rattle.std.proofs.lemmas.Option.{same_Some}
 use Rattle.key_msgs.specs.KeyTypes.{primitive_of_type}
@@ -19,14 +19,15 @@ use Rattle.managers.specs.Laws.{ReadingIsAdmitted, SealingsOpen}
 use Rattle.managers.specs.Schemes.{Scheme, key_under}
 use Rattle.managers.specs.Table.{Table}
 use Rattle.managers.specs.Uses.{iv_size, open_key, seal_of}
+use Rattle.wrapped_prims.proofs.OpenedSizes.{opened-short}
 use Rattle.wrapped_prims.proofs.PrefixLemmas.{five-prefix_of}
 use Rattle.wrapped_prims.proofs.SealLemmas.{enough}
 use Rattle.wrapped_prims.specs.Answers.{Sealed, open_answer, seal_answer, seal_behind, seal_under}
 use Rattle.wrapped_prims.specs.Candidates.{prefix_bytes, prefix_of}
 use Rattle.wrapped_prims.specs.Fitness.{key_of_record}
 use Rattle.wrapped_prims.specs.Laws.{SameKeyOpens}
-use Rattle.seal_wrap.specs.Enveloped.{Enveloped, behind_data_key, data_key_of, envelope, envelope_of, open_behind, open_envelope_of, open_payload, under_data_key}
-use Rattle.seal_wrap.specs.EnvelopeLaws.{EnvelopeBack, EnvelopesFit}
+use Rattle.seal_wrap.specs.Enveloped.{Enveloped, Parts, behind_data_key, behind_length, data_key_of, envelope, envelope_of, in_envelope, open_envelope_of, open_payload, open_under, parts_behind, parts_in, reseal_envelope_of, seal_parts, under_data_key, valid_parts, with_key, with_payload}
+use Rattle.seal_wrap.specs.EnvelopeLaws.{EnvelopeBack, EnvelopeResealed, EnvelopesFit, IsAeadScheme, IsDataKeyRow, ResealedFit}
 use Rattle.seal_wrap.proofs.DataKeyLemmas.{data_key-long}
 use Rattle.seal_wrap.proofs.SealedSizes.{IsSealed, length-seal_of, sealed_behind, sealing-long, then_some}
 use Rattle.seal_wrap.proofs.WrapLemmas.{map_some}
@@ -99,31 +100,35 @@ is_envelope keys table scheme row plain ad random bytes left e = long (ltb (leng
 
 -- ---- it opens
 
-opens_behind : (keys : Keys) (table : Table) (scheme : Scheme) (sealed payload ad value plain : List ℕ) (key : KeyKind) → 0 < length sealed → open_answer keys table sealed [] ≡ Some value
-    → key_under scheme value ≡ Ok key → open_key key payload ad ≡ Some plain → open_behind keys table scheme (length sealed) (sealed ++ payload) ad ≡ Some plain
-opens_behind keys table scheme sealed payload ad value plain key some opened valid opens =
+-- behind the length of a sealed data key that opens, what comes of its message and of the payload
+found_behind : {A : Type 0} (keys : Keys) (table : Table) (next : List ℕ → List ℕ → Option A) (sealed payload value : List ℕ) → 0 < length sealed → open_answer keys table sealed [] ≡ Some value
+    → behind_length keys table next (length sealed) (sealed ++ payload) ≡ next value payload
+found_behind {A} keys table next sealed payload value some opened =
     let n = length sealed in
-    let by : List ℕ → List ℕ → Bool → Option (List ℕ)
-    = λ front behind none. cond none None (option_and_then (λ (v : List ℕ). open_payload behind ad (key_under scheme v)) (open_answer keys table front [])) in
+    let by : List ℕ → List ℕ → Bool → Option A
+    = λ front behind none. cond none None (option_and_then (λ (v : List ℕ). next v behind) (open_answer keys table front [])) in
     let other : n ≡ 0 → ⊥ = λ e. absurd (omega (arith, e, some)) in
     let within : ((n == 0) || nat_lt (length (sealed ++ payload)) n) ≡ false = or_from (n == 0) _ (ne_eqb n 0 other) (enough n sealed payload refl) in
     ap (by (take n (sealed ++ payload)) (drop n (sealed ++ payload))) within
     ∙ ap (λ front. by front (drop n (sealed ++ payload)) false) (take_at sealed payload n refl)
     ∙ ap (λ behind. by sealed behind false) (drop_at sealed payload n refl)
-    ∙ ap (option_and_then (λ (v : List ℕ). open_payload payload ad (key_under scheme v))) opened
-    ∙ ap (open_payload payload ad) valid
-    ∙ opens
+    ∙ ap (option_and_then (λ (v : List ℕ). next v payload)) opened
 
-opens_whole : (keys : Keys) (table : Table) (scheme : Scheme) (sealed payload ad : List ℕ) → length sealed < 2 ^ 32
-    → open_envelope_of keys table scheme (envelope sealed payload) ad ≡ open_behind keys table scheme (length sealed) (sealed ++ payload) ad
-opens_whole keys table scheme sealed payload ad fits =
+found_whole : {A : Type 0} (keys : Keys) (table : Table) (next : List ℕ → List ℕ → Option A) (sealed payload : List ℕ) → length sealed < 2 ^ 32
+    → in_envelope keys table next (envelope sealed payload) ≡ behind_length keys table next (length sealed) (sealed ++ payload)
+found_whole {A} keys table next sealed payload fits =
     let field : List ℕ = to_be_bytes w32 (length sealed) in
     let rest : List ℕ = sealed ++ payload in
-    let by : List ℕ → List ℕ → Bool → Option (List ℕ) = λ front behind few. cond few None (open_behind keys table scheme (from_be_bytes w32 front) behind ad) in
+    let by : List ℕ → List ℕ → Bool → Option A = λ front behind few. cond few None (behind_length keys table next (from_be_bytes w32 front) behind) in
     ap (by (take 4 (field ++ rest)) (drop 4 (field ++ rest))) (enough 4 field rest refl)
     ∙ ap (λ front. by front (drop 4 (field ++ rest)) false) (take_at field rest 4 refl)
     ∙ ap (λ behind. by field behind false) (drop_at field rest 4 refl)
-    ∙ ap (λ (size : ℕ). open_behind keys table scheme size rest ad) (from_be_bytes-to_be_bytes_4 (length sealed) fits)
+    ∙ ap (λ (size : ℕ). behind_length keys table next size rest) (from_be_bytes-to_be_bytes_4 (length sealed) fits)
+
+-- of an envelope
+found_in : {A : Type 0} (keys : Keys) (table : Table) (next : List ℕ → List ℕ → Option A) (sealed payload value : List ℕ) → length sealed < 2 ^ 32 → 0 < length sealed → open_answer keys table sealed [] ≡ Some value
+    → in_envelope keys table next (envelope sealed payload) ≡ next value payload
+found_in keys table next sealed payload value fits some opened = found_whole keys table next sealed payload fits ∙ found_behind keys table next sealed payload value some opened
 
 -- what is sealed under a record with a prefix is no empty list
 sealed-some : (table : Table) (keys : Keys) (plain ad random prefix : List ℕ) (r : Record) (s : Sealed) → primary_of keys ≡ Some r → prefix_of r ≡ Some prefix
@@ -135,21 +140,59 @@ sealed-some table keys plain ad random prefix r s primary is e =
     let five : length (prefix_bytes (prefix_of r)) ≡ 5 = ap (λ (o : Option (List ℕ)). length (prefix_bytes o)) is ∙ ap length (sym (five-prefix_of r prefix is)) in
     omega (arith, ap length sealing.bytes, length-append (prefix_bytes (prefix_of r)) (seal_of second.0 (take (iv_size second.0) random) plain ad), five)
 
+-- the payload opens under the data key
+payload_opens : (law : SealingsOpen) (admitted : ReadingIsAdmitted) (keys : Keys) (table : Table) (scheme : Scheme) (row : Row) (plain ad random bytes : List ℕ) → IsAeadScheme scheme
+    → (m : IsEnvelope keys table scheme row plain ad random bytes) → open_key m.key m.payload.bytes ad ≡ Some plain
+payload_opens law admitted keys table scheme row plain ad random bytes aead m =
+    let value : List ℕ = data_key_of row m.first in
+    let of_scheme = admitted scheme value m.key m.valid in
+    let iv : List ℕ = take (iv_size m.key) m.sealed.left in
+    ap (λ (b : List ℕ). open_key m.key b ad) m.last.bytes
+    ∙ law m.key iv plain ad (ap primitive_of_type of_scheme.0 ∙ aead, of_scheme.1) (length-take-le (iv_size m.key) m.sealed.left m.last.enough)
+
+-- the envelope of a data key that opens, and of that payload, opens
+opens_again : (keys : Keys) (table : Table) (scheme : Scheme) (sealed payload ad value plain : List ℕ) (key : KeyKind) → length sealed < 2 ^ 32 → 0 < length sealed → open_answer keys table sealed [] ≡ Some value
+    → key_under scheme value ≡ Ok key → open_key key payload ad ≡ Some plain → open_envelope_of keys table scheme (envelope sealed payload) ad ≡ Some plain
+opens_again keys table scheme sealed payload ad value plain key fits some opened valid opens =
+    found_in keys table (open_under scheme ad) sealed payload value fits some opened
+    ∙ ap (open_payload payload ad) valid
+    ∙ opens
+
+-- the sealing of a data key's message is short
+few : (table : Table) (keys : Keys) (row : Row) (first random : List ℕ) (s : Sealed) → IsDataKeyRow row → length first ≡ random_of row → seal_answer keys table (data_key_of row first) [] random ≡ Some s → length s.bytes < 2 ^ 32
+few table keys row first random s known whole sealing =
+    omega (arith, sealing-long table keys (data_key_of row first) [] random s sealing, data_key-long row first known whole)
+
 pub envelope_back : SameKeyOpens → SealingsOpen → ReadingIsAdmitted → EnvelopeBack
 envelope_back opens law admitted table scheme row old new r prefix plain ad random bytes left known aead primary is gives has e =
     let m = is_envelope old table scheme row plain ad random bytes left e in
     let value : List ℕ = data_key_of row m.first in
-    let w : List ℕ = m.sealed.bytes in
-    let of_scheme = admitted scheme value m.key m.valid in
-    let iv : List ℕ = take (iv_size m.key) m.sealed.left in
-    let opened : open_key m.key m.payload.bytes ad ≡ Some plain
-    = ap (λ (b : List ℕ). open_key m.key b ad) m.last.bytes
-    ∙ law m.key iv plain ad (ap primitive_of_type of_scheme.0 ∙ aead, of_scheme.1) (length-take-le (iv_size m.key) m.sealed.left m.last.enough) in
-    let few : length w < 2 ^ 32 = omega (arith, sealing-long table old value [] m.rest m.sealed m.sealing, data_key-long row m.first known m.whole) in
     ap (λ (b : List ℕ). open_envelope_of new table scheme b ad) m.joined
-    ∙ opens_whole new table scheme w m.payload.bytes ad few
-    ∙ opens_behind new table scheme w m.payload.bytes ad value plain m.key (sealed-some table old value [] m.rest prefix r m.sealed primary is m.sealing)
-    (opens table old new r prefix value [] m.rest m.sealed primary is gives has m.sealing) m.valid opened
+    ∙ opens_again new table scheme m.sealed.bytes m.payload.bytes ad value plain m.key (few table old row m.first m.rest m.sealed known m.whole m.sealing)
+    (sealed-some table old value [] m.rest prefix r m.sealed primary is m.sealing)
+    (opens table old new r prefix value [] m.rest m.sealed primary is gives has m.sealing) m.valid
+    (payload_opens law admitted old table scheme row plain ad random bytes aead m)
+
+pub envelope_resealed : SameKeyOpens → SealingsOpen → ReadingIsAdmitted → EnvelopeResealed
+envelope_resealed opens law admitted table scheme row old middle new r m prefix again plain ad random drawn bytes left resealed known aead first is gives has second at gives' has' e e' =
+    let n = is_envelope old table scheme row plain ad random bytes left e in
+    let value : List ℕ = data_key_of row n.first in
+    let p : List ℕ = n.payload.bytes in
+    let parts : parts_in middle table scheme bytes ≡ Some (record { value = value; payload = p })
+    = ap (parts_in middle table scheme) n.joined
+    ∙ found_in middle table (valid_parts scheme) n.sealed.bytes p value (few table old row n.first n.rest n.sealed known n.whole n.sealing)
+    (sealed-some table old value [] n.rest prefix r n.sealed first is n.sealing)
+    (opens table old middle r prefix value [] n.rest n.sealed first is gives has n.sealing)
+    ∙ ap (with_key value p) n.valid in
+    let made : option_map (with_payload p) (seal_answer middle table value [] drawn) ≡ Some resealed
+    = sym (ap (option_and_then (seal_parts middle table drawn)) parts) ∙ e' in
+    let found = map_some (with_payload p) (seal_answer middle table value [] drawn) resealed made in
+    let s : Sealed = found.0 in
+    ap (λ (x : Sealed). open_envelope_of new table scheme x.bytes ad) (sym found.2)
+    ∙ opens_again new table scheme s.bytes p ad value plain n.key (few table middle row n.first drawn s known n.whole found.1)
+    (sealed-some table middle value [] drawn again m s second at found.1)
+    (opens table middle new m again value [] drawn s second at gives' has' found.1) n.valid
+    (payload_opens law admitted old table scheme row plain ad random bytes aead n)
 
 -- ---- how long it is
 
@@ -173,4 +216,54 @@ envelopes_fit admitted table scheme row keys plain ad random bytes left known e 
       length-seal_of m.key iv plain ad,
       size,
       short,
+    )
+
+-- the parts of an envelope are no longer than it
+key_is : (value payload : List ℕ) (read : Result KeyKind Rule) (parts : Parts) → with_key value payload read ≡ Some parts → parts ≡ record { value = value; payload = payload }
+key_is value payload (Ok key) parts e = sym (same_Some _ _ e)
+key_is value payload (Err rule) parts e = cc
+
+parts_short : (keys : Keys) (table : Table) (scheme : Scheme) (size : ℕ) (rest : List ℕ) (parts : Parts) → parts_behind keys table scheme size rest ≡ Some parts → length parts.value + length parts.payload ≤ length rest
+parts_short keys table scheme size rest parts e = by ((size == 0) || nat_lt (length rest) size) e
+  where
+    next : List ℕ → Option Parts
+    next value = valid_parts scheme value (drop size rest)
+
+    by : (b : Bool) → cond b None (option_and_then next (open_answer keys table (take size rest) [])) ≡ Some parts → length parts.value + length parts.payload ≤ length rest
+    by true e = cc
+    by false e =
+        let found = then_some next (open_answer keys table (take size rest) []) parts e in
+        let are = key_is found.0 (drop size rest) (key_under scheme found.0) parts found.2 in
+        let short = opened-short Aead table keys (take size rest) [] found.0 found.1 in
+        omega (
+          arith,
+          ap (λ (x : Parts). length x.value) are,
+          ap (λ (x : Parts). length x.payload) are,
+          short,
+          length-append (take size rest) (drop size rest),
+          ap length (take-append-drop size rest),
+        )
+
+pub parts_long : (keys : Keys) (table : Table) (scheme : Scheme) (bytes : List ℕ) (parts : Parts) → parts_in keys table scheme bytes ≡ Some parts → 4 + (length parts.value + length parts.payload) ≤ length bytes
+parts_long keys table scheme bytes parts e = by (ltb (length bytes) 4) refl e
+  where
+    by : (b : Bool) → ltb (length bytes) 4 ≡ b → cond b None (parts_behind keys table scheme (from_be_bytes w32 (take 4 bytes)) (drop 4 bytes)) ≡ Some parts → 4 + (length parts.value + length parts.payload) ≤ length bytes
+    by true few e = cc
+    by false few e =
+        let short = parts_short keys table scheme (from_be_bytes w32 (take 4 bytes)) (drop 4 bytes) parts e in
+        omega (arith, short, length-drop 4 bytes, ltb-false (length bytes) 4 few)
+
+pub resealed_fit : ResealedFit
+resealed_fit table scheme keys bytes random resealed e =
+    let one = then_some (seal_parts keys table random) (parts_in keys table scheme bytes) resealed e in
+    let parts : Parts = one.0 in
+    let two = map_some (with_payload parts.payload) (seal_answer keys table parts.value [] random) resealed one.2 in
+    let s : Sealed = two.0 in
+    omega (
+      arith,
+      ap (λ (x : Sealed). length x.bytes) two.2,
+      length-append (to_be_bytes w32 (length s.bytes)) (s.bytes ++ parts.payload),
+      length-append s.bytes parts.payload,
+      sealing-long table keys parts.value [] random s two.1,
+      parts_long keys table scheme bytes parts one.1,
     )

@@ -4,10 +4,10 @@ use Rattle.std.specs.Prelude.{slice_get, slice_range}
 use Rattle.std.specs.Int.{to_be_bytes, w32}
 use Rattle.std.specs.Option.{option_and_then, option_map}
 use Rattle.std.specs.Str.{bytes_eq}
-use Rattle.std.proofs.lemmas.List.{append_assoc, drop-append-le, drop_at, take_at}
+use Rattle.std.proofs.lemmas.List.{append_assoc, drop-append-le, drop_at, length-take-le, take-append-drop, take_at}
 use Rattle.std.proofs.lemmas.List.Quantifiers.{position-Some}
 use Rattle.std.proofs.lemmas.Option.{get_or_from_slice_get}
-use Rattle.std.proofs.lemmas.Slice.{between_to_end}
+use Rattle.std.proofs.lemmas.Slice.{between_is, between_to_end}
 use Rattle.std.proofs.lemmas.Slice.Eq.{bytes_eq-Decides}
 use Rattle.key_msgs.specs.Templates.{Row, random_of}
 use Rattle.key_msgs.specs.declared.key.KeyKind.{KeyKind}
@@ -23,7 +23,7 @@ use Rattle.wrapped_prims.specs.Sealing.{IsKeySealing, IsSealFault, IsSealing}
 use Rattle.wrapped_prims.specs.declared.sealing.SealFault.{SealFault}
 use Rattle.wrapped_prims.specs.declared.sealing.SealFault.TheVariants as seals
 use Rattle.seal_wrap.specs.Enveloped.{Enveloped, before_payload, behind_data_key, data_key_of, envelope, envelope_of, under_data_key}
-use Rattle.seal_wrap.specs.EnvelopeSteps.{IsMakingFault, IsPayloadFault, Makes}
+use Rattle.seal_wrap.specs.EnvelopeSteps.{IsMakingFault, IsPayloadFault, IsResealing, Makes}
 use Rattle.seal_wrap.specs.Enveloping.{Asks, FailedAtFill, IsEnvelopeFault, IsEnveloping, StoodAtFill}
 use Rattle.seal_wrap.specs.declared.envelope.EnvelopeFault.{EnvelopeFault}
 use Rattle.seal_wrap.specs.declared.envelope.EnvelopeFault.TheVariants as faults
@@ -75,6 +75,25 @@ cut_sealing key front plain ad old new bytes start within is = record {
   drew = is.drew;
   whole = is.whole;
   made = between_to_end bytes start (length bytes) (omega arith) ∙ ap (drop start) is.made ∙ drop-append-le start front (seal_of key is.drawn plain ad) within;
+}
+
+-- what stands in front of a payload, cut with it out of a longer list
+pub cut_at : (room front payload : List ℕ) (start at : ℕ) → start ≤ at → at ≤ length room → slice_range room start at ≡ front → drop at room ≡ payload → slice_range room start (length room) ≡ front ++ payload
+cut_at room front payload start at le within front_is payload_is =
+    let long : start ≤ length (take at room) = omega (arith, le, length-take-le at room within) in
+    between_to_end room start (length room) (omega arith)
+    ∙ ap (drop start) (sym (take-append-drop at room))
+    ∙ drop-append-le start (take at room) (drop at room) long
+    ∙ ap (λ (l : List ℕ). l ++ drop at room) (sym (between_is room start at) ∙ front_is)
+    ∙ ap (λ (l : List ℕ). front ++ l) payload_is
+
+-- so are a data key that was sealed anew, and the payload
+pub resealing : (keys : Keys) (table : Table) (value payload : List ℕ) (old new : EntropyState) (sealed bytes : List ℕ) → IsSealing keys table value [] old new sealed → bytes ≡ before_payload sealed ++ payload
+    → IsResealing keys table (record { value = value; payload = payload }) old new bytes
+resealing keys table value payload old new sealed bytes is made = record {
+  sealed = sealed;
+  sealing = is;
+  joined = made ∙ append_assoc (to_be_bytes w32 (length sealed)) sealed payload;
 }
 
 -- ---- faults

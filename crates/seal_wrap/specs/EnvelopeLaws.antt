@@ -2,6 +2,8 @@
 --
 --   EnvelopeBack     what was sealed opens
 --   EnvelopesFit     how long it is
+--   EnvelopeResealed     what was sealed, and whose data key was sealed anew, opens
+--   ResealedFit      how long that is
 --   DataKeysAreServed, DataKeysAreValid   under the standard table a data key is always made
 use Rattle.std.specs.Prelude.{◌≡◌, ℕ, ◌+◌, ◌≤◌, List, length, Contains, Some, Ok}
 use Rattle.key_msgs.specs.KeyTypes.{primitive_of_type}
@@ -14,7 +16,8 @@ use Rattle.managers.specs.Standard.{standard_table}
 use Rattle.managers.specs.Table.{Table, scheme_at}
 use Rattle.wrapped_prims.specs.Candidates.{prefix_of}
 use Rattle.wrapped_prims.specs.Laws.{GivesKeyFor, HasSameKey}
-use Rattle.seal_wrap.specs.Enveloped.{data_key_of, envelope_of, open_envelope_of}
+use Rattle.wrapped_prims.specs.Answers.{Sealed}
+use Rattle.seal_wrap.specs.Enveloped.{data_key_of, envelope_of, open_envelope_of, reseal_envelope_of}
 use Rattle.seal_wrap.specs.Enveloping.{IsAead, url_made}
 
 -- a row of the table of templates that makes keys of AEADs
@@ -38,6 +41,29 @@ EnvelopeBack = (table : Table) (scheme : Scheme) (row : Row) (old new : Keys) (r
     → envelope_of old table scheme row plain ad random
     ≡ Some (record { answer = Ok bytes; left = left })
     → open_envelope_of new table scheme bytes ad ≡ Some plain
+
+-- What was sealed in an envelope under an old keyset, and resealed under a middle one in which the old
+-- primary key is ENABLED and alone under its prefix, opens with the same scheme and the same associated data
+-- under every keyset in which the middle's primary key is so: whatever became of the old key. Both primary
+-- records have a prefix.
+abbrev pub EnvelopeResealed : Type 0
+EnvelopeResealed = (table : Table) (scheme : Scheme) (row : Row) (old middle new : Keys) (r m : Record)
+    (prefix again plain ad random drawn bytes left : List ℕ) (resealed : Sealed)
+    → IsDataKeyRow row → IsAeadScheme scheme
+    → primary_of old ≡ Some r → prefix_of r ≡ Some prefix
+    → GivesKeyFor table Aead r → HasSameKey r middle
+    → primary_of middle ≡ Some m → prefix_of m ≡ Some again
+    → GivesKeyFor table Aead m → HasSameKey m new
+    → envelope_of old table scheme row plain ad random
+    ≡ Some (record { answer = Ok bytes; left = left })
+    → reseal_envelope_of middle table scheme bytes drawn ≡ Some resealed
+    → open_envelope_of new table scheme resealed.bytes ad ≡ Some plain
+
+-- An envelope that was resealed has at most 85 bytes more than it had, whoever made it.
+abbrev pub ResealedFit : Type 0
+ResealedFit = (table : Table) (scheme : Scheme) (keys : Keys) (bytes random : List ℕ) (resealed : Sealed)
+    → reseal_envelope_of keys table scheme bytes random ≡ Some resealed
+    → length resealed.bytes ≤ length bytes + 85
 
 -- An envelope has at most 251 bytes more than the plaintext: 4 of the length, at most 82 of the data
 -- key's message, 85 that its sealing adds, and 80 of IV and tag of the payload.

@@ -3,15 +3,21 @@
 --   DrewWhole, IsDrawFault   so many random bytes, in one fill
 --   Makes, IsMakingFault     a data key
 --   IsPayloadFault           a payload
-use Rattle.std.specs.Prelude.{◌≡◌, ◌⊎◌, ℕ, ◌<◌, List, [], length, Err}
+--   parts_at, IsResealing    a data key that is sealed anew
+use Rattle.std.specs.Prelude.{◌≡◌, ◌⊎◌, ℕ, ◌<◌, List, [], drop, length, Err, Option, option_map}
 use Rattle.key_msgs.specs.Templates.{Row, random_of}
 use Rattle.key_msgs.specs.declared.key.KeyKind.{KeyKind}
 use Rattle.key_msgs.specs.declared.rule.Rule.{Rule}
 use Rattle.managers.specs.Schemes.{Scheme, key_under}
 use Rattle.managers.specs.Uses.{iv_size}
 use Rattle.tink_spec.specs.Outside.{Drew, EntropyState, RanShort, Stood}
-use Rattle.seal_wrap.specs.Enveloped.{data_key_of}
+use Rattle.keyset_model.specs.Keyset.{Keys}
+use Rattle.managers.specs.Table.{Table}
+use Rattle.wrapped_prims.specs.Sealing.{IsSealing}
+use Rattle.std.specs.Global.{Vec}
+use Rattle.seal_wrap.specs.Enveloped.{Parts, data_key_of, envelope}
 use Rattle.seal_wrap.specs.Enveloping.{MakesDataKey}
+use Rattle.seal_wrap.specs.declared.envelope.EnvelopeKey.{EnvelopeKey}
 use Rattle.seal_wrap.specs.declared.envelope.EnvelopeFault.{EnvelopeFault}
 use Rattle.seal_wrap.specs.declared.envelope.EnvelopeFault.TheVariants as faults
 
@@ -63,3 +69,18 @@ IsMakingFault scheme row old new faults.NoMemory = StoodAt (random_of row) old n
 -- why there is no payload
 abbrev pub IsPayloadFault : KeyKind → EntropyState → EntropyState → EnvelopeFault → Type 0
 IsPayloadFault key old new fault = IsDrawFault (iv_size key) old new fault
+
+-- a message that is there, with the payload behind its sealing
+abbrev pub has_value : (payload : List ℕ) → Option (Vec ℕ) → Option Parts
+has_value payload value = option_map (λ v. record { value = v.items; payload = payload }) value
+
+-- the parts of the envelope with these bytes, whose data key was opened
+abbrev pub parts_at : (bytes : List ℕ) → EnvelopeKey → Parts
+parts_at bytes key = record { value = key.value.items; payload = drop key.payload bytes }
+
+-- the message was sealed, with an IV that was drawn, and stands before the same payload
+pub record IsResealing (keys : Keys) (table : Table) (parts : Parts) (old new : EntropyState)
+    (bytes : List ℕ) : Type 0 where
+  pub sealed : List ℕ
+  pub sealing : IsSealing keys table parts.value [] old new sealed
+  pub joined : bytes ≡ envelope sealed parts.payload

@@ -5,7 +5,7 @@
 //! key, and the payload: IV, ciphertext and tag under the data key, without a prefix. The data key's
 //! message is sealed with empty associated data.
 
-ghost use Rattle.std.specs.Prelude.{◌≡◌, ◌+◌, ◌^◌, ◌<◌, ◌≤◌, ℕ, drop, length, slice_range, take, IfOk, IfErr, OnOk, option_map};
+ghost use Rattle.std.specs.Prelude.{◌≡◌, ◌+◌, ◌^◌, ◌<◌, ◌≤◌, ℕ, List, drop, length, slice_range, take, IfOk, IfErr, IfSome, OnOk, option_map};
 ghost use Rattle.key_msgs.specs.Templates.{Row, seen};
 ghost use Rattle.key_msgs.specs.declared.primitive.Primitive.TheVariants.{Aead};
 ghost use Rattle.keyset_model.specs.Keyset.{Keys};
@@ -14,9 +14,9 @@ ghost use Rattle.managers.specs.Uses.{iv_size};
 ghost use Rattle.tink_spec.specs.InPlace.{OpensTo};
 ghost use Rattle.tink_spec.specs.Outside.{EntropyState, Stood};
 ghost use Rattle.wrapped_prims.specs.Making.{IsOver};
-ghost use Rattle.wrapped_prims.specs.Sealing.{IsKeySealing};
-ghost use Rattle.seal_wrap.specs.Enveloped.{before_payload, open_behind, open_envelope_of, open_payload};
-ghost use Rattle.seal_wrap.specs.EnvelopeSteps.{IsPayloadFault, Makes};
+ghost use Rattle.wrapped_prims.specs.Sealing.{IsKeySealing, IsSealFault};
+ghost use Rattle.seal_wrap.specs.Enveloped.{before_payload, open_behind, open_envelope_of, open_payload, parts_behind, parts_in, valid_parts};
+ghost use Rattle.seal_wrap.specs.EnvelopeSteps.{IsPayloadFault, IsResealing, Makes, has_value, parts_at};
 ghost use Rattle.seal_wrap.specs.Enveloping.{IsAead, IsEnvelopeFault, IsEnveloping, url_made};
 
 use crate::data_keys::{DataKey, draw, make};
@@ -316,4 +316,136 @@ pub fn envelope_open(
         Some(range) => Ok(Some(part_of(bytes, range))),
         None => Ok(None),
     }
+}
+
+/// The data key of an envelope that was opened.
+#[derive(Drop)]
+pub struct EnvelopeKey {
+    /// The message of the data key.
+    pub value: Vec<u8>,
+    /// Where the payload begins in the envelope.
+    pub payload: usize,
+}
+
+/// The message of a data key, where it is a valid one of the manager's scheme.
+fn valid_message(
+    alloc: Global,
+    manager: &dyn AeadManager,
+    value: Vec<u8>,
+) -> Result<Option<Vec<u8>>, NoMemory>
+    ensures valid { (payload : List ℕ) → IfOk result (λ valid. has_value payload valid ≡ valid_parts
+        ((⟦<dyn AeadManager as KeyManager>⟧ manager.now.0).scheme manager.now.1)
+        value.items payload) }
+    ensures same { IfOk result (λ valid. IfSome valid (λ message. message.items ≡ value.items)) }
+{
+    match manager.check(alloc, &value) {
+        Ok(_) => Ok(Some(value)),
+        Err(CheckFault::Bad(_)) => Ok(None),
+        Err(CheckFault::NoMemory) => Err(NoMemory),
+    }
+}
+
+/// Opens the data key of this size, with which `bytes` begin: its message.
+fn key_behind(
+    alloc: Global,
+    handle: &Handle<'_>,
+    manager: &dyn AeadManager,
+    size: usize,
+    bytes: &[u8],
+) -> Result<Option<Vec<u8>>, NoMemory>
+    requires over { (keys : Keys) × IsOver (⟦<Managers as KeyTable>⟧.table
+        handle.now.managers.now) Aead keys handle.now.held }
+    requires bytes_bound { length bytes.now ≤ 16778240 }
+    ensures parts { (keys : Keys)
+        → IsOver (⟦<Managers as KeyTable>⟧.table handle.now.managers.now) Aead keys handle.now.held
+        → IfOk result (λ value. has_value (drop size bytes.now) value ≡ parts_behind keys
+        (⟦<Managers as KeyTable>⟧.table handle.now.managers.now)
+        ((⟦<dyn AeadManager as KeyManager>⟧ manager.now.0).scheme manager.now.1) size bytes.now) }
+    ensures short { IfOk result (λ value. IfSome value (λ value. length value.items ≤ size)) }
+    ensures within { IfOk result (λ value. IfSome value (λ value. size ≤ length bytes.now)) }
+{
+    if size == 0 || bytes.len() < size {
+        return Ok(None);
+    }
+    match handle.open(alloc, &bytes[..size], b"", &mut Trials::new())? {
+        Some(value) => valid_message(alloc, manager, value),
+        None => Ok(None),
+    }
+}
+
+/// Opens the data key of an envelope, of at most 16,778,240 bytes; the payload isn't opened.
+///
+/// `None` comes exactly where there are fewer than four bytes; the length in the first four is 0 or above
+/// the number of bytes that follow; no key of the handle's keyset opens the sealed data key with empty
+/// associated data; or what it opens to isn't a valid key of the manager's scheme. An error says that memory
+/// was refused.
+pub fn envelope_key(
+    alloc: Global,
+    handle: &Handle<'_>,
+    manager: &dyn AeadManager,
+    bytes: &[u8],
+) -> Result<Option<EnvelopeKey>, NoMemory>
+    requires over { (keys : Keys) × IsOver (⟦<Managers as KeyTable>⟧.table
+        handle.now.managers.now) Aead keys handle.now.held }
+    requires bytes_bound { length bytes.now ≤ 16778240 }
+    ensures parts { (keys : Keys)
+        → IsOver (⟦<Managers as KeyTable>⟧.table handle.now.managers.now) Aead keys handle.now.held
+        → IfOk result (λ key. option_map (parts_at bytes.now) key ≡ parts_in keys
+        (⟦<Managers as KeyTable>⟧.table handle.now.managers.now)
+        ((⟦<dyn AeadManager as KeyManager>⟧ manager.now.0).scheme manager.now.1) bytes.now) }
+    ensures place { IfOk result (λ key. IfSome key (λ key. key.payload ≤ length bytes.now)) }
+    ensures value { IfOk result (λ key. IfSome key (λ key. 4 + length key.value.items ≤ key.payload)) }
+{
+    let Some((length, rest)) = bytes.split_first_chunk::<LENGTH>() else {
+        return Ok(None);
+    };
+    let size = u32::from_be_bytes(*length) as usize;
+    match key_behind(alloc, handle, manager, size, rest)? {
+        Some(value) => Ok(Some(EnvelopeKey {
+            value,
+            payload: LENGTH + size,
+        })),
+        None => Ok(None),
+    }
+}
+
+/// Seals the data key of an envelope anew, in place: under the primary key of the handle's keyset, with
+/// empty associated data. The envelope stands in `bytes` behind the first `ENVELOPE_ROOM` bytes, whatever
+/// these are, and its data key is the one given; the new envelope is all that the list holds then, and has the
+/// same payload. An envelope has at most 16,778,240 bytes.
+///
+/// One IV is drawn, in one fill, unless it has no bytes. `EntropyFault` comes only where the entropy failed
+/// at that. After `NoMemory` nothing or the IV was drawn. No running time is promised.
+pub fn envelope_reseal<E: Entropy>(
+    alloc: Global,
+    handle: &Handle<'_>,
+    key: &EnvelopeKey,
+    bytes: Vec<u8>,
+    entropy: &mut E,
+) -> Result<Vec<u8>, SealFault>
+    requires over { (keys : Keys) × IsOver (⟦<Managers as KeyTable>⟧.table
+        handle.now.managers.now) Aead keys handle.now.held }
+    requires place { ENVELOPE_ROOM + key.now.payload ≤ length bytes.items }
+    requires value { 4 + length key.now.value.items ≤ key.now.payload }
+    requires bound { length bytes.items ≤ ENVELOPE_ROOM + 16778240 }
+    ensures resealed { (keys : Keys)
+        → IsOver (⟦<Managers as KeyTable>⟧.table handle.now.managers.now) Aead keys handle.now.held
+        → IfOk result (λ envelope. IsResealing keys
+        (⟦<Managers as KeyTable>⟧.table handle.now.managers.now)
+        (parts_at (drop ENVELOPE_ROOM bytes.items) key.now)
+        (E.state entropy.old) (E.state entropy.new) envelope.items) }
+    ensures no_fault { OnOk result (Stood (E.state entropy.old).faults (E.state entropy.new).faults) }
+    ensures fault { (keys : Keys)
+        → IsOver (⟦<Managers as KeyTable>⟧.table handle.now.managers.now) Aead keys handle.now.held
+        → IfErr result (IsSealFault keys (⟦<Managers as KeyTable>⟧.table handle.now.managers.now)
+        (E.state entropy.old) (E.state entropy.new)) }
+{
+    let sealed = match handle.seal(alloc, &key.value, b"", entropy) {
+        Ok(sealed) => sealed,
+        Err(fault) => return Err(fault),
+    };
+    let start = ENVELOPE_ROOM + key.payload - LENGTH - sealed.len();
+    let made = with_before(&sealed, start, bytes);
+    let end = made.len();
+    Ok(part_of(made, start..end))
 }

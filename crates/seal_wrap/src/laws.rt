@@ -1,6 +1,6 @@
 //! Laws of the definitions. Each is the contract of a function that does nothing else.
 
-ghost use Rattle.seal_wrap.specs.EnvelopeLaws.{DataKeysAreServed, DataKeysAreValid, EnvelopeBack, EnvelopesFit};
+ghost use Rattle.seal_wrap.specs.EnvelopeLaws.{DataKeysAreServed, DataKeysAreValid, EnvelopeBack, EnvelopeResealed, EnvelopesFit, ResealedFit};
 ghost use Rattle.seal_wrap.specs.Laws.{TextHidesKeys, WrapBack, WrapBackBytes};
 ghost use Rattle.seal_wrap.specs.Sealings.{DsealingsFit, SealingsAreBytes, SealingsFit};
 
@@ -62,6 +62,24 @@ pub fn envelope_back()
     sealings_open();
     reading_is_admitted();
 }
+
+/// What was sealed in an envelope under a keyset whose primary key isn't RAW, and resealed under a second one
+/// in which that key is ENABLED and alone under its output prefix, and whose own primary key isn't RAW, opens
+/// to the plaintext under every keyset in which the second one's primary key is ENABLED and alone under its
+/// output prefix: with the scheme and the associated data with which it was sealed, whatever became of the
+/// first key. The data key is that of a template of the table for keys of AEADs.
+pub fn envelope_resealed()
+    ensures { EnvelopeResealed }
+{
+    same_key_opens();
+    sealings_open();
+    reading_is_admitted();
+}
+
+/// An envelope that was resealed has at most 85 bytes more than it had, whoever made it.
+pub fn resealed_fit()
+    ensures { ResealedFit }
+{}
 
 /// An envelope has at most 251 bytes more than the plaintext, whatever its keys and the random bytes, where
 /// the data key is that of a template of the table for keys of AEADs.

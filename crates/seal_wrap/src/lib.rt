@@ -16,6 +16,9 @@ mod wrapping;
 
 pub use binary_form::is_wrapped_binary;
 pub use data_keys::{DataKeyFault, data_key};
-pub use envelope::{ENVELOPE_ROOM, EnvelopeFault, envelope_open, envelope_seal};
+pub use envelope::{
+    ENVELOPE_ROOM, EnvelopeFault, EnvelopeKey, envelope_key, envelope_open, envelope_reseal,
+    envelope_seal,
+};
 pub use unwrapping::{UnwrapFault, is_wrapped_json, unwrap_keyset};
 pub use wrapping::{WrapFault, wrap};

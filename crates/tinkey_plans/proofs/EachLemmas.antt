@@ -23,7 +23,7 @@ use Rattle.tinkey_plans.specs.Locks.{keyset_under, limit_under, loads_locked, op
 use Rattle.tinkey_plans.specs.Wrapping.{is_json, is_keyset, makes_wrapped, with_unwrapped, wrapped_limit, wraps}
 use Rattle.seal_wrap.specs.Unwrapped as unwrapped
 use Rattle.seal_wrap.specs.Unwrapped.{is_wrapped_binary, is_wrapped_json, unwrap_of}
-use Rattle.tinkey_words.specs.Words.{AskedEdit, AskedEnvelope, AskedWork, Lock, Master, NewLock, Place, as_taken, in_clear, under, to_eseal, to_eopen, to_seal, to_open, to_dseal, to_dopen, to_reseal, to_dreseal, to_tag, to_verify, to_derive}
+use Rattle.tinkey_words.specs.Words.{AskedEdit, AskedEnvelope, AskedWork, Lock, Master, NewLock, Place, as_taken, in_clear, under, to_eseal, to_eopen, to_ereseal, to_seal, to_open, to_dseal, to_dopen, to_reseal, to_dreseal, to_tag, to_verify, to_derive}
 use Rattle.tinkey_plans.specs.Plan.{IsStated, Made, Of, allocates, draws, envelopings, sealings}
 use Rattle.tinkey_plans.specs.declared.status.Status.{Status}
 use Rattle.key_msgs.specs.KeyTypes.{primitive_of_type}
@@ -31,12 +31,12 @@ use Rattle.key_msgs.specs.declared.primitive.Primitive.{Primitive}
 use Rattle.key_msgs.specs.declared.primitive.Primitive.TheVariants.{Aead, Daead, Mac, Prf, Stream}
 use Rattle.key_msgs.specs.declared.rule.Rule.{Rule}
 use Rattle.managers.specs.Schemes.{Scheme}
-use Rattle.seal_wrap.specs.Enveloped.{open_envelope_of}
+use Rattle.seal_wrap.specs.Enveloped.{Parts, envelope, open_envelope_of, parts_in}
 use Rattle.segment_stream.specs.Range.{stream_failed, past_end}
 use Rattle.tinkey_plans.specs.KeyOf.{with_lines}
 use Rattle.tinkey_plans.specs.Ranging.{with_stretch}
 use Rattle.tinkey_plans.specs.Stretch.{Opened}
-use Rattle.tinkey_plans.specs.Envelopes.{envelopes, finds_dek, seals_envelope, with_aead, with_enveloped, with_scheme}
+use Rattle.tinkey_plans.specs.Envelopes.{envelopes, finds_dek, seals_envelope, with_aead, with_enveloped, with_parts, with_scheme}
 
 -- the rest of a plan is so, whatever it takes
 abbrev pub AreAll : {A : Type 0} → (Plan → Type 0) → (A → Plan) → Type 0
@@ -207,6 +207,11 @@ pub enveloped_each : (P : Plan → Type 0) → IsClosed P → (r : Result (List 
 enveloped_each P c (Ok bytes) next all = all bytes
 enveloped_each P c (Err rule) next all = c.ended _ _
 
-pub envelope_each : (P : Plan → Type 0) → IsClosed P → (table : Table) (keys : Keys) (scheme : Scheme) (row : Row) (work : AskedEnvelope) (input : List ℕ) → ((ad : List ℕ) → IsClosedAt P envelopings (seals_envelope keys table scheme row input ad)) → (next : List ℕ → Plan) → AreAll P next → P (envelopes table keys scheme row work input next)
-envelope_each P c table keys scheme row (to_eseal ad) input drawn next all = c.allocated _ (drawn ad _ (λ made. c.allocated _ (made_each P c made _ (λ enveloped. enveloped_each P c enveloped next all))))
-envelope_each P c table keys scheme row (to_eopen ad) input drawn next all = c.allocated _ (opened_each P c (open_envelope_of keys table scheme input ad) next all)
+pub parts_each : (P : Plan → Type 0) → IsClosed P → (found : Option Parts) (next : Parts → Plan) → AreAll P next → P (with_parts found next)
+parts_each P c None next all = c.ended _ _
+parts_each P c (Some parts) next all = all parts
+
+pub envelope_each : (P : Plan → Type 0) → IsClosed P → (table : Table) (keys : Keys) (scheme : Scheme) (row : Row) (work : AskedEnvelope) (input : List ℕ) → ((ad : List ℕ) → IsClosedAt P envelopings (seals_envelope keys table scheme row input ad)) → ((plain ad : List ℕ) → IsClosedAt P sealings (seals keys table plain ad)) → (next : List ℕ → Plan) → AreAll P next → P (envelopes table keys scheme row work input next)
+envelope_each P c table keys scheme row (to_eseal ad) input drawn sealed next all = c.allocated _ (drawn ad _ (λ made. c.allocated _ (made_each P c made _ (λ enveloped. enveloped_each P c enveloped next all))))
+envelope_each P c table keys scheme row (to_eopen ad) input drawn sealed next all = c.allocated _ (opened_each P c (open_envelope_of keys table scheme input ad) next all)
+envelope_each P c table keys scheme row to_ereseal input drawn sealed next all = c.allocated _ (parts_each P c (parts_in keys table scheme input) _ (λ parts. c.allocated _ (sealed parts.value [] _ (λ made. c.allocated _ (made_each P c made _ (λ key. all (envelope key parts.payload)))))))

@@ -19,7 +19,7 @@ use Rattle.managers.specs.Schemes.{Scheme}
 use Rattle.managers.specs.Standard.{standard_table}
 use Rattle.managers.specs.Table.{scheme_at}
 use Rattle.seal_wrap.specs.EnvelopeLaws.{DataKeysAreServed, DataKeysAreValid, IsDataKeyRow}
-use Rattle.seal_wrap.specs.Enveloped.{Enveloped, behind_data_key, data_key_of, envelope, envelope_of, open_envelope_of, under_data_key}
+use Rattle.seal_wrap.specs.Enveloped.{Enveloped, Parts, behind_data_key, data_key_of, envelope, envelope_of, open_envelope_of, parts_in, under_data_key}
 use Rattle.seal_wrap.specs.Enveloping.{url_made}
 use Rattle.seal_wrap.specs.Unwrapped as unwrapped
 use Rattle.seal_wrap.specs.Unwrapped.{is_wrapped_binary, is_wrapped_json, unwrap_of}
@@ -31,10 +31,10 @@ use Rattle.tinkey_plans.specs.declared.status.Status.{Status}
 use Rattle.tinkey_plans.specs.declared.status.Status.TheVariants as status
 use Rattle.tinkey_words.specs.declared.words.rows.Format.{Format}
 use Rattle.tinkey_words.specs.declared.words.rows.Format.TheVariants as formats
-use Rattle.tinkey_words.specs.Words.{AskedEnvelope, Lock, to_eseal, to_eopen}
+use Rattle.tinkey_words.specs.Words.{AskedEnvelope, Lock, to_eseal, to_eopen, to_ereseal}
 use Rattle.tinkey_plans.specs.Commands.{asked_plan}
 use Rattle.tinkey_plans.specs.Ends.{Ends, Settles, World, create_failed, create_starved, made, name_taken, draw_failed, draw_starved, load_absent, load_failed, load_long, load_starved, loaded, read, read_failed, read_starved, settled, too_long, write_failed, wrote}
-use Rattle.tinkey_plans.specs.Envelopes.{as_enveloped, envelope_limit, envelope_output, envelopes, seals_envelope, with_aead, with_enveloped, with_scheme}
+use Rattle.tinkey_plans.specs.Envelopes.{as_enveloped, envelope_limit, envelope_output, envelopes, reseals_key, seals_envelope, with_aead, with_enveloped, with_parts, with_scheme}
 use Rattle.tinkey_plans.specs.Laws.{DataKeysCome, IsDekStatus}
 use Rattle.tinkey_plans.specs.Plan.{IsStated, Plan, allocates, creates, ends, writes}
 use Rattle.tinkey_plans.specs.Locks.{loads_locked, opens_lock, takes_under}
@@ -88,6 +88,22 @@ clear_opened : (o : Option (List ℕ)) (out : Option (List ℕ)) → Clears (wit
 clear_opened None out = clear_end status.OpenFailed tt (λ d. d)
 clear_opened (Some plain) out = clear_puts out plain
 
+clear_sealing : (given : Result (List ℕ) CmdFault) (payload : List ℕ) (out : Option (List ℕ)) → Clears (with_made given (λ sealed. puts out (envelope sealed payload)))
+clear_sealing (Ok sealed) payload out = clear_puts out (envelope sealed payload)
+clear_sealing (Err fault) payload out = clear_end (status.Command fault) tt (λ d. d)
+
+-- a data key that is sealed anew
+clear_resealed : (keys : Keys) (parts : Parts) (out : Option (List ℕ)) → Clears (reseals_key standard_table keys parts (puts out))
+clear_resealed keys parts out old s new (inl (settled drawn entropy given drew stood settles run)) d =
+    clear_memory _ (clear_sealing given parts.payload out) (record old { entropy = entropy }) s new run d
+clear_resealed keys parts out old s new (inl (draw_failed is only spent)) d = subst IsDekStatus is d
+clear_resealed keys parts out old s new (inl (draw_starved partly is only drawn drew stood none)) d = subst IsDekStatus is d
+clear_resealed keys parts out old s new (inr (is, same)) d = subst IsDekStatus is d
+
+clear_parts : (o : Option Parts) (keys : Keys) (out : Option (List ℕ)) → Clears (with_parts o (λ parts. reseals_key standard_table keys parts (puts out)))
+clear_parts None keys out = clear_end status.OpenFailed tt (λ d. d)
+clear_parts (Some parts) keys out = clear_resealed keys parts out
+
 clear_enveloped : (r : Result (List ℕ) Rule) (out : Option (List ℕ)) → ((rule : Rule) → r ≡ Err rule → ⊥) → Clears (with_enveloped r (puts out))
 clear_enveloped (Ok bytes) out never = clear_puts out bytes
 clear_enveloped (Err rule) out never = absurd (never rule refl)
@@ -129,6 +145,7 @@ no_refusal valid keys scheme row plain ad drawn rule known served settles =
 
 clear_work : DataKeysAreValid → (keys : Keys) (scheme : Scheme) (row : Row) (work : AskedEnvelope) (out : Option (List ℕ)) (input : List ℕ) → IsDataKeyRow row → scheme_at standard_table Aead (url_made row) ≡ Some scheme → Clears (envelopes standard_table keys scheme row work input (puts out))
 clear_work valid keys scheme row (to_eopen ad) out input known served old s new run d = clear_memory _ (clear_opened (open_envelope_of keys standard_table scheme input ad) out) old s new run d
+clear_work valid keys scheme row to_ereseal out input known served old s new run d = clear_memory _ (clear_parts (parts_in keys standard_table scheme input) keys out) old s new run d
 clear_work valid keys scheme row (to_eseal ad) out input known served old s new (inl (settled drawn entropy given drew stood settles run)) d =
     clear_memory _ (clear_made given out (λ rule e. no_refusal valid keys scheme row input ad drawn rule known served (subst (λ g. Settles (seals_envelope keys standard_table scheme row input ad) drawn g) e settles))) (record old { entropy = entropy }) s new run d
 clear_work valid keys scheme row (to_eseal ad) out input known served old s new (inl (draw_failed is only spent)) d = subst IsDekStatus is d

@@ -1,6 +1,6 @@
 -- Envelope sealing, as steps of plans. What an envelope is, and what one opens to, is said apart from
 -- plans, in Enveloped of seal_wrap.
-use Rattle.std.specs.Prelude.{ℕ, List, Option, Some, None, Result, Ok, Err}
+use Rattle.std.specs.Prelude.{ℕ, List, [], Option, Some, None, Result, Ok, Err}
 use Rattle.std.specs.Option.{option_map}
 use Rattle.key_msgs.specs.KeyTypes.{primitive_of_type}
 use Rattle.key_msgs.specs.Templates.{Row, type_made}
@@ -10,7 +10,7 @@ use Rattle.key_msgs.specs.declared.rule.Rule.{Rule}
 use Rattle.keyset_model.specs.Keyset.{Keys}
 use Rattle.managers.specs.Schemes.{Scheme}
 use Rattle.managers.specs.Table.{Table, scheme_at}
-use Rattle.seal_wrap.specs.Enveloped.{Enveloped, envelope_of, open_envelope_of}
+use Rattle.seal_wrap.specs.Enveloped.{Enveloped, Parts, envelope, envelope_of, open_envelope_of, parts_in}
 use Rattle.seal_wrap.specs.Enveloping.{url_made}
 use Rattle.tinkey_cmds.specs.Draws.{Draw, Drawn}
 use Rattle.tinkey_plans.specs.declared.status.Status.TheVariants as status
@@ -18,9 +18,9 @@ use Rattle.tinkey_plans.specs.Plan.{Plan, ends, allocates, draws, envelopings}
 use Rattle.tinkey_plans.specs.Handles.{handles}
 use Rattle.tinkey_plans.specs.Locks.{loads_locked}
 use Rattle.tinkey_plans.specs.Steps.{finds_template, input_limit, reads_input, sealed_limit, with_made}
-use Rattle.tinkey_plans.specs.Using.{with_opened}
+use Rattle.tinkey_plans.specs.Using.{seals_plain, with_opened}
 use Rattle.tinkey_words.specs.declared.words.rows.Format.{Format}
-use Rattle.tinkey_words.specs.Words.{AskedEnvelope, Lock, to_eseal, to_eopen}
+use Rattle.tinkey_words.specs.Words.{AskedEnvelope, Lock, to_eseal, to_eopen, to_ereseal}
 
 -- the primitive is that of AEADs, or the template is refused
 abbrev pub with_aead : Primitive → Plan → Plan
@@ -59,6 +59,16 @@ abbrev pub with_enveloped : Result (List ℕ) Rule → (List ℕ → Plan) → P
 with_enveloped (Ok bytes) next = next bytes
 with_enveloped (Err rule) next = ends (status.DekRefused rule) tt
 
+-- the parts of an envelope go on, or its data key didn't open
+abbrev pub with_parts : Option Parts → (Parts → Plan) → Plan
+with_parts None next = ends status.OpenFailed tt
+with_parts (Some parts) next = next parts
+
+-- the message of the data key, sealed anew under the primary key, before the same payload
+abbrev pub reseals_key : Table → Keys → Parts → (List ℕ → Plan) → Plan
+reseals_key table keys parts next =
+    seals_plain table keys parts.value [] (λ sealed. next (envelope sealed parts.payload))
+
 -- what is put out for the whole input
 abbrev pub envelopes : Table → Keys → Scheme → Row → AskedEnvelope → List ℕ → (List ℕ → Plan) → Plan
 envelopes table keys scheme row (to_eseal ad) input next =
@@ -66,13 +76,17 @@ envelopes table keys scheme row (to_eseal ad) input next =
     (λ made. allocates (with_made made (λ enveloped. with_enveloped enveloped next))))
 envelopes table keys scheme row (to_eopen ad) input next =
     allocates (with_opened (open_envelope_of keys table scheme input ad) next)
+envelopes table keys scheme row to_ereseal input next =
+    allocates (with_parts (parts_in keys table scheme input)
+    (λ parts. reseals_key table keys parts next))
 
 -- how many bytes the input of such work may have
 abbrev pub envelope_limit : AskedEnvelope → ℕ
 envelope_limit (to_eseal ad) = input_limit
 envelope_limit (to_eopen ad) = sealed_limit
+envelope_limit to_ereseal = sealed_limit
 
--- eseal and eopen: work on the whole input, by data keys under the keys of the keyset in a file
+-- eseal, eopen and ereseal: work on the whole input, by data keys under the keys of the keyset in a file
 abbrev pub envelope_output : Table → Lock → List ℕ → Format → (template : List ℕ) → AskedEnvelope
     → (List ℕ → Plan) → Plan
 envelope_output table lock name form template work next =

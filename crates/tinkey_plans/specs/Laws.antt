@@ -79,7 +79,7 @@ IsDekStatus status.NoDekManager = Unit {0}
 IsDekStatus (status.DekRefused rule) = Unit {0}
 IsDekStatus _ = ⊥
 
--- Over the standard table no run of eseal or eopen ends so, whatever fails.
+-- Over the standard table no run of eseal, eopen or ereseal ends so, whatever fails.
 abbrev pub DataKeysCome : Type 0
 DataKeysCome = (words : List (List ℕ)) (lock : Lock) (name : List ℕ) (form : Format)
     (template : List ℕ) (work : AskedEnvelope) (out : Option (List ℕ)) (old : World) (s : Status)

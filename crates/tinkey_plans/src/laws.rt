@@ -40,7 +40,7 @@ pub fn done_exactly()
     ensures seals { FitKeysetsSeal }
 {}
 
-/// Over the standard table no run of `eseal` or `eopen` wants a manager for the data key, and no data key
+/// Over the standard table no run of `eseal`, `eopen` or `ereseal` wants a manager for the data key, and no data key
 /// is refused, whatever fails.
 pub fn data_keys_come()
     ensures { DataKeysCome }

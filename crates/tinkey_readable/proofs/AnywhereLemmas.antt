@@ -2,7 +2,7 @@
 use Rattle.std.proofs.Common.{arith, ◌≡◌, ◌∙◌, sym, refl, ap, subst, false, ℕ, ◌≤◌, ◌∷◌, [], List, length, Some, None, Ok, Err, option_map}
 use Rattle.std.specs.Prelude.{take, drop, slice_get}
 use Rattle.key_msgs.specs.KeyTypes.{primitive_of_type, url_of_type}
-use Rattle.key_msgs.specs.Templates.{row_named, type_made}
+use Rattle.key_msgs.specs.Templates.{Row, row_named, type_made}
 use Rattle.key_msgs.specs.declared.primitive.Primitive.TheVariants.{Aead, Daead, Mac}
 use Rattle.keyset_json.specs.Writing.{JsonBack}
 use Rattle.keyset_model.specs.Keyset.{Keys, primary_of}
@@ -10,9 +10,11 @@ use Rattle.keyset_model.specs.WellFormed.{FaultlessKeysets}
 use Rattle.keyset_model.specs.Writing.{BinaryBack, ReadKeysFit}
 use Rattle.keyset_model.specs.declared.record.Record.{Record}
 use Rattle.managers.specs.Standard.{standard_table}
+use Rattle.managers.specs.Schemes.{Scheme}
 use Rattle.managers.specs.Table.{scheme_at}
 use Rattle.seal_wrap.specs.EnvelopeLaws.{DataKeysAreServed, EnvelopeBack, EnvelopesFit, IsDataKeyRow}
 use Rattle.seal_wrap.specs.Enveloped.{open_envelope_of}
+use Rattle.seal_wrap.specs.Enveloping.{IsAead, url_made}
 use Rattle.seal_wrap.specs.Laws.{WrapBackBytes}
 use Rattle.seal_wrap.specs.Sealings.{DsealingsFit, SealingsFit}
 use Rattle.seal_wrap.specs.Unwrapped.{unwrap_of}
@@ -33,7 +35,7 @@ use Rattle.wrapped_prims.specs.Answers.{dseal_answer, open_answer, seal_answer, 
 use Rattle.wrapped_prims.specs.Fitness.{unfit}
 use Rattle.wrapped_prims.specs.Laws.{HasKey, IsKeyset}
 use Rattle.tinkey_plans.proofs.EnvelopeLemmas.{row_known}
-use Rattle.tinkey_plans.specs.Envelopes.{envelopes}
+use Rattle.tinkey_plans.specs.Envelopes.{envelope_limit, envelopes}
 use Rattle.tinkey_plans.specs.Laws.{FitKeysetsAnswer}
 use Rattle.tinkey_plans.specs.Plan.{Answer, Plan, Told, answer, writes}
 use Rattle.tinkey_plans.specs.Ranging.{opens_stretch}
@@ -53,13 +55,14 @@ use Rattle.tinkey_readable.proofs.RunLemmas.{Started, done_within, dsealed_by, d
 use Rattle.tinkey_readable.proofs.StreamKeyLemmas.{first_under, fit_sound, opens_under, primary_gives, primary_key_there, sound_key}
 use Rattle.tinkey_readable.proofs.StreamRunLemmas.{chosen_so, keys_loaded, keys_reached, opened_so, opens_alone, sealed_by as stream_by, with_primary}
 use Rattle.tinkey_readable.proofs.WrappedRunLemmas.{behind_files, form_within, given_keyset, opens_plan, put_reached, text_reached, unwrapped, wraps_done}
-use Rattle.tinkey_readable.specs.Anywhere.{DopensAnywhere, DopensSomehowAnywhere, IsReadAnywhere, IsReadSomehowAnywhere, IsTaken, OpensAnywhere, OpensEnvelopeAnywhere, OpensFirstAnywhere, OpensRangeAnywhere, OpensSomehowAnywhere, OpensStreamAnywhere, ServesStreams, UnwrapsAnywhere, VerifiesAnywhere, WasMadeBy, by_line, by_locked, by_locked_line, by_run}
+use Rattle.tinkey_readable.specs.Anywhere.{DopensAnywhere, DopensSomehowAnywhere, IsReadAnywhere, IsReadSomehowAnywhere, IsTaken, OpensAnywhere, OpensEnvelopeAnywhere, OpensFirstAnywhere, OpensRangeAnywhere, OpensSomehowAnywhere, OpensStreamAnywhere, ServesStreams, UnwrapsAnywhere, VerifiesAnywhere, WasMadeBy, by_line, by_locked, by_locked_line, by_run, ServesEnvelopes}
+use Rattle.tinkey_readable.specs.EnvelopeRuns.{IsEnveloped, MakeOneType, WasEnveloped}
 use Rattle.tinkey_readable.specs.LineRuns.{asks, done_reply}
 use Rattle.tinkey_readable.specs.LockedRuns.{IsDoneUnder}
 use Rattle.tinkey_readable.specs.Lying.{Lies, LiesAs, Lying, lock_in}
 use Rattle.tinkey_readable.specs.Runs.{IsDone, IsFree, ReadIsStored, bytes_at}
 use Rattle.tinkey_readable.specs.StreamRuns.{WasSealed}
-use Rattle.tinkey_words.specs.Words.{AskedWork, primitive_for, to_dopen, to_dseal, to_eopen, to_eseal, to_open, to_seal, to_tag, to_verify}
+use Rattle.tinkey_words.specs.Words.{AskedEnvelope, AskedWork, primitive_for, to_dopen, to_dseal, to_eopen, to_eseal, to_open, to_seal, to_tag, to_verify}
 
 -- ---- where something was made
 
@@ -282,31 +285,64 @@ opens_range_anywhere back slice fit before other old keys r ad stream told lies 
 
 -- ---- envelopes
 
-pub opens_envelope_anywhere : EnvelopeBack → EnvelopesFit → DataKeysAreServed → ReadKeysFit → OpensEnvelopeAnywhere
-opens_envelope_anywhere back sizes served fit before other old keys r prefix template again ad sealed told lies primary is was one_type serves same =
+-- what a run did by data keys over a keyset, as its answer to standard output
+pub record WasUsed (work : AskedEnvelope) (template : List ℕ) (told : Told) (output : List ℕ) (keys : Keys) : Type 0 where
+  pub row : Row
+  pub named : row_named template ≡ Some row
+  pub aead : IsAead row
+  pub scheme : Scheme
+  pub served : scheme_at standard_table Aead (url_made row) ≡ Some scheme
+  pub keyset : IsKeyset keys
+  pub fit : unfit keys Aead standard_table ≡ None
+  pub short : length told.input ≤ envelope_limit work
+  pub done : IsDoneAnswer (answer (envelopes standard_table keys scheme row work told.input writes) (record told { input = [] }))
+  pub gave : (answer (envelopes standard_table keys scheme row work told.input writes) (record told { input = [] })).output ≡ output
+
+pub was_used : ReadKeysFit → (work : AskedEnvelope) (before : Lying) (old : Keys) (template output : List ℕ) (told : Told) → Lies before old → WasEnveloped work template before told output → WasUsed work template told output old
+was_used fit work before old template output told lies was =
     let lock = lock_in before.master was.lock in
-    let u = used_done standard_table lock was.name before.text.form template (to_eseal ad) (puts was.out) told was.done in
+    let u = used_done standard_table lock was.name before.text.form template work (puts was.out) told was.done in
     let from = u.keys in
     let here : from ≡ old = same_lying before old from told was.lock was.name lies was.lies u.lies in
-    let keyset = given_is_keyset fit standard_table u.lies.master before.text.form u.lies.lies.bytes from u.lies.lies.gives u.lies.lies.within in
-    let primary' : primary_of from ≡ Some r = ap (λ k. primary_of k) here ∙ primary in
-    let sealing = envelopes standard_table from u.scheme u.row (to_eseal ad) told.input in
     let left = record told { input = [] } in
-    let done : IsDoneAnswer (answer (envelopes standard_table from u.scheme u.row (to_eseal ad) told.input (puts was.out)) (record told { input = [] })) = ap (λ (a : Answer). a.status) (sym u.goes_on) ∙ was.done in
-    let w = envelope_worked standard_table from u.scheme u.row (to_eseal ad) told.input (puts was.out) left done in
-    let made = made_is sealing left false was.out sealed w done (ap (λ (a : Answer). bytes_at was.out a.files a.output) (sym u.goes_on) ∙ was.gave) (λ hex. absurd (cc)) in
-    let gone = made_written sealing left sealed w made in
-    let s = enveloped_by from u.scheme u.row ad told sealed gone.0 gone.1 in
-    let row : IsDataKeyRow u.row = record { known = row_known template u.row u.named; aead = u.aead } in
-    let opened = back standard_table u.scheme u.row from keys r prefix told.input ad told.random sealed s.0 row (aead_scheme served u.row u.scheme u.aead u.served) primary' is (gives_key_for from r u.fit keyset primary') same s.1 in
-    let short : length sealed ≤ sealed_limit = omega (arith, sizes standard_table u.scheme u.row from told.input ad told.random sealed s.0 row s.1, u.fits) in
-    let found = map_some type_made (row_named again) (type_made u.row) (sym one_type ∙ ap (option_map type_made) u.named) in
+    let steps = envelopes standard_table from u.scheme u.row work told.input in
+    let done : IsDoneAnswer (answer (envelopes standard_table from u.scheme u.row work told.input (puts was.out)) (record told { input = [] })) = ap (λ (a : Answer). a.status) (sym u.goes_on) ∙ was.done in
+    let w = envelope_worked standard_table from u.scheme u.row work told.input (puts was.out) left done in
+    let made = made_is steps left false was.out output w done (ap (λ (a : Answer). bytes_at was.out a.files a.output) (sym u.goes_on) ∙ was.gave) (λ hex. absurd (cc)) in
+    let gone = made_written steps left output w made in
+    subst (WasUsed work template told output) here (record {
+      row = u.row;
+      named = u.named;
+      aead = u.aead;
+      scheme = u.scheme;
+      served = u.served;
+      keyset = given_is_keyset fit standard_table u.lies.master before.text.form u.lies.lies.bytes from u.lies.lies.gives u.lies.lies.within;
+      fit = u.fit;
+      short = u.fits;
+      done = gone.0;
+      gave = gone.1;
+    })
+
+-- an envelope that opens is opened so
+pub is_opened : (other : Lying) (keys : Keys) (row : Row) (scheme : Scheme) (template again ad sealed plain : List ℕ) → row_named template ≡ Some row → IsAead row → scheme_at standard_table Aead (url_made row) ≡ Some scheme → MakeOneType template again → ServesEnvelopes other keys
+    → length sealed ≤ sealed_limit → open_envelope_of keys standard_table scheme sealed ad ≡ Some plain → IsEnveloped (to_eopen ad) again other sealed plain
+is_opened other keys row scheme template again ad sealed plain named aead served one_type serves short opened =
+    let found = map_some type_made (row_named again) (type_made row) (sym one_type ∙ ap (option_map type_made) named) in
     λ t file name out there input free.
-    let r' = used_reached standard_table (lock_in other.master file) name other.text.form again found.0 u.scheme (to_eopen ad) (puts out) keys t found.1 (ap primitive_of_type found.2 ∙ u.aead) (ap (λ made. scheme_at standard_table Aead (url_of_type made)) found.2 ∙ u.served) (taken_behind other keys t file name serves.taken there) serves.fit (subst (λ i. length i ≤ sealed_limit) (sym input) short) in
-    let g = opens_so (open_envelope_of keys standard_table u.scheme t.input ad) told.input (record t { input = [] }) (ap (λ i. open_envelope_of keys standard_table u.scheme i ad) input ∙ opened) in
-    let opening = envelope_worked standard_table keys u.scheme found.0 (to_eopen ad) t.input writes (record t { input = [] }) g.0 in
-    let p = made_put (envelopes standard_table keys u.scheme found.0 (to_eopen ad) t.input) (record t { input = [] }) false out told.input opening g.1 free in
+    let r' = used_reached standard_table (lock_in other.master file) name other.text.form again found.0 scheme (to_eopen ad) (puts out) keys t found.1 (ap primitive_of_type found.2 ∙ aead) (ap (λ made. scheme_at standard_table Aead (url_of_type made)) found.2 ∙ served) (taken_behind other keys t file name serves.taken there) serves.fit (subst (λ i. length i ≤ sealed_limit) (sym input) short) in
+    let g = opens_so (open_envelope_of keys standard_table scheme t.input ad) plain (record t { input = [] }) (ap (λ i. open_envelope_of keys standard_table scheme i ad) input ∙ opened) in
+    let opening = envelope_worked standard_table keys scheme found.0 (to_eopen ad) t.input writes (record t { input = [] }) g.0 in
+    let p = made_put (envelopes standard_table keys scheme found.0 (to_eopen ad) t.input) (record t { input = [] }) false out plain opening g.1 free in
     (ap (λ (a : Answer). a.status) r' ∙ p.0, ap (λ (a : Answer). bytes_at out a.files a.output) r' ∙ p.1)
+
+pub opens_envelope_anywhere : EnvelopeBack → EnvelopesFit → DataKeysAreServed → ReadKeysFit → OpensEnvelopeAnywhere
+opens_envelope_anywhere back sizes served fit before other old keys r prefix template again ad sealed told lies primary is was one_type serves same =
+    let u = was_used fit (to_eseal ad) before old template sealed told lies was in
+    let s = enveloped_by old u.scheme u.row ad told sealed u.done u.gave in
+    let row : IsDataKeyRow u.row = record { known = row_known template u.row u.named; aead = u.aead } in
+    let opened = back standard_table u.scheme u.row old keys r prefix told.input ad told.random sealed s.0 row (aead_scheme served u.row u.scheme u.aead u.served) primary is (gives_key_for old r u.fit u.keyset primary) same s.1 in
+    let short : length sealed ≤ sealed_limit = omega (arith, sizes standard_table u.scheme u.row old told.input ad told.random sealed s.0 row s.1, u.short) in
+    is_opened other keys u.row u.scheme template again ad sealed told.input u.named u.aead u.served one_type serves short opened
 
 -- ---- wrapped keysets
 

@@ -5,16 +5,18 @@ use Rattle.key_msgs.specs.declared.rule.Rule.{Rule}
 use Rattle.keyset_model.specs.Keyset.{Keys}
 use Rattle.managers.specs.Schemes.{Scheme}
 use Rattle.managers.specs.Table.{Table}
-use Rattle.seal_wrap.specs.Enveloped.{Enveloped, envelope_of, open_envelope_of}
+use Rattle.seal_wrap.specs.Enveloped.{Enveloped, Parts, envelope, envelope_of, open_envelope_of, parts_in, seal_parts, with_payload}
+use Rattle.std.specs.Option.{option_and_then}
+use Rattle.wrapped_prims.specs.Answers.{Sealed, seal_answer}
 use Rattle.tinkey_cmds.specs.Draws.{Drawn}
 use Rattle.tinkey_plans.specs.declared.status.Status.TheVariants as status
 use Rattle.tinkey_plans.specs.Commands.{command_plan}
-use Rattle.tinkey_plans.specs.Envelopes.{as_enveloped, envelopes, with_enveloped}
+use Rattle.tinkey_plans.specs.Envelopes.{as_enveloped, envelopes, reseals_key, with_enveloped, with_parts}
 use Rattle.tinkey_plans.specs.Plan.{Answer, Plan, Told, answer, draw_answer, refused, writes}
 use Rattle.tinkey_plans.specs.Steps.{puts, with_made}
-use Rattle.tinkey_plans.specs.Using.{with_opened}
+use Rattle.tinkey_plans.specs.Using.{as_drawn, with_opened}
 use Rattle.tinkey_words.specs.declared.words.rows.Format.{Format}
-use Rattle.tinkey_words.specs.Words.{AskedEnvelope, Lock, to_eopen, to_eseal, use_envelope}
+use Rattle.tinkey_words.specs.Words.{AskedEnvelope, Lock, to_eopen, to_ereseal, to_eseal, use_envelope}
 use Rattle.tinkey_readable.specs.DoneWhere.{EnvelopeGoes, EnvelopeIsDone, EnvelopesDone}
 use Rattle.tinkey_readable.specs.Runs.{IsFree}
 use Rattle.tinkey_readable.proofs.DoneWhereLemmas.{opened_goes}
@@ -39,13 +41,36 @@ sealed_goes table keys scheme row ad input next told done = by (envelope_of keys
     by (Some e) is done = by_answer e.answer e.left is done
     by None is done = absurd (cc)
 
+-- the answer by what the primary key seals of the data key's message
+abbrev resealed_so : (next : List ℕ → Plan) → (payload : List ℕ) → Told → Option Sealed → Answer
+resealed_so next payload told o =
+    draw_answer (option_map as_drawn o) (refused told status.EntropyFault) (λ (d : Drawn (List ℕ)). answer (with_made d.answer (λ sealed. next (envelope sealed payload))) (record told { random = d.left }))
+
+resealed_goes : (table : Table) (keys : Keys) (o : Option Parts) (next : List ℕ → Plan) (told : Told) → IsDoneAnswer (answer (with_parts o (λ parts. reseals_key table keys parts next)) told) → (resealed : Sealed) × (option_and_then (seal_parts keys table told.random) o ≡ Some resealed)
+resealed_goes table keys None next told done = absurd (cc)
+resealed_goes table keys (Some parts) next told done = by (seal_answer keys table parts.value [] told.random) done
+  where
+    by : (o : Option Sealed) → IsDoneAnswer (resealed_so next parts.payload told o) → (resealed : Sealed) × (option_map (with_payload parts.payload) o ≡ Some resealed)
+    by (Some sealed) done = (with_payload parts.payload sealed, refl)
+    by None done = absurd (cc)
+
+resealed_done : (table : Table) (keys : Keys) (o : Option Parts) (told : Told) (resealed : Sealed) → option_and_then (seal_parts keys table told.random) o ≡ Some resealed → IsDoneAnswer (answer (with_parts o (λ parts. reseals_key table keys parts writes)) told)
+resealed_done table keys None told resealed goes = absurd (cc)
+resealed_done table keys (Some parts) told resealed goes = by (seal_answer keys table parts.value [] told.random) goes
+  where
+    by : (o : Option Sealed) → option_map (with_payload parts.payload) o ≡ Some resealed → IsDoneAnswer (resealed_so writes parts.payload told o)
+    by (Some sealed) goes = refl
+    by None goes = absurd (cc)
+
 goes_of : (table : Table) (keys : Keys) (scheme : Scheme) (row : Row) (work : AskedEnvelope) (input : List ℕ) (next : List ℕ → Plan) (told : Told) → IsDoneAnswer (answer (envelopes table keys scheme row work input next) told) → EnvelopeGoes table keys scheme row work input told.random
 goes_of table keys scheme row (to_eseal ad) input next told done = sealed_goes table keys scheme row ad input next told done
 goes_of table keys scheme row (to_eopen ad) input next told done = opened_goes (open_envelope_of keys table scheme input ad) next told done
+goes_of table keys scheme row to_ereseal input next told done = resealed_goes table keys (parts_in keys table scheme input) next told done
 
 done_of : (table : Table) (keys : Keys) (scheme : Scheme) (row : Row) (work : AskedEnvelope) (input : List ℕ) (told : Told) → EnvelopeGoes table keys scheme row work input told.random → IsDoneAnswer (answer (envelopes table keys scheme row work input writes) told)
 done_of table keys scheme row (to_eseal ad) input told goes = ap (λ o. (sealed_so writes told o).status) goes.2
 done_of table keys scheme row (to_eopen ad) input told goes = ap (λ o. (answer (with_opened o writes) told).status) goes.1
+done_of table keys scheme row to_ereseal input told goes = resealed_done table keys (parts_in keys table scheme input) told goes.0 goes.1
 
 envelope_is : (table : Table) (lock : Lock) (name : List ℕ) (form : Format) (template : List ℕ) (work : AskedEnvelope) (out : Option (List ℕ)) (told : Told) → IsDoneAnswer (answer (command_plan table (use_envelope lock name form template work out)) told) → EnvelopeIsDone table lock name form template work out told
 envelope_is table lock name form template work out told is =

@@ -6,6 +6,7 @@ pub mod DoneSessionLemmas
 pub mod DoneStreamLemmas
 pub mod DoneWhereLemmas
 pub mod EndedLemmas
+pub mod EnvelopeResealLemmas
 pub mod EnvelopeRunLemmas
 pub mod FileLemmas
 pub mod HidingLemmas

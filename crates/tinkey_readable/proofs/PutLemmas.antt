@@ -12,17 +12,17 @@ use Rattle.key_msgs.specs.declared.rule.Rule.{Rule}
 use Rattle.keyset_model.specs.Keyset.{Keys}
 use Rattle.managers.specs.Schemes.{Scheme}
 use Rattle.managers.specs.Table.{Table}
-use Rattle.seal_wrap.specs.Enveloped.{Enveloped, envelope_of, open_envelope_of}
+use Rattle.seal_wrap.specs.Enveloped.{Enveloped, Parts, envelope, envelope_of, open_envelope_of, parts_in}
 use Rattle.tinkey_cmds.specs.Draws.{Drawn}
 use Rattle.tinkey_session.proofs.Options.{clash}
 use Rattle.tinkey_session.specs.HeldLaws.{AreBytes}
 use Rattle.wrapped_prims.specs.Answers.{Sealed, derive_answer, dopen_answer, dseal_answer, open_answer, seal_answer, tag_answer, verify_answer}
 use Rattle.tinkey_plans.specs.declared.status.Status.TheVariants as status
-use Rattle.tinkey_plans.specs.Envelopes.{as_enveloped, envelopes, with_enveloped}
+use Rattle.tinkey_plans.specs.Envelopes.{as_enveloped, envelopes, reseals_key, with_enveloped, with_parts}
 use Rattle.tinkey_plans.specs.Plan.{Answer, Plan, Told, answer, draw_answer, refused, writes}
 use Rattle.tinkey_plans.specs.Steps.{puts, with_made}
 use Rattle.tinkey_plans.specs.Using.{as_drawn, dseals_plain, hex_line, made_bytes, seals_plain, shows, with_derived, with_opened, with_verified, works}
-use Rattle.tinkey_words.specs.Words.{AskedEnvelope, AskedWork, to_eseal, to_eopen, to_seal, to_open, to_dseal, to_dopen, to_reseal, to_dreseal, to_tag, to_verify, to_derive}
+use Rattle.tinkey_words.specs.Words.{AskedEnvelope, AskedWork, to_eseal, to_eopen, to_ereseal, to_seal, to_open, to_dseal, to_dopen, to_reseal, to_dreseal, to_tag, to_verify, to_derive}
 use Rattle.tinkey_readable.specs.Runs.{IsFree, bytes_at, shown}
 use Rattle.tinkey_readable.proofs.ReachLemmas.{IsDoneAnswer, bytes_put, bytes_reached}
 
@@ -165,6 +165,20 @@ enveloped_worked table keys scheme row ad input next told done = by (envelope_of
     by (Some e) is done = by_answer e.answer e.left is done
     by None is done = absurd (cc)
 
+-- and so did one whose data key was sealed anew
+resealed_key_worked : (table : Table) (keys : Keys) (o : Option Parts) (next : List ℕ → Plan) (told : Told) → IsDoneAnswer (answer (with_parts o (λ parts. reseals_key table keys parts next)) told)
+    → Worked (λ n. with_parts o (λ parts. reseals_key table keys parts n)) told
+resealed_key_worked table keys None next told done = absurd (cc)
+resealed_key_worked table keys (Some parts) next told done = by (seal_answer keys table parts.value [] told.random) refl done
+  where
+    a : (List ℕ → Plan) → Option Sealed → Answer
+    a n o = draw_answer (option_map as_drawn o) (refused told status.EntropyFault) (λ (d : Drawn (List ℕ)). answer (with_made d.answer (λ sealed. n (envelope sealed parts.payload))) (record told { random = d.left }))
+
+    by : (o : Option Sealed) → seal_answer keys table parts.value [] told.random ≡ o → IsDoneAnswer (a next o) → Worked (λ n. with_parts (Some parts) (λ parts. reseals_key table keys parts n)) told
+    by (Some s) is done = record { made = envelope s.bytes parts.payload; left = record told { random = s.left }; files = refl; is = λ n. ap (a n) is }
+    by None is done = absurd (cc)
+
 pub envelope_worked : (table : Table) (keys : Keys) (scheme : Scheme) (row : Row) (work : AskedEnvelope) (input : List ℕ) (next : List ℕ → Plan) (told : Told) → IsDoneAnswer (answer (envelopes table keys scheme row work input next) told) → Worked (envelopes table keys scheme row work input) told
 envelope_worked table keys scheme row (to_eseal ad) input next told done = enveloped_worked table keys scheme row ad input next told done
 envelope_worked table keys scheme row (to_eopen ad) input next told done = let w = opened_worked (open_envelope_of keys table scheme input ad) next told done in record { made = w.made; left = w.left; files = w.files; is = w.is }
+envelope_worked table keys scheme row to_ereseal input next told done = let w = resealed_key_worked table keys (parts_in keys table scheme input) next told done in record { made = w.made; left = w.left; files = w.files; is = w.is }

@@ -14,7 +14,7 @@ use Rattle.keyset_model.specs.Keyset.{Keys}
 use Rattle.managers.specs.Schemes.{Scheme}
 use Rattle.managers.specs.Table.{Table, scheme_at}
 use Rattle.managers.specs.Uses.{iv_size}
-use Rattle.seal_wrap.specs.Enveloped.{envelope_of, open_envelope_of}
+use Rattle.seal_wrap.specs.Enveloped.{envelope_of, open_envelope_of, reseal_envelope_of}
 use Rattle.seal_wrap.specs.Enveloping.{IsAead, url_made}
 use Rattle.segment_stream.specs.Opening.{decides}
 use Rattle.segment_stream.specs.Range.{range_of}
@@ -24,7 +24,7 @@ use Rattle.segment_stream.specs.StreamKeys.{stream_keys, stream_unfit}
 use Rattle.segment_stream.specs.StreamKeys as streams
 use Rattle.segment_stream.specs.declared.key.StreamKey.{StreamKey}
 use Rattle.tinkey_session.specs.Talking.{goes, talk}
-use Rattle.wrapped_prims.specs.Answers.{derive_answer, dopen_answer, open_answer, primary_key, verify_answer}
+use Rattle.wrapped_prims.specs.Answers.{Sealed, derive_answer, dopen_answer, open_answer, primary_key, verify_answer}
 use Rattle.wrapped_prims.specs.Fitness.{unfit}
 use Rattle.tinkey_plans.specs.declared.status.Status.TheVariants as status
 use Rattle.tinkey_plans.specs.Commands.{command_plan}
@@ -32,7 +32,7 @@ use Rattle.tinkey_plans.specs.Envelopes.{envelope_limit}
 use Rattle.tinkey_plans.specs.Plan.{Told, answer}
 use Rattle.tinkey_plans.specs.Using.{limit_for}
 use Rattle.tinkey_words.specs.declared.words.rows.Format.{Format}
-use Rattle.tinkey_words.specs.Words.{AskedEdit, AskedEnvelope, AskedRange, AskedWork, Lock, NewLock, Output, Place, convert_keyset, create_keyset, edit_keyset, list_keyset, open_range, open_stream, seal_stream, session, to_eopen, to_eseal, use_envelope, use_keyset, to_seal, to_open, to_dseal, to_dopen, to_reseal, to_dreseal, to_tag, to_verify, to_derive, primitive_for}
+use Rattle.tinkey_words.specs.Words.{AskedEdit, AskedEnvelope, AskedRange, AskedWork, Lock, NewLock, Output, Place, convert_keyset, create_keyset, edit_keyset, list_keyset, open_range, open_stream, seal_stream, session, to_eopen, to_ereseal, to_eseal, use_envelope, use_keyset, to_seal, to_open, to_dseal, to_dopen, to_reseal, to_dreseal, to_tag, to_verify, to_derive, primitive_for}
 use Rattle.tinkey_readable.specs.Lying.{FitsThere, LiesBehind, LiesThere, OpensLock, OpensNewLock}
 use Rattle.tinkey_readable.specs.Runs.{IsCreated, IsEdit, IsFree}
 
@@ -228,13 +228,16 @@ SessionsDone = (table : Table) (lock : Lock) (name : List ℕ) (form : Format) (
 -- ---- envelopes
 
 -- what the work wants of the keys, the input and the random bytes: an envelope of them, for which they
--- suffice and whose data key breaks no rule; or one that opens
+-- suffice and whose data key breaks no rule; one that opens; or one whose data key opens and is sealed anew,
+-- for which they suffice
 abbrev pub EnvelopeGoes : Table → Keys → Scheme → Row → AskedEnvelope → (input random : List ℕ) → Type 0
 EnvelopeGoes table keys scheme row (to_eseal ad) input random = (bytes left : List ℕ)
     × (envelope_of keys table scheme row input ad random
     ≡ Some (record { answer = Ok bytes; left = left }))
 EnvelopeGoes table keys scheme row (to_eopen ad) input random =
     (plain : List ℕ) × (open_envelope_of keys table scheme input ad ≡ Some plain)
+EnvelopeGoes table keys scheme row to_ereseal input random =
+    (resealed : Sealed) × (reseal_envelope_of keys table scheme input random ≡ Some resealed)
 
 -- The template is of the table and makes keys of AEADs, for which there is a manager; a keyset lies in the
 -- file of this name, behind its lock, whose ENABLED records can all serve as AEADs; the input is within the
@@ -253,7 +256,7 @@ pub record EnvelopeIsDone (table : Table) (lock : Lock) (name : List ℕ) (form 
   pub goes : EnvelopeGoes table keys scheme row work told.input told.random
   pub free : IsFree out told.files
 
--- an envelope is sealed or opened exactly where that is so
+-- an envelope is sealed, opened or resealed exactly where that is so
 abbrev pub EnvelopesDone : Type 0
 EnvelopesDone = (table : Table) (lock : Lock) (name : List ℕ) (form : Format) (template : List ℕ)
     (work : AskedEnvelope) (out : Option (List ℕ)) (told : Told)

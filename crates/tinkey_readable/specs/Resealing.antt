@@ -5,13 +5,17 @@
 --   SealedText      a text, and the record under whose key it is sealed
 --   AreResealed     texts, each of which was made of the one before it
 --   ResealedOpens   the law, and the same without an IV
+--   ResealedEnvelopesOpen   the same of an envelope, whose data key was resealed
 use Rattle.std.specs.Prelude.{◌≡◌, ℕ, List, [], ◌∷◌, Some}
-use Rattle.keyset_model.specs.Keyset.{Keys}
+use Rattle.keyset_model.specs.Keyset.{Keys, primary_of}
 use Rattle.keyset_model.specs.declared.record.Record.{Record}
 use Rattle.wrapped_prims.specs.Candidates.{prefix_of}
 use Rattle.wrapped_prims.specs.Laws.{HasSameKey}
-use Rattle.tinkey_readable.specs.Anywhere.{IsReadAnywhere, WasMadeBy, by_line, by_locked, by_locked_line, by_run}
-use Rattle.tinkey_words.specs.Words.{AskedWork, to_dopen, to_dreseal, to_dseal, to_open, to_reseal, to_seal}
+use Rattle.tinkey_plans.specs.Plan.{Told}
+use Rattle.tinkey_readable.specs.Anywhere.{IsReadAnywhere, ServesEnvelopes, WasMadeBy, by_line, by_locked, by_locked_line, by_run}
+use Rattle.tinkey_readable.specs.EnvelopeRuns.{IsEnveloped, MakeOneType, WasEnveloped}
+use Rattle.tinkey_readable.specs.Lying.{Lies, Lying}
+use Rattle.tinkey_words.specs.Words.{AskedWork, to_eopen, to_ereseal, to_eseal, to_dopen, to_dreseal, to_dseal, to_open, to_reseal, to_seal}
 
 -- the keyset over which this was made
 abbrev pub made_over : {work : AskedWork} → {input output : List ℕ} → {r : Record}
@@ -56,3 +60,18 @@ ResealedDopens = (ad plain prefix : List ℕ) (first last : SealedText) (between
     → WasMadeBy (to_dseal ad) plain first.bytes first.under'
     → AreResealed (to_dreseal ad) first between last → prefix_of last.under' ≡ Some prefix
     → IsReadAnywhere HasSameKey (to_dopen ad) last.bytes plain last.under'
+
+-- What was sealed in an envelope by one run, and whose data key was resealed by another, over a keyset in which
+-- the first one's primary key is ENABLED and alone under its prefix, opens to its plaintext with its associated
+-- data under each keyset that serves AEADs and in which the second one's primary key is so, whatever became of
+-- the first key. The three templates make keys of one type, and each keyset lies in clear or under a master.
+abbrev pub ResealedEnvelopesOpen : Type 0
+ResealedEnvelopesOpen = (before middle other : Lying) (old mid keys : Keys) (r m : Record)
+    (prefix again template second third ad sealed resealed : List ℕ) (told at : Told)
+    → Lies before old → primary_of old ≡ Some r → prefix_of r ≡ Some prefix
+    → WasEnveloped (to_eseal ad) template before told sealed
+    → Lies middle mid → primary_of mid ≡ Some m → prefix_of m ≡ Some again → HasSameKey r mid
+    → WasEnveloped to_ereseal second middle at resealed → at.input ≡ sealed
+    → MakeOneType template second → MakeOneType template third
+    → ServesEnvelopes other keys → HasSameKey m keys
+    → IsEnveloped (to_eopen ad) third other resealed told.input

@@ -14,15 +14,15 @@ ghost use Rattle.tinkey_readable.specs.LockedHiding.{LockedRunsPut, LockedSessio
 ghost use Rattle.tinkey_readable.specs.NamedRuns.{KeysAreNamed};
 ghost use Rattle.tinkey_readable.specs.RangeRuns.{RunsOpenRange};
 ghost use Rattle.tinkey_readable.specs.Readable.{AnswersAreReadable, SessionsAreReadable};
-ghost use Rattle.tinkey_readable.specs.Resealing.{ResealedDopens, ResealedOpens};
+ghost use Rattle.tinkey_readable.specs.Resealing.{ResealedDopens, ResealedEnvelopesOpen, ResealedOpens};
 ghost use Rattle.tinkey_readable.specs.Runs.{LocksStep, ReadIsStored, RunStep, RunsDopen, RunsDopenPresent, RunsOpen, RunsOpenPresent, RunsUnwrap, RunsVerify, WrapStep};
 ghost use Rattle.tinkey_readable.specs.StreamRuns.{RunsOpenStream, RunsOpenStreamPresent};
 
 use keyset_json::laws::{json_back, json_is_stored};
 use keyset_model::laws::{binary_back, faultless_keysets, read_keysets_fit};
 use seal_wrap::laws::{
-    envelope_back, envelopes_fit, sealings_fit, standard_data_keys, text_hides_keys,
-    wrap_back_bytes,
+    envelope_back, envelope_resealed, envelopes_fit, resealed_fit, sealings_fit,
+    standard_data_keys, text_hides_keys, wrap_back_bytes,
 };
 use segment_stream::laws::{range_is_slice, stream_back};
 use tinkey_cmds::laws::edits_keep_keysets;
@@ -277,6 +277,21 @@ pub fn resealed_opens()
     kept_dopen();
 }
 
+/// What was sealed in an envelope by one run, and whose data key was resealed by another, over a keyset in which
+/// the first one's primary key is ENABLED and alone under its prefix, opens to its plaintext with its associated
+/// data over every keyset that is accepted for AEADs and in which the second one's primary key is so. The first
+/// key may then be gone. The three templates make keys of one type, and each keyset lies in clear or under the
+/// lock of a master.
+pub fn resealed_envelopes_open()
+    ensures { ResealedEnvelopesOpen }
+{
+    envelope_resealed();
+    envelopes_fit();
+    resealed_fit();
+    standard_data_keys();
+    read_keysets_fit();
+}
+
 /// What was made under a key that is ENABLED and alone under its prefix opens or verifies after such runs to
 /// what it was made of, where the first keyset serves the primitive and the runs spare the key: what was
 /// sealed, with an IV or without, tagged, sealed as a stream or in an envelope, and a wrapped keyset. Where
@@ -445,9 +460,9 @@ pub fn sessions_done()
     ensures { SessionsDone }
 {}
 
-/// An envelope is sealed or opened, and answered Done, exactly where the template is of the table and makes
+/// An envelope is sealed, opened or resealed, and answered Done, exactly where the template is of the table and makes
 /// keys of AEADs that have a manager, the keyset is there and fit, the input within its limit, the name of a new file free, and: of sealing, the random bytes suffice and the data key
-/// breaks no rule; of opening, it opens.
+/// breaks no rule; of opening, it opens; of resealing, its data key opens, and the random bytes suffice.
 pub fn envelopes_done()
     ensures { EnvelopesDone }
 {}

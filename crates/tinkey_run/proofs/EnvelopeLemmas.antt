@@ -16,7 +16,8 @@ use Rattle.keyset_model.specs.declared.record.Record.{Record}
 use Rattle.managers.specs.Schemes.{Scheme, key_under}
 use Rattle.managers.specs.Table.{Table}
 use Rattle.managers.specs.Uses.{iv_size, seal_of}
-use Rattle.seal_wrap.specs.Enveloped.{Enveloped, behind_data_key, data_key_of, envelope, envelope_of, under_data_key}
+use Rattle.seal_wrap.specs.Enveloped.{Enveloped, Parts, behind_data_key, data_key_of, envelope, envelope_of, under_data_key}
+use Rattle.seal_wrap.specs.EnvelopeSteps.{IsResealing}
 use Rattle.seal_wrap.specs.Enveloping.{Asks, FailedAtFill, IsEnveloping, MakesDataKey, RefusedKey, StoodAtFill}
 use Rattle.seal_wrap.proofs.EnvelopeLemmas.{envelope-drawn}
 use Rattle.tink_spec.specs.Outside.{EntropyState, Drew, Stood}
@@ -25,18 +26,23 @@ use Rattle.tinkey_cmds.specs.declared.command.CmdFault.{CmdFault}
 use Rattle.tinkey_plans.specs.declared.status.Status.{Status}
 use Rattle.tinkey_plans.specs.declared.status.Status.TheVariants as status
 use Rattle.tinkey_plans.specs.Ends.{World, Ends, Settles, settled, draw_failed, draw_starved}
-use Rattle.tinkey_plans.specs.Envelopes.{as_enveloped, envelope_limit, envelope_output, envelopes, finds_dek, finds_scheme, seals_envelope}
+use Rattle.tinkey_plans.specs.Envelopes.{as_enveloped, envelope_limit, envelope_output, envelopes, finds_dek, finds_scheme, reseals_key, seals_envelope, with_parts}
 use Rattle.tinkey_plans.specs.Plan.{Plan, allocates, draws, envelopings}
-use Rattle.tinkey_plans.specs.Steps.{reads_input, Passes}
+use Rattle.tinkey_plans.specs.Steps.{reads_input, with_made, Passes}
 use Rattle.tinkey_plans.specs.Handles.{handles}
 use Rattle.tinkey_plans.specs.Locks.{loads_locked}
 use Rattle.tinkey_plans.proofs.StepLemmas.{passes_then, ends_there}
 use Rattle.tinkey_words.specs.declared.words.rows.Format.{Format}
+use Rattle.tinkey_plans.specs.Using.{as_drawn, seals}
 use Rattle.tinkey_words.specs.Words.{AskedEnvelope, Lock, to_eseal}
 use Rattle.wrapped_prims.specs.Answers.{Sealed, primary_key, seal_answer, seal_behind, seal_under}
 use Rattle.wrapped_prims.specs.Candidates.{prefix_of, prefix_bytes}
 use Rattle.wrapped_prims.specs.Fitness.{key_of_record}
-use Rattle.tinkey_run.proofs.UseLemmas.{Rest, no_handle, no_keyset, primary_is, same_entropy, sealed_with, serves, short_random, too_few, whole_iv, with_handle}
+use Rattle.wrapped_prims.specs.Making.{IsOver}
+use Rattle.wrapped_prims.specs.Sealing.{IsSealFault}
+use Rattle.wrapped_prims.specs.declared.held.Held.{Held}
+use Rattle.wrapped_prims.specs.declared.sealing.SealFault.TheVariants as seal_faults
+use Rattle.tinkey_run.proofs.UseLemmas.{Rest, behind_memory, draw_failed_there, no_handle, no_keyset, primary_is, same_entropy, sealed_with, serves, short_random, starved_sealing, too_few, whole_iv, with_handle}
 
 -- ---- too few random bytes
 
@@ -244,6 +250,37 @@ starved_enveloping table keys scheme row plain ad old entropy fault next = by fa
     by (inr (inr asks)) (inr whole) =
         behind ((asks.random ++ asks.iv) ++ fault.fill) (ap (λ (front : List ℕ). front ++ fault.fill) (sym asks.both))
         (settles_payload keys table scheme row plain ad asks.random asks.iv fault.fill asks.data_key asks.key asks.makes asks.primary asks.whole (whole ∙ asks.size))
+
+-- ---- resealing
+
+-- the data key was sealed anew
+pub resealed_key_passes : (table : Table) (keys : Keys) (parts : Parts) (bytes : List ℕ) (old : World) (entropy : EntropyState) → IsResealing keys table parts old.entropy entropy bytes → Stood old.entropy.faults entropy.faults
+    → Passes (reseals_key table keys parts) old (Ok bytes) (record old { entropy = entropy })
+resealed_key_passes table keys parts bytes old entropy is stood = λ next s last run.
+    inl (settled is.sealing.drawn entropy (Ok is.sealed) is.sealing.drew stood (λ more. ap (option_map as_drawn) (is.sealing.answer more)) (inl (subst (λ (b : List ℕ). Ends (next b) (record old { entropy = entropy }) s last) is.joined run)))
+
+-- the entropy failed at its IV, or memory was wanting
+pub resealing_failed : (table : Table) (keys : Keys) (parts : Parts) (old : World) (entropy : EntropyState) → IsSealFault keys table old.entropy entropy seal_faults.EntropyFault
+    → Passes {A = List ℕ} (reseals_key table keys parts) old (Err status.EntropyFault) (record old { entropy = entropy })
+resealing_failed table keys parts old entropy fault = λ next.
+    draw_failed_there table keys parts.value [] (λ sealed. sealed) (seals keys table parts.value []) (λ random. refl) old entropy fault (λ made. allocates (with_made made (λ sealed. next (envelope sealed parts.payload))))
+
+pub resealing_starved : (table : Table) (keys : Keys) (parts : Parts) (old : World) (entropy : EntropyState) → IsSealFault keys table old.entropy entropy seal_faults.NoMemory
+    → Passes {A = List ℕ} (reseals_key table keys parts) old (Err status.NoMemory) (record old { entropy = entropy })
+resealing_starved table keys parts old entropy fault = λ next.
+    starved_sealing table keys parts.value [] (λ sealed. sealed) (seals keys table parts.value []) (λ random. refl) old entropy fault (λ made. with_made made (λ sealed. next (envelope sealed parts.payload)))
+
+-- the data key was opened, and the rest ended so
+pub parts_pass : (table : Table) (keys : Keys) (held : Held) (parts : Parts) (found : Option Parts) (old new : World) (r : Result (List ℕ) Status) → IsOver table Aead keys held → Some parts ≡ found → Passes (reseals_key table keys parts) old r new
+    → Passes (λ next. allocates (with_parts found (λ p. reseals_key table keys p next))) old r new
+parts_pass table keys held parts found old new r over is passes =
+    subst (λ (o : Option Parts). Passes (λ next. allocates (with_parts o (λ p. reseals_key table keys p next))) old r new) is (behind_memory (reseals_key table keys parts) old new r passes)
+
+-- it wasn't
+pub no_parts : (table : Table) (keys : Keys) (held : Held) (found : Option Parts) (old : World) → IsOver table Aead keys held → None ≡ found
+    → (next : List ℕ → Plan) → Ends (allocates (with_parts found (λ p. reseals_key table keys p next))) old status.OpenFailed old
+no_parts table keys held found old over is next =
+    subst (λ (o : Option Parts). Ends (allocates (with_parts o (λ p. reseals_key table keys p next))) old status.OpenFailed old) is (inl (refl, refl))
 
 -- ---- the steps, one behind another
 

@@ -1,6 +1,6 @@
 -- Room in front of an input, which is sealed where it stands.
 use Rattle.std.specs.Prelude.{ℕ}
-use Rattle.tinkey_words.specs.Words.{AskedEnvelope, AskedWork, to_seal, to_open, to_dseal, to_dopen, to_reseal, to_dreseal, to_tag, to_verify, to_derive, to_eseal, to_eopen}
+use Rattle.tinkey_words.specs.Words.{AskedEnvelope, AskedWork, to_seal, to_open, to_dseal, to_dopen, to_reseal, to_dreseal, to_tag, to_verify, to_derive, to_eseal, to_eopen, to_ereseal}
 use Rattle.wrapped_prims.specs.Rooms.{seal_room, dseal_room}
 use Rattle.wrapped_prims.specs.declared.held.Held.{Held}
 
@@ -20,3 +20,4 @@ room_for held (to_derive size) = 0
 abbrev pub envelope_room : AskedEnvelope → ℕ
 envelope_room (to_eseal ad) = 4096
 envelope_room (to_eopen ad) = 0
+envelope_room to_ereseal = 4096

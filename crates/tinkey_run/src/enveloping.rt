@@ -1,4 +1,4 @@
-//! Envelope sealing: eseal and eopen.
+//! Envelope sealing: eseal, eopen and ereseal.
 
 ghost use Rattle.std.specs.Prelude.{◌≡◌, ◌+◌, ◌≤◌, ◌^◌, drop, length, IfOk};
 ghost use Rattle.key_msgs.specs.Templates.{Row, seen};
@@ -10,7 +10,7 @@ ghost use Rattle.tinkey_plans.specs.Ends.{World};
 ghost use Rattle.tinkey_plans.specs.Envelopes.{envelope_limit, envelope_output, envelopes, finds_dek, finds_scheme};
 ghost use Rattle.tinkey_plans.specs.Steps.{Passes, PassesAs};
 ghost use Rattle.tinkey_plans.specs.Handles.{IsServing};
-ghost use Rattle.tinkey_words.specs.Words.{seen_datum, seen_envelope, seen_lock, to_eseal, to_eopen};
+ghost use Rattle.tinkey_words.specs.Words.{seen_datum, seen_envelope, seen_lock, to_eseal, to_eopen, to_ereseal};
 ghost use Rattle.tinkey_run.specs.Rooms.{envelope_room};
 
 use crate::locks::load_locked;
@@ -18,12 +18,15 @@ use crate::steps::{find_template, read_input_behind};
 use crate::using::{INPUT_LIMIT, SEALED_LIMIT, datum, handle_of, or_failed};
 use key_msgs::{Primitive, Template};
 use managers::{AeadManager, KeyManager, KeyTable, Managers};
-use seal_wrap::{ENVELOPE_ROOM, EnvelopeFault, data_key, envelope_open, envelope_seal};
+use seal_wrap::{
+    ENVELOPE_ROOM, EnvelopeFault, data_key, envelope_key, envelope_open, envelope_reseal,
+    envelope_seal,
+};
 use std::alloc::Global;
 use tink_base::{Bytes, Entropy, Source, Store};
 use tinkey_plans::Status;
 use tinkey_words::{Datum, Envelope, Format, Master};
-use wrapped_prims::Handle;
+use wrapped_prims::{Handle, SealFault};
 
 /// Work on the whole input, by data keys of a template under the keys of the keyset in the file of this
 /// name: what is put out.
@@ -64,6 +67,7 @@ pub(crate) fn use_envelope<S: Source, E: Entropy, D: Store>(
             seal_envelope(alloc, &handle, manager, &template, ad, input, entropy)
         }
         Envelope::Open(ad) => open_envelope(alloc, &handle, manager, ad, input),
+        Envelope::Reseal => reseal_envelope(alloc, &handle, manager, input, entropy),
     }
 }
 
@@ -163,13 +167,42 @@ fn open_envelope(
     }
 }
 
+/// ereseal, in place: the envelope that stands behind the room of one, with its data key sealed anew.
+fn reseal_envelope<E: Entropy>(
+    alloc: Global,
+    handle: &Handle<'_>,
+    manager: &dyn AeadManager,
+    input: Vec<u8>,
+    entropy: &mut E,
+) -> Result<Bytes, Status>
+    requires serving { IsServing (⟦<Managers as KeyTable>⟧.table handle.now.managers.now) Aead
+        handle.now.held }
+    requires room { ENVELOPE_ROOM ≤ length input.items }
+    requires bound { length input.items ≤ ENVELOPE_ROOM + 16778240 }
+    ensures { (w : World) (keys : Keys) (row : Row)
+        → IsOver (⟦<Managers as KeyTable>⟧.table handle.now.managers.now) Aead keys handle.now.held
+        → Passes (envelopes (⟦<Managers as KeyTable>⟧.table handle.now.managers.now) keys
+        ((⟦<dyn AeadManager as KeyManager>⟧ manager.now.0).scheme manager.now.1)
+        row to_ereseal (drop ENVELOPE_ROOM input.items))
+        (record w { entropy = E.state entropy.old }) result (record w { entropy = E.state entropy.new }) }
+{
+    let Some(key) = envelope_key(alloc, handle, manager, &input[ENVELOPE_ROOM..])? else {
+        return Err(Status::OpenFailed);
+    };
+    match envelope_reseal(alloc, handle, &key, input, entropy) {
+        Ok(envelope) => Ok(Bytes::own(envelope)),
+        Err(SealFault::EntropyFault) => Err(Status::EntropyFault),
+        Err(SealFault::NoMemory) => Err(Status::NoMemory),
+    }
+}
+
 /// How many bytes go before what is read, where the work seals.
 fn envelope_room(work: Envelope<'_>) -> usize
     ensures room { result ≡ envelope_room (seen_envelope work.entry) }
     ensures bound { result ≤ ENVELOPE_ROOM }
 {
     match work {
-        Envelope::Seal(_) => ENVELOPE_ROOM,
+        Envelope::Seal(_) | Envelope::Reseal => ENVELOPE_ROOM,
         Envelope::Open(_) => 0,
     }
 }
@@ -181,6 +214,6 @@ fn envelope_limit(work: Envelope<'_>) -> usize
 {
     match work {
         Envelope::Seal(_) => INPUT_LIMIT,
-        Envelope::Open(_) => SEALED_LIMIT,
+        Envelope::Open(_) | Envelope::Reseal => SEALED_LIMIT,
     }
 }

@@ -89,6 +89,7 @@ pub use tinkey_readable::laws::locks_serve;
 pub use tinkey_readable::laws::locks_step;
 pub use tinkey_readable::laws::ranges_done;
 pub use tinkey_readable::laws::read_is_stored;
+pub use tinkey_readable::laws::resealed_envelopes_open;
 pub use tinkey_readable::laws::resealed_opens;
 pub use tinkey_readable::laws::run_step;
 pub use tinkey_readable::laws::sessions_are_readable;

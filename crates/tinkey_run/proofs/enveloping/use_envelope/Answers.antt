@@ -72,8 +72,8 @@ returns-in-Seal g c = λ w.
     (envelope_with_input _ _ row work keys _ mid behind new (drop (envelope_room work) c.in_ok-input.input.items) _ c.in_ok-handle.ensures.table (c.in_ok-manager.ensures.passes mid) (rw (c.envelope_limit.ensures.limit, c.envelope_room.ensures.room) at (c.in_ok-input.ensures.passes mid))
     (rw c.in-Seal.is (c.seal_envelope.ensures behind keys c.in_ok-handle.ensures.over)))
 
-pub returns : goal.returns
-returns g c = λ w.
+pub returns-in-Open : goal.returns-in-Open
+returns-in-Open g c = λ w.
     let first = record w { source = g.S.Source.state c.args.source.now; entropy = g.E.Entropy.state c.args.entropy.now } in
     let old = record first { store = g.D.Store.state c.args.store.now } in
     let mid = record first { store = g.D.Store.state c.load_locked.new.store } in
@@ -84,3 +84,17 @@ returns g c = λ w.
     envelope_with_handle _ (seen_lock c.args.lock) c.args.name.now c.args.form c.args.template.now work old mid behind row keys _ (c.in_ok-template.ensures.passes old) (c.in_ok-keyset.ensures.passes first) (c.in_ok-handle.ensures.passes mid)
     (envelope_with_input _ _ row work keys _ mid behind behind (drop (envelope_room work) c.in_ok-input.input.items) _ c.in_ok-handle.ensures.table (c.in_ok-manager.ensures.passes mid) (rw (c.envelope_limit.ensures.limit, c.envelope_room.ensures.room) at (c.in_ok-input.ensures.passes mid))
     (rw c.in-Open.is (c.open_envelope.ensures behind keys row c.in_ok-handle.ensures.over)))
+
+pub returns : goal.returns
+returns g c = λ w.
+    let first = record w { source = g.S.Source.state c.args.source.now; entropy = g.E.Entropy.state c.args.entropy.now } in
+    let old = record first { store = g.D.Store.state c.args.store.now } in
+    let mid = record first { store = g.D.Store.state c.load_locked.new.store } in
+    let behind = record mid { source = g.S.Source.state c.read_input_behind.new.source } in
+    let new = record behind { entropy = g.E.Entropy.state c.reseal_envelope.new.entropy } in
+    let row = seen c.in_ok-template.template in
+    let keys = c.in_ok-keyset.keyset in
+    let work = seen_envelope c.args.work in
+    envelope_with_handle _ (seen_lock c.args.lock) c.args.name.now c.args.form c.args.template.now work old mid new row keys _ (c.in_ok-template.ensures.passes old) (c.in_ok-keyset.ensures.passes first) (c.in_ok-handle.ensures.passes mid)
+    (envelope_with_input _ _ row work keys _ mid behind new (drop (envelope_room work) c.in_ok-input.input.items) _ c.in_ok-handle.ensures.table (c.in_ok-manager.ensures.passes mid) (rw (c.envelope_limit.ensures.limit, c.envelope_room.ensures.room) at (c.in_ok-input.ensures.passes mid))
+    (rw c.in-Reseal.is (c.reseal_envelope.ensures behind keys row c.in_ok-handle.ensures.over)))
