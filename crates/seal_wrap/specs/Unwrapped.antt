@@ -4,6 +4,7 @@
 --   encrypted_in   the encrypted bytes of the fields of an `EncryptedKeyset` message
 --   encrypted_of   those of a JSON value
 --   sealed_in      those of a text in one of the two forms
+--   encrypted_bytes   those bytes, as they were read
 --   unwrap_of      the keyset of a text, or the refusal of the first step that fails
 --   is_wrapped_json, is_wrapped_binary   the text is an encrypted keyset, by what it shows in clear
 --
@@ -101,6 +102,11 @@ sealed_in_json text = of_value (json_value (without_newline text))
 -- JSON, or else the binary form
 abbrev pub sealed_in : (json : Bool) → (text : List ℕ) → Result (List ℕ) Refusal
 sealed_in json text = if json then sealed_in_json text else sealed_in_binary text
+
+-- the encrypted bytes that were read, or none
+abbrev pub encrypted_bytes : Result (List ℕ) Refusal → List ℕ
+encrypted_bytes (Ok sealed) = sealed
+encrypted_bytes (Err refusal) = []
 
 -- the plaintext, where there is one
 abbrev pub or_not_opened : Option (List ℕ) → Result (List ℕ) Refusal

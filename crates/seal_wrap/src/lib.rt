@@ -20,5 +20,5 @@ pub use envelope::{
     ENVELOPE_ROOM, EnvelopeFault, EnvelopeKey, envelope_key, envelope_open, envelope_reseal,
     envelope_seal,
 };
-pub use unwrapping::{UnwrapFault, is_wrapped_json, unwrap_keyset};
+pub use unwrapping::{UnwrapFault, encrypted_front, is_wrapped_json, unwrap_keyset};
 pub use wrapping::{WrapFault, wrap};

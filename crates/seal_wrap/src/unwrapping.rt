@@ -1,11 +1,11 @@
 //! A wrapped keyset is read and opened under a master keyset.
 
-ghost use Rattle.std.specs.Prelude.{◌≡◌, ◌≤◌, length, List, ℕ, IfOk};
+ghost use Rattle.std.specs.Prelude.{◌≡◌, ◌≤◌, length, take, List, ℕ, IfOk};
 ghost use Rattle.std.specs.List.{AllByRecursion};
 ghost use Rattle.key_msgs.specs.declared.primitive.Primitive.TheVariants.{Aead};
 ghost use Rattle.keyset_model.specs.Keyset.{IsShort, IsWithin, Keys};
 ghost use Rattle.wrapped_prims.specs.Making.{IsOver};
-ghost use Rattle.seal_wrap.specs.Unwrapped.{has_sealed, is_wrapped_json, open_keyset, sealed_in_json, unwrap_of};
+ghost use Rattle.seal_wrap.specs.Unwrapped.{encrypted_bytes, has_sealed, is_wrapped_json, open_keyset, sealed_in, sealed_in_json, unwrap_of};
 ghost use Rattle.seal_wrap.specs.Wrapping.{GivesKeyset, IsRefusal};
 
 use crate::binary_form::read_wrapped_binary;
@@ -84,6 +84,56 @@ pub fn is_wrapped_json(alloc: Global, text: &[u8]) -> Result<bool, NoMemory>
     match read_wrapped_json(alloc, text) {
         Ok(sealed) => Ok(!sealed.as_slice().is_empty()),
         Err(fault) => unless_starved(fault),
+    }
+}
+
+/// The first five of a text's encrypted bytes, or all of fewer: the output prefix of the key that sealed them, where
+/// that has one. The bytes are read as `unwrap_keyset` reads them, and there are none where it can't read them.
+/// Nothing is opened.
+pub fn encrypted_front(alloc: Global, text: &[u8], json: bool) -> Result<Vec<u8>, NoMemory>
+    ensures { IfOk result (λ front.
+        front.items ≡ take 5 (encrypted_bytes (sealed_in json text.now))) }
+{
+    if json {
+        match read_wrapped_json(alloc, text) {
+            Ok(sealed) => copied_front(alloc, sealed.as_slice()),
+            Err(fault) => no_front(alloc, fault),
+        }
+    } else {
+        match read_wrapped_binary(alloc, text) {
+            Ok(sealed) => copied_front(alloc, sealed),
+            Err(fault) => no_front(alloc, fault),
+        }
+    }
+}
+
+/// The first five bytes, or all of fewer.
+fn copied_front(alloc: Global, bytes: &[u8]) -> Result<Vec<u8>, NoMemory>
+    ensures { IfOk result (λ front. front.items ≡ take 5 bytes.now) }
+{
+    let mut front = Vec::new(alloc);
+    if bytes.len() < 5 {
+        front.extend_from_slice(bytes)?;
+    } else {
+        front.extend_from_slice(&bytes[..5])?;
+    }
+    Ok(front)
+}
+
+/// No byte, of a text that is refused so, unless memory was refused.
+fn no_front(alloc: Global, fault: UnwrapFault) -> Result<Vec<u8>, NoMemory>
+    ensures { IfOk result (λ front. (json : Bool) (text : List ℕ)
+        → IsRefusal fault (sealed_in json text)
+        → front.items ≡ take 5 (encrypted_bytes (sealed_in json text))) }
+{
+    match fault {
+        UnwrapFault::NoMemory => Err(NoMemory),
+        UnwrapFault::OuterWire(_)
+        | UnwrapFault::NotJson
+        | UnwrapFault::Member
+        | UnwrapFault::NotOpened
+        | UnwrapFault::InnerWire(_)
+        | UnwrapFault::Fault(_) => Ok(Vec::new(alloc)),
     }
 }
 
