@@ -17,9 +17,8 @@ pub(crate) fn compare(
     differences: &mut Differences,
 ) -> Result<(), Fail> {
     let before = differences.count();
-    let line = line_of(alloc, names, row.cell(Column::Line))?;
-    differences.hold_text(alloc, "status", row.cell(Column::Status), &came.status)?;
-    differences.hold_bytes(alloc, "line", &line, &came.line)?;
+    hold_status(alloc, row.cell(Column::Status), came, differences)?;
+    hold_line(alloc, names, row.cell(Column::Line), came, differences)?;
     hold_output(alloc, names, row.cell(Column::Output), came, differences)?;
     hold_unlike(alloc, names, row.cell(Column::Unlike), came, differences)?;
     hold_made(alloc, names, row.cell(Column::Made), came, differences)?;
@@ -30,6 +29,38 @@ pub(crate) fn compare(
     } else {
         differences.tell_run(alloc, row, came)
     }
+}
+
+/// The status is as its cell tells, or begins so where the cell ends with `*`.
+fn hold_status(
+    alloc: Global,
+    cell: &str,
+    came: &Outcome,
+    differences: &mut Differences,
+) -> Result<(), Fail> {
+    let status = came.status.as_str();
+    match cell.strip_suffix("*") {
+        Some(front) if status.starts_with(front) => Ok(()),
+        _ => differences.hold_text(alloc, "status", cell, status),
+    }
+}
+
+/// The lines are as their cell tells, or begin so where the cell ends with `*`.
+fn hold_line(
+    alloc: Global,
+    names: &Names,
+    cell: &str,
+    came: &Outcome,
+    differences: &mut Differences,
+) -> Result<(), Fail> {
+    let line = line_of(alloc, names, cell)?;
+    let all = came.line.as_slice();
+    let told = if cell.ends_with('*') {
+        all.get(..line.len()).unwrap_or(all)
+    } else {
+        all
+    };
+    differences.hold_bytes(alloc, "line", &line, told)
 }
 
 /// The output is as its cell tells.
@@ -129,7 +160,8 @@ fn line_of(alloc: Global, names: &Names, cell: &str) -> Result<Vec<u8>, Fail> {
     }
     let lines = cell.replace(alloc, " / ", "\n")?;
     let mut line = Vec::new(alloc);
-    match lines.as_str().strip_suffix("..") {
+    let lines = lines.as_str();
+    match lines.strip_suffix("..").or(lines.strip_suffix("*")) {
         Some(front) => line.extend_from_slice(front.as_bytes())?,
         None if cell.is_empty() => {}
         None => {
