@@ -7,6 +7,7 @@ pub mod PromiseLemmas
 pub mod NamingLemmas
 pub mod ReportLemmas
 pub mod RetiringLemmas
+pub mod SealerLemmas
 pub mod StepLemmas
 pub mod StreamFitLemmas
 pub mod WholeLemmas

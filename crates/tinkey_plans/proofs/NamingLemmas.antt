@@ -20,7 +20,8 @@ use Rattle.managers.specs.Table.{Table}
 use Rattle.managers.specs.Uses.{dseal_of, iv_size, seal_of, tag_of, tagged}
 use Rattle.seal_wrap.specs.Enveloped.{Enveloped, behind_data_key, data_key_of, envelope, envelope_of, under_data_key}
 use Rattle.tinkey_cmds.proofs.Among.{Among, among-any, contains-among}
-use Rattle.tinkey_plans.specs.KeyOf.{front_of, key_of_answer, key_of_lines, may_have_made, named, raw_count, stands_under}
+use Rattle.tinkey_plans.specs.KeyOf.{front_of, key_of_answer, key_of_lines}
+use Rattle.tinkey_plans.specs.Sealers.{may_have_made, named, raw_count, stands_under}
 use Rattle.tinkey_plans.specs.Naming.{IsPrimaryPrefix, KeyOfTells, NamesPrefix}
 use Rattle.tinkey_session.proofs.KeptKeyLemmas.{same_prefix_is}
 use Rattle.tinkey_session.proofs.Options.{clash}
@@ -32,12 +33,12 @@ use Rattle.wrapped_prims.specs.Fitness.{key_of_record}
 
 -- ---- what a filter has
 
-among-contains : {A : Type 0} (xs : List A) (x : A) → Contains xs x → Among x xs
+pub among-contains : {A : Type 0} (xs : List A) (x : A) → Contains xs x → Among x xs
 among-contains [] x c = absurd (omega (arith, c.1))
 among-contains (y ∷ ys) x (zero, within, is) = inl is
 among-contains (y ∷ ys) x (suc k, within, is) = inr (among-contains ys x (k, omega arith, is))
 
-filter_has : {A : Type 0} (p : A → Bool) (xs : List A) (x : A) → Among x xs → p x ≡ true → Among x (filter p xs)
+pub filter_has : {A : Type 0} (p : A → Bool) (xs : List A) (x : A) → Among x xs → p x ≡ true → Among x (filter p xs)
 filter_has p [] x a passes = absurd a
 filter_has {A} p (y ∷ ys) x a passes = by (p y) refl (λ later. filter_has p ys x later passes) a
   where
@@ -47,7 +48,7 @@ filter_has {A} p (y ∷ ys) x a passes = by (p y) refl (λ later. filter_has p y
     by false is rest (inl same) = let e : true ≡ false = sym passes ∙ ap p (sym same) ∙ is in absurd (cc)
     by false is rest (inr later) = rest later
 
-has_filter : {A : Type 0} (p : A → Bool) (xs : List A) (x : A) → Among x (filter p xs) → Among x xs × (p x ≡ true)
+pub has_filter : {A : Type 0} (p : A → Bool) (xs : List A) (x : A) → Among x (filter p xs) → Among x xs × (p x ≡ true)
 has_filter p [] x a = absurd a
 has_filter {A} p (y ∷ ys) x a = by (p y) refl (λ later. has_filter p ys x later) a
   where

@@ -16,8 +16,9 @@ use Rattle.seal_wrap.specs.Enveloped.{open_behind, open_payload}
 use Rattle.tinkey_cmds.proofs.Among.{Among, contains-among}
 use Rattle.tinkey_cmds.proofs.Cases.{Seven, edit_case, yielded}
 use Rattle.tinkey_cmds.specs.Edits.{Edit, changed, destroyed, step, with_status, without}
-use Rattle.tinkey_plans.specs.KeyOf.{front_of, stands_under}
+use Rattle.tinkey_plans.specs.KeyOf.{front_of}
 use Rattle.tinkey_plans.specs.Retiring.{IsUnnamed, OpensAlike, Retires, RetiringLosesNothing, UnwrapsAlike}
+use Rattle.tinkey_plans.specs.Sealers.{stands_under}
 use Rattle.tinkey_words.specs.declared.words.rows.SealedForm.TheVariants as forms
 use Rattle.wrapped_prims.specs.Answers.{is_tag_of, opened}
 use Rattle.wrapped_prims.specs.Candidates.{candidates, each_with, enabled_with, first_byte, is_enabled_with, is_raw, prefix_of, same_prefix}

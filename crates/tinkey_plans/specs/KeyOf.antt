@@ -1,45 +1,24 @@
--- Under which keys of a keyset some bytes stand, by the output prefix in front of them (Tink's wire format);
--- and key-of, as a plan. Nothing is opened for it, so a key of any status is told, and no key is needed.
+-- Under which keys of a keyset some bytes stand, by the output prefix in front of them (Sealers); and key-of, as
+-- a plan. Nothing is opened for it, so a key of any status is told, and no key is needed.
 --
---   stands_under    a record's output prefix is this front
---   named           the records of a keyset whose it is
---   raw_count       how many records put nothing in front, and so may have made any bytes
---   key_of_lines    what is told of them
+--   key_of_lines    what is told of the records that are named, and of those without a prefix
 --   front_size, front_in, front_of   how many bytes are looked at, and where the prefix stands among them
-use Rattle.std.specs.Prelude.{ℕ, Bool, List, ◌++◌, ◌||◌, length, take, drop, filter, Option, Some, None, if◌then◌else◌, codes}
+use Rattle.std.specs.Prelude.{ℕ, List, ◌++◌, take, drop, Option, Some, None, if◌then◌else◌, codes}
 use Rattle.std.specs.List.{flat_map, list_any}
 use Rattle.std.specs.Fmt.{decimal}
 use Rattle.keyset_model.specs.Keyset.{Keys}
 use Rattle.keyset_model.specs.Listing.{escaped, prefix_text, status_text}
 use Rattle.keyset_model.specs.declared.record.Record.{Record}
 use Rattle.managers.specs.Table.{Table}
-use Rattle.wrapped_prims.specs.Candidates.{is_raw, prefix_of, same_prefix}
 use Rattle.tinkey_plans.specs.declared.status.Status.TheVariants as status
 use Rattle.tinkey_plans.specs.Locks.{loads_locked}
 use Rattle.tinkey_plans.specs.Plan.{Plan, ends, reads_front}
+use Rattle.tinkey_plans.specs.Sealers.{may_have_made, named, raw_count}
 use Rattle.tinkey_plans.specs.Steps.{works_out}
 use Rattle.tinkey_words.specs.declared.words.rows.Format.{Format}
 use Rattle.tinkey_words.specs.declared.words.rows.SealedForm.{SealedForm}
 use Rattle.tinkey_words.specs.declared.words.rows.SealedForm.TheVariants as sealed
 use Rattle.tinkey_words.specs.Words.{Lock}
-
--- ---- the records
-
--- its output prefix is this
-abbrev pub stands_under : (front : List ℕ) → Record → Bool
-stands_under front r = same_prefix (prefix_of r) (Some front)
-
--- the records whose output prefix this is, of any status, in order
-abbrev pub named : Keys → (front : List ℕ) → List Record
-named keys front = filter (stands_under front) keys.records
-
--- how many of the records have none
-abbrev pub raw_count : Keys → ℕ
-raw_count keys = length (filter is_raw keys.records)
-
--- it may have made bytes with this front: that is its output prefix, or it has none
-abbrev pub may_have_made : (front : List ℕ) → Record → Bool
-may_have_made front r = is_raw r || stands_under front r
 
 -- ---- what is told
 

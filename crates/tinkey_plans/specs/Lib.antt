@@ -10,6 +10,7 @@ pub mod Naming
 pub mod Misfits
 pub mod Plan
 pub mod Promises
+pub mod Sealers
 pub mod SelfTesting
 pub mod Ranging
 pub mod Retiring

@@ -1,16 +1,18 @@
--- What key-of tells of bytes that the primary key of a keyset made.
+-- What key-of tells of bytes that the primary key of a keyset made, and what is told of bytes that no key opens.
 --
 --   NamesPrefix   the records that are named are exactly those with this output prefix
 --   KeyOfTells    so it is of what is sealed, tagged, or sealed in an envelope; and where nothing is told
-use Rattle.std.specs.Prelude.{◌≡◌, ◌↔◌, ℕ, List, [], Option, Some, None, Ok}
+--   SealersAreNamed   the record that is told of bytes that no key opens is one that key-of names
+use Rattle.std.specs.Prelude.{◌≡◌, ◌↔◌, ℕ, true, List, [], Option, Some, None, Ok}
 use Rattle.std.specs.List.{Contains}
 use Rattle.key_msgs.specs.Templates.{Row}
-use Rattle.keyset_model.specs.Keyset.{Keys, primary_of}
+use Rattle.keyset_model.specs.Keyset.{Keys, is_enabled, primary_of}
 use Rattle.keyset_model.specs.declared.record.Record.{Record}
 use Rattle.managers.specs.Schemes.{Scheme}
 use Rattle.managers.specs.Table.{Table}
 use Rattle.seal_wrap.specs.Enveloped.{envelope_of}
-use Rattle.tinkey_plans.specs.KeyOf.{front_of, key_of_answer, named, raw_count}
+use Rattle.tinkey_plans.specs.KeyOf.{front_of, key_of_answer}
+use Rattle.tinkey_plans.specs.Sealers.{named, raw_count, record_named, sealer_under, told_none, told_record}
 use Rattle.tinkey_words.specs.declared.words.rows.SealedForm.{SealedForm}
 use Rattle.tinkey_words.specs.declared.words.rows.SealedForm.TheVariants as forms
 use Rattle.wrapped_prims.specs.Answers.{Sealed, dseal_answer, seal_answer, tag_answer}
@@ -50,3 +52,21 @@ pub record KeyOfTells : Type 0 where
       → prefix_of r ≡ prefix_of other
   pub untold : (keys : Keys) (front : List ℕ)
       → (key_of_answer keys front ≡ None) ↔ ((named keys front ≡ []) × (raw_count keys ≡ 0))
+
+-- A record is one of those that key-of names for this front; and it is ENABLED if any of them is.
+pub record IsOneNamed (keys : Keys) (front : List ℕ) (r : Record) : Type 0 where
+  pub among : Contains (named keys front) r
+  pub enabled : (other : Record) → Contains (named keys front) other → is_enabled other ≡ true
+      → is_enabled r ≡ true
+
+-- Of bytes that no key opens such a record is told, by its id and its status; where key-of names none, it is told
+-- that there is none.
+pub record SealersAreNamed : Type 0 where
+  pub one : (keys : Keys) (front : List ℕ) (r : Record) → record_named keys front ≡ Some r
+      → IsOneNamed keys front r
+  pub told : (keys : Keys) (front : List ℕ) (r : Record) → record_named keys front ≡ Some r
+      → sealer_under keys front ≡ told_record r
+  pub none : (keys : Keys) (front : List ℕ)
+      → (record_named keys front ≡ None) ↔ (named keys front ≡ [])
+  pub untold : (keys : Keys) (front : List ℕ) → named keys front ≡ []
+      → sealer_under keys front ≡ told_none keys

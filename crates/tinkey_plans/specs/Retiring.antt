@@ -12,7 +12,8 @@ use Rattle.managers.specs.Schemes.{Scheme}
 use Rattle.managers.specs.Table.{Table}
 use Rattle.seal_wrap.specs.Enveloped.{open_envelope_of}
 use Rattle.tinkey_cmds.specs.Edits.{Edit, Disable, Destroy, Delete, step}
-use Rattle.tinkey_plans.specs.KeyOf.{front_of, may_have_made}
+use Rattle.tinkey_plans.specs.KeyOf.{front_of}
+use Rattle.tinkey_plans.specs.Sealers.{may_have_made}
 use Rattle.tinkey_words.specs.declared.words.rows.SealedForm.TheVariants as forms
 use Rattle.wrapped_prims.specs.Answers.{dopen_answer, open_answer, verify_answer}
 

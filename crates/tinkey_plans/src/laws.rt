@@ -1,7 +1,7 @@
 //! Laws of what the program answers. These functions do nothing: their contracts are the laws.
 
 ghost use Rattle.tinkey_plans.specs.Going.{DoneExactly, FitKeysetsSeal};
-ghost use Rattle.tinkey_plans.specs.Naming.{KeyOfTells};
+ghost use Rattle.tinkey_plans.specs.Naming.{KeyOfTells, SealersAreNamed};
 ghost use Rattle.tinkey_plans.specs.Retiring.{RetiringLosesNothing};
 ghost use Rattle.tinkey_plans.specs.Laws.{CommandsAreWhole, DataKeysCome, FitKeysetsAnswer, RangesReadLittle, SelfTestRuns, SelfTestsTell};
 
@@ -67,4 +67,10 @@ pub fn key_of_tells()
 /// `key-of` doesn't name it, and which isn't RAW.
 pub fn retiring_loses_nothing()
     ensures { RetiringLosesNothing }
+{}
+
+/// The second line of what no key opens tells one of the records that `key-of` names: one that is ENABLED, if any of
+/// them is. It tells that there is none exactly where `key-of` names none.
+pub fn sealers_are_named()
+    ensures { SealersAreNamed }
 {}

@@ -12,8 +12,10 @@ mod diagnostic;
 mod help;
 pub mod laws;
 mod misfit;
+mod sealer;
 mod status;
 
 pub use diagnostic::{report, starve};
 pub use help::{help_text, version_text};
+pub use sealer::{Sealer, Unopened};
 pub use status::Status;

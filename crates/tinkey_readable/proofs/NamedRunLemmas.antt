@@ -9,10 +9,11 @@ use Rattle.keyset_model.specs.declared.record.Record.{Record}
 use Rattle.managers.specs.Standard.{standard_table}
 use Rattle.managers.specs.Uses.{dseal_of, tag_of, tagged}
 use Rattle.tinkey_plans.proofs.NamingLemmas.{Behind, alike, five_bytes, made_behind, names, sealed_behind, some_may, text_front}
-use Rattle.tinkey_plans.specs.KeyOf.{front_of, front_size, key_of_answer, key_of_lines, may_have_made, named, tells_keys, with_lines}
+use Rattle.tinkey_plans.specs.KeyOf.{front_of, front_size, key_of_answer, key_of_lines, tells_keys, with_lines}
 use Rattle.tinkey_plans.specs.Laws.{FitKeysetsAnswer}
 use Rattle.tinkey_plans.specs.Naming.{IsPrimaryPrefix}
 use Rattle.tinkey_plans.specs.Plan.{Answer, Told, answer, writes}
+use Rattle.tinkey_plans.specs.Sealers.{may_have_made, named}
 use Rattle.tinkey_plans.specs.Steps.{keyset_limit}
 use Rattle.tinkey_readable.proofs.AnywhereLemmas.{dseal_maker, seal_maker, tag_maker}
 use Rattle.tinkey_readable.proofs.ReachLemmas.{load_reached}

@@ -8,8 +8,9 @@ use Rattle.keyset_model.specs.Keyset.{Keys}
 use Rattle.keyset_model.specs.declared.record.Record.{Record}
 use Rattle.managers.specs.Standard.{standard_table}
 use Rattle.tinkey_plans.specs.Commands.{command_plan}
-use Rattle.tinkey_plans.specs.KeyOf.{key_of_lines, named}
+use Rattle.tinkey_plans.specs.KeyOf.{key_of_lines}
 use Rattle.tinkey_plans.specs.Plan.{Told, answer}
+use Rattle.tinkey_plans.specs.Sealers.{named}
 use Rattle.tinkey_plans.specs.Steps.{keyset_limit}
 use Rattle.tinkey_plans.specs.declared.status.Status.TheVariants as status
 use Rattle.tinkey_readable.specs.Anywhere.{WasMadeBy}

@@ -8,7 +8,8 @@ ghost use Rattle.keyset_model.specs.Keyset.{IsKnown};
 ghost use Rattle.keyset_model.specs.Listing.{escaped, escaped_byte};
 ghost use Rattle.tink_spec.specs.Outside.{Gave, IsAtEnd, Rose, Stood};
 ghost use Rattle.tinkey_plans.specs.Ends.{World};
-ghost use Rattle.tinkey_plans.specs.KeyOf.{front_size, key_line, key_of_answer, key_of_lines, key_of_output, may_have_made, named, raw_count, stands_under, tells_keys, with_lines};
+ghost use Rattle.tinkey_plans.specs.KeyOf.{front_size, key_line, key_of_answer, key_of_lines, key_of_output, tells_keys, with_lines};
+ghost use Rattle.tinkey_plans.specs.Sealers.{may_have_made, named, raw_count, stands_under};
 ghost use Rattle.tinkey_plans.specs.Plan.{reads_front};
 ghost use Rattle.tinkey_plans.specs.Steps.{Passes, PassesAs};
 ghost use Rattle.tinkey_words.specs.Words.{seen_lock};
@@ -108,7 +109,7 @@ fn read_on<S: Source>(source: &mut S, front: &mut [u8], at: usize) -> Result<usi
 }
 
 /// What stands behind the four bytes of a length; nothing where there are fewer.
-fn behind_length(bytes: &[u8]) -> &[u8]
+pub(crate) fn behind_length(bytes: &[u8]) -> &[u8]
     ensures { result.now ≡ drop 4 bytes.now }
 {
     if bytes.len() < 4 {
@@ -179,7 +180,7 @@ fn push_under(out: &mut Vec<u8>, key: &Record, front: &[u8]) -> Result<(), NoMem
 }
 
 /// How many records have no output prefix.
-fn raw_count(keyset: &Keyset) -> usize
+pub(crate) fn raw_count(keyset: &Keyset) -> usize
     ensures { result ≡ raw_count keyset.now }
 {
     let mut count = 0;
@@ -212,7 +213,7 @@ fn is_raw(key: &Record) -> bool
 }
 
 /// The record's output prefix is this front.
-fn stands_under(key: &Record, front: &[u8]) -> bool
+pub(crate) fn stands_under(key: &Record, front: &[u8]) -> bool
     ensures { result ≡ stands_under front.now key.now }
 {
     match prefix_of(key) {

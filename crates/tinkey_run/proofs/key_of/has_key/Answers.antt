@@ -1,5 +1,5 @@
 use Rattle.std.proofs.Common.{◌∙◌, sym}
-use Rattle.tinkey_plans.specs.KeyOf.{may_have_made}
+use Rattle.tinkey_plans.specs.Sealers.{may_have_made}
 use Rattle.tinkey_run.proofs.KeyOfLemmas.{any_here, any_more}
 use Rattle.tinkey_run.proofs.key_of.has_key.Goals as goal
 

@@ -1,6 +1,7 @@
 use Rattle.std.proofs.Common.{arith, take, ◌≡◌}
 use Rattle.std.proofs.lemmas.List.{take_all}
-use Rattle.tinkey_plans.specs.KeyOf.{key_line, stands_under}
+use Rattle.tinkey_plans.specs.KeyOf.{key_line}
+use Rattle.tinkey_plans.specs.Sealers.{stands_under}
 use Rattle.tinkey_run.proofs.KeyOfLemmas.{told_next}
 use Rattle.tinkey_run.proofs.key_of.push_lines.Goals as goal
 
