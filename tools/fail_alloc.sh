@@ -228,7 +228,7 @@ ends same "$(zeros 16 | shaped same)" none
 refuse open open --keyset gcm --keyset-format binary
 hex "${sealed%??}de" | takes
 ends same '' none
-status=1 line='tinkey: open failed'
+status=1 line=$'tinkey: open failed\ntinkey: sealed under key 16909060, which is ENABLED: other associated data, or the text was changed'
 refuse closed open --keyset gcm --keyset-format binary
 envelope=0000003301010203040000000000000000000000001998dace60b6a392f328c2b971b2fe78f7956d5be285ef332e80174f60c6e290b102
 envelope=${envelope}000000000000000000000000${sealed:34}

@@ -20,7 +20,10 @@ use Rattle.tinkey_plans.specs.Steps.{has_no_key, with_keyset, with_json, keyset_
 use Rattle.tinkey_plans.specs.Handles.{unless_unfit}
 use Rattle.tinkey_plans.specs.Using.{seals, with_opened, with_verified, with_derived, works}
 use Rattle.tinkey_plans.specs.Locks.{keyset_under, limit_under, loads_locked, opens_lock, opens_master, opens_new_lock, takes_locked, takes_under, writes_under}
-use Rattle.tinkey_plans.specs.Wrapping.{is_json, is_keyset, makes_wrapped, with_unwrapped, wrapped_limit, wraps}
+use Rattle.tinkey_plans.specs.declared.sealer.Sealer.{Sealer}
+use Rattle.tinkey_plans.specs.declared.sealer.Unopened.{Unopened}
+use Rattle.tinkey_plans.specs.declared.sealer.Unopened.TheVariants as unopened
+use Rattle.tinkey_plans.specs.Wrapping.{is_json, is_keyset, keyset_sealer, makes_wrapped, with_unwrapped, wrapped_limit, wraps}
 use Rattle.seal_wrap.specs.Unwrapped as unwrapped
 use Rattle.seal_wrap.specs.Unwrapped.{is_wrapped_binary, is_wrapped_json, unwrap_of}
 use Rattle.tinkey_words.specs.Words.{AskedEdit, AskedEnvelope, AskedWork, Lock, Master, NewLock, Place, as_taken, in_clear, under, to_eseal, to_eopen, to_ereseal, to_seal, to_open, to_dseal, to_dopen, to_reseal, to_dreseal, to_tag, to_verify, to_derive}
@@ -105,9 +108,9 @@ fit_each P c (Some (i, NoManager)) next all = c.ended _ _
 fit_each P c (Some (i, BadKey rule)) next all = c.ended _ _
 fit_each P c (Some (i, NotRaw)) next all = c.ended _ _
 
-pub opened_each : (P : Plan → Type 0) → IsClosed P → (found : Option (List ℕ)) (next : List ℕ → Plan) → AreAll P next → P (with_opened found next)
-opened_each P c None next all = c.ended _ _
-opened_each P c (Some plain) next all = all plain
+pub opened_each : (P : Plan → Type 0) → IsClosed P → (what : Unopened) (sealer : Sealer) (found : Option (List ℕ)) (next : List ℕ → Plan) → AreAll P next → P (with_opened what sealer found next)
+opened_each P c what sealer None next all = c.ended _ _
+opened_each P c what sealer (Some plain) next all = all plain
 
 pub verified_each : (P : Plan → Type 0) → IsClosed P → (b : Bool) (next : List ℕ → Plan) → AreAll P next → P (with_verified b next)
 verified_each P c true next all = all []
@@ -116,14 +119,14 @@ verified_each P c false next all = c.ended _ _
 pub wrapped_each : (P : Plan → Type 0) → IsClosed P → (keys master : Keys) (table : Table) (form : Format) → IsClosedAt P sealings (wraps keys master table form) → (next : List ℕ → Plan) → AreAll P next → P (makes_wrapped keys master table form next)
 wrapped_each P c keys master table form drawn next all = c.allocated _ (drawn _ (λ made. c.allocated _ (made_each P c made _ (λ text. within_each P c (nat_le (length text) wrapped_limit) (next text) (all text)))))
 
-pub unwrapped_each : (P : Plan → Type 0) → IsClosed P → (clear : Bool) (r : Result Keys unwrapped.Refusal) (next : Keys → Plan) → AreAll P next → P (with_unwrapped clear r next)
-unwrapped_each P c clear (Ok keys) next all = all keys
-unwrapped_each P c clear (Err (unwrapped.OuterWire at)) next all = c.ended _ _
-unwrapped_each P c clear (Err unwrapped.NotJson) next all = c.ended _ _
-unwrapped_each P c clear (Err unwrapped.Member) next all = c.ended _ _
-unwrapped_each P c clear (Err unwrapped.NotOpened) next all = ended_each P c clear status.KeysetInClear status.OpenFailed tt tt
-unwrapped_each P c clear (Err (unwrapped.InnerWire at)) next all = c.ended _ _
-unwrapped_each P c clear (Err (unwrapped.Fault fault)) next all = c.ended _ _
+pub unwrapped_each : (P : Plan → Type 0) → IsClosed P → (clear : Bool) (sealer : Sealer) (r : Result Keys unwrapped.Refusal) (next : Keys → Plan) → AreAll P next → P (with_unwrapped clear sealer r next)
+unwrapped_each P c clear sealer (Ok keys) next all = all keys
+unwrapped_each P c clear sealer (Err (unwrapped.OuterWire at)) next all = c.ended _ _
+unwrapped_each P c clear sealer (Err unwrapped.NotJson) next all = c.ended _ _
+unwrapped_each P c clear sealer (Err unwrapped.Member) next all = c.ended _ _
+unwrapped_each P c clear sealer (Err unwrapped.NotOpened) next all = ended_each P c clear status.KeysetInClear (status.OpenFailed unopened.Keyset sealer) tt tt
+unwrapped_each P c clear sealer (Err (unwrapped.InnerWire at)) next all = c.ended _ _
+unwrapped_each P c clear sealer (Err (unwrapped.Fault fault)) next all = c.ended _ _
 
 -- such a plan is so, too, that loads the bytes of a keyset, or reads them
 pub record IsOpen (P : Plan → Type 0) : Type 0 where
@@ -137,7 +140,7 @@ bytes_each P o limit None next all = o.read limit next all
 
 keyset_under_each : (P : Plan → Type 0) → IsOpen P → (table : Table) (master : Option Keys) (form : Format) (bytes : List ℕ) (next : Keys → Plan) → AreAll P next → P (keyset_under table master form bytes next)
 keyset_under_each P o table None form bytes next all = keyset_each P o.closed form bytes next all
-keyset_under_each P o table (Some master) form bytes next all = o.closed.allocated _ (unwrapped_each P o.closed (is_keyset form bytes) (unwrap_of master table bytes (is_json form)) next all)
+keyset_under_each P o table (Some master) form bytes next all = o.closed.allocated _ (unwrapped_each P o.closed (is_keyset form bytes) (keyset_sealer form master bytes) (unwrap_of master table bytes (is_json form)) next all)
 
 master_each : (P : Plan → Type 0) → IsOpen P → (table : Table) (master : Master) (next : Option Keys → Plan) → AreAll P next → P (opens_master table master next)
 master_each P o table master next all = o.loaded keyset_limit master.file _ (λ bytes. keyset_each P o.closed master.form bytes _ (λ keys. o.closed.allocated _ (fit_each P o.closed (unfit keys Aead table) _ (all (Some keys)))))
@@ -180,11 +183,11 @@ derived_each P c asked (Some (Err greatest)) next all = c.ended _ _
 
 pub work_each : (P : Plan → Type 0) → IsClosed P → (table : Table) (keys : Keys) (work : AskedWork) (input : List ℕ) → ((plain ad : List ℕ) → IsClosedAt P sealings (seals keys table plain ad)) → (next : List ℕ → Plan) → AreAll P next → P (works table keys work input next)
 work_each P c table keys (to_seal ad) input drawn next all = c.allocated _ (drawn input ad _ (λ made. c.allocated _ (made_each P c made next all)))
-work_each P c table keys (to_open ad) input drawn next all = c.allocated _ (opened_each P c (open_answer keys table input ad) next all)
+work_each P c table keys (to_open ad) input drawn next all = c.allocated _ (opened_each P c _ _ (open_answer keys table input ad) next all)
 work_each P c table keys (to_dseal ad) input drawn next all = c.allocated _ (all _)
-work_each P c table keys (to_dopen ad) input drawn next all = c.allocated _ (opened_each P c (dopen_answer keys table input ad) next all)
-work_each P c table keys (to_reseal ad) input drawn next all = c.allocated _ (opened_each P c (open_answer keys table input ad) _ (λ plain. c.allocated _ (drawn plain ad _ (λ made. c.allocated _ (made_each P c made next all)))))
-work_each P c table keys (to_dreseal ad) input drawn next all = c.allocated _ (opened_each P c (dopen_answer keys table input ad) _ (λ plain. c.allocated _ (all _)))
+work_each P c table keys (to_dopen ad) input drawn next all = c.allocated _ (opened_each P c _ _ (dopen_answer keys table input ad) next all)
+work_each P c table keys (to_reseal ad) input drawn next all = c.allocated _ (opened_each P c _ _ (open_answer keys table input ad) _ (λ plain. c.allocated _ (drawn plain ad _ (λ made. c.allocated _ (made_each P c made next all)))))
+work_each P c table keys (to_dreseal ad) input drawn next all = c.allocated _ (opened_each P c _ _ (dopen_answer keys table input ad) _ (λ plain. c.allocated _ (all _)))
 work_each P c table keys to_tag input drawn next all = c.allocated _ (all _)
 work_each P c table keys (to_verify tag) input drawn next all = c.allocated _ (verified_each P c (verify_answer keys table tag input) next all)
 work_each P c table keys (to_derive size) input drawn next all = c.allocated _ (derived_each P c size (derive_answer keys table input size) next all)
@@ -207,11 +210,11 @@ pub enveloped_each : (P : Plan → Type 0) → IsClosed P → (r : Result (List 
 enveloped_each P c (Ok bytes) next all = all bytes
 enveloped_each P c (Err rule) next all = c.ended _ _
 
-pub parts_each : (P : Plan → Type 0) → IsClosed P → (found : Option Parts) (next : Parts → Plan) → AreAll P next → P (with_parts found next)
-parts_each P c None next all = c.ended _ _
-parts_each P c (Some parts) next all = all parts
+pub parts_each : (P : Plan → Type 0) → IsClosed P → (sealer : Sealer) (found : Option Parts) (next : Parts → Plan) → AreAll P next → P (with_parts sealer found next)
+parts_each P c sealer None next all = c.ended _ _
+parts_each P c sealer (Some parts) next all = all parts
 
 pub envelope_each : (P : Plan → Type 0) → IsClosed P → (table : Table) (keys : Keys) (scheme : Scheme) (row : Row) (work : AskedEnvelope) (input : List ℕ) → ((ad : List ℕ) → IsClosedAt P envelopings (seals_envelope keys table scheme row input ad)) → ((plain ad : List ℕ) → IsClosedAt P sealings (seals keys table plain ad)) → (next : List ℕ → Plan) → AreAll P next → P (envelopes table keys scheme row work input next)
 envelope_each P c table keys scheme row (to_eseal ad) input drawn sealed next all = c.allocated _ (drawn ad _ (λ made. c.allocated _ (made_each P c made _ (λ enveloped. enveloped_each P c enveloped next all))))
-envelope_each P c table keys scheme row (to_eopen ad) input drawn sealed next all = c.allocated _ (opened_each P c (open_envelope_of keys table scheme input ad) next all)
-envelope_each P c table keys scheme row to_ereseal input drawn sealed next all = c.allocated _ (parts_each P c (parts_in keys table scheme input) _ (λ parts. c.allocated _ (sealed parts.value [] _ (λ made. c.allocated _ (made_each P c made _ (λ key. all (envelope key parts.payload)))))))
+envelope_each P c table keys scheme row (to_eopen ad) input drawn sealed next all = c.allocated _ (opened_each P c _ _ (open_envelope_of keys table scheme input ad) next all)
+envelope_each P c table keys scheme row to_ereseal input drawn sealed next all = c.allocated _ (parts_each P c _ (parts_in keys table scheme input) _ (λ parts. c.allocated _ (sealed parts.value [] _ (λ made. c.allocated _ (made_each P c made _ (λ key. all (envelope key parts.payload)))))))

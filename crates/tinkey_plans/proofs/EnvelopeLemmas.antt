@@ -41,7 +41,10 @@ use Rattle.tinkey_plans.specs.Locks.{loads_locked, opens_lock, takes_under}
 use Rattle.tinkey_plans.specs.Steps.{has_no_key, keyset_in, keyset_limit, loads_bytes, puts, reads_input, with_json, with_keyset, with_made, with_row}
 use Rattle.tinkey_plans.specs.Handles.{handles, unless_unfit}
 use Rattle.tinkey_plans.specs.Using.{with_opened}
-use Rattle.tinkey_plans.specs.Wrapping.{is_json, is_keyset, unwraps, with_unwrapped, wrapped_limit}
+use Rattle.tinkey_plans.specs.declared.sealer.Sealer.{Sealer}
+use Rattle.tinkey_plans.specs.declared.sealer.Unopened.{Unopened}
+use Rattle.tinkey_plans.specs.declared.sealer.Unopened.TheVariants as unopened
+use Rattle.tinkey_plans.specs.Wrapping.{is_json, is_keyset, keyset_sealer, unwraps, with_unwrapped, wrapped_limit}
 
 -- a template that is found stands in the table
 found_contains : {A : Type 0} (p : A → Bool) (xs : List A) (x : A) → find p xs ≡ Some x → Contains xs x
@@ -84,9 +87,9 @@ clear_puts None output = clear_writes output
 
 -- ---- the work
 
-clear_opened : (o : Option (List ℕ)) (out : Option (List ℕ)) → Clears (with_opened o (puts out))
-clear_opened None out = clear_end status.OpenFailed tt (λ d. d)
-clear_opened (Some plain) out = clear_puts out plain
+clear_opened : (what : Unopened) (sealer : Sealer) (o : Option (List ℕ)) (out : Option (List ℕ)) → Clears (with_opened what sealer o (puts out))
+clear_opened what sealer None out = clear_end (status.OpenFailed what sealer) tt (λ d. d)
+clear_opened what sealer (Some plain) out = clear_puts out plain
 
 clear_sealing : (given : Result (List ℕ) CmdFault) (payload : List ℕ) (out : Option (List ℕ)) → Clears (with_made given (λ sealed. puts out (envelope sealed payload)))
 clear_sealing (Ok sealed) payload out = clear_puts out (envelope sealed payload)
@@ -100,9 +103,9 @@ clear_resealed keys parts out old s new (inl (draw_failed is only spent)) d = su
 clear_resealed keys parts out old s new (inl (draw_starved partly is only drawn drew stood none)) d = subst IsDekStatus is d
 clear_resealed keys parts out old s new (inr (is, same)) d = subst IsDekStatus is d
 
-clear_parts : (o : Option Parts) (keys : Keys) (out : Option (List ℕ)) → Clears (with_parts o (λ parts. reseals_key standard_table keys parts (puts out)))
-clear_parts None keys out = clear_end status.OpenFailed tt (λ d. d)
-clear_parts (Some parts) keys out = clear_resealed keys parts out
+clear_parts : (sealer : Sealer) (o : Option Parts) (keys : Keys) (out : Option (List ℕ)) → Clears (with_parts sealer o (λ parts. reseals_key standard_table keys parts (puts out)))
+clear_parts sealer None keys out = clear_end (status.OpenFailed unopened.DataKey sealer) tt (λ d. d)
+clear_parts sealer (Some parts) keys out = clear_resealed keys parts out
 
 clear_enveloped : (r : Result (List ℕ) Rule) (out : Option (List ℕ)) → ((rule : Rule) → r ≡ Err rule → ⊥) → Clears (with_enveloped r (puts out))
 clear_enveloped (Ok bytes) out never = clear_puts out bytes
@@ -144,8 +147,8 @@ no_refusal valid keys scheme row plain ad drawn rule known served settles =
     under_never keys (data_key_of row (take (random_of row) random)) plain ad (drop (random_of row) random) _ _ (nat_lt (length random) (random_of row)) e.0 rule (valid row scheme (take (random_of row) random) known served whole) e.1 e.2
 
 clear_work : DataKeysAreValid → (keys : Keys) (scheme : Scheme) (row : Row) (work : AskedEnvelope) (out : Option (List ℕ)) (input : List ℕ) → IsDataKeyRow row → scheme_at standard_table Aead (url_made row) ≡ Some scheme → Clears (envelopes standard_table keys scheme row work input (puts out))
-clear_work valid keys scheme row (to_eopen ad) out input known served old s new run d = clear_memory _ (clear_opened (open_envelope_of keys standard_table scheme input ad) out) old s new run d
-clear_work valid keys scheme row to_ereseal out input known served old s new run d = clear_memory _ (clear_parts (parts_in keys standard_table scheme input) keys out) old s new run d
+clear_work valid keys scheme row (to_eopen ad) out input known served old s new run d = clear_memory _ (clear_opened _ _ (open_envelope_of keys standard_table scheme input ad) out) old s new run d
+clear_work valid keys scheme row to_ereseal out input known served old s new run d = clear_memory _ (clear_parts _ (parts_in keys standard_table scheme input) keys out) old s new run d
 clear_work valid keys scheme row (to_eseal ad) out input known served old s new (inl (settled drawn entropy given drew stood settles run)) d =
     clear_memory _ (clear_made given out (λ rule e. no_refusal valid keys scheme row input ad drawn rule known served (subst (λ g. Settles (seals_envelope keys standard_table scheme row input ad) drawn g) e settles))) (record old { entropy = entropy }) s new run d
 clear_work valid keys scheme row (to_eseal ad) out input known served old s new (inl (draw_failed is only spent)) d = subst IsDekStatus is d
@@ -195,18 +198,18 @@ clear_load limit name next clear old s new (load_long is only kept stood given h
 clear_load limit name next clear old s new (load_failed is only kept rose given) d = subst IsDekStatus is d
 clear_load limit name next clear old s new (load_starved is only kept stood given) d = subst IsDekStatus is d
 
-clear_unwrapped : (clear' : Bool) (r : Result Keys unwrapped.Refusal) (next : Keys → Plan) → ((keys : Keys) → Clears (next keys)) → Clears (with_unwrapped clear' r next)
-clear_unwrapped clear' (Err (unwrapped.OuterWire at)) next clear = clear_end (status.BadProto at) tt (λ d. d)
-clear_unwrapped clear' (Err unwrapped.NotJson) next clear = clear_end status.NotJson tt (λ d. d)
-clear_unwrapped clear' (Err unwrapped.Member) next clear = clear_end status.WrappedMember tt (λ d. d)
-clear_unwrapped clear' (Err unwrapped.NotOpened) next clear = clear_either clear' status.KeysetInClear status.OpenFailed tt tt (λ d. d) (λ d. d)
-clear_unwrapped clear' (Err (unwrapped.InnerWire at)) next clear = clear_end (status.BadProto at) tt (λ d. d)
-clear_unwrapped clear' (Err (unwrapped.Fault fault)) next clear = clear_end (status.Keyset fault) tt (λ d. d)
-clear_unwrapped clear' (Ok keys) next clear = clear keys
+clear_unwrapped : (clear' : Bool) (sealer : Sealer) (r : Result Keys unwrapped.Refusal) (next : Keys → Plan) → ((keys : Keys) → Clears (next keys)) → Clears (with_unwrapped clear' sealer r next)
+clear_unwrapped clear' sealer (Err (unwrapped.OuterWire at)) next clear = clear_end (status.BadProto at) tt (λ d. d)
+clear_unwrapped clear' sealer (Err unwrapped.NotJson) next clear = clear_end status.NotJson tt (λ d. d)
+clear_unwrapped clear' sealer (Err unwrapped.Member) next clear = clear_end status.WrappedMember tt (λ d. d)
+clear_unwrapped clear' sealer (Err unwrapped.NotOpened) next clear = clear_either clear' status.KeysetInClear (status.OpenFailed unopened.Keyset sealer) tt tt (λ d. d) (λ d. d)
+clear_unwrapped clear' sealer (Err (unwrapped.InnerWire at)) next clear = clear_end (status.BadProto at) tt (λ d. d)
+clear_unwrapped clear' sealer (Err (unwrapped.Fault fault)) next clear = clear_end (status.Keyset fault) tt (λ d. d)
+clear_unwrapped clear' sealer (Ok keys) next clear = clear keys
 
 clear_under : (master : Option Keys) (name : List ℕ) (form : Format) (next : Keys → Plan) → ((keys : Keys) → Clears (next keys)) → Clears (takes_under standard_table master (record { file = Some name; form = form }) next)
 clear_under None name form next clear = clear_load keyset_limit name (λ bytes. keyset_in form bytes next) (λ bytes. clear_keyset form bytes next clear)
-clear_under (Some master) name form next clear = clear_load wrapped_limit name (λ text. unwraps master standard_table form text next) (λ text. clear_memory (with_unwrapped (is_keyset form text) (unwrap_of master standard_table text (is_json form)) next) (clear_unwrapped (is_keyset form text) (unwrap_of master standard_table text (is_json form)) next clear))
+clear_under (Some master) name form next clear = clear_load wrapped_limit name (λ text. unwraps master standard_table form text next) (λ text. clear_memory (with_unwrapped (is_keyset form text) (keyset_sealer form master text) (unwrap_of master standard_table text (is_json form)) next) (clear_unwrapped (is_keyset form text) (keyset_sealer form master text) (unwrap_of master standard_table text (is_json form)) next clear))
 
 clear_lock : (lock : Lock) (next : Option Keys → Plan) → ((master : Option Keys) → Clears (next master)) → Clears (opens_lock standard_table lock next)
 clear_lock None next clear = clear None

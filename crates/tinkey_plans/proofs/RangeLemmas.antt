@@ -31,7 +31,8 @@ use Rattle.tinkey_plans.specs.Ranging.{opens_stretch, range_output, stretch_for,
 use Rattle.tinkey_plans.specs.Steps.{has_no_key, keyset_in, keyset_limit, puts, with_json, with_keyset}
 use Rattle.tinkey_plans.specs.Streaming.{keys_for, unless_unfit, with_keys}
 use Rattle.tinkey_plans.specs.Stretch.{Opened, Stretch, GivesAtMost}
-use Rattle.tinkey_plans.specs.Wrapping.{is_json, is_keyset, with_unwrapped, wrapped_limit}
+use Rattle.tinkey_plans.specs.declared.sealer.Sealer.{Sealer}
+use Rattle.tinkey_plans.specs.Wrapping.{ends_unopened, is_json, is_keyset, keyset_sealer, with_unwrapped, wrapped_limit}
 use Rattle.tinkey_plans.proofs.GivenLemmas.{none_given}
 use Rattle.tinkey_words.specs.declared.words.misuse.Misuse.{Misuse}
 use Rattle.tinkey_words.specs.Words.{Asked, AskedRange, Lock, Master}
@@ -114,23 +115,23 @@ keyset_ends formats.Binary bytes next old s new (inl run) = binary_ends (is_wrap
 keyset_ends formats.Binary bytes next old s new (inr (is, same)) = inl same
 
 -- under a master
-unopened_ends : (clear : Bool) (old : World) (s : Status) (new : World) → Ends (if clear then ends status.KeysetInClear tt else ends status.OpenFailed tt) old s new → old ≡ new
-unopened_ends true old s new (is, same) = same
-unopened_ends false old s new (is, same) = same
+unopened_ends : (clear : Bool) (sealer : Sealer) (old : World) (s : Status) (new : World) → Ends (ends_unopened clear sealer) old s new → old ≡ new
+unopened_ends true sealer old s new (is, same) = same
+unopened_ends false sealer old s new (is, same) = same
 
-given_ends : (clear : Bool) (table : Table) (master : Keys) (form : Format) (bytes : List ℕ) (r : Result Keys unwrapping.Refusal) (next : Keys → Plan) (old : World) (s : Status) (new : World) → unwrap_of master table bytes (is_json form) ≡ r → Ends (with_unwrapped clear r next) old s new
+given_ends : (clear : Bool) (sealer : Sealer) (table : Table) (master : Keys) (form : Format) (bytes : List ℕ) (r : Result Keys unwrapping.Refusal) (next : Keys → Plan) (old : World) (s : Status) (new : World) → unwrap_of master table bytes (is_json form) ≡ r → Ends (with_unwrapped clear sealer r next) old s new
     → (old ≡ new) ⊎ WentOn (λ keys. unwrap_of master table bytes (is_json form) ≡ Ok keys) next old s new
-given_ends clear table master form bytes (Err (unwrapping.OuterWire at)) next old s new r (is, same) = inl same
-given_ends clear table master form bytes (Err unwrapping.NotJson) next old s new r (is, same) = inl same
-given_ends clear table master form bytes (Err unwrapping.Member) next old s new r (is, same) = inl same
-given_ends clear table master form bytes (Err unwrapping.NotOpened) next old s new r run = inl (unopened_ends clear old s new run)
-given_ends clear table master form bytes (Err (unwrapping.InnerWire at)) next old s new r (is, same) = inl same
-given_ends clear table master form bytes (Err (unwrapping.Fault fault)) next old s new r (is, same) = inl same
-given_ends clear table master form bytes (Ok keys) next old s new r run = inr (record { value = keys; is = r; run = run })
+given_ends clear sealer table master form bytes (Err (unwrapping.OuterWire at)) next old s new r (is, same) = inl same
+given_ends clear sealer table master form bytes (Err unwrapping.NotJson) next old s new r (is, same) = inl same
+given_ends clear sealer table master form bytes (Err unwrapping.Member) next old s new r (is, same) = inl same
+given_ends clear sealer table master form bytes (Err unwrapping.NotOpened) next old s new r run = inl (unopened_ends clear sealer old s new run)
+given_ends clear sealer table master form bytes (Err (unwrapping.InnerWire at)) next old s new r (is, same) = inl same
+given_ends clear sealer table master form bytes (Err (unwrapping.Fault fault)) next old s new r (is, same) = inl same
+given_ends clear sealer table master form bytes (Ok keys) next old s new r run = inr (record { value = keys; is = r; run = run })
 
 under_ends : (table : Table) (master : Option Keys) (form : Format) (bytes : List ℕ) (next : Keys → Plan) (old : World) (s : Status) (new : World) → Ends (keyset_under table master form bytes next) old s new → (old ≡ new) ⊎ WentOn (λ keys. GivesKeysetIn table master form bytes keys) next old s new
 under_ends table None form bytes next old s new run = keyset_ends form bytes next old s new run
-under_ends table (Some master) form bytes next old s new (inl run) = given_ends (is_keyset form bytes) table master form bytes (unwrap_of master table bytes (is_json form)) next old s new refl run
+under_ends table (Some master) form bytes next old s new (inl run) = given_ends (is_keyset form bytes) (keyset_sealer form master bytes) table master form bytes (unwrap_of master table bytes (is_json form)) next old s new refl run
 under_ends table (Some master) form bytes next old s new (inr (is, same)) = inl same
 
 -- a master that can serve

@@ -18,6 +18,9 @@ use Rattle.tinkey_plans.specs.Plan.{Plan, ends, allocates, draws, envelopings}
 use Rattle.tinkey_plans.specs.Handles.{handles}
 use Rattle.tinkey_plans.specs.Locks.{loads_locked}
 use Rattle.tinkey_plans.specs.Steps.{finds_template, input_limit, reads_input, sealed_limit, with_made}
+use Rattle.tinkey_plans.specs.Sealers.{envelope_sealer_of}
+use Rattle.tinkey_plans.specs.declared.sealer.Sealer.{Sealer}
+use Rattle.tinkey_plans.specs.declared.sealer.Unopened.TheVariants as unopened
 use Rattle.tinkey_plans.specs.Using.{seals_plain, with_opened}
 use Rattle.tinkey_words.specs.declared.words.rows.Format.{Format}
 use Rattle.tinkey_words.specs.Words.{AskedEnvelope, Lock, to_eseal, to_eopen, to_ereseal}
@@ -59,10 +62,10 @@ abbrev pub with_enveloped : Result (List ℕ) Rule → (List ℕ → Plan) → P
 with_enveloped (Ok bytes) next = next bytes
 with_enveloped (Err rule) next = ends (status.DekRefused rule) tt
 
--- the parts of an envelope go on, or its data key didn't open
-abbrev pub with_parts : Option Parts → (Parts → Plan) → Plan
-with_parts None next = ends status.OpenFailed tt
-with_parts (Some parts) next = next parts
+-- the parts of an envelope go on, or its data key didn't open, and this is told of the key that sealed it
+abbrev pub with_parts : Sealer → Option Parts → (Parts → Plan) → Plan
+with_parts sealer None next = ends (status.OpenFailed unopened.DataKey sealer) tt
+with_parts sealer (Some parts) next = next parts
 
 -- the message of the data key, sealed anew under the primary key, before the same payload
 abbrev pub reseals_key : Table → Keys → Parts → (List ℕ → Plan) → Plan
@@ -75,9 +78,10 @@ envelopes table keys scheme row (to_eseal ad) input next =
     allocates (draws envelopings (seals_envelope keys table scheme row input ad)
     (λ made. allocates (with_made made (λ enveloped. with_enveloped enveloped next))))
 envelopes table keys scheme row (to_eopen ad) input next =
-    allocates (with_opened (open_envelope_of keys table scheme input ad) next)
+    allocates (with_opened unopened.Envelope (envelope_sealer_of keys input)
+    (open_envelope_of keys table scheme input ad) next)
 envelopes table keys scheme row to_ereseal input next =
-    allocates (with_parts (parts_in keys table scheme input)
+    allocates (with_parts (envelope_sealer_of keys input) (parts_in keys table scheme input)
     (λ parts. reseals_key table keys parts next))
 
 -- how many bytes the input of such work may have

@@ -67,30 +67,31 @@ writes_under table (Some master) form keys next =
 abbrev pub puts_under : Table → (master : Option Keys) → Place → Keys → Plan
 puts_under table master place keys = writes_under table master place.form keys (puts place.file)
 
--- What is held of a lock, with the table that it is held under, fits a master's keyset: the keys of that can
+-- What is held of a lock, with the table that it is held under, is a master's keyset, with its keys, which can
 -- serve; without a lock, nothing is held.
-abbrev pub Holds : Option (Table × Held) → Table → (master : Option Keys) → Type 0
+abbrev pub Holds : Option (Table × Keys × Held) → Table → (master : Option Keys) → Type 0
 Holds None table None = Unit {0}
-Holds (Some (own, held)) table (Some master) = (own ≡ table) × IsOver own Aead master held
+Holds (Some (own, keys, held)) table (Some master) =
+    (own ≡ table) × (keys ≡ master) × IsOver own Aead master held
 Holds _ table master = ⊥
 
 -- so it is held
-pub record IsLock (held : Option (Table × Held)) (table : Table) (master : Option Keys) : Type 0 where
+pub record IsLock (held : Option (Table × Keys × Held)) (table : Table) (master : Option Keys) : Type 0 where
   pub is : Holds held table master
 
 -- what is held is some lock
-abbrev pub IsSomeLock : Option (Table × Held) → Type 0
+abbrev pub IsSomeLock : Option (Table × Keys × Held) → Type 0
 IsSomeLock held = (table : Table) × (master : Option Keys) × IsLock held table master
 
 -- a step that opens a lock gave what is held of it, or ended the whole
-abbrev pub Opens : {A : Type 0} → (A → Option (Table × Held)) → Table
+abbrev pub Opens : {A : Type 0} → (A → Option (Table × Keys × Held)) → Table
     → ((Option Keys → Plan) → Plan) → World → Result A Status → World → Type 0
 Opens held table step old (Ok lock) new =
     (master : Option Keys) × IsLock (held lock) table master × Passes step old (Ok master) new
 Opens held table step old (Err s) new = Passes {A = Option Keys} step old (Err s) new
 
 -- it did so
-pub record PassesLock {A : Type 0} (held : A → Option (Table × Held)) (table : Table)
+pub record PassesLock {A : Type 0} (held : A → Option (Table × Keys × Held)) (table : Table)
     (step : (Option Keys → Plan) → Plan) (old : World) (result : Result A Status) (new : World)
     : Type 0 where
   pub passes : Opens held table step old result new

@@ -85,6 +85,7 @@ keyset_sealer_of master encrypted = sealer_of master (encrypted_bytes encrypted)
 unfoldable pub none_text : Unopened → List ℕ
 none_text unopened.Text = codes "the text names no key of this keyset"
 none_text unopened.Envelope = codes "the envelope names no key of this keyset"
+none_text unopened.DataKey = codes "the envelope names no key of this keyset"
 none_text unopened.Keyset = codes "the keyset names no key of the master"
 
 -- what is said of an ENABLED key, which opened nothing
@@ -93,6 +94,8 @@ enabled_text unopened.Text =
     codes ", which is ENABLED: other associated data, or the text was changed"
 enabled_text unopened.Envelope =
     codes ", which is ENABLED: other associated data or --dek-template, or the envelope was changed"
+enabled_text unopened.DataKey =
+    codes ", which is ENABLED: another --dek-template, or the envelope was changed"
 enabled_text unopened.Keyset =
     codes " of the master, which is ENABLED: other associated data, or the keyset was changed"
 

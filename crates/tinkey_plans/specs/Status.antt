@@ -10,6 +10,7 @@ use Rattle.tinkey_session.specs.declared.reply.Refusal.TheVariants as refused
 use Rattle.tinkey_session.specs.Texts.{refusal_text}
 use Rattle.tinkey_plans.specs.Help.{help_text}
 use Rattle.tinkey_plans.specs.Misfits.{misfit_line}
+use Rattle.tinkey_plans.specs.Sealers.{sealer_line}
 use Rattle.tinkey_plans.specs.declared.status.Status.{Status}
 use Rattle.tinkey_plans.specs.declared.status.Status.TheVariants as status
 use Rattle.tinkey_words.specs.declared.words.help.Topic.TheVariants as topics
@@ -17,7 +18,7 @@ use Rattle.tinkey_words.specs.declared.words.help.Topic.TheVariants as topics
 -- the exit code
 abbrev pub code_of : Status → ℕ
 code_of status.Done = 0
-code_of status.OpenFailed = 1
+code_of (status.OpenFailed what sealer) = 1
 code_of status.KeysetInClear = 1
 code_of status.VerifyFailed = 1
 code_of status.NoKeyOf = 1
@@ -79,7 +80,7 @@ key_text (Some i) = codes " of key " ++ decimal i
 -- told by the same texts.
 unfoldable pub text_of : Status → List ℕ
 text_of status.Done = []
-text_of status.OpenFailed = refusal_text refused.OpenFailed
+text_of (status.OpenFailed what sealer) = refusal_text refused.OpenFailed
 text_of status.KeysetInClear = refusal_text refused.OpenFailed
 text_of status.VerifyFailed = refusal_text refused.VerifyFailed
 text_of status.NoKeyOf = codes "no key of the keyset"
@@ -132,11 +133,12 @@ unfoldable pub in_clear_line : List ℕ
 in_clear_line = codes "tinkey: this is a keyset in clear: leave --master out\n"
 
 -- what stands behind the line: where there was no word, the list of the commands; where one was at fault, a
--- second line that tells why; and where a keyset in clear stands for an encrypted one, or the other way round,
--- a second line that says so
+-- second line that tells why; where no key opens a text, one that tells under which it was sealed; and where a
+-- keyset in clear stands for an encrypted one, or the other way round, one that says so
 unfoldable pub behind_line : Status → List ℕ
 behind_line status.NoWords = help_text topics.Commands
 behind_line (status.Usage misuse) = misfit_line misuse.why
+behind_line (status.OpenFailed what sealer) = sealer_line what sealer
 behind_line (status.ProtoLocked at) = locked_line
 behind_line (status.KeysetLocked fault) = locked_line
 behind_line status.KeysetInClear = in_clear_line

@@ -1,6 +1,6 @@
 -- Work by the keys of a keyset, as steps of plans. What the keys answer is said apart from plans, in
 -- Fitness and Answers of wrapped_prims.
-use Rattle.std.specs.Prelude.{ℕ, Bool, true, false, List, [], ◌++◌, Option, Some, None, Result, Ok, Err, codes}
+use Rattle.std.specs.Prelude.{◌≡◌, ℕ, Bool, true, false, List, [], ◌++◌, Option, Some, None, Result, Ok, Err, codes}
 use Rattle.std.specs.Option.{option_map}
 use Rattle.hex.specs.Hex.{encode_lower}
 use Rattle.key_msgs.specs.declared.primitive.Primitive.{Primitive}
@@ -10,6 +10,9 @@ use Rattle.tinkey_cmds.specs.Draws.{Draw, Drawn}
 use Rattle.wrapped_prims.specs.Answers.{Sealed, seal_answer, open_answer, dseal_answer, dopen_answer, tag_answer, verify_answer, derive_answer}
 use Rattle.wrapped_prims.specs.Making.{IsOver}
 use Rattle.wrapped_prims.specs.declared.held.Held.{Held}
+use Rattle.tinkey_plans.specs.declared.sealer.Sealer.{Sealer}
+use Rattle.tinkey_plans.specs.declared.sealer.Unopened.{Unopened}
+use Rattle.tinkey_plans.specs.declared.sealer.Unopened.TheVariants as unopened
 use Rattle.tinkey_plans.specs.declared.status.Status.{Status}
 use Rattle.tinkey_plans.specs.declared.status.Status.TheVariants as status
 use Rattle.tinkey_words.specs.declared.words.rows.Format.{Format}
@@ -17,6 +20,7 @@ use Rattle.tinkey_plans.specs.Plan.{Plan, ends, allocates, draws, sealings}
 use Rattle.tinkey_plans.specs.Ends.{World}
 use Rattle.tinkey_plans.specs.Handles.{handles}
 use Rattle.tinkey_plans.specs.Locks.{loads_locked}
+use Rattle.tinkey_plans.specs.Sealers.{sealer_of}
 use Rattle.tinkey_plans.specs.Steps.{input_limit, sealed_limit, puts, reads_input, works_out, with_made, Passes}
 use Rattle.tinkey_words.specs.Words.{AskedWork, Lock, to_seal, to_open, to_dseal, to_dopen, to_reseal, to_dreseal, to_tag, to_verify, to_derive, primitive_for, Output}
 
@@ -28,10 +32,10 @@ as_drawn sealed = record { answer = Ok sealed.bytes; left = sealed.left }
 abbrev pub seals : Keys → Table → (plain ad : List ℕ) → Draw (List ℕ)
 seals keys table plain ad random = option_map as_drawn (seal_answer keys table plain ad random)
 
--- the plaintext goes on, or nothing opened
-abbrev pub with_opened : Option (List ℕ) → (List ℕ → Plan) → Plan
-with_opened None next = ends status.OpenFailed tt
-with_opened (Some plain) next = next plain
+-- the plaintext goes on, or nothing opened, and this is told of the key that sealed it
+abbrev pub with_opened : Unopened → Sealer → Option (List ℕ) → (List ℕ → Plan) → Plan
+with_opened what sealer None next = ends (status.OpenFailed what sealer) tt
+with_opened what sealer (Some plain) next = next plain
 
 -- the tag is one of the keyset's, and nothing is put out; or it isn't
 abbrev pub with_verified : Bool → (List ℕ → Plan) → Plan
@@ -63,15 +67,15 @@ dseals_plain table keys plain ad next =
 abbrev pub works : Table → Keys → AskedWork → List ℕ → (List ℕ → Plan) → Plan
 works table keys (to_seal ad) input next = seals_plain table keys input ad next
 works table keys (to_open ad) input next =
-    allocates (with_opened (open_answer keys table input ad) next)
+    allocates (with_opened unopened.Text (sealer_of keys input) (open_answer keys table input ad) next)
 works table keys (to_dseal ad) input next = dseals_plain table keys input ad next
 works table keys (to_dopen ad) input next =
-    allocates (with_opened (dopen_answer keys table input ad) next)
+    allocates (with_opened unopened.Text (sealer_of keys input) (dopen_answer keys table input ad) next)
 works table keys (to_reseal ad) input next =
-    allocates (with_opened (open_answer keys table input ad)
+    allocates (with_opened unopened.Text (sealer_of keys input) (open_answer keys table input ad)
     (λ plain. seals_plain table keys plain ad next))
 works table keys (to_dreseal ad) input next =
-    allocates (with_opened (dopen_answer keys table input ad)
+    allocates (with_opened unopened.Text (sealer_of keys input) (dopen_answer keys table input ad)
     (λ plain. dseals_plain table keys plain ad next))
 works table keys to_tag input next = works_out (made_bytes (tag_answer keys table input)) next
 works table keys (to_verify tag) input next =
@@ -112,4 +116,11 @@ puts_output out bytes = shows out.hex bytes (puts out.file)
 abbrev pub Works : Table → Held → AskedWork → List ℕ → World → Result (List ℕ) Status → World → Type 0
 Works table held work input old result new =
     (keys : Keys) → IsOver table (primitive_for work) keys held
+    → Passes (works table keys work input) old result new
+
+-- the same, where this is told of the key that sealed the input
+abbrev pub WorksTelling : Table → Held → Sealer → AskedWork → List ℕ → World → Result (List ℕ) Status → World
+    → Type 0
+WorksTelling table held sealer work input old result new =
+    (keys : Keys) → IsOver table (primitive_for work) keys held → sealer ≡ sealer_of keys input
     → Passes (works table keys work input) old result new

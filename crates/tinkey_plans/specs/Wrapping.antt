@@ -8,11 +8,14 @@ use Rattle.keyset_json.specs.Reading.{reads_json}
 use Rattle.keyset_model.specs.Keyset.{Keys}
 use Rattle.keyset_model.specs.Reading.{reads_binary}
 use Rattle.managers.specs.Table.{Table}
-use Rattle.seal_wrap.specs.Unwrapped.{Refusal, OuterWire, NotJson, Member, NotOpened, InnerWire, Fault, unwrap_of}
+use Rattle.seal_wrap.specs.Unwrapped.{Refusal, OuterWire, NotJson, Member, NotOpened, InnerWire, Fault, sealed_in, unwrap_of}
 use Rattle.seal_wrap.specs.Wrapped.{Wrapped, wrap_of}
 use Rattle.seal_wrap.specs.declared.unwrapping.UnwrapFault.{UnwrapFault}
 use Rattle.seal_wrap.specs.declared.unwrapping.UnwrapFault.TheVariants as faults
 use Rattle.tinkey_cmds.specs.Draws.{Draw, Drawn}
+use Rattle.tinkey_plans.specs.Sealers.{keyset_sealer_of}
+use Rattle.tinkey_plans.specs.declared.sealer.Sealer.{Sealer}
+use Rattle.tinkey_plans.specs.declared.sealer.Unopened.TheVariants as unopened
 use Rattle.tinkey_plans.specs.declared.status.Status.{Status}
 use Rattle.tinkey_plans.specs.declared.status.Status.TheVariants as status
 use Rattle.tinkey_plans.specs.Plan.{Plan, ends, allocates, draws, sealings}
@@ -63,36 +66,44 @@ abbrev pub is_keyset : Format → List ℕ → Bool
 is_keyset formats.Json bytes = is_ok (reads_json bytes)
 is_keyset formats.Binary bytes = is_ok (reads_binary bytes)
 
--- the status of a text that doesn't open, and is a keyset in clear or isn't
-abbrev pub unopened_status : (clear : Bool) → Status
-unopened_status clear = if clear then status.KeysetInClear else status.OpenFailed
+-- what is told of the key that sealed a wrapped text, by its encrypted bytes
+abbrev pub keyset_sealer : Format → (master : Keys) → (text : List ℕ) → Sealer
+keyset_sealer form master text = keyset_sealer_of master (sealed_in (is_json form) text)
+
+-- the status of a text that doesn't open, and is a keyset in clear or isn't: then this is told of the key that
+-- sealed it
+abbrev pub unopened_status : (clear : Bool) → Sealer → Status
+unopened_status clear sealer =
+    if clear then status.KeysetInClear else status.OpenFailed unopened.Keyset sealer
 
 -- it is the answer
-abbrev pub ends_unopened : (clear : Bool) → Plan
-ends_unopened clear = if clear then ends status.KeysetInClear tt else ends status.OpenFailed tt
+abbrev pub ends_unopened : (clear : Bool) → Sealer → Plan
+ends_unopened clear sealer =
+    if clear then ends status.KeysetInClear tt else ends (status.OpenFailed unopened.Keyset sealer) tt
 
 -- the keyset goes on, or why the text gives none is the answer. A place in the keyset inside is told as
 -- one in the text around it is.
-abbrev pub with_unwrapped : (clear : Bool) → Result Keys Refusal → (Keys → Plan) → Plan
-with_unwrapped clear (Err (OuterWire at)) next = ends (status.BadProto at) tt
-with_unwrapped clear (Err NotJson) next = ends status.NotJson tt
-with_unwrapped clear (Err Member) next = ends status.WrappedMember tt
-with_unwrapped clear (Err NotOpened) next = ends_unopened clear
-with_unwrapped clear (Err (InnerWire at)) next = ends (status.BadProto at) tt
-with_unwrapped clear (Err (Fault fault)) next = ends (status.Keyset fault) tt
-with_unwrapped clear (Ok keys) next = next keys
+abbrev pub with_unwrapped : (clear : Bool) → Sealer → Result Keys Refusal → (Keys → Plan) → Plan
+with_unwrapped clear sealer (Err (OuterWire at)) next = ends (status.BadProto at) tt
+with_unwrapped clear sealer (Err NotJson) next = ends status.NotJson tt
+with_unwrapped clear sealer (Err Member) next = ends status.WrappedMember tt
+with_unwrapped clear sealer (Err NotOpened) next = ends_unopened clear sealer
+with_unwrapped clear sealer (Err (InnerWire at)) next = ends (status.BadProto at) tt
+with_unwrapped clear sealer (Err (Fault fault)) next = ends (status.Keyset fault) tt
+with_unwrapped clear sealer (Ok keys) next = next keys
 
 -- the same statuses, of the code's faults
-abbrev pub unwrap_refusal : (clear : Bool) → UnwrapFault → Status
-unwrap_refusal clear (faults.OuterWire at) = status.BadProto at
-unwrap_refusal clear faults.NotJson = status.NotJson
-unwrap_refusal clear faults.Member = status.WrappedMember
-unwrap_refusal clear faults.NotOpened = unopened_status clear
-unwrap_refusal clear (faults.InnerWire at) = status.BadProto at
-unwrap_refusal clear (faults.Fault fault) = status.Keyset fault
-unwrap_refusal clear faults.NoMemory = status.NoMemory
+abbrev pub unwrap_refusal : (clear : Bool) → Sealer → UnwrapFault → Status
+unwrap_refusal clear sealer (faults.OuterWire at) = status.BadProto at
+unwrap_refusal clear sealer faults.NotJson = status.NotJson
+unwrap_refusal clear sealer faults.Member = status.WrappedMember
+unwrap_refusal clear sealer faults.NotOpened = unopened_status clear sealer
+unwrap_refusal clear sealer (faults.InnerWire at) = status.BadProto at
+unwrap_refusal clear sealer (faults.Fault fault) = status.Keyset fault
+unwrap_refusal clear sealer faults.NoMemory = status.NoMemory
 
 -- the keyset that a wrapped text gives under its master
 abbrev pub unwraps : (master : Keys) → Table → Format → (text : List ℕ) → (Keys → Plan) → Plan
 unwraps master table form text next =
-    allocates (with_unwrapped (is_keyset form text) (unwrap_of master table text (is_json form)) next)
+    allocates (with_unwrapped (is_keyset form text) (keyset_sealer form master text)
+    (unwrap_of master table text (is_json form)) next)

@@ -8,6 +8,7 @@ ghost use Rattle.tinkey_cmds.specs.declared.command.CmdFault.TheVariants as edit
 ghost use Rattle.tinkey_session.specs.declared.reply.Refusal.TheVariants as refused;
 
 use crate::misfit::misfit_line;
+use crate::sealer::sealer_line;
 use crate::{Status, help_text};
 use key_msgs::Rule;
 use keyset_json::{Member, Path};
@@ -18,8 +19,8 @@ use tinkey_session::{Refusal, ShortText, refusal_text};
 use tinkey_words::Topic;
 
 /// Writes the line of a status, and what stands behind it: the list of the commands where there was no
-/// word, why the word is at fault where one is, and that a keyset is in clear or encrypted where it should be
-/// the other. A fault of `diag` changes no status.
+/// word, why the word is at fault where one is, under which key a text was sealed that doesn't open, and that a
+/// keyset is in clear or encrypted where it should be the other. A fault of `diag` changes no status.
 pub fn report<G: Sink>(diag: &mut G, status: Status)
     ensures { Reports status (G.state diag.old) (G.state diag.new) }
 {
@@ -37,6 +38,9 @@ fn write_behind<G: Sink>(diag: &mut G, status: Status)
     match status {
         Status::NoWords => write_text(diag, help_text(Topic::Commands).as_bytes()),
         Status::Usage(misuse) => write_text(diag, misfit_line(misuse.why).as_slice()),
+        Status::OpenFailed(what, sealer) => {
+            write_text(diag, sealer_line(what, sealer).as_slice());
+        }
         Status::ProtoLocked(_) | Status::KeysetLocked(_) => {
             write_text(diag, locked_line().as_slice());
         }
@@ -107,7 +111,7 @@ fn push_text(line: &mut ShortText, status: Status)
 {
     match status {
         Status::Done => {}
-        Status::OpenFailed | Status::KeysetInClear => push_refusal(line, Refusal::OpenFailed),
+        Status::OpenFailed(_, _) | Status::KeysetInClear => push_refusal(line, Refusal::OpenFailed),
         Status::VerifyFailed => push_refusal(line, Refusal::VerifyFailed),
         Status::NoKeyOf => line.push("no key of the keyset"),
         Status::StreamFailed(number) => push_segment(line, number),

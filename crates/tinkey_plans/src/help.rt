@@ -300,12 +300,14 @@ A command that fails prints a line on standard error and ends with an exit code.
 0  done, and no line
 
 1  open failed
-     No ENABLED key of the keyset opens these bytes with these associated data: another key
-     sealed them, the associated data differ, or the bytes are cut or altered. Give the same
-     --ad; check that the key is still there and ENABLED (list-keyset). Open what seal,
-     dseal, sseal or eseal made with open, dopen, sopen or eopen; an envelope needs a
-     template of its data key's kind. For an encrypted keyset: the master is another one or
-     lacks the key that sealed, or the input is a keyset in clear.
+     No ENABLED key of the keyset opens these bytes with these associated data. A second
+     line says under which key they were sealed, by the output prefix in front. If it is
+     DISABLED, enable it first; if it was DESTROYED, nothing opens them any more. If it is
+     ENABLED, give the same --ad; otherwise the bytes are cut or altered. If the bytes name
+     no key, use the keyset that they were sealed under (key-of tries one); it may be that a
+     RAW key of it is DISABLED. Open what seal, dseal, sseal or eseal made with open, dopen,
+     sopen or eopen; an envelope needs a template of its data key's kind. For an encrypted
+     keyset the second line is about the master's keys, or says that the keyset is in clear.
 
 1  verify failed
      No ENABLED key makes this tag of this input. Give the whole tag with its prefix, in

@@ -13,6 +13,8 @@ pub enum Unopened {
     Text,
     /// An envelope, under the keys of a keyset.
     Envelope,
+    /// The data key of an envelope alone, under the keys of a keyset.
+    DataKey,
     /// An encrypted keyset, under the keys of its master.
     Keyset,
 }
@@ -102,6 +104,7 @@ fn none_text(what: Unopened) -> &'static str
     match what {
         Unopened::Text => "the text names no key of this keyset",
         Unopened::Envelope => "the envelope names no key of this keyset",
+        Unopened::DataKey => "the envelope names no key of this keyset",
         Unopened::Keyset => "the keyset names no key of the master",
     }
 }
@@ -116,6 +119,9 @@ fn enabled_text(what: Unopened) -> &'static str
         Unopened::Text => ", which is ENABLED: other associated data, or the text was changed",
         Unopened::Envelope => {
             ", which is ENABLED: other associated data or --dek-template, or the envelope was changed"
+        }
+        Unopened::DataKey => {
+            ", which is ENABLED: another --dek-template, or the envelope was changed"
         }
         Unopened::Keyset => {
             " of the master, which is ENABLED: other associated data, or the keyset was changed"
@@ -133,6 +139,7 @@ fn disabled_text(what: Unopened) -> &'static str
         Unopened::Keyset => " of the master, which is DISABLED",
         Unopened::Text => ", which is DISABLED",
         Unopened::Envelope => ", which is DISABLED",
+        Unopened::DataKey => ", which is DISABLED",
     }
 }
 
@@ -146,5 +153,6 @@ fn destroyed_text(what: Unopened) -> &'static str
         Unopened::Keyset => " of the master, which was DESTROYED",
         Unopened::Text => ", which was DESTROYED",
         Unopened::Envelope => ", which was DESTROYED",
+        Unopened::DataKey => ", which was DESTROYED",
     }
 }

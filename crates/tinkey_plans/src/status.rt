@@ -2,6 +2,7 @@
 
 ghost use Rattle.std.specs.Prelude.{◌≡◌};
 
+use crate::{Sealer, Unopened};
 use key_msgs::Rule;
 use keyset_json::Path;
 use keyset_model::KeysetFault;
@@ -17,8 +18,8 @@ use tinkey_words::Misuse;
 pub enum Status {
     /// The command was done.
     Done,
-    /// No key of the keyset opens the input.
-    OpenFailed,
+    /// No key of the keyset opens this, and so much is told of the key that sealed it.
+    OpenFailed(Unopened, Sealer),
     /// The master opens no keyset in the text, which is a keyset in clear.
     KeysetInClear,
     /// The tag is none of the keyset's keys.
@@ -102,7 +103,7 @@ impl Status {
     {
         match self {
             Status::Done => 0,
-            Status::OpenFailed
+            Status::OpenFailed(_, _)
             | Status::KeysetInClear
             | Status::VerifyFailed
             | Status::NoKeyOf

@@ -51,6 +51,8 @@ use Rattle.tinkey_readable.proofs.LyingLemmas.{given_is_keyset, same_lying, take
 use Rattle.tinkey_readable.proofs.PutLemmas.{envelope_worked, made_is, made_put, made_written}
 use Rattle.tinkey_readable.proofs.RangeRunLemmas.{puts_reached, range_past, range_within, stretch_reached}
 use Rattle.tinkey_readable.proofs.ReachLemmas.{IsDoneAnswer, behind, bytes_put, load_reached, put_done}
+use Rattle.tinkey_plans.specs.Sealers.{envelope_sealer_of}
+use Rattle.tinkey_plans.specs.declared.sealer.Unopened.TheVariants as unopened
 use Rattle.tinkey_readable.proofs.RunLemmas.{Started, done_within, dsealed_by, dsealed_fits, finished, opens_so, read_keyset, sealed_by, sealed_fits, started, tagged_by}
 use Rattle.tinkey_readable.proofs.StreamKeyLemmas.{first_under, fit_sound, opens_under, primary_gives, primary_key_there, sound_key}
 use Rattle.tinkey_readable.proofs.StreamRunLemmas.{chosen_so, keys_loaded, keys_reached, opened_so, opens_alone, sealed_by as stream_by, with_primary}
@@ -330,7 +332,7 @@ is_opened other keys row scheme template again ad sealed plain named aead served
     let found = map_some type_made (row_named again) (type_made row) (sym one_type ∙ ap (option_map type_made) named) in
     λ t file name out there input free.
     let r' = used_reached standard_table (lock_in other.master file) name other.text.form again found.0 scheme (to_eopen ad) (puts out) keys t found.1 (ap primitive_of_type found.2 ∙ aead) (ap (λ made. scheme_at standard_table Aead (url_of_type made)) found.2 ∙ served) (taken_behind other keys t file name serves.taken there) serves.fit (subst (λ i. length i ≤ sealed_limit) (sym input) short) in
-    let g = opens_so (open_envelope_of keys standard_table scheme t.input ad) plain (record t { input = [] }) (ap (λ i. open_envelope_of keys standard_table scheme i ad) input ∙ opened) in
+    let g = opens_so unopened.Envelope (envelope_sealer_of keys t.input) (open_envelope_of keys standard_table scheme t.input ad) plain (record t { input = [] }) (ap (λ i. open_envelope_of keys standard_table scheme i ad) input ∙ opened) in
     let opening = envelope_worked standard_table keys scheme found.0 (to_eopen ad) t.input writes (record t { input = [] }) g.0 in
     let p = made_put (envelopes standard_table keys scheme found.0 (to_eopen ad) t.input) (record t { input = [] }) false out plain opening g.1 free in
     (ap (λ (a : Answer). a.status) r' ∙ p.0, ap (λ (a : Answer). bytes_at out a.files a.output) r' ∙ p.1)

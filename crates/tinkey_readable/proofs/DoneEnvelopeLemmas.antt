@@ -14,6 +14,9 @@ use Rattle.tinkey_plans.specs.Commands.{command_plan}
 use Rattle.tinkey_plans.specs.Envelopes.{as_enveloped, envelopes, reseals_key, with_enveloped, with_parts}
 use Rattle.tinkey_plans.specs.Plan.{Answer, Plan, Told, answer, draw_answer, refused, writes}
 use Rattle.tinkey_plans.specs.Steps.{puts, with_made}
+use Rattle.tinkey_plans.specs.Sealers.{envelope_sealer_of}
+use Rattle.tinkey_plans.specs.declared.sealer.Sealer.{Sealer}
+use Rattle.tinkey_plans.specs.declared.sealer.Unopened.TheVariants as unopened
 use Rattle.tinkey_plans.specs.Using.{as_drawn, with_opened}
 use Rattle.tinkey_words.specs.declared.words.rows.Format.{Format}
 use Rattle.tinkey_words.specs.Words.{AskedEnvelope, Lock, to_eopen, to_ereseal, to_eseal, use_envelope}
@@ -46,17 +49,17 @@ abbrev resealed_so : (next : List ℕ → Plan) → (payload : List ℕ) → Tol
 resealed_so next payload told o =
     draw_answer (option_map as_drawn o) (refused told status.EntropyFault) (λ (d : Drawn (List ℕ)). answer (with_made d.answer (λ sealed. next (envelope sealed payload))) (record told { random = d.left }))
 
-resealed_goes : (table : Table) (keys : Keys) (o : Option Parts) (next : List ℕ → Plan) (told : Told) → IsDoneAnswer (answer (with_parts o (λ parts. reseals_key table keys parts next)) told) → (resealed : Sealed) × (option_and_then (seal_parts keys table told.random) o ≡ Some resealed)
-resealed_goes table keys None next told done = absurd (cc)
-resealed_goes table keys (Some parts) next told done = by (seal_answer keys table parts.value [] told.random) done
+resealed_goes : (table : Table) (keys : Keys) (sealer : Sealer) (o : Option Parts) (next : List ℕ → Plan) (told : Told) → IsDoneAnswer (answer (with_parts sealer o (λ parts. reseals_key table keys parts next)) told) → (resealed : Sealed) × (option_and_then (seal_parts keys table told.random) o ≡ Some resealed)
+resealed_goes table keys sealer None next told done = absurd (cc)
+resealed_goes table keys sealer (Some parts) next told done = by (seal_answer keys table parts.value [] told.random) done
   where
     by : (o : Option Sealed) → IsDoneAnswer (resealed_so next parts.payload told o) → (resealed : Sealed) × (option_map (with_payload parts.payload) o ≡ Some resealed)
     by (Some sealed) done = (with_payload parts.payload sealed, refl)
     by None done = absurd (cc)
 
-resealed_done : (table : Table) (keys : Keys) (o : Option Parts) (told : Told) (resealed : Sealed) → option_and_then (seal_parts keys table told.random) o ≡ Some resealed → IsDoneAnswer (answer (with_parts o (λ parts. reseals_key table keys parts writes)) told)
-resealed_done table keys None told resealed goes = absurd (cc)
-resealed_done table keys (Some parts) told resealed goes = by (seal_answer keys table parts.value [] told.random) goes
+resealed_done : (table : Table) (keys : Keys) (sealer : Sealer) (o : Option Parts) (told : Told) (resealed : Sealed) → option_and_then (seal_parts keys table told.random) o ≡ Some resealed → IsDoneAnswer (answer (with_parts sealer o (λ parts. reseals_key table keys parts writes)) told)
+resealed_done table keys sealer None told resealed goes = absurd (cc)
+resealed_done table keys sealer (Some parts) told resealed goes = by (seal_answer keys table parts.value [] told.random) goes
   where
     by : (o : Option Sealed) → option_map (with_payload parts.payload) o ≡ Some resealed → IsDoneAnswer (resealed_so writes parts.payload told o)
     by (Some sealed) goes = refl
@@ -64,13 +67,13 @@ resealed_done table keys (Some parts) told resealed goes = by (seal_answer keys 
 
 goes_of : (table : Table) (keys : Keys) (scheme : Scheme) (row : Row) (work : AskedEnvelope) (input : List ℕ) (next : List ℕ → Plan) (told : Told) → IsDoneAnswer (answer (envelopes table keys scheme row work input next) told) → EnvelopeGoes table keys scheme row work input told.random
 goes_of table keys scheme row (to_eseal ad) input next told done = sealed_goes table keys scheme row ad input next told done
-goes_of table keys scheme row (to_eopen ad) input next told done = opened_goes (open_envelope_of keys table scheme input ad) next told done
-goes_of table keys scheme row to_ereseal input next told done = resealed_goes table keys (parts_in keys table scheme input) next told done
+goes_of table keys scheme row (to_eopen ad) input next told done = opened_goes unopened.Envelope (envelope_sealer_of keys input) (open_envelope_of keys table scheme input ad) next told done
+goes_of table keys scheme row to_ereseal input next told done = resealed_goes table keys (envelope_sealer_of keys input) (parts_in keys table scheme input) next told done
 
 done_of : (table : Table) (keys : Keys) (scheme : Scheme) (row : Row) (work : AskedEnvelope) (input : List ℕ) (told : Told) → EnvelopeGoes table keys scheme row work input told.random → IsDoneAnswer (answer (envelopes table keys scheme row work input writes) told)
 done_of table keys scheme row (to_eseal ad) input told goes = ap (λ o. (sealed_so writes told o).status) goes.2
-done_of table keys scheme row (to_eopen ad) input told goes = ap (λ o. (answer (with_opened o writes) told).status) goes.1
-done_of table keys scheme row to_ereseal input told goes = resealed_done table keys (parts_in keys table scheme input) told goes.0 goes.1
+done_of table keys scheme row (to_eopen ad) input told goes = ap (λ o. (answer (with_opened unopened.Envelope (envelope_sealer_of keys input) o writes) told).status) goes.1
+done_of table keys scheme row to_ereseal input told goes = resealed_done table keys (envelope_sealer_of keys input) (parts_in keys table scheme input) told goes.0 goes.1
 
 envelope_is : (table : Table) (lock : Lock) (name : List ℕ) (form : Format) (template : List ℕ) (work : AskedEnvelope) (out : Option (List ℕ)) (told : Told) → IsDoneAnswer (answer (command_plan table (use_envelope lock name form template work out)) told) → EnvelopeIsDone table lock name form template work out told
 envelope_is table lock name form template work out told is =

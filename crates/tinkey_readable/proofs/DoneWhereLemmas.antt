@@ -21,6 +21,10 @@ use Rattle.tinkey_plans.specs.Laws.{FitKeysetsAnswer, IsFit}
 use Rattle.tinkey_plans.specs.Locks.{opens_lock, opens_new_lock, puts_under, takes_under}
 use Rattle.tinkey_plans.specs.Plan.{Answer, Plan, Told, answer, draw_answer, refused, writes}
 use Rattle.tinkey_plans.specs.Steps.{finds_edit, makes_keyset, puts, with_made, with_row, works_out}
+use Rattle.tinkey_plans.specs.Sealers.{sealer_of}
+use Rattle.tinkey_plans.specs.declared.sealer.Sealer.{Sealer}
+use Rattle.tinkey_plans.specs.declared.sealer.Unopened.{Unopened}
+use Rattle.tinkey_plans.specs.declared.sealer.Unopened.TheVariants as unopened
 use Rattle.tinkey_plans.specs.Using.{as_drawn, dseals_plain, hex_line, limit_for, puts_output, seals_plain, shows, with_derived, with_opened, with_verified, works}
 use Rattle.tinkey_words.specs.Words.{AskedEdit, AskedWork, Lock, NewLock, Output, Place, convert_keyset, create_keyset, edit_keyset, use_keyset, to_seal, to_open, to_dseal, to_dopen, to_reseal, to_dreseal, to_tag, to_verify, to_derive, primitive_for}
 use Rattle.tinkey_readable.specs.DoneWhere.{ConvertGoes, CreateGoes, EditGoes, EditsDone, HasIv, WorkGoes, WorkIsDone, WorksDone}
@@ -180,9 +184,9 @@ edits_done = record {
 
 -- ---- work on a whole input
 
-pub opened_goes : (o : Option (List ℕ)) (next : List ℕ → Plan) (told : Told) → IsDoneAnswer (answer (with_opened o next) told) → (plain : List ℕ) × (o ≡ Some plain)
-opened_goes (Some plain) next told done = (plain, refl)
-opened_goes None next told done = absurd (cc)
+pub opened_goes : (what : Unopened) (sealer : Sealer) (o : Option (List ℕ)) (next : List ℕ → Plan) (told : Told) → IsDoneAnswer (answer (with_opened what sealer o next) told) → (plain : List ℕ) × (o ≡ Some plain)
+opened_goes what sealer (Some plain) next told done = (plain, refl)
+opened_goes what sealer None next told done = absurd (cc)
 
 verified_goes : (b : Bool) (next : List ℕ → Plan) (told : Told) → IsDoneAnswer (answer (with_verified b next) told) → b ≡ true
 verified_goes true next told done = refl
@@ -204,15 +208,15 @@ work_goes : FitKeysetsAnswer → FitKeysetsSeal → (table : Table) (keys : Keys
 work_goes answers seals table keys (to_seal ad) input next told fit done =
     let key = seals table keys input ad told.random fit in
     (key.0, key.1, key.2.1 (sealed_goes table keys ad input next told done))
-work_goes answers seals table keys (to_open ad) input next told fit done = opened_goes (open_answer keys table input ad) next told done
+work_goes answers seals table keys (to_open ad) input next told fit done = opened_goes unopened.Text (sealer_of keys input) (open_answer keys table input ad) next told done
 work_goes answers seals table keys (to_dseal ad) input next told fit done = tt
-work_goes answers seals table keys (to_dopen ad) input next told fit done = opened_goes (dopen_answer keys table input ad) next told done
+work_goes answers seals table keys (to_dopen ad) input next told fit done = opened_goes unopened.Text (sealer_of keys input) (dopen_answer keys table input ad) next told done
 work_goes answers seals table keys (to_reseal ad) input next told fit done =
-    let o = opened_goes (open_answer keys table input ad) (λ plain. seals_plain table keys plain ad next) told done in
-    let sealed = subst (λ x. IsDoneAnswer (answer (with_opened x (λ plain. seals_plain table keys plain ad next)) told)) o.1 done in
+    let o = opened_goes unopened.Text (sealer_of keys input) (open_answer keys table input ad) (λ plain. seals_plain table keys plain ad next) told done in
+    let sealed = subst (λ x. IsDoneAnswer (answer (with_opened unopened.Text (sealer_of keys input) x (λ plain. seals_plain table keys plain ad next)) told)) o.1 done in
     let key = seals table keys o.0 ad told.random fit in
     (o, (key.0, key.1, key.2.1 (sealed_goes table keys ad o.0 next told sealed)))
-work_goes answers seals table keys (to_dreseal ad) input next told fit done = opened_goes (dopen_answer keys table input ad) (λ plain. dseals_plain table keys plain ad next) told done
+work_goes answers seals table keys (to_dreseal ad) input next told fit done = opened_goes unopened.Text (sealer_of keys input) (dopen_answer keys table input ad) (λ plain. dseals_plain table keys plain ad next) told done
 work_goes answers seals table keys to_tag input next told fit done = tt
 work_goes answers seals table keys (to_verify tag) input next told fit done = verified_goes (verify_answer keys table tag input) next told done
 work_goes answers seals table keys (to_derive size) input next told fit done =
@@ -228,12 +232,12 @@ sealed_done seals table keys ad input told fit goes =
 -- written to the output it is done
 work_done : FitKeysetsSeal → (table : Table) (keys : Keys) (work : AskedWork) (input : List ℕ) (told : Told) → IsFit table (primitive_for work) keys → WorkGoes table keys work input told.random → IsDoneAnswer (answer (works table keys work input writes) told)
 work_done seals table keys (to_seal ad) input told fit goes = sealed_done seals table keys ad input told fit goes
-work_done seals table keys (to_open ad) input told fit goes = ap (λ o. (answer (with_opened o writes) told).status) goes.1
+work_done seals table keys (to_open ad) input told fit goes = ap (λ o. (answer (with_opened unopened.Text (sealer_of keys input) o writes) told).status) goes.1
 work_done seals table keys (to_dseal ad) input told fit goes = refl
-work_done seals table keys (to_dopen ad) input told fit goes = ap (λ o. (answer (with_opened o writes) told).status) goes.1
+work_done seals table keys (to_dopen ad) input told fit goes = ap (λ o. (answer (with_opened unopened.Text (sealer_of keys input) o writes) told).status) goes.1
 work_done seals table keys (to_reseal ad) input told fit goes =
-    ap (λ o. (answer (with_opened o (λ plain. seals_plain table keys plain ad writes)) told).status) goes.0.1 ∙ sealed_done seals table keys ad goes.0.0 told fit goes.1
-work_done seals table keys (to_dreseal ad) input told fit goes = ap (λ o. (answer (with_opened o (λ plain. dseals_plain table keys plain ad writes)) told).status) goes.1
+    ap (λ o. (answer (with_opened unopened.Text (sealer_of keys input) o (λ plain. seals_plain table keys plain ad writes)) told).status) goes.0.1 ∙ sealed_done seals table keys ad goes.0.0 told fit goes.1
+work_done seals table keys (to_dreseal ad) input told fit goes = ap (λ o. (answer (with_opened unopened.Text (sealer_of keys input) o (λ plain. dseals_plain table keys plain ad writes)) told).status) goes.1
 work_done seals table keys to_tag input told fit goes = refl
 work_done seals table keys (to_verify tag) input told fit goes = ap (λ b. (answer (with_verified b writes) told).status) goes
 work_done seals table keys (to_derive size) input told fit goes = ap (λ o. (answer (with_derived size o writes) told).status) goes.1

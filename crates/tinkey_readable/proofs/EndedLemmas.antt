@@ -44,7 +44,7 @@ use Rattle.tinkey_plans.specs.Plan.{Told, Plan, creates, exchanges, limit_status
 use Rattle.tinkey_plans.specs.Promises.{Tells}
 use Rattle.tinkey_plans.specs.Session.{finds_free, holds_session, saves, saves_as, session_plan}
 use Rattle.tinkey_plans.specs.Steps.{keyset_limit, keyset_in, with_json, with_keyset, with_made, within_limit, written_in}
-use Rattle.tinkey_plans.specs.Wrapping.{is_keyset, makes_wrapped, with_unwrapped, wrapped_limit}
+use Rattle.tinkey_plans.specs.Wrapping.{is_keyset, keyset_sealer, makes_wrapped, with_unwrapped, wrapped_limit}
 use Rattle.tinkey_plans.specs.Handles.{handles, unless_unfit}
 use Rattle.tinkey_plans.specs.Locks.{keyset_under, limit_under, takes_under}
 use Rattle.tinkey_plans.proofs.FaultLemmas.{went, Went, of_fault, of_limit}
@@ -366,7 +366,7 @@ keyset_ends formats.Binary bytes keys next old s new read (inr starved) = inr st
 -- and so under a master
 under_ends : (table : Table) (master : Option Keys) (form : Format) (bytes : List ℕ) (keys : Keys) (next : Keys → Plan) (old : World) (s : Status) (new : World) → GivesKeyset table master form bytes keys → Ends (keyset_under table master form bytes next) old s new → Ends (next keys) old s new ⊎ ((s ≡ status.NoMemory) × (old ≡ new))
 under_ends table None form bytes keys next old s new gives run = keyset_ends form bytes keys next old s new gives run
-under_ends table (Some over) form bytes keys next old s new gives (inl run) = inl (subst (λ (r : Result Keys Refusal). Ends (with_unwrapped (is_keyset form bytes) r next) old s new) gives run)
+under_ends table (Some over) form bytes keys next old s new gives (inl run) = inl (subst (λ (r : Result Keys Refusal). Ends (with_unwrapped (is_keyset form bytes) (keyset_sealer form over bytes) r next) old s new) gives run)
 under_ends table (Some over) form bytes keys next old s new gives (inr starved) = inr starved
 
 file_told : (store : StoreState) (files : Files) (name bytes : List ℕ) → store.files ≡ Some files → Holds store name (Some bytes) → map.get files name ≡ Some bytes

@@ -16,6 +16,8 @@ use Rattle.tinkey_cmds.specs.Draws.{Drawn}
 use Rattle.wrapped_prims.specs.Answers.{Sealed, seal_answer}
 use Rattle.tinkey_plans.proofs.EnvelopeLemmas.{row_known}
 use Rattle.tinkey_plans.specs.declared.status.Status.TheVariants as status
+use Rattle.tinkey_plans.specs.Sealers.{envelope_sealer_of}
+use Rattle.tinkey_plans.specs.declared.sealer.Sealer.{Sealer}
 use Rattle.tinkey_plans.specs.Envelopes.{envelopes, reseals_key, with_parts}
 use Rattle.tinkey_plans.specs.Plan.{Answer, Told, answer, draw_answer, refused, writes}
 use Rattle.tinkey_plans.specs.Steps.{sealed_limit, with_made}
@@ -40,14 +42,14 @@ by_sealing : (payload output : List ℕ) (told : Told) (o : Option Sealed) → I
 by_sealing payload output told None done gave = absurd (cc)
 by_sealing payload output told (Some sealed) done gave = (with_payload payload sealed, refl, gave)
 
-by_parts : (keys : Keys) (output : List ℕ) (told : Told) (o : Option Parts) → IsDoneAnswer (answer (with_parts o (λ parts. reseals_key standard_table keys parts writes)) told) → (answer (with_parts o (λ parts. reseals_key standard_table keys parts writes)) told).output ≡ output
+by_parts : (keys : Keys) (sealer : Sealer) (output : List ℕ) (told : Told) (o : Option Parts) → IsDoneAnswer (answer (with_parts sealer o (λ parts. reseals_key standard_table keys parts writes)) told) → (answer (with_parts sealer o (λ parts. reseals_key standard_table keys parts writes)) told).output ≡ output
     → Reseals (option_and_then (seal_parts keys standard_table told.random) o) output
-by_parts keys output told None done gave = absurd (cc)
-by_parts keys output told (Some parts) done gave = by_sealing parts.payload output told (seal_answer keys standard_table parts.value [] told.random) done gave
+by_parts keys sealer output told None done gave = absurd (cc)
+by_parts keys sealer output told (Some parts) done gave = by_sealing parts.payload output told (seal_answer keys standard_table parts.value [] told.random) done gave
 
 resealed_by : (keys : Keys) (scheme : Scheme) (row : Row) (told : Told) (output : List ℕ) → IsDoneAnswer (answer (envelopes standard_table keys scheme row to_ereseal told.input writes) (record told { input = [] }))
     → (answer (envelopes standard_table keys scheme row to_ereseal told.input writes) (record told { input = [] })).output ≡ output → Reseals (reseal_envelope_of keys standard_table scheme told.input told.random) output
-resealed_by keys scheme row told output done gave = by_parts keys output (record told { input = [] }) (parts_in keys standard_table scheme told.input) done gave
+resealed_by keys scheme row told output done gave = by_parts keys (envelope_sealer_of keys told.input) output (record told { input = [] }) (parts_in keys standard_table scheme told.input) done gave
 
 -- ---- the law
 

@@ -33,6 +33,8 @@ use Rattle.tinkey_words.specs.Words.{Asked, AskedWork, Lock, Place, create_keyse
 use Rattle.tinkey_readable.specs.LineRuns.{asks, done_reply}
 use Rattle.tinkey_readable.specs.Runs.{Does, Handing, HandsOn, Run, Written, bytes_at, hands_on, keyset_of, read_in, session_handing}
 use Rattle.tinkey_readable.proofs.ReachLemmas.{IsDoneAnswer, load_done}
+use Rattle.tinkey_plans.specs.Sealers.{sealer_of}
+use Rattle.tinkey_plans.specs.declared.sealer.Unopened.TheVariants as unopened
 use Rattle.tinkey_readable.proofs.RunLemmas.{free_done, opens_so, talk_done, verifies_so}
 
 -- ---- the replies of lines
@@ -184,7 +186,7 @@ unfolding serve
 open_answers Is new sealed ad plain is e = record {
   other = plain;
   is = is;
-  of_run = λ told. opens_so (open_answer new standard_table sealed ad) plain told e;
+  of_run = λ told. opens_so unopened.Text (sealer_of new sealed) (open_answer new standard_table sealed ad) plain told e;
   of_line = λ random x fit served. answer_is Aead new random _ x fit served ∙ ap opened_reply e;
 }
 
@@ -195,7 +197,7 @@ unfolding serve
 dopen_answers Is new sealed ad plain is e = record {
   other = plain;
   is = is;
-  of_run = λ told. opens_so (dopen_answer new standard_table sealed ad) plain told e;
+  of_run = λ told. opens_so unopened.Text (sealer_of new sealed) (dopen_answer new standard_table sealed ad) plain told e;
   of_line = λ random x fit served. answer_is Daead new random _ x fit served ∙ ap opened_reply e;
 }
 

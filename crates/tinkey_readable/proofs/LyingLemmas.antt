@@ -27,7 +27,8 @@ use Rattle.tinkey_plans.specs.Handles.{handles, unless_unfit}
 use Rattle.tinkey_plans.specs.Locks.{keyset_under, limit_under, loads_locked, opens_lock, opens_new_lock, puts_under, takes_locked, takes_under, writes_under}
 use Rattle.tinkey_plans.specs.Plan.{Answer, Plan, Told, answer, create_answer, draw_answer, ends, load_answer, refused}
 use Rattle.tinkey_plans.specs.Steps.{has_no_key, keyset_in, keyset_limit, puts, takes_bytes, with_json, with_keyset, with_made, within_limit, written_in}
-use Rattle.tinkey_plans.specs.Wrapping.{as_wrapping, is_json, is_keyset, makes_wrapped, with_unwrapped, wrapped_limit}
+use Rattle.tinkey_plans.specs.declared.sealer.Sealer.{Sealer}
+use Rattle.tinkey_plans.specs.Wrapping.{as_wrapping, ends_unopened, is_json, is_keyset, keyset_sealer, makes_wrapped, with_unwrapped, wrapped_limit}
 use Rattle.tinkey_words.specs.declared.words.rows.Format.{Format}
 use Rattle.tinkey_words.specs.declared.words.rows.Format.TheVariants as formats
 use Rattle.tinkey_words.specs.Words.{Lock, Master, NewLock, Place, as_taken, in_clear, under}
@@ -88,26 +89,26 @@ read_there formats.Binary bytes next told done = by (reads_binary bytes) done
     by (Err (binary.Wire at)) done = absurd (not_cut (is_wrapped_binary bytes false) at told done)
     by (Err (binary.Fault fault)) done = absurd (not_faulty (is_wrapped_binary bytes true) fault told done)
 
-not_unopened : (clear : Bool) (told : Told) → IsDoneAnswer (answer (if clear then ends status.KeysetInClear tt else ends status.OpenFailed tt) told) → ⊥
-not_unopened true told done = cc
-not_unopened false told done = cc
+not_unopened : (clear : Bool) (sealer : Sealer) (told : Told) → IsDoneAnswer (answer (ends_unopened clear sealer) told) → ⊥
+not_unopened true sealer told done = cc
+not_unopened false sealer told done = cc
 
-given_there : (clear' : Bool) (r : Result Keys Refusal) (next : Keys → Plan) (told : Told) → IsDoneAnswer (answer (with_unwrapped clear' r next) told) → (keys : Keys) × (r ≡ Ok keys)
-given_there clear' (Ok keys) next told done = (keys, refl)
-given_there clear' (Err (OuterWire at)) next told done = absurd (cc)
-given_there clear' (Err NotJson) next told done = absurd (cc)
-given_there clear' (Err Member) next told done = absurd (cc)
-given_there clear' (Err NotOpened) next told done = absurd (not_unopened clear' told done)
-given_there clear' (Err (InnerWire at)) next told done = absurd (cc)
-given_there clear' (Err (Fault fault)) next told done = absurd (cc)
+given_there : (clear' : Bool) (sealer : Sealer) (r : Result Keys Refusal) (next : Keys → Plan) (told : Told) → IsDoneAnswer (answer (with_unwrapped clear' sealer r next) told) → (keys : Keys) × (r ≡ Ok keys)
+given_there clear' sealer (Ok keys) next told done = (keys, refl)
+given_there clear' sealer (Err (OuterWire at)) next told done = absurd (cc)
+given_there clear' sealer (Err NotJson) next told done = absurd (cc)
+given_there clear' sealer (Err Member) next told done = absurd (cc)
+given_there clear' sealer (Err NotOpened) next told done = absurd (not_unopened clear' sealer told done)
+given_there clear' sealer (Err (InnerWire at)) next told done = absurd (cc)
+given_there clear' sealer (Err (Fault fault)) next told done = absurd (cc)
 
 keyset_there : (table : Table) (master : Option Keys) (form : Format) (bytes : List ℕ) (next : Keys → Plan) (told : Told) → IsDoneAnswer (answer (keyset_under table master form bytes next) told) → (keys : Keys) × GivesKeyset table master form bytes keys
 keyset_there table None form bytes next told done = read_there form bytes next told done
-keyset_there table (Some over) form bytes next told done = given_there (is_keyset form bytes) (unwrap_of over table bytes (is_json form)) next told done
+keyset_there table (Some over) form bytes next told done = given_there (is_keyset form bytes) (keyset_sealer form over bytes) (unwrap_of over table bytes (is_json form)) next told done
 
 pub keyset_given : (table : Table) (master : Option Keys) (form : Format) (bytes : List ℕ) (keys : Keys) (next : Keys → Plan) (told : Told) → GivesKeyset table master form bytes keys → answer (keyset_under table master form bytes next) told ≡ answer (next keys) told
 keyset_given table None form bytes keys next told gives = keyset_reached form bytes keys next told gives
-keyset_given table (Some over) form bytes keys next told gives = ap (λ (o : Result Keys Refusal). answer (with_unwrapped (is_keyset form bytes) o next) told) gives
+keyset_given table (Some over) form bytes keys next told gives = ap (λ (o : Result Keys Refusal). answer (with_unwrapped (is_keyset form bytes) (keyset_sealer form over bytes) o next) told) gives
 
 pub given_faultless : (table : Table) (master : Option Keys) (form : Format) (bytes : List ℕ) (keys : Keys) → GivesKeyset table master form bytes keys → fault_of keys ≡ None
 given_faultless table None form bytes keys gives = read_faultless (record { bytes = bytes; form = form }) keys gives

@@ -21,6 +21,10 @@ use Rattle.tinkey_plans.specs.declared.status.Status.TheVariants as status
 use Rattle.tinkey_plans.specs.Envelopes.{as_enveloped, envelopes, reseals_key, with_enveloped, with_parts}
 use Rattle.tinkey_plans.specs.Plan.{Answer, Plan, Told, answer, draw_answer, refused, writes}
 use Rattle.tinkey_plans.specs.Steps.{puts, with_made}
+use Rattle.tinkey_plans.specs.Sealers.{envelope_sealer_of, sealer_of}
+use Rattle.tinkey_plans.specs.declared.sealer.Sealer.{Sealer}
+use Rattle.tinkey_plans.specs.declared.sealer.Unopened.{Unopened}
+use Rattle.tinkey_plans.specs.declared.sealer.Unopened.TheVariants as unopened
 use Rattle.tinkey_plans.specs.Using.{as_drawn, dseals_plain, hex_line, made_bytes, seals_plain, shows, with_derived, with_opened, with_verified, works}
 use Rattle.tinkey_words.specs.Words.{AskedEnvelope, AskedWork, to_eseal, to_eopen, to_ereseal, to_seal, to_open, to_dseal, to_dopen, to_reseal, to_dreseal, to_tag, to_verify, to_derive}
 use Rattle.tinkey_readable.specs.Runs.{IsFree, bytes_at, shown}
@@ -104,9 +108,9 @@ made_put steps told hex file output w gave free =
     let done = output_reached hex file w.made w.left (subst (IsFree file) (sym w.files) free) in
     (ap (λ (a : Answer). a.status) e ∙ done, ap (λ (a : Answer). bytes_at file a.files a.output) e ∙ output_put hex file w.made w.left done ∙ ap (λ (b : List ℕ). Some (shown hex b)) same)
 
-opened_worked : (o : Option (List ℕ)) (next : List ℕ → Plan) (told : Told) → IsDoneAnswer (answer (with_opened o next) told) → Worked (with_opened o) told
-opened_worked (Some plain) next told done = record { made = plain; left = told; files = refl; is = λ n. refl }
-opened_worked None next told done = absurd (cc)
+opened_worked : (what : Unopened) (sealer : Sealer) (o : Option (List ℕ)) (next : List ℕ → Plan) (told : Told) → IsDoneAnswer (answer (with_opened what sealer o next) told) → Worked (with_opened what sealer o) told
+opened_worked what sealer (Some plain) next told done = record { made = plain; left = told; files = refl; is = λ n. refl }
+opened_worked what sealer None next told done = absurd (cc)
 
 verified_worked : (b : Bool) (next : List ℕ → Plan) (told : Told) → IsDoneAnswer (answer (with_verified b next) told) → Worked (with_verified b) told
 verified_worked true next told done = record { made = []; left = told; files = refl; is = λ n. refl }
@@ -128,24 +132,24 @@ sealed_worked table keys ad input next told done = by (seal_answer keys table in
     by None is done = absurd (cc)
 
 -- what opened, sealed
-resealed_worked : (table : Table) (keys : Keys) (ad : List ℕ) (o : Option (List ℕ)) (next : List ℕ → Plan) (told : Told) → IsDoneAnswer (answer (with_opened o (λ plain. seals_plain table keys plain ad next)) told)
-    → Worked (λ n. with_opened o (λ plain. seals_plain table keys plain ad n)) told
-resealed_worked table keys ad (Some plain) next told done = let w = sealed_worked table keys ad plain next told done in record { made = w.made; left = w.left; files = w.files; is = w.is }
-resealed_worked table keys ad None next told done = absurd (cc)
+resealed_worked : (table : Table) (keys : Keys) (ad : List ℕ) (sealer : Sealer) (o : Option (List ℕ)) (next : List ℕ → Plan) (told : Told) → IsDoneAnswer (answer (with_opened unopened.Text sealer o (λ plain. seals_plain table keys plain ad next)) told)
+    → Worked (λ n. with_opened unopened.Text sealer o (λ plain. seals_plain table keys plain ad n)) told
+resealed_worked table keys ad sealer (Some plain) next told done = let w = sealed_worked table keys ad plain next told done in record { made = w.made; left = w.left; files = w.files; is = w.is }
+resealed_worked table keys ad sealer None next told done = absurd (cc)
 
-dresealed_worked : (table : Table) (keys : Keys) (ad : List ℕ) (o : Option (List ℕ)) (next : List ℕ → Plan) (told : Told) → IsDoneAnswer (answer (with_opened o (λ plain. dseals_plain table keys plain ad next)) told)
-    → Worked (λ n. with_opened o (λ plain. dseals_plain table keys plain ad n)) told
-dresealed_worked table keys ad (Some plain) next told done = record { made = made_bytes (dseal_answer keys table plain ad); left = told; files = refl; is = λ n. refl }
-dresealed_worked table keys ad None next told done = absurd (cc)
+dresealed_worked : (table : Table) (keys : Keys) (ad : List ℕ) (sealer : Sealer) (o : Option (List ℕ)) (next : List ℕ → Plan) (told : Told) → IsDoneAnswer (answer (with_opened unopened.Text sealer o (λ plain. dseals_plain table keys plain ad next)) told)
+    → Worked (λ n. with_opened unopened.Text sealer o (λ plain. dseals_plain table keys plain ad n)) told
+dresealed_worked table keys ad sealer (Some plain) next told done = record { made = made_bytes (dseal_answer keys table plain ad); left = told; files = refl; is = λ n. refl }
+dresealed_worked table keys ad sealer None next told done = absurd (cc)
 
 -- work that is done made bytes
 pub worked : (table : Table) (keys : Keys) (work : AskedWork) (input : List ℕ) (next : List ℕ → Plan) (told : Told) → IsDoneAnswer (answer (works table keys work input next) told) → Worked (works table keys work input) told
 worked table keys (to_seal ad) input next told done = sealed_worked table keys ad input next told done
-worked table keys (to_open ad) input next told done = let w = opened_worked (open_answer keys table input ad) next told done in record { made = w.made; left = w.left; files = w.files; is = w.is }
+worked table keys (to_open ad) input next told done = let w = opened_worked unopened.Text (sealer_of keys input) (open_answer keys table input ad) next told done in record { made = w.made; left = w.left; files = w.files; is = w.is }
 worked table keys (to_dseal ad) input next told done = record { made = made_bytes (dseal_answer keys table input ad); left = told; files = refl; is = λ n. refl }
-worked table keys (to_dopen ad) input next told done = let w = opened_worked (dopen_answer keys table input ad) next told done in record { made = w.made; left = w.left; files = w.files; is = w.is }
-worked table keys (to_reseal ad) input next told done = let w = resealed_worked table keys ad (open_answer keys table input ad) next told done in record { made = w.made; left = w.left; files = w.files; is = w.is }
-worked table keys (to_dreseal ad) input next told done = let w = dresealed_worked table keys ad (dopen_answer keys table input ad) next told done in record { made = w.made; left = w.left; files = w.files; is = w.is }
+worked table keys (to_dopen ad) input next told done = let w = opened_worked unopened.Text (sealer_of keys input) (dopen_answer keys table input ad) next told done in record { made = w.made; left = w.left; files = w.files; is = w.is }
+worked table keys (to_reseal ad) input next told done = let w = resealed_worked table keys ad (sealer_of keys input) (open_answer keys table input ad) next told done in record { made = w.made; left = w.left; files = w.files; is = w.is }
+worked table keys (to_dreseal ad) input next told done = let w = dresealed_worked table keys ad (sealer_of keys input) (dopen_answer keys table input ad) next told done in record { made = w.made; left = w.left; files = w.files; is = w.is }
 worked table keys to_tag input next told done = record { made = made_bytes (tag_answer keys table input); left = told; files = refl; is = λ n. refl }
 worked table keys (to_verify tag) input next told done = let w = verified_worked (verify_answer keys table tag input) next told done in record { made = w.made; left = w.left; files = w.files; is = w.is }
 worked table keys (to_derive size) input next told done = let w = derived_worked size (derive_answer keys table input size) next told done in record { made = w.made; left = w.left; files = w.files; is = w.is }
@@ -166,19 +170,19 @@ enveloped_worked table keys scheme row ad input next told done = by (envelope_of
     by None is done = absurd (cc)
 
 -- and so did one whose data key was sealed anew
-resealed_key_worked : (table : Table) (keys : Keys) (o : Option Parts) (next : List ℕ → Plan) (told : Told) → IsDoneAnswer (answer (with_parts o (λ parts. reseals_key table keys parts next)) told)
-    → Worked (λ n. with_parts o (λ parts. reseals_key table keys parts n)) told
-resealed_key_worked table keys None next told done = absurd (cc)
-resealed_key_worked table keys (Some parts) next told done = by (seal_answer keys table parts.value [] told.random) refl done
+resealed_key_worked : (table : Table) (keys : Keys) (sealer : Sealer) (o : Option Parts) (next : List ℕ → Plan) (told : Told) → IsDoneAnswer (answer (with_parts sealer o (λ parts. reseals_key table keys parts next)) told)
+    → Worked (λ n. with_parts sealer o (λ parts. reseals_key table keys parts n)) told
+resealed_key_worked table keys sealer None next told done = absurd (cc)
+resealed_key_worked table keys sealer (Some parts) next told done = by (seal_answer keys table parts.value [] told.random) refl done
   where
     a : (List ℕ → Plan) → Option Sealed → Answer
     a n o = draw_answer (option_map as_drawn o) (refused told status.EntropyFault) (λ (d : Drawn (List ℕ)). answer (with_made d.answer (λ sealed. n (envelope sealed parts.payload))) (record told { random = d.left }))
 
-    by : (o : Option Sealed) → seal_answer keys table parts.value [] told.random ≡ o → IsDoneAnswer (a next o) → Worked (λ n. with_parts (Some parts) (λ parts. reseals_key table keys parts n)) told
+    by : (o : Option Sealed) → seal_answer keys table parts.value [] told.random ≡ o → IsDoneAnswer (a next o) → Worked (λ n. with_parts sealer (Some parts) (λ parts. reseals_key table keys parts n)) told
     by (Some s) is done = record { made = envelope s.bytes parts.payload; left = record told { random = s.left }; files = refl; is = λ n. ap (a n) is }
     by None is done = absurd (cc)
 
 pub envelope_worked : (table : Table) (keys : Keys) (scheme : Scheme) (row : Row) (work : AskedEnvelope) (input : List ℕ) (next : List ℕ → Plan) (told : Told) → IsDoneAnswer (answer (envelopes table keys scheme row work input next) told) → Worked (envelopes table keys scheme row work input) told
 envelope_worked table keys scheme row (to_eseal ad) input next told done = enveloped_worked table keys scheme row ad input next told done
-envelope_worked table keys scheme row (to_eopen ad) input next told done = let w = opened_worked (open_envelope_of keys table scheme input ad) next told done in record { made = w.made; left = w.left; files = w.files; is = w.is }
-envelope_worked table keys scheme row to_ereseal input next told done = let w = resealed_key_worked table keys (parts_in keys table scheme input) next told done in record { made = w.made; left = w.left; files = w.files; is = w.is }
+envelope_worked table keys scheme row (to_eopen ad) input next told done = let w = opened_worked unopened.Envelope (envelope_sealer_of keys input) (open_envelope_of keys table scheme input ad) next told done in record { made = w.made; left = w.left; files = w.files; is = w.is }
+envelope_worked table keys scheme row to_ereseal input next told done = let w = resealed_key_worked table keys (envelope_sealer_of keys input) (parts_in keys table scheme input) next told done in record { made = w.made; left = w.left; files = w.files; is = w.is }

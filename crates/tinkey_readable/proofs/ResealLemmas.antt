@@ -20,6 +20,8 @@ use Rattle.tinkey_plans.specs.declared.status.Status.TheVariants as status
 use Rattle.tinkey_plans.specs.Laws.{FitKeysetsAnswer}
 use Rattle.tinkey_plans.specs.Plan.{Answer, Told, answer, draw_answer, refused, writes}
 use Rattle.tinkey_plans.specs.Steps.{input_limit, sealed_limit, with_made}
+use Rattle.tinkey_plans.specs.Sealers.{sealer_of}
+use Rattle.tinkey_plans.specs.declared.sealer.Unopened.TheVariants as unopened
 use Rattle.tinkey_plans.specs.Using.{as_drawn, dseals_plain, made_bytes, seals_plain, with_opened}
 use Rattle.tinkey_readable.proofs.AnywhereLemmas.{Maker, dseal_maker, line_maker, maker, read_over, seal_maker}
 use Rattle.tinkey_readable.proofs.LineRunLemmas.{MakesSeal, dopen_answers, gave, open_answers, same_bytes}
@@ -66,7 +68,7 @@ resealed_by old ad sealed resealed told x same = by (open_answer old standard_ta
     left = record told { input = [] }
 
     a : Option (List ℕ) → Answer
-    a o = answer (with_opened o (λ plain. seals_plain standard_table old plain ad writes)) left
+    a o = answer (with_opened unopened.Text (sealer_of old told.input) o (λ plain. seals_plain standard_table old plain ad writes)) left
 
     by : (o : Option (List ℕ)) → open_answer old standard_table told.input ad ≡ o → IsDoneAnswer (a o) → (a o).output ≡ resealed → MakesReseal sealed ad resealed old
     by (Some plain) is done gave = record { plain = plain; opens = ap (λ i. open_answer old standard_table i ad) (sym same) ∙ is; makes = sealed_from old ad plain resealed left done gave }
@@ -136,7 +138,7 @@ dresealed_by fits old ad sealed resealed told keyset x same = by (dopen_answer o
     left = record told { input = [] }
 
     a : Option (List ℕ) → Answer
-    a o = answer (with_opened o (λ plain. dseals_plain standard_table old plain ad writes)) left
+    a o = answer (with_opened unopened.Text (sealer_of old told.input) o (λ plain. dseals_plain standard_table old plain ad writes)) left
 
     by : (o : Option (List ℕ)) → dopen_answer old standard_table told.input ad ≡ o → IsDoneAnswer (a o) → (a o).output ≡ resealed → MakesDreseal sealed ad resealed old
     by (Some plain) is done gave =

@@ -48,6 +48,8 @@ use Rattle.tinkey_plans.specs.Session.{finds_free, holds_session, saves, saves_a
 use Rattle.tinkey_readable.specs.Runs.{Handing, hands_on, session_handing, AreRuns, Does, Gives, HandsOn, HoldsBytes, IsDone, Keeps, LeadOn, ReadIsStored, Passage, PassesBytes, Run, RunStep, WasDone, LocksStep, Written, by_run, by_wrap, bytes_at, edit_of, keyset_of, read_in, shown}
 use Rattle.tinkey_plans.specs.Laws.{FitKeysetsAnswer}
 use Rattle.tinkey_plans.specs.Steps.{input_limit, sealed_limit, keyset_limit, takes_keyset, makes_keyset, puts_keyset, with_made, written_in}
+use Rattle.tinkey_plans.specs.declared.sealer.Sealer.{Sealer}
+use Rattle.tinkey_plans.specs.declared.sealer.Unopened.{Unopened}
 use Rattle.tinkey_plans.specs.Using.{as_drawn, limit_for, made_bytes, with_opened, with_verified, works, puts_output}
 use Rattle.tinkey_words.specs.Words.{Asked, AskedEdit, AskedWork, Output, Place, create_keyset, edit_keyset, list_keyset, key_of, as_taken, in_clear, under, convert_keyset, list_key_templates, use_keyset, use_envelope, seal_stream, open_stream, open_range, self_test, session, to_seal, to_dseal, to_tag, primitive_for, help, version}
 use Rattle.seal_wrap.specs.Sealings.{DsealingsFit, SealingsFit}
@@ -523,8 +525,8 @@ made_some (Some bytes) some = (bytes, refl)
 made_some None some = no_truth some
 
 -- opening gives that plaintext
-pub opens_so : (o : Option (List ℕ)) (plain : List ℕ) (told : Told) → o ≡ Some plain → (IsDoneAnswer (answer (with_opened o writes) told)) × ((answer (with_opened o writes) told).output ≡ plain)
-opens_so o plain told is = rw is (refl, refl)
+pub opens_so : (what : Unopened) (sealer : Sealer) (o : Option (List ℕ)) (plain : List ℕ) (told : Told) → o ≡ Some plain → (IsDoneAnswer (answer (with_opened what sealer o writes) told)) × ((answer (with_opened what sealer o writes) told).output ≡ plain)
+opens_so what sealer o plain told is = rw is (refl, refl)
 
 -- what was sealed is within the limit of what is opened
 pub sealed_fits : SealingsFit → (old : Keys) (plain ad random : List ℕ) (s : Sealed) (sealed : List ℕ) → seal_answer old standard_table plain ad random ≡ Some s → s.bytes ≡ sealed → length plain ≤ input_limit → length sealed ≤ sealed_limit

@@ -29,7 +29,7 @@ use Rattle.tinkey_plans.specs.Commands.{command_plan}
 use Rattle.tinkey_plans.specs.Plan.{Answer, Plan, Told, answer, draw_answer, ends, refused}
 use Rattle.tinkey_plans.specs.Steps.{keyset_limit, puts, puts_keyset, takes_keyset, with_made, within_limit, writes_keyset, written_in}
 use Rattle.tinkey_plans.specs.Handles.{handles, unless_unfit}
-use Rattle.tinkey_plans.specs.Wrapping.{as_wrapping, is_json, is_keyset, makes_wrapped, takes_wrapped, unwraps, with_unwrapped, wrapped_limit}
+use Rattle.tinkey_plans.specs.Wrapping.{as_wrapping, is_json, is_keyset, keyset_sealer, makes_wrapped, takes_wrapped, unwraps, with_unwrapped, wrapped_limit}
 use Rattle.tinkey_words.specs.Words.{Asked, Place, unwrap_keyset, wrap_keyset}
 use Rattle.tinkey_words.specs.declared.words.rows.Format.{Format}
 use Rattle.tinkey_words.specs.declared.words.rows.Format.TheVariants as formats
@@ -189,7 +189,7 @@ abbrev pub opens_plan : Place → Place → Keys → Plan
 opens_plan in' out new = takes_wrapped in'.file (λ text. unwraps new standard_table in'.form text (puts_keyset out))
 
 pub given_keyset : (new : Keys) (form : Format) (text : List ℕ) (keys : Keys) (next : Keys → Plan) (told : Told) → unwrap_of new standard_table text (is_json form) ≡ Ok keys → answer (unwraps new standard_table form text next) told ≡ answer (next keys) told
-given_keyset new form text keys next told is = ap (λ (o : Result Keys Refusal). answer (with_unwrapped (is_keyset form text) o next) told) is
+given_keyset new form text keys next told is = ap (λ (o : Result Keys Refusal). answer (with_unwrapped (is_keyset form text) (keyset_sealer form new text) o next) told) is
 
 -- what such a run put out is the keyset
 pub unwrap_keeps : FaultlessKeysets → BinaryBack → JsonBack → (unwrap : Run) (later text after : Written) (over keys : Keys) → Unwraps standard_table unwrap later text after → keyset_of later ≡ Some over → unwrap_of over standard_table text.bytes (is_json text.form) ≡ Ok keys → fault_of keys ≡ None → AreStored keys → Keeps keys after

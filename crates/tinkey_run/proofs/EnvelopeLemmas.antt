@@ -26,6 +26,8 @@ use Rattle.tinkey_cmds.specs.declared.command.CmdFault.{CmdFault}
 use Rattle.tinkey_plans.specs.declared.status.Status.{Status}
 use Rattle.tinkey_plans.specs.declared.status.Status.TheVariants as status
 use Rattle.tinkey_plans.specs.Ends.{World, Ends, Settles, settled, draw_failed, draw_starved}
+use Rattle.tinkey_plans.specs.declared.sealer.Sealer.{Sealer}
+use Rattle.tinkey_plans.specs.declared.sealer.Unopened.TheVariants as unopened
 use Rattle.tinkey_plans.specs.Envelopes.{as_enveloped, envelope_limit, envelope_output, envelopes, finds_dek, finds_scheme, reseals_key, seals_envelope, with_parts}
 use Rattle.tinkey_plans.specs.Plan.{Plan, allocates, draws, envelopings}
 use Rattle.tinkey_plans.specs.Steps.{reads_input, with_made, Passes}
@@ -271,16 +273,17 @@ resealing_starved table keys parts old entropy fault = λ next.
     starved_sealing table keys parts.value [] (λ sealed. sealed) (seals keys table parts.value []) (λ random. refl) old entropy fault (λ made. with_made made (λ sealed. next (envelope sealed parts.payload)))
 
 -- the data key was opened, and the rest ended so
-pub parts_pass : (table : Table) (keys : Keys) (held : Held) (parts : Parts) (found : Option Parts) (old new : World) (r : Result (List ℕ) Status) → IsOver table Aead keys held → Some parts ≡ found → Passes (reseals_key table keys parts) old r new
-    → Passes (λ next. allocates (with_parts found (λ p. reseals_key table keys p next))) old r new
-parts_pass table keys held parts found old new r over is passes =
-    subst (λ (o : Option Parts). Passes (λ next. allocates (with_parts o (λ p. reseals_key table keys p next))) old r new) is (behind_memory (reseals_key table keys parts) old new r passes)
+pub parts_pass : (table : Table) (keys : Keys) (held : Held) (sealer : Sealer) (parts : Parts) (found : Option Parts) (old new : World) (r : Result (List ℕ) Status) → IsOver table Aead keys held → Some parts ≡ found → Passes (reseals_key table keys parts) old r new
+    → Passes (λ next. allocates (with_parts sealer found (λ p. reseals_key table keys p next))) old r new
+parts_pass table keys held sealer parts found old new r over is passes =
+    subst (λ (o : Option Parts). Passes (λ next. allocates (with_parts sealer o (λ p. reseals_key table keys p next))) old r new) is (behind_memory (reseals_key table keys parts) old new r passes)
 
 -- it wasn't
-pub no_parts : (table : Table) (keys : Keys) (held : Held) (found : Option Parts) (old : World) → IsOver table Aead keys held → None ≡ found
-    → (next : List ℕ → Plan) → Ends (allocates (with_parts found (λ p. reseals_key table keys p next))) old status.OpenFailed old
-no_parts table keys held found old over is next =
-    subst (λ (o : Option Parts). Ends (allocates (with_parts o (λ p. reseals_key table keys p next))) old status.OpenFailed old) is (inl (refl, refl))
+pub no_parts : (table : Table) (keys : Keys) (held : Held) (sealer own : Sealer) (found : Option Parts) (old : World) → IsOver table Aead keys held → sealer ≡ own → None ≡ found
+    → (next : List ℕ → Plan) → Ends (allocates (with_parts own found (λ p. reseals_key table keys p next))) old (status.OpenFailed unopened.DataKey sealer) old
+no_parts table keys held sealer own found old over same is next =
+    subst (λ (s : Sealer). Ends (allocates (with_parts s found (λ p. reseals_key table keys p next))) old (status.OpenFailed unopened.DataKey sealer) old) same
+    (subst (λ (o : Option Parts). Ends (allocates (with_parts sealer o (λ p. reseals_key table keys p next))) old (status.OpenFailed unopened.DataKey sealer) old) is (inl (refl, refl)))
 
 -- ---- the steps, one behind another
 

@@ -4,6 +4,7 @@ pub mod KeyOfLemmas
 pub mod KeysetLemmas
 pub mod LockLemmas
 pub mod RangingLemmas
+pub mod SealerLemmas
 pub mod SelfTestLemmas
 pub mod StreamLemmas
 pub mod TemplateLemmas

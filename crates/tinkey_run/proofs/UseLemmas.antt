@@ -35,6 +35,10 @@ use Rattle.tinkey_plans.proofs.StepLemmas.{passes_then, ends_there}
 use Rattle.std.specs.Result.{IsErrAnd}
 use Rattle.tinkey_plans.specs.Handles.{handles}
 use Rattle.tinkey_plans.specs.Locks.{loads_locked}
+use Rattle.tinkey_plans.specs.Sealers.{sealer_of}
+use Rattle.tinkey_plans.specs.declared.sealer.Sealer.{Sealer}
+use Rattle.tinkey_plans.specs.declared.sealer.Unopened.{Unopened}
+use Rattle.tinkey_plans.specs.declared.sealer.Unopened.TheVariants as unopened
 use Rattle.tinkey_plans.specs.Using.{as_drawn, dseals_plain, limit_for, seals_plain, with_opened, works, use_output}
 use Rattle.tinkey_words.specs.Words.{AskedWork, Lock, to_seal, to_reseal, to_dreseal, primitive_for}
 
@@ -44,17 +48,19 @@ behind_memory step old new (Ok value) passes = λ next s last run. inl (passes n
 behind_memory step old new (Err s) passes = λ next. inl (passes next)
 
 -- the plaintext that was found, or none
-pub opened_passes : (found answer : Option (List ℕ)) (old new : World) (r : Result (List ℕ) Status) → found ≡ answer → Passes (with_opened found) old r new → Passes (λ next. allocates (with_opened answer next)) old r new
-opened_passes found answer old new r is passes = subst (λ (o : Option (List ℕ)). Passes (λ next. allocates (with_opened o next)) old r new) is (behind_memory (with_opened found) old new r passes)
+pub opened_passes : (what : Unopened) (sealer own : Sealer) (found answer : Option (List ℕ)) (old new : World) (r : Result (List ℕ) Status) → sealer ≡ own → found ≡ answer → Passes (with_opened what sealer found) old r new → Passes (λ next. allocates (with_opened what own answer next)) old r new
+opened_passes what sealer own found answer old new r same is passes =
+    subst (λ (s : Sealer). Passes (λ next. allocates (with_opened what s answer next)) old r new) same
+    (subst (λ (o : Option (List ℕ)). Passes (λ next. allocates (with_opened what sealer o next)) old r new) is (behind_memory (with_opened what sealer found) old new r passes))
 
 -- what opened under a handle is sealed
 pub resealed_passes : (table : Table) (keys : Keys) (held : Held) (plain sealed ad : List ℕ) (old new : World) (r : Result (List ℕ) Status) → IsOver table Aead keys held → Some plain ≡ open_answer keys table sealed ad → Passes (seals_plain table keys plain ad) old r new → Passes (works table keys (to_reseal ad) sealed) old r new
 resealed_passes table keys held plain sealed ad old new r over is passes =
-    subst (λ (o : Option (List ℕ)). Passes (λ next. allocates (with_opened o (λ p. seals_plain table keys p ad next))) old r new) is (behind_memory (seals_plain table keys plain ad) old new r passes)
+    subst (λ (o : Option (List ℕ)). Passes (λ next. allocates (with_opened unopened.Text (sealer_of keys sealed) o (λ p. seals_plain table keys p ad next))) old r new) is (behind_memory (seals_plain table keys plain ad) old new r passes)
 
 pub dresealed_passes : (table : Table) (keys : Keys) (held : Held) (plain sealed ad : List ℕ) (old new : World) (r : Result (List ℕ) Status) → IsOver table Daead keys held → Some plain ≡ dopen_answer keys table sealed ad → Passes (dseals_plain table keys plain ad) old r new → Passes (works table keys (to_dreseal ad) sealed) old r new
 dresealed_passes table keys held plain sealed ad old new r over is passes =
-    subst (λ (o : Option (List ℕ)). Passes (λ next. allocates (with_opened o (λ p. dseals_plain table keys p ad next))) old r new) is (behind_memory (dseals_plain table keys plain ad) old new r passes)
+    subst (λ (o : Option (List ℕ)). Passes (λ next. allocates (with_opened unopened.Text (sealer_of keys sealed) o (λ p. dseals_plain table keys p ad next))) old r new) is (behind_memory (dseals_plain table keys plain ad) old new r passes)
 
 -- Sealing.
 

@@ -19,6 +19,7 @@ use Rattle.wrapped_prims.specs.declared.sealing.SealFault.TheVariants as seal_fa
 use Rattle.tinkey_plans.specs.Ends.{World, Ends, settled}
 use Rattle.tinkey_plans.specs.Plan.{Plan, allocates}
 use Rattle.tinkey_plans.specs.Steps.{with_made, within_limit, OrStarved, Passes}
+use Rattle.tinkey_plans.specs.declared.sealer.Sealer.{Sealer}
 use Rattle.tinkey_plans.specs.Wrapping.{as_wrapping, ends_unopened, is_json, makes_wrapped, unopened_status, unwrap_refusal, with_unwrapped, wrapped_limit, wraps}
 use Rattle.tinkey_words.specs.declared.words.rows.Format.{Format}
 use Rattle.wrapped_prims.specs.Answers.{Sealed, seal_answer}
@@ -54,22 +55,22 @@ wrapped_passes keys master table form text old entropy (Err s) is stood passes =
 -- ---- unwrapping
 
 -- the keyset of a text, or why it gives none
-pub unwrapped_passes : (clear : Bool) (read : Result Keys Refusal) (keyset : Keyset) (w : World) → read ≡ Ok keyset → Passes (λ next. allocates (with_unwrapped clear read next)) w (Ok keyset) w
-unwrapped_passes clear read keyset w is = λ next s last run. inl (rw is run)
+pub unwrapped_passes : (clear : Bool) (sealer : Sealer) (read : Result Keys Refusal) (keyset : Keyset) (w : World) → read ≡ Ok keyset → Passes (λ next. allocates (with_unwrapped clear sealer read next)) w (Ok keyset) w
+unwrapped_passes clear sealer read keyset w is = λ next s last run. inl (rw is run)
 
-unopened : (clear : Bool) (w : World) → Ends (ends_unopened clear) w (unopened_status clear) w
-unopened true w = (refl, refl)
-unopened false w = (refl, refl)
+unopened : (clear : Bool) (sealer : Sealer) (w : World) → Ends (ends_unopened clear sealer) w (unopened_status clear sealer) w
+unopened true sealer w = (refl, refl)
+unopened false sealer w = (refl, refl)
 
-refused_so : (clear : Bool) (read : Result Keys Refusal) (fault : UnwrapFault) (w : World) → IsRefusal fault read → (next : Keys → Plan) → Ends (allocates (with_unwrapped clear read next)) w (unwrap_refusal clear fault) w
-refused_so clear read (faults.OuterWire at) w is next = inl (rw is (refl, refl))
-refused_so clear read faults.NotJson w is next = inl (rw is (refl, refl))
-refused_so clear read faults.Member w is next = inl (rw is (refl, refl))
-refused_so clear read faults.NotOpened w is next = inl (rw is (unopened clear w))
-refused_so clear read (faults.InnerWire at) w is next = inl (rw is (refl, refl))
-refused_so clear read (faults.Fault fault) w is next = inl (rw is (refl, refl))
-refused_so clear read faults.NoMemory w is next = inr (refl, refl)
+refused_so : (clear : Bool) (sealer : Sealer) (read : Result Keys Refusal) (fault : UnwrapFault) (w : World) → IsRefusal fault read → (next : Keys → Plan) → Ends (allocates (with_unwrapped clear sealer read next)) w (unwrap_refusal clear sealer fault) w
+refused_so clear sealer read (faults.OuterWire at) w is next = inl (rw is (refl, refl))
+refused_so clear sealer read faults.NotJson w is next = inl (rw is (refl, refl))
+refused_so clear sealer read faults.Member w is next = inl (rw is (refl, refl))
+refused_so clear sealer read faults.NotOpened w is next = inl (rw is (unopened clear sealer w))
+refused_so clear sealer read (faults.InnerWire at) w is next = inl (rw is (refl, refl))
+refused_so clear sealer read (faults.Fault fault) w is next = inl (rw is (refl, refl))
+refused_so clear sealer read faults.NoMemory w is next = inr (refl, refl)
 
-pub not_unwrapped : (clear : Bool) (read : Result Keys Refusal) (fault : UnwrapFault) (s : Status) (w : World) → OrStarved (unwrap_refusal clear fault) s → IsRefusal fault read → (next : Keys → Plan) → Ends (allocates (with_unwrapped clear read next)) w s w
-not_unwrapped clear read fault s w (inl is) why next = rw is (refused_so clear read fault w why next)
-not_unwrapped clear read fault s w (inr starved) why next = inr (starved, refl)
+pub not_unwrapped : (clear : Bool) (sealer : Sealer) (read : Result Keys Refusal) (fault : UnwrapFault) (s : Status) (w : World) → OrStarved (unwrap_refusal clear sealer fault) s → IsRefusal fault read → (next : Keys → Plan) → Ends (allocates (with_unwrapped clear sealer read next)) w s w
+not_unwrapped clear sealer read fault s w (inl is) why next = rw is (refused_so clear sealer read fault w why next)
+not_unwrapped clear sealer read fault s w (inr starved) why next = inr (starved, refl)

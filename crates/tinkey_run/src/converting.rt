@@ -10,13 +10,12 @@ ghost use Rattle.tinkey_plans.specs.Locks.{opens_new_lock, puts_under, takes_und
 ghost use Rattle.tinkey_plans.specs.Steps.{Finishes};
 ghost use Rattle.tinkey_words.specs.Words.{convert_keyset, seen_lock, seen_new_lock, seen_place};
 
-use crate::locks::{open_lock, open_master, put_under, take_under};
+use crate::locks::{OpenMaster, open_lock, open_master, put_under, take_under};
 use managers::{KeyTable, Managers};
 use std::alloc::Global;
 use tink_base::{Entropy, Sink, Source, Store};
 use tinkey_plans::Status;
 use tinkey_words::{Master, NewLock, Place};
-use wrapped_prims::Handle;
 
 /// The keyset at one place, in clear or under the lock, put at another one, as the new lock says.
 #[inline(never)]
@@ -58,7 +57,7 @@ pub(crate) fn convert_keyset<S: Source, K: Sink, E: Entropy, D: Store>(
 fn convert_under<S: Source, K: Sink, E: Entropy, D: Store>(
     alloc: Global,
     managers: &Managers,
-    lock: Option<&Handle<'_>>,
+    lock: Option<&OpenMaster<'_>>,
     new: NewLock<'_>,
     input: Place<'_>,
     output: Place<'_>,
@@ -68,9 +67,17 @@ fn convert_under<S: Source, K: Sink, E: Entropy, D: Store>(
     store: &mut D,
 ) -> Result<(), Status>
     requires lock { IsSomeLock (option_map
-        (λ h. (⟦<Managers as KeyTable>⟧.table h.now.managers.now, h.now.held)) lock) }
+        (λ h. (
+          ⟦<Managers as KeyTable>⟧.table h.now.handle.managers.now,
+          h.now.keyset,
+          h.now.handle.held,
+        )) lock) }
     ensures { (taken : Option Keys) → IsLock
-        (option_map (λ h. (⟦<Managers as KeyTable>⟧.table h.now.managers.now, h.now.held)) lock.entry)
+        (option_map (λ h. (
+          ⟦<Managers as KeyTable>⟧.table h.now.handle.managers.now,
+          h.now.keyset,
+          h.now.handle.held,
+        )) lock.entry)
         (⟦<Managers as KeyTable>⟧.table managers.now) taken → Finishes
         (opens_new_lock (⟦<Managers as KeyTable>⟧.table managers.now) (seen_new_lock new.entry) taken (λ put.
         takes_under (⟦<Managers as KeyTable>⟧.table managers.now) taken (seen_place input.entry)
@@ -105,8 +112,8 @@ fn convert_under<S: Source, K: Sink, E: Entropy, D: Store>(
 /// The keyset at one place, taken under one lock and put under the other.
 fn convert<S: Source, K: Sink, E: Entropy, D: Store>(
     alloc: Global,
-    taken: Option<&Handle<'_>>,
-    put: Option<&Handle<'_>>,
+    taken: Option<&OpenMaster<'_>>,
+    put: Option<&OpenMaster<'_>>,
     input: Place<'_>,
     output: Place<'_>,
     source: &mut S,
@@ -115,13 +122,29 @@ fn convert<S: Source, K: Sink, E: Entropy, D: Store>(
     store: &mut D,
 ) -> Result<(), Status>
     requires taken { IsSomeLock (option_map
-        (λ h. (⟦<Managers as KeyTable>⟧.table h.now.managers.now, h.now.held)) taken) }
+        (λ h. (
+          ⟦<Managers as KeyTable>⟧.table h.now.handle.managers.now,
+          h.now.keyset,
+          h.now.handle.held,
+        )) taken) }
     requires put { IsSomeLock (option_map
-        (λ h. (⟦<Managers as KeyTable>⟧.table h.now.managers.now, h.now.held)) put) }
+        (λ h. (
+          ⟦<Managers as KeyTable>⟧.table h.now.handle.managers.now,
+          h.now.keyset,
+          h.now.handle.held,
+        )) put) }
     ensures { (table : Table) (old new : Option Keys) → IsLock
-        (option_map (λ h. (⟦<Managers as KeyTable>⟧.table h.now.managers.now, h.now.held)) taken.entry)
+        (option_map (λ h. (
+          ⟦<Managers as KeyTable>⟧.table h.now.handle.managers.now,
+          h.now.keyset,
+          h.now.handle.held,
+        )) taken.entry)
         table old → IsLock
-        (option_map (λ h. (⟦<Managers as KeyTable>⟧.table h.now.managers.now, h.now.held)) put.entry)
+        (option_map (λ h. (
+          ⟦<Managers as KeyTable>⟧.table h.now.handle.managers.now,
+          h.now.keyset,
+          h.now.handle.held,
+        )) put.entry)
         table new → Finishes
         (takes_under table old (seen_place input.entry) (puts_under table new (seen_place output.entry)))
         (world (S.state source.old) (K.state sink.old) (D.state store.old) (E.state entropy.old)) result

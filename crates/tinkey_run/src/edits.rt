@@ -12,7 +12,7 @@ ghost use Rattle.tinkey_plans.specs.Steps.{edit_refusal, finds_edit, makes_keyse
 ghost use Rattle.tinkey_plans.specs.Commands.{command_plan};
 ghost use Rattle.tinkey_words.specs.Words.{create_keyset, edit_keyset, seen_edit, seen_lock, seen_place};
 
-use crate::locks::{open_lock, put_under, take_under};
+use crate::locks::{OpenMaster, open_lock, put_under, take_under};
 use crate::steps::find_template;
 use key_msgs::Template;
 use keyset_model::Keyset;
@@ -22,7 +22,6 @@ use tink_base::{Entropy, Sink, Source, Store};
 use tinkey_cmds::{CmdError, Command, apply, create};
 use tinkey_plans::Status;
 use tinkey_words::{Master, Place};
-use wrapped_prims::Handle;
 
 /// create-keyset: the keyset of one new key of the template of this name, put in clear or under the lock.
 #[inline(never)]
@@ -66,7 +65,7 @@ pub(crate) fn create_keyset<K: Sink, E: Entropy, D: Store>(
 /// The keyset of one new key, put in clear or under the lock.
 fn create_under<K: Sink, E: Entropy, D: Store>(
     alloc: Global,
-    lock: Option<&Handle<'_>>,
+    lock: Option<&OpenMaster<'_>>,
     template: &Template,
     output: Place<'_>,
     sink: &mut K,
@@ -74,9 +73,17 @@ fn create_under<K: Sink, E: Entropy, D: Store>(
     store: &mut D,
 ) -> Result<(), Status>
     requires lock { IsSomeLock (option_map
-        (λ h. (⟦<Managers as KeyTable>⟧.table h.now.managers.now, h.now.held)) lock) }
+        (λ h. (
+          ⟦<Managers as KeyTable>⟧.table h.now.handle.managers.now,
+          h.now.keyset,
+          h.now.handle.held,
+        )) lock) }
     ensures { (w : World) (table : Table) (master : Option Keys) → IsLock
-        (option_map (λ h. (⟦<Managers as KeyTable>⟧.table h.now.managers.now, h.now.held)) lock.entry)
+        (option_map (λ h. (
+          ⟦<Managers as KeyTable>⟧.table h.now.handle.managers.now,
+          h.now.keyset,
+          h.now.handle.held,
+        )) lock.entry)
         table master → Finishes
         (makes_keyset (first (seen template.now)) (puts_under table master (seen_place output.entry)))
         (record w {
@@ -133,7 +140,7 @@ pub(crate) fn edit_keyset<S: Source, K: Sink, E: Entropy, D: Store>(
 /// The keyset at one place after an edit, put at another one, in clear or under the lock.
 fn edit_under<S: Source, K: Sink, E: Entropy, D: Store>(
     alloc: Global,
-    lock: Option<&Handle<'_>>,
+    lock: Option<&OpenMaster<'_>>,
     edit: &Command<Template>,
     input: Place<'_>,
     output: Place<'_>,
@@ -143,9 +150,17 @@ fn edit_under<S: Source, K: Sink, E: Entropy, D: Store>(
     store: &mut D,
 ) -> Result<(), Status>
     requires lock { IsSomeLock (option_map
-        (λ h. (⟦<Managers as KeyTable>⟧.table h.now.managers.now, h.now.held)) lock) }
+        (λ h. (
+          ⟦<Managers as KeyTable>⟧.table h.now.handle.managers.now,
+          h.now.keyset,
+          h.now.handle.held,
+        )) lock) }
     ensures { (table : Table) (master : Option Keys) → IsLock
-        (option_map (λ h. (⟦<Managers as KeyTable>⟧.table h.now.managers.now, h.now.held)) lock.entry)
+        (option_map (λ h. (
+          ⟦<Managers as KeyTable>⟧.table h.now.handle.managers.now,
+          h.now.keyset,
+          h.now.handle.held,
+        )) lock.entry)
         table master → Finishes
         (takes_under table master (seen_place input.entry) (λ keys.
         makes_keyset (step keys (seen_command edit.now))

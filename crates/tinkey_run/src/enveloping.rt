@@ -7,6 +7,7 @@ ghost use Rattle.keyset_model.specs.Keyset.{Keys};
 ghost use Rattle.seal_wrap.specs.Enveloping.{IsAead, url_made};
 ghost use Rattle.wrapped_prims.specs.Making.{IsOver};
 ghost use Rattle.tinkey_plans.specs.Ends.{World};
+ghost use Rattle.tinkey_plans.specs.Sealers.{envelope_sealer_of};
 ghost use Rattle.tinkey_plans.specs.Envelopes.{envelope_limit, envelope_output, envelopes, finds_dek, finds_scheme};
 ghost use Rattle.tinkey_plans.specs.Steps.{Passes, PassesAs};
 ghost use Rattle.tinkey_plans.specs.Handles.{IsServing};
@@ -14,6 +15,7 @@ ghost use Rattle.tinkey_words.specs.Words.{seen_datum, seen_envelope, seen_lock,
 ghost use Rattle.tinkey_run.specs.Rooms.{envelope_room};
 
 use crate::locks::load_locked;
+use crate::sealers::envelope_sealer_of;
 use crate::steps::{find_template, read_input_behind};
 use crate::using::{INPUT_LIMIT, SEALED_LIMIT, datum, handle_of, or_failed};
 use key_msgs::{Primitive, Template};
@@ -24,7 +26,7 @@ use seal_wrap::{
 };
 use std::alloc::Global;
 use tink_base::{Bytes, Entropy, Source, Store};
-use tinkey_plans::Status;
+use tinkey_plans::{Sealer, Status, Unopened};
 use tinkey_words::{Datum, Envelope, Format, Master};
 use wrapped_prims::{Handle, SealFault};
 
@@ -66,8 +68,22 @@ pub(crate) fn use_envelope<S: Source, E: Entropy, D: Store>(
         Envelope::Seal(ad) => {
             seal_envelope(alloc, &handle, manager, &template, ad, input, entropy)
         }
-        Envelope::Open(ad) => open_envelope(alloc, &handle, manager, ad, input),
-        Envelope::Reseal => reseal_envelope(alloc, &handle, manager, input, entropy),
+        Envelope::Open(ad) => open_envelope(
+            alloc,
+            &handle,
+            manager,
+            envelope_sealer_of(&keyset, &input),
+            ad,
+            input,
+        ),
+        Envelope::Reseal => reseal_envelope(
+            alloc,
+            &handle,
+            manager,
+            envelope_sealer_of(&keyset, &input[ENVELOPE_ROOM..]),
+            input,
+            entropy,
+        ),
     }
 }
 
@@ -148,6 +164,7 @@ fn open_envelope(
     alloc: Global,
     handle: &Handle<'_>,
     manager: &dyn AeadManager,
+    sealer: Sealer,
     ad: Datum<'_>,
     envelope: Vec<u8>,
 ) -> Result<Bytes, Status>
@@ -156,13 +173,14 @@ fn open_envelope(
     requires bound { length envelope.items ≤ 16778240 }
     ensures { (w : World) (keys : Keys) (row : Row)
         → IsOver (⟦<Managers as KeyTable>⟧.table handle.now.managers.now) Aead keys handle.now.held
+        → sealer ≡ envelope_sealer_of keys envelope.items
         → Passes (envelopes (⟦<Managers as KeyTable>⟧.table handle.now.managers.now) keys
         ((⟦<dyn AeadManager as KeyManager>⟧ manager.now.0).scheme manager.now.1)
         row (to_eopen (seen_datum ad.entry)) envelope.items) w result w }
 {
     let ad = datum(alloc, ad)?;
     match envelope_open(alloc, handle, manager, envelope, ad.as_slice()) {
-        Ok(opened) => or_failed(opened),
+        Ok(opened) => or_failed(opened, Unopened::Envelope, sealer),
         Err(_) => Err(Status::NoMemory),
     }
 }
@@ -172,6 +190,7 @@ fn reseal_envelope<E: Entropy>(
     alloc: Global,
     handle: &Handle<'_>,
     manager: &dyn AeadManager,
+    sealer: Sealer,
     input: Vec<u8>,
     entropy: &mut E,
 ) -> Result<Bytes, Status>
@@ -181,13 +200,14 @@ fn reseal_envelope<E: Entropy>(
     requires bound { length input.items ≤ ENVELOPE_ROOM + 16778240 }
     ensures { (w : World) (keys : Keys) (row : Row)
         → IsOver (⟦<Managers as KeyTable>⟧.table handle.now.managers.now) Aead keys handle.now.held
+        → sealer ≡ envelope_sealer_of keys (drop ENVELOPE_ROOM input.items)
         → Passes (envelopes (⟦<Managers as KeyTable>⟧.table handle.now.managers.now) keys
         ((⟦<dyn AeadManager as KeyManager>⟧ manager.now.0).scheme manager.now.1)
         row to_ereseal (drop ENVELOPE_ROOM input.items))
         (record w { entropy = E.state entropy.old }) result (record w { entropy = E.state entropy.new }) }
 {
     let Some(key) = envelope_key(alloc, handle, manager, &input[ENVELOPE_ROOM..])? else {
-        return Err(Status::OpenFailed);
+        return Err(Status::OpenFailed(Unopened::DataKey, sealer));
     };
     match envelope_reseal(alloc, handle, &key, input, entropy) {
         Ok(envelope) => Ok(Bytes::own(envelope)),

@@ -25,54 +25,82 @@ use tinkey_plans::Status;
 use tinkey_words::{Format, Master, Place};
 use wrapped_prims::Handle;
 
-/// The handle of a lock's master, or none if there is no lock.
+/// A master that was opened: its keyset, and the handle of that keyset's keys.
+#[derive(Drop)]
+pub(crate) struct OpenMaster<'m> {
+    pub(crate) keyset: Keyset,
+    pub(crate) handle: Handle<'m>,
+}
+
+/// A lock's master, or none if there is no lock.
 #[inline(never)]
 pub(crate) fn open_lock<'m, D: Store>(
     alloc: Global,
     managers: &'m Managers,
     lock: Option<Master<'_>>,
     store: &mut D,
-) -> Result<Option<Handle<'m>>, Status>
+) -> Result<Option<OpenMaster<'m>>, Status>
     ensures passes { (w : World) → PassesLock
-        (λ lock. option_map (λ h. (⟦<Managers as KeyTable>⟧.table h.managers.now, h.held)) lock)
+        (λ lock. option_map (λ h. (
+          ⟦<Managers as KeyTable>⟧.table h.handle.managers.now,
+          h.keyset,
+          h.handle.held,
+        )) lock)
         (⟦<Managers as KeyTable>⟧.table managers.now)
         (opens_lock (⟦<Managers as KeyTable>⟧.table managers.now) (seen_lock lock.entry))
         (record w { store = D.state store.old }) result (record w { store = D.state store.new }) }
     ensures some { IfOk result (λ lock. IsSomeLock
-        (option_map (λ h. (⟦<Managers as KeyTable>⟧.table h.managers.now, h.held)) lock)) }
+        (option_map (λ h. (
+          ⟦<Managers as KeyTable>⟧.table h.handle.managers.now,
+          h.keyset,
+          h.handle.held,
+        )) lock)) }
 {
     match lock {
         Some(master) => {
-            let handle = open_master(alloc, managers, master, store)?;
-            Ok(Some(handle))
+            let opened = open_master(alloc, managers, master, store)?;
+            Ok(Some(opened))
         }
         None => Ok(None),
     }
 }
 
-/// The handle of this master's keyset.
+/// This master, each ENABLED key of which can serve as an AEAD.
 pub(crate) fn open_master<'m, D: Store>(
     alloc: Global,
     managers: &'m Managers,
     master: Master<'_>,
     store: &mut D,
-) -> Result<Handle<'m>, Status>
+) -> Result<OpenMaster<'m>, Status>
     ensures passes { (w : World) → PassesLock
-        (λ h. Some (⟦<Managers as KeyTable>⟧.table h.managers.now, h.held))
+        (λ h. Some (
+          ⟦<Managers as KeyTable>⟧.table h.handle.managers.now,
+          h.keyset,
+          h.handle.held,
+        ))
         (⟦<Managers as KeyTable>⟧.table managers.now)
         (opens_master (⟦<Managers as KeyTable>⟧.table managers.now) (seen_master master.entry))
         (record w { store = D.state store.old }) result (record w { store = D.state store.new }) }
     ensures some { IfOk result (λ h. IsSomeLock
-        (Some (⟦<Managers as KeyTable>⟧.table h.managers.now, h.held))) }
+        (Some (
+          ⟦<Managers as KeyTable>⟧.table h.handle.managers.now,
+          h.keyset,
+          h.handle.held,
+        ))) }
 {
     let keyset = load_keyset(alloc, master.file, master.form, store)?;
-    handle_of(alloc, &keyset, managers, Primitive::Aead)
+    let handle = handle_of(alloc, &keyset, managers, Primitive::Aead)?;
+    Ok(OpenMaster { keyset, handle })
 }
 
 /// How many bytes may be read as a keyset, or as one that is sealed under a master.
-fn limit_under(lock: Option<&Handle<'_>>) -> usize
+fn limit_under(lock: Option<&OpenMaster<'_>>) -> usize
     ensures limit { (table : Table) (master : Option Keys) → IsLock
-        (option_map (λ h. (⟦<Managers as KeyTable>⟧.table h.now.managers.now, h.now.held)) lock.entry)
+        (option_map (λ h. (
+          ⟦<Managers as KeyTable>⟧.table h.now.handle.managers.now,
+          h.now.keyset,
+          h.now.handle.held,
+        )) lock.entry)
         table master → result ≡ limit_under master }
     ensures bound { result ≤ 2 ^ 30 }
 {
@@ -85,17 +113,29 @@ fn limit_under(lock: Option<&Handle<'_>>) -> usize
 /// The keyset that these bytes are, or that they give under the lock's master.
 fn keyset_under(
     alloc: Global,
-    lock: Option<&Handle<'_>>,
+    lock: Option<&OpenMaster<'_>>,
     form: Format,
     bytes: &[u8],
 ) -> Result<Keyset, Status>
     requires lock { IsSomeLock (option_map
-        (λ h. (⟦<Managers as KeyTable>⟧.table h.now.managers.now, h.now.held)) lock) }
+        (λ h. (
+          ⟦<Managers as KeyTable>⟧.table h.now.handle.managers.now,
+          h.now.keyset,
+          h.now.handle.held,
+        )) lock) }
     requires within { (master : Option Keys) (table : Table) → IsLock
-        (option_map (λ h. (⟦<Managers as KeyTable>⟧.table h.now.managers.now, h.now.held)) lock)
+        (option_map (λ h. (
+          ⟦<Managers as KeyTable>⟧.table h.now.handle.managers.now,
+          h.now.keyset,
+          h.now.handle.held,
+        )) lock)
         table master → length bytes.now ≤ limit_under master }
     ensures passes { (w : World) (table : Table) (master : Option Keys) → IsLock
-        (option_map (λ h. (⟦<Managers as KeyTable>⟧.table h.now.managers.now, h.now.held)) lock.entry)
+        (option_map (λ h. (
+          ⟦<Managers as KeyTable>⟧.table h.now.handle.managers.now,
+          h.now.keyset,
+          h.now.handle.held,
+        )) lock.entry)
         table master → Passes (keyset_under table master form bytes.now) w result w }
     ensures short { IfOk result (λ keyset. AllByRecursion IsShort keyset.records) }
 {
@@ -109,15 +149,23 @@ fn keyset_under(
 #[inline(never)]
 pub(crate) fn take_under<S: Source, D: Store>(
     alloc: Global,
-    lock: Option<&Handle<'_>>,
+    lock: Option<&OpenMaster<'_>>,
     place: Place<'_>,
     source: &mut S,
     store: &mut D,
 ) -> Result<Keyset, Status>
     requires lock { IsSomeLock (option_map
-        (λ h. (⟦<Managers as KeyTable>⟧.table h.now.managers.now, h.now.held)) lock) }
+        (λ h. (
+          ⟦<Managers as KeyTable>⟧.table h.now.handle.managers.now,
+          h.now.keyset,
+          h.now.handle.held,
+        )) lock) }
     ensures passes { (w : World) (table : Table) (master : Option Keys) → IsLock
-        (option_map (λ h. (⟦<Managers as KeyTable>⟧.table h.now.managers.now, h.now.held)) lock.entry)
+        (option_map (λ h. (
+          ⟦<Managers as KeyTable>⟧.table h.now.handle.managers.now,
+          h.now.keyset,
+          h.now.handle.held,
+        )) lock.entry)
         table master → Passes (takes_under table master (seen_place place.entry))
         (record w { source = S.state source.old; store = D.state store.old }) result
         (record w { source = S.state source.new; store = D.state store.new }) }
@@ -131,15 +179,23 @@ pub(crate) fn take_under<S: Source, D: Store>(
 #[inline(never)]
 pub(crate) fn load_under<D: Store>(
     alloc: Global,
-    lock: Option<&Handle<'_>>,
+    lock: Option<&OpenMaster<'_>>,
     name: &str,
     form: Format,
     store: &mut D,
 ) -> Result<Keyset, Status>
     requires lock { IsSomeLock (option_map
-        (λ h. (⟦<Managers as KeyTable>⟧.table h.now.managers.now, h.now.held)) lock) }
+        (λ h. (
+          ⟦<Managers as KeyTable>⟧.table h.now.handle.managers.now,
+          h.now.keyset,
+          h.now.handle.held,
+        )) lock) }
     ensures passes { (w : World) (table : Table) (master : Option Keys) → IsLock
-        (option_map (λ h. (⟦<Managers as KeyTable>⟧.table h.now.managers.now, h.now.held)) lock.entry)
+        (option_map (λ h. (
+          ⟦<Managers as KeyTable>⟧.table h.now.handle.managers.now,
+          h.now.keyset,
+          h.now.handle.held,
+        )) lock.entry)
         table master → Passes (takes_under table master (record { file = Some name.now; form = form }))
         (record w { store = D.state store.old }) result (record w { store = D.state store.new }) }
     ensures short { IfOk result (λ keyset. AllByRecursion IsShort keyset.records) }
@@ -192,23 +248,31 @@ pub(crate) fn load_locked<D: Store>(
 /// The keyset as it is put: in this form, in clear or under the lock.
 pub(crate) fn written_under<E: Entropy>(
     alloc: Global,
-    lock: Option<&Handle<'_>>,
+    lock: Option<&OpenMaster<'_>>,
     form: Format,
     keyset: &Keyset,
     entropy: &mut E,
 ) -> Result<Bytes, Status>
     requires lock { IsSomeLock (option_map
-        (λ h. (⟦<Managers as KeyTable>⟧.table h.now.managers.now, h.now.held)) lock) }
+        (λ h. (
+          ⟦<Managers as KeyTable>⟧.table h.now.handle.managers.now,
+          h.now.keyset,
+          h.now.handle.held,
+        )) lock) }
     requires short { AllByRecursion IsShort keyset.now.records }
     ensures { (w : World) (table : Table) (master : Option Keys) → IsLock
-        (option_map (λ h. (⟦<Managers as KeyTable>⟧.table h.now.managers.now, h.now.held)) lock.entry)
+        (option_map (λ h. (
+          ⟦<Managers as KeyTable>⟧.table h.now.handle.managers.now,
+          h.now.keyset,
+          h.now.handle.held,
+        )) lock.entry)
         table master → Passes (writes_under table master form keyset.now)
         (record w { entropy = E.state entropy.old }) result (record w { entropy = E.state entropy.new }) }
 {
     match lock {
         Some(master) => {
             written(alloc, Format::Binary, keyset)?;
-            wrap_under(alloc, master, keyset, form, entropy)
+            wrap_under(alloc, &master.handle, keyset, form, entropy)
         }
         None => written(alloc, form, keyset),
     }
@@ -218,7 +282,7 @@ pub(crate) fn written_under<E: Entropy>(
 #[inline(never)]
 pub(crate) fn put_under<K: Sink, E: Entropy, D: Store>(
     alloc: Global,
-    lock: Option<&Handle<'_>>,
+    lock: Option<&OpenMaster<'_>>,
     out: Place<'_>,
     keyset: &Keyset,
     sink: &mut K,
@@ -226,10 +290,18 @@ pub(crate) fn put_under<K: Sink, E: Entropy, D: Store>(
     store: &mut D,
 ) -> Result<(), Status>
     requires lock { IsSomeLock (option_map
-        (λ h. (⟦<Managers as KeyTable>⟧.table h.now.managers.now, h.now.held)) lock) }
+        (λ h. (
+          ⟦<Managers as KeyTable>⟧.table h.now.handle.managers.now,
+          h.now.keyset,
+          h.now.handle.held,
+        )) lock) }
     requires short { AllByRecursion IsShort keyset.now.records }
     ensures { (w : World) (table : Table) (master : Option Keys) → IsLock
-        (option_map (λ h. (⟦<Managers as KeyTable>⟧.table h.now.managers.now, h.now.held)) lock.entry)
+        (option_map (λ h. (
+          ⟦<Managers as KeyTable>⟧.table h.now.handle.managers.now,
+          h.now.keyset,
+          h.now.handle.held,
+        )) lock.entry)
         table master → Finishes (puts_under table master (seen_place out.entry) keyset.now)
         (record w {
           sink = K.state sink.old;

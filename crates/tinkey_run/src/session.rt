@@ -12,7 +12,7 @@ ghost use Rattle.tinkey_plans.specs.Session.{finds_free, holds_session, saves, s
 ghost use Rattle.tinkey_plans.specs.Steps.{Finishes, Passes};
 ghost use Rattle.tinkey_words.specs.Words.{seen_lock, seen_name, seen_place};
 
-use crate::locks::{load_under, open_lock, written_under};
+use crate::locks::{OpenMaster, load_under, open_lock, written_under};
 use crate::output::create_file;
 use keyset_model::Keyset;
 use lookahead::Lookahead;
@@ -23,7 +23,6 @@ use tinkey_plans::Status;
 use tinkey_session::TalkFault;
 use tinkey_session::talk::talk;
 use tinkey_words::{Format, Master, Place};
-use wrapped_prims::Handle;
 
 /// session: answers the lines of the input over the keyset in the file of this name, and puts the last
 /// keyset into a new file, if one is named. Both lie in clear, or under the lock.
@@ -66,7 +65,7 @@ pub(crate) fn answer_lines<S: Source, K: Sink, E: Lookahead, D: Store>(
 fn answer_under<S: Source, K: Sink, E: Lookahead, D: Store>(
     alloc: Global,
     managers: &Managers,
-    lock: Option<&Handle<'_>>,
+    lock: Option<&OpenMaster<'_>>,
     keyset: &str,
     form: Format,
     output: Place<'_>,
@@ -76,9 +75,17 @@ fn answer_under<S: Source, K: Sink, E: Lookahead, D: Store>(
     store: &mut D,
 ) -> Result<(), Status>
     requires lock { IsSomeLock (option_map
-        (λ h. (⟦<Managers as KeyTable>⟧.table h.now.managers.now, h.now.held)) lock) }
+        (λ h. (
+          ⟦<Managers as KeyTable>⟧.table h.now.handle.managers.now,
+          h.now.keyset,
+          h.now.handle.held,
+        )) lock) }
     ensures { (master : Option Keys) → IsLock
-        (option_map (λ h. (⟦<Managers as KeyTable>⟧.table h.now.managers.now, h.now.held)) lock.entry)
+        (option_map (λ h. (
+          ⟦<Managers as KeyTable>⟧.table h.now.handle.managers.now,
+          h.now.keyset,
+          h.now.handle.held,
+        )) lock.entry)
         (⟦<Managers as KeyTable>⟧.table managers.now) master → Finishes
         (takes_under (⟦<Managers as KeyTable>⟧.table managers.now) master
         (record { file = Some keyset.now; form = form })
@@ -113,7 +120,7 @@ fn find_free<D: Store>(file: Option<&str>, store: &mut D) -> Result<(), Status>
 fn answer_all<S: Source, K: Sink, E: Lookahead, D: Store>(
     alloc: Global,
     managers: &Managers,
-    lock: Option<&Handle<'_>>,
+    lock: Option<&OpenMaster<'_>>,
     keyset: Keyset,
     output: Place<'_>,
     source: &mut S,
@@ -122,10 +129,18 @@ fn answer_all<S: Source, K: Sink, E: Lookahead, D: Store>(
     store: &mut D,
 ) -> Result<(), Status>
     requires lock { IsSomeLock (option_map
-        (λ h. (⟦<Managers as KeyTable>⟧.table h.now.managers.now, h.now.held)) lock) }
+        (λ h. (
+          ⟦<Managers as KeyTable>⟧.table h.now.handle.managers.now,
+          h.now.keyset,
+          h.now.handle.held,
+        )) lock) }
     requires short { AllByRecursion IsShort keyset.records }
     ensures { (master : Option Keys) → IsLock
-        (option_map (λ h. (⟦<Managers as KeyTable>⟧.table h.now.managers.now, h.now.held)) lock.entry)
+        (option_map (λ h. (
+          ⟦<Managers as KeyTable>⟧.table h.now.handle.managers.now,
+          h.now.keyset,
+          h.now.handle.held,
+        )) lock.entry)
         (⟦<Managers as KeyTable>⟧.table managers.now) master → Finishes
         (exchanges (talking (⟦<Managers as KeyTable>⟧.table managers.now) keyset)
         (saves (⟦<Managers as KeyTable>⟧.table managers.now) master (seen_place output.entry)))
@@ -156,17 +171,25 @@ fn ended(fault: TalkFault) -> Status
 /// Puts a keyset into a new file, in clear or under the lock, if one is named.
 fn save<E: Entropy, D: Store>(
     alloc: Global,
-    lock: Option<&Handle<'_>>,
+    lock: Option<&OpenMaster<'_>>,
     output: Place<'_>,
     keyset: &Keyset,
     entropy: &mut E,
     store: &mut D,
 ) -> Result<(), Status>
     requires lock { IsSomeLock (option_map
-        (λ h. (⟦<Managers as KeyTable>⟧.table h.now.managers.now, h.now.held)) lock) }
+        (λ h. (
+          ⟦<Managers as KeyTable>⟧.table h.now.handle.managers.now,
+          h.now.keyset,
+          h.now.handle.held,
+        )) lock) }
     requires short { AllByRecursion IsShort keyset.now.records }
     ensures { (w : World) (table : Table) (master : Option Keys) → IsLock
-        (option_map (λ h. (⟦<Managers as KeyTable>⟧.table h.now.managers.now, h.now.held)) lock.entry)
+        (option_map (λ h. (
+          ⟦<Managers as KeyTable>⟧.table h.now.handle.managers.now,
+          h.now.keyset,
+          h.now.handle.held,
+        )) lock.entry)
         table master → Finishes (saves table master (seen_place output.entry) keyset.now)
         (record w { entropy = E.state entropy.old; store = D.state store.old }) result
         (record w { entropy = E.state entropy.new; store = D.state store.new }) }
@@ -180,7 +203,7 @@ fn save<E: Entropy, D: Store>(
 /// Puts a keyset into a new file of this name, in this form.
 fn save_as<E: Entropy, D: Store>(
     alloc: Global,
-    lock: Option<&Handle<'_>>,
+    lock: Option<&OpenMaster<'_>>,
     name: &str,
     form: Format,
     keyset: &Keyset,
@@ -188,10 +211,18 @@ fn save_as<E: Entropy, D: Store>(
     store: &mut D,
 ) -> Result<(), Status>
     requires lock { IsSomeLock (option_map
-        (λ h. (⟦<Managers as KeyTable>⟧.table h.now.managers.now, h.now.held)) lock) }
+        (λ h. (
+          ⟦<Managers as KeyTable>⟧.table h.now.handle.managers.now,
+          h.now.keyset,
+          h.now.handle.held,
+        )) lock) }
     requires short { AllByRecursion IsShort keyset.now.records }
     ensures { (w : World) (table : Table) (master : Option Keys) → IsLock
-        (option_map (λ h. (⟦<Managers as KeyTable>⟧.table h.now.managers.now, h.now.held)) lock.entry)
+        (option_map (λ h. (
+          ⟦<Managers as KeyTable>⟧.table h.now.handle.managers.now,
+          h.now.keyset,
+          h.now.handle.held,
+        )) lock.entry)
         table master → Finishes (saves_as table master (Some name.now) form keyset.now)
         (record w { entropy = E.state entropy.old; store = D.state store.old }) result
         (record w { entropy = E.state entropy.new; store = D.state store.new }) }

@@ -9,10 +9,11 @@ ghost use Rattle.tinkey_plans.specs.Ends.{World};
 ghost use Rattle.tinkey_plans.specs.Steps.{Passes, PassesAs};
 ghost use Rattle.tinkey_plans.specs.Handles.{handles, handle_refusal, IsServing};
 ghost use Rattle.keyset_model.specs.Keyset.{Keys};
-ghost use Rattle.tinkey_plans.specs.Using.{dseals_plain, limit_for, seals_plain, use_output, with_opened, Works};
+ghost use Rattle.tinkey_plans.specs.Using.{dseals_plain, limit_for, seals_plain, use_output, with_opened, works, Works, WorksTelling};
 ghost use Rattle.tinkey_words.specs.Words.{primitive_for, datum_as, datum_of_hex, seen_datum, seen_lock, seen_work, to_seal, to_open, to_dseal, to_dopen, to_reseal, to_dreseal, to_tag, to_verify, to_derive};
 
 use crate::locks::load_locked;
+use crate::sealers::sealer_of;
 use crate::steps::read_input_behind;
 use hex::FromHexError;
 use hex_lanes::decode;
@@ -21,7 +22,7 @@ use keyset_model::Keyset;
 use managers::{KeyTable, Managers};
 use std::alloc::Global;
 use tink_base::{Bytes, Entropy, NoMemory, Source, Store, Trials};
-use tinkey_plans::Status;
+use tinkey_plans::{Sealer, Status, Unopened};
 use tinkey_words::{DATUM_LIMIT, Datum, Format, Master, Work};
 use wrapped_prims::{DeriveFault, Handle, HandleFault, SealFault};
 
@@ -66,7 +67,7 @@ pub(crate) fn use_keyset<S: Source, E: Entropy, D: Store>(
     let handle = handle_of(alloc, &keyset, managers, primitive_for(work))?;
     let room = room_for(&handle, work);
     let input = read_input_behind(alloc, room, limit_for(work), source)?;
-    do_work(alloc, &handle, work, input, entropy)
+    do_work(alloc, &keyset, &handle, work, input, entropy)
 }
 
 /// The primitive of the keys that do the work.
@@ -142,6 +143,7 @@ fn room_for(handle: &Handle<'_>, work: Work<'_>) -> usize
 /// What is put out for the input, which stands behind room for what goes before a ciphertext.
 fn do_work<E: Entropy>(
     alloc: Global,
+    keyset: &Keyset,
     handle: &Handle<'_>,
     work: Work<'_>,
     input: Vec<u8>,
@@ -151,18 +153,20 @@ fn do_work<E: Entropy>(
         (primitive_for (seen_work work)) handle.now.held }
     requires room { room_for handle.now.held (seen_work work) ≤ length input.items }
     requires bound { length input.items ≤ room_for handle.now.held (seen_work work) + 2 ^ 25 }
-    ensures { (w : World) → Works (⟦<Managers as KeyTable>⟧.table handle.now.managers.now)
-        handle.now.held (seen_work work.entry)
-        (drop (room_for handle.now.held (seen_work work.entry)) input.items)
+    ensures { (w : World)
+        → IsOver (⟦<Managers as KeyTable>⟧.table handle.now.managers.now)
+        (primitive_for (seen_work work.entry)) keyset.now handle.now.held
+        → Passes (works (⟦<Managers as KeyTable>⟧.table handle.now.managers.now) keyset.now
+        (seen_work work.entry) (drop (room_for handle.now.held (seen_work work.entry)) input.items))
         (record w { entropy = E.state entropy.old }) result (record w { entropy = E.state entropy.new }) }
 {
     match work {
         Work::Seal(ad) => seal(alloc, handle, ad, input, entropy),
-        Work::Open(ad) => open(alloc, handle, ad, input),
+        Work::Open(ad) => open(alloc, handle, sealer_of(keyset, &input), ad, input),
         Work::Dseal(ad) => dseal(alloc, handle, ad, input),
-        Work::Dopen(ad) => dopen(alloc, handle, ad, input),
-        Work::Reseal(ad) => reseal(alloc, handle, ad, input, entropy),
-        Work::Dreseal(ad) => dreseal(alloc, handle, ad, input),
+        Work::Dopen(ad) => dopen(alloc, handle, sealer_of(keyset, &input), ad, input),
+        Work::Reseal(ad) => { reseal(alloc, handle, sealer_of(keyset, &input), ad, input, entropy) }
+        Work::Dreseal(ad) => dreseal(alloc, handle, sealer_of(keyset, &input), ad, input),
         Work::Tag => tag(alloc, handle, &input),
         Work::Verify(tag) => verify(alloc, handle, tag, &input),
         Work::Derive(size) => derive(alloc, handle, size, &input),
@@ -217,16 +221,23 @@ fn seal_plain<E: Entropy>(
 }
 
 /// open, in place: the plaintext of the first candidate that opens.
-fn open(alloc: Global, handle: &Handle<'_>, ad: Datum<'_>, sealed: Vec<u8>) -> Result<Bytes, Status>
+fn open(
+    alloc: Global,
+    handle: &Handle<'_>,
+    sealer: Sealer,
+    ad: Datum<'_>,
+    sealed: Vec<u8>,
+) -> Result<Bytes, Status>
     requires serving { IsServing (⟦<Managers as KeyTable>⟧.table handle.now.managers.now) Aead
         handle.now.held }
     requires bound { length sealed.items ≤ 2 ^ 25 }
-    ensures { (w : World) → Works (⟦<Managers as KeyTable>⟧.table handle.now.managers.now)
-        handle.now.held (to_open (seen_datum ad.entry)) sealed.items
+    ensures { (w : World) → WorksTelling (⟦<Managers as KeyTable>⟧.table handle.now.managers.now)
+        handle.now.held sealer (to_open (seen_datum ad.entry)) sealed.items
         w result w }
 {
     let ad = datum(alloc, ad)?;
-    or_failed(handle.open_in_place(sealed, ad.as_slice(), &mut Trials::new()))
+    let opened = handle.open_in_place(sealed, ad.as_slice(), &mut Trials::new());
+    or_failed(opened, Unopened::Text, sealer)
 }
 
 /// dseal, in place: prefix, tag and ciphertext.
@@ -266,24 +277,27 @@ fn dseal_plain(handle: &Handle<'_>, ad: &[u8], plain: Vec<u8>) -> Result<Bytes, 
 fn dopen(
     alloc: Global,
     handle: &Handle<'_>,
+    sealer: Sealer,
     ad: Datum<'_>,
     sealed: Vec<u8>,
 ) -> Result<Bytes, Status>
     requires serving { IsServing (⟦<Managers as KeyTable>⟧.table handle.now.managers.now) Daead
         handle.now.held }
     requires bound { length sealed.items ≤ 2 ^ 25 }
-    ensures { (w : World) → Works (⟦<Managers as KeyTable>⟧.table handle.now.managers.now)
-        handle.now.held (to_dopen (seen_datum ad.entry)) sealed.items
+    ensures { (w : World) → WorksTelling (⟦<Managers as KeyTable>⟧.table handle.now.managers.now)
+        handle.now.held sealer (to_dopen (seen_datum ad.entry)) sealed.items
         w result w }
 {
     let ad = datum(alloc, ad)?;
-    or_failed(handle.dopen_in_place(sealed, ad.as_slice(), &mut Trials::new()))
+    let opened = handle.dopen_in_place(sealed, ad.as_slice(), &mut Trials::new());
+    or_failed(opened, Unopened::Text, sealer)
 }
 
 /// reseal, in place: what `open` gives, sealed under the primary key.
 fn reseal<E: Entropy>(
     alloc: Global,
     handle: &Handle<'_>,
+    sealer: Sealer,
     ad: Datum<'_>,
     sealed: Vec<u8>,
     entropy: &mut E,
@@ -291,13 +305,13 @@ fn reseal<E: Entropy>(
     requires serving { IsServing (⟦<Managers as KeyTable>⟧.table handle.now.managers.now) Aead
         handle.now.held }
     requires bound { length sealed.items ≤ 2 ^ 25 }
-    ensures { (w : World) → Works (⟦<Managers as KeyTable>⟧.table handle.now.managers.now)
-        handle.now.held (to_reseal (seen_datum ad.entry)) sealed.items
+    ensures { (w : World) → WorksTelling (⟦<Managers as KeyTable>⟧.table handle.now.managers.now)
+        handle.now.held sealer (to_reseal (seen_datum ad.entry)) sealed.items
         (record w { entropy = E.state entropy.old }) result (record w { entropy = E.state entropy.new }) }
 {
     let ad = datum(alloc, ad)?;
     let Some(opened) = handle.open_in_place(sealed, ad.as_slice(), &mut Trials::new()) else {
-        return Err(Status::OpenFailed);
+        return Err(Status::OpenFailed(Unopened::Text, sealer));
     };
     let plain = behind_room(handle.seal_room(), opened)?;
     seal_plain(alloc, handle, ad.as_slice(), plain, entropy)
@@ -307,19 +321,20 @@ fn reseal<E: Entropy>(
 fn dreseal(
     alloc: Global,
     handle: &Handle<'_>,
+    sealer: Sealer,
     ad: Datum<'_>,
     sealed: Vec<u8>,
 ) -> Result<Bytes, Status>
     requires serving { IsServing (⟦<Managers as KeyTable>⟧.table handle.now.managers.now) Daead
         handle.now.held }
     requires bound { length sealed.items ≤ 2 ^ 25 }
-    ensures { (w : World) → Works (⟦<Managers as KeyTable>⟧.table handle.now.managers.now)
-        handle.now.held (to_dreseal (seen_datum ad.entry)) sealed.items
+    ensures { (w : World) → WorksTelling (⟦<Managers as KeyTable>⟧.table handle.now.managers.now)
+        handle.now.held sealer (to_dreseal (seen_datum ad.entry)) sealed.items
         w result w }
 {
     let ad = datum(alloc, ad)?;
     let Some(opened) = handle.dopen_in_place(sealed, ad.as_slice(), &mut Trials::new()) else {
-        return Err(Status::OpenFailed);
+        return Err(Status::OpenFailed(Unopened::Text, sealer));
     };
     let plain = behind_room(handle.dseal_room(), opened)?;
     dseal_plain(handle, ad.as_slice(), plain)
@@ -389,13 +404,18 @@ fn derive(alloc: Global, handle: &Handle<'_>, size: u32, input: &[u8]) -> Result
     }
 }
 
-/// The plaintext, or the status where nothing opened.
-pub(crate) fn or_failed(opened: Option<Vec<u8>>) -> Result<Bytes, Status>
-    ensures { (w : World) → Passes (with_opened (option_map (λ plain. plain.items) opened)) w result w }
+/// The plaintext, or the status where nothing opened, of which so much is told.
+pub(crate) fn or_failed(
+    opened: Option<Vec<u8>>,
+    what: Unopened,
+    sealer: Sealer,
+) -> Result<Bytes, Status>
+    ensures { (w : World) → Passes
+        (with_opened what sealer (option_map (λ plain. plain.items) opened)) w result w }
 {
     match opened {
         Some(plain) => Ok(Bytes::own(plain)),
-        None => Err(Status::OpenFailed),
+        None => Err(Status::OpenFailed(what, sealer)),
     }
 }
 

@@ -1,6 +1,6 @@
 //! Keysets sealed under a master, and opened.
 
-ghost use Rattle.std.specs.Prelude.{◌≡◌, ◌≤◌, ◌^◌, length, IfOk};
+ghost use Rattle.std.specs.Prelude.{◌≡◌, ◌≤◌, ◌^◌, false, length, IfOk};
 ghost use Rattle.std.specs.List.{AllByRecursion};
 ghost use Rattle.key_msgs.specs.declared.primitive.Primitive.TheVariants.{Aead};
 ghost use Rattle.keyset_model.specs.Keyset.{Keys, IsShort};
@@ -9,16 +9,18 @@ ghost use Rattle.wrapped_prims.specs.Making.{IsOver};
 ghost use Rattle.tinkey_plans.specs.Ends.{World};
 ghost use Rattle.tinkey_plans.specs.Steps.{OrStarved, Passes};
 ghost use Rattle.tinkey_plans.specs.Handles.{IsServing};
-ghost use Rattle.tinkey_plans.specs.Wrapping.{is_json, is_keyset, makes_wrapped, unopened_status, unwrap_refusal, unwraps};
+ghost use Rattle.tinkey_plans.specs.Wrapping.{is_json, is_keyset, keyset_sealer, makes_wrapped, unopened_status, unwrap_refusal, unwraps};
 
+use crate::locks::OpenMaster;
 use crate::output::within;
+use crate::sealers::sealer_under;
 use keyset_json::{JsonError, read_json};
 use keyset_model::{Keyset, ReadError, read_binary};
 use managers::{KeyTable, Managers};
-use seal_wrap::{UnwrapFault, WrapFault, unwrap_keyset, wrap};
+use seal_wrap::{UnwrapFault, WrapFault, encrypted_front, unwrap_keyset, wrap};
 use std::alloc::Global;
 use tink_base::{Bytes, Entropy, NoMemory};
-use tinkey_plans::Status;
+use tinkey_plans::{Status, Unopened};
 use tinkey_words::Format;
 use wrapped_prims::Handle;
 
@@ -49,51 +51,62 @@ pub(crate) fn wrap_under<E: Entropy>(
     }
 }
 
-/// The keyset of the text, opened under the handle's keyset.
+/// The keyset of the text, opened under the master.
 pub(crate) fn unwrap_under(
     alloc: Global,
-    handle: &Handle<'_>,
+    master: &OpenMaster<'_>,
     text: &[u8],
     form: Format,
 ) -> Result<Keyset, Status>
-    requires serving { IsServing (⟦<Managers as KeyTable>⟧.table handle.now.managers.now) Aead
-        handle.now.held }
+    requires over { IsOver (⟦<Managers as KeyTable>⟧.table master.now.handle.managers.now) Aead
+        master.now.keyset master.now.handle.held }
     requires bound { length text.now ≤ 4194304 }
-    ensures passes { (w : World) (master : Keys)
-        → IsOver (⟦<Managers as KeyTable>⟧.table handle.now.managers.now) Aead master handle.now.held
-        → Passes (unwraps master (⟦<Managers as KeyTable>⟧.table handle.now.managers.now) form
-        text.now) w result w }
+    ensures passes { (w : World) → Passes
+        (unwraps master.now.keyset
+        (⟦<Managers as KeyTable>⟧.table master.now.handle.managers.now) form text.now) w result w }
     ensures short { IfOk result (λ keyset. AllByRecursion IsShort keyset.records) }
 {
-    match unwrap_keyset(alloc, handle, text, is_json(form)) {
+    match unwrap_keyset(alloc, &master.handle, text, is_json(form)) {
         Ok(keyset) => Ok(keyset),
-        Err(fault) => Err(refusal(alloc, text, form, fault)),
+        Err(fault) => Err(refusal(alloc, &master.keyset, text, form, fault)),
     }
 }
 
 /// The status of this text, which gives no keyset.
-fn refusal(alloc: Global, text: &[u8], form: Format, fault: UnwrapFault) -> Status
+fn refusal(alloc: Global, master: &Keyset, text: &[u8], form: Format, fault: UnwrapFault) -> Status
     requires bound { length text.now ≤ 4194304 }
-    ensures { OrStarved (unwrap_refusal (is_keyset form text.now) fault) result }
+    ensures { OrStarved (unwrap_refusal (is_keyset form text.now)
+        (keyset_sealer form master.now text.now) fault) result }
 {
     match fault {
         UnwrapFault::OuterWire(at) | UnwrapFault::InnerWire(at) => Status::BadProto(at),
         UnwrapFault::NotJson => Status::NotJson,
         UnwrapFault::Member => Status::WrappedMember,
-        UnwrapFault::NotOpened => unopened(alloc, text, form),
+        UnwrapFault::NotOpened => unopened(alloc, master, text, form),
         UnwrapFault::Fault(fault) => Status::Keyset(fault),
         UnwrapFault::NoMemory => Status::NoMemory,
     }
 }
 
 /// The status of a text that the master doesn't open: a keyset in clear is told as one.
-fn unopened(alloc: Global, text: &[u8], form: Format) -> Status
+fn unopened(alloc: Global, master: &Keyset, text: &[u8], form: Format) -> Status
     requires bound { length text.now ≤ 4194304 }
-    ensures { OrStarved (unopened_status (is_keyset form text.now)) result }
+    ensures { OrStarved (unopened_status (is_keyset form text.now)
+        (keyset_sealer form master.now text.now)) result }
 {
     match is_keyset(alloc, text, form) {
         Ok(true) => Status::KeysetInClear,
-        Ok(false) => Status::OpenFailed,
+        Ok(false) => not_opened(alloc, master, text, form),
+        Err(NoMemory) => Status::NoMemory,
+    }
+}
+
+/// The status of an encrypted keyset that the master doesn't open.
+fn not_opened(alloc: Global, master: &Keyset, text: &[u8], form: Format) -> Status
+    ensures { OrStarved (unopened_status false (keyset_sealer form master.now text.now)) result }
+{
+    match encrypted_front(alloc, text, is_json(form)) {
+        Ok(front) => Status::OpenFailed(Unopened::Keyset, sealer_under(master, &front)),
         Err(NoMemory) => Status::NoMemory,
     }
 }

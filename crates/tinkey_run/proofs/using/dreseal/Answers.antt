@@ -15,7 +15,7 @@ dseal_plain-requires-clause-bound g c =
     omega (arith, c.in_ok-plain.ensures.size, c.dseal_room.ensures.room, short, c.requires.bound)
 
 pub returns : goal.returns
-returns g c = λ w keys over.
+returns g c = λ w keys over same.
     let opened = rw (c.as_slice.ensures ∙ c.in_ok-ad.ensures.bytes) at (c.in-Some.ensures.opened keys over) in
     let plain = rw c.dseal_room.ensures.room at c.in_ok-plain.ensures.plain in
     let sealed = rw (plain, c.as_slice-2.ensures ∙ c.in_ok-ad.ensures.bytes) at (c.dseal_plain.ensures w keys over) in

@@ -43,4 +43,4 @@ returns g c = λ w.
     let keys = c.in_ok-keyset.keyset in
     let over = rw c.primitive_for.ensures at c.in_ok-handle.ensures.over in
     use_with_handle _ (seen_lock c.args.lock) c.args.name.now c.args.form work old mid new keys _ _ c.primitive_for.ensures (c.in_ok-keyset.ensures.passes first) (c.in_ok-handle.ensures.passes mid)
-    (with_input _ _ work mid behind new keys _ _ c.in_ok-handle.ensures.table (rw (c.limit_for.ensures.limit, c.room_for-room.ensures.room) at (c.in_ok-input.ensures.passes mid)) (c.do_work.ensures behind keys over))
+    (with_input _ _ work mid behind new keys _ _ c.in_ok-handle.ensures.table (rw (c.limit_for.ensures.limit, c.room_for-room.ensures.room) at (c.in_ok-input.ensures.passes mid)) (c.do_work.ensures behind over))
