@@ -28,7 +28,7 @@ use Rattle.tinkey_selftest.specs.declared.counts.Counts.{Counts}
 use Rattle.tinkey_session.specs.Talking.{talk}
 use Rattle.tinkey_words.specs.declared.words.misuse.Misuse.{Misuse}
 use Rattle.tinkey_words.specs.declared.words.rows.Format.{Format}
-use Rattle.tinkey_words.specs.Words.{Asked, Lock, Place, primitive_for, create_keyset, edit_keyset, list_keyset, key_of, convert_keyset, list_key_templates, use_keyset, use_envelope, seal_stream, open_stream, open_range, self_test, session, help, version, words_of}
+use Rattle.tinkey_words.specs.Words.{Asked, Lock, Place, primitive_for, create_keyset, edit_keyset, list_keyset, key_of, convert_keyset, list_key_templates, use_keyset, use_envelope, seal_stream, open_stream, reseal_stream, open_range, self_test, session, help, version, words_of}
 use Rattle.wrapped_prims.specs.Fitness.{unfit}
 
 abbrev pub IsDrawing : Plan → Type 0
@@ -88,6 +88,9 @@ stream_keys_drawing (Some keys) next all = all keys
 stream_drawing : (keys : KeysForStreams) (ad : List ℕ) → IsDrawing (streaming.seals_stream keys ad)
 stream_drawing keys ad = ((heading (keys.primary.derived + 7), refl), λ made. made_each IsDrawing closed made _ (λ random. tt))
 
+restream_drawing : (keys : KeysForStreams) (ad : List ℕ) → IsDrawing (streaming.reseals_stream keys ad)
+restream_drawing keys ad = ((heading (keys.primary.derived + 7), refl), λ made. made_each IsDrawing closed made _ (λ random. tt))
+
 saved_drawing : (table : Table) (master : Option Keys) (file : Option (List ℕ)) (form : Format) (keys : Keys) → IsDrawing (saves_as table master file form keys)
 saved_drawing table master None form keys = tt
 saved_drawing table master (Some name) form keys = written_drawing table master form keys (λ output. creates name output status.OutExists tt) (λ output. tt)
@@ -113,6 +116,7 @@ commands_are_drawing table (use_keyset lock name form work out) = loaded_each Is
 commands_are_drawing table (use_envelope lock name form template work out) = dek_each IsDrawing closed template _ (λ row. loaded_each IsDrawing open_drawing table lock name form _ (λ keys. fit_each IsDrawing closed (unfit keys Aead table) _ (scheme_each IsDrawing closed (scheme_at table Aead (url_made row)) _ (λ scheme input. envelope_each IsDrawing closed table keys scheme row work input (λ ad next all. ((enveloping table keys scheme row input ad, refl), all)) (λ plain ad next all. ((sealing table keys plain ad, refl), all)) (puts out) (put_drawing out)))))
 commands_are_drawing table (seal_stream lock name form ad) = streams_drawing table lock name form _ (λ k. stream_drawing k ad)
 commands_are_drawing table (open_stream lock name form ad) = streams_drawing table lock name form _ (λ k. tt)
+commands_are_drawing table (reseal_stream lock name form ad) = streams_drawing table lock name form _ (λ k. restream_drawing k ad)
 commands_are_drawing table (open_range lock name form ad range out) = streams_drawing table lock name form _ (λ k opened. stretch_each IsDrawing closed opened _ (put_drawing out))
 commands_are_drawing table (self_test seed lines) = counts_drawing (trial.self_test table seed lines) lines
 commands_are_drawing table (session lock name form out) = lock_each IsDrawing open_drawing table lock _ (λ master. under_each IsDrawing open_drawing table master (record { file = Some name; form = form }) _ (session_drawing table master out))

@@ -29,13 +29,13 @@ use Rattle.tinkey_selftest.specs.Trial as trial
 use Rattle.tinkey_selftest.specs.declared.counts.Counts.{Counts}
 use Rattle.tinkey_plans.specs.SelfTesting.{tells_counts}
 use Rattle.tinkey_plans.specs.Session.{finds_free, holds_session, saves_as}
-use Rattle.tinkey_plans.specs.Streaming.{keys_for, seals_stream, with_keys}
+use Rattle.tinkey_plans.specs.Streaming.{keys_for, reseals_stream, seals_stream, with_keys}
 use Rattle.tinkey_plans.specs.Streaming as streaming
 use Rattle.tinkey_plans.specs.Stretch.{Opened, Stretch, stretch_in}
 use Rattle.tinkey_session.proofs.Options.{clash}
 use Rattle.tinkey_session.specs.Talking.{Stop, goes, wants, passes, long_line, many_lines, Talk, Limit}
 use Rattle.tinkey_plans.specs.Commands.{command_plan}
-use Rattle.tinkey_words.specs.Words.{Asked, self_test, Place, primitive_for, create_keyset, edit_keyset, list_keyset, key_of, convert_keyset, list_key_templates, use_keyset, use_envelope, seal_stream, open_stream, open_range, session, help, version}
+use Rattle.tinkey_words.specs.Words.{Asked, self_test, Place, primitive_for, create_keyset, edit_keyset, list_keyset, key_of, convert_keyset, list_key_templates, use_keyset, use_envelope, seal_stream, open_stream, reseal_stream, open_range, session, help, version}
 use Rattle.tinkey_plans.proofs.EachLemmas.{AreAll, IsClosed, IsOpen, dek_each, envelope_each, scheme_each, stretch_each, edit_each, fit_each, lines_each, loaded_each, lock_each, locked_each, made_each, new_lock_each, row_each, under_each, work_each, written_under_each}
 
 -- the refusals of its steps aren't Done
@@ -185,6 +185,9 @@ stream_keys_proper (Some keys) next proper = proper keys
 seals_proper : (ad : List ℕ) (keys : KeysForStreams) → IsProper (seals_stream keys ad)
 seals_proper ad keys = λ made. made_each IsProper closed made _ (λ random. tt)
 
+reseals_proper : (ad : List ℕ) (keys : KeysForStreams) → IsProper (reseals_stream keys ad)
+reseals_proper ad keys = λ made. made_each IsProper closed made _ (λ random. tt)
+
 saves_proper : (table : Table) (master : Option Keys) (file : Option (List ℕ)) (form : Format) (keys : Keys) → IsProper (saves_as table master file form keys)
 saves_proper table master None form keys = tt
 saves_proper table master (Some name) form keys = written_under_each IsProper closed table master form keys (λ m next all. all) (λ output. creates name output status.OutExists tt) (λ output e. cc)
@@ -204,6 +207,7 @@ commands_are_proper table (use_keyset lock name form work out) = (loaded_each Is
 commands_are_proper table (use_envelope lock name form template work out) = (dek_each IsProper closed template _ (λ row. loaded_each IsProper open' table lock name form _ (λ keys. fit_each IsProper closed (unfit keys Aead table) _ (scheme_each IsProper closed (scheme_at table Aead (url_made row)) _ (λ scheme. (λ e. cc, λ input. envelope_each IsProper closed table keys scheme row work input (λ ad next all. all) (λ plain ad next all. all) (puts out) (put_proper out)))))))
 commands_are_proper table (seal_stream lock name form ad) = loaded_each IsProper open' table lock name form _ (λ keys. stream_fit_proper (streams.stream_unfit keys) _ (stream_keys_proper (keys_for keys) _ (seals_proper ad)))
 commands_are_proper table (open_stream lock name form ad) = loaded_each IsProper open' table lock name form _ (λ keys. stream_fit_proper (streams.stream_unfit keys) _ (stream_keys_proper (keys_for keys) _ (λ k. tt)))
+commands_are_proper table (reseal_stream lock name form ad) = loaded_each IsProper open' table lock name form _ (λ keys. stream_fit_proper (streams.stream_unfit keys) _ (stream_keys_proper (keys_for keys) _ (reseals_proper ad)))
 commands_are_proper table (open_range lock name form ad range out) = (loaded_each IsProper open' table lock name form _ (λ keys. stream_fit_proper (streams.stream_unfit keys) _ (stream_keys_proper (keys_for keys) _ (λ k. (λ e. cc, λ opened. stretch_each IsProper closed opened _ (put_proper out))))))
 commands_are_proper table (self_test seed lines) = (counts_proper (trial.self_test table seed lines) lines)
 commands_are_proper table (session lock name form out) = lock_each IsProper open' table lock _ (λ master. under_each IsProper open' table master (record { file = Some name; form = form }) (holds_session table master out) (λ keys. free_proper out.file _ (λ last. saves_proper table master out.file out.form last)))

@@ -24,7 +24,7 @@ use Rattle.segment_stream.specs.StreamKeys as streams
 use Rattle.tinkey_plans.specs.Streaming as streaming
 use Rattle.tinkey_selftest.specs.declared.counts.Counts.{Counts}
 use Rattle.tinkey_plans.specs.SelfTesting.{tells_counts}
-use Rattle.tinkey_words.specs.Words.{self_test, Place, primitive_for, create_keyset, edit_keyset, list_keyset, key_of, convert_keyset, list_key_templates, use_keyset, use_envelope, seal_stream, open_stream, open_range, session, help, version}
+use Rattle.tinkey_words.specs.Words.{self_test, Place, primitive_for, create_keyset, edit_keyset, list_keyset, key_of, convert_keyset, list_key_templates, use_keyset, use_envelope, seal_stream, open_stream, reseal_stream, open_range, session, help, version}
 
 closed : IsClosed IsWhole
 closed = record { ended = λ s stated. tt; allocated = λ next all. all }
@@ -70,6 +70,7 @@ commands_are_whole table (use_keyset lock name form work out) = inl (loaded_each
 commands_are_whole table (use_envelope lock name form template work out) = inl (dek_each IsWhole closed template _ (λ row. loaded_each IsWhole open' table lock name form _ (λ keys. fit_each IsWhole closed (unfit keys Aead table) _ (scheme_each IsWhole closed (scheme_at table Aead (url_made row)) _ (λ scheme. (λ input. envelope_each IsWhole closed table keys scheme row work input (λ ad next all. all) (λ plain ad next all. all) (puts out) (put_whole out)))))))
 commands_are_whole table (seal_stream lock name form ad) = inr (inl tt)
 commands_are_whole table (open_stream lock name form ad) = inr (inl tt)
+commands_are_whole table (reseal_stream lock name form ad) = inr (inl tt)
 commands_are_whole table (open_range lock name form ad range out) = inl (loaded_each IsWhole open' table lock name form _ (λ keys. stream_fit_whole (streams.stream_unfit keys) _ (stream_keys_whole (streaming.keys_for keys) _ (λ k opened. stretch_each IsWhole closed opened _ (put_whole out)))))
 commands_are_whole table (self_test seed lines) = inl (counts_whole (trial.self_test table seed lines) lines)
 commands_are_whole table (session lock name form out) = inr (inr tt)

@@ -34,7 +34,7 @@ use Rattle.tinkey_plans.specs.Stretch.{GivesAtMost}
 use Rattle.tinkey_plans.specs.Wrapping.{is_json, wrapped_limit}
 use Rattle.tinkey_words.specs.declared.words.rows.Format.{Format}
 use Rattle.tinkey_words.specs.declared.words.rows.Format.TheVariants as formats
-use Rattle.tinkey_words.specs.Words.{Asked, AskedEnvelope, AskedRange, Lock, seal_stream, open_stream, open_range, self_test, session, use_envelope, words_of}
+use Rattle.tinkey_words.specs.Words.{Asked, AskedEnvelope, AskedRange, Lock, seal_stream, open_stream, reseal_stream, open_range, self_test, session, use_envelope, words_of}
 
 -- a keyset without a fault, each record of which can serve for the primitive
 pub record IsFit (table : Table) (primitive : Primitive) (keys : Keys) : Type 0 where
@@ -59,6 +59,7 @@ pub record FitKeysetsAnswer : Type 0 where
 abbrev pub IsStream : Asked → Type 0
 IsStream (seal_stream lock keyset form ad) = Unit {0}
 IsStream (open_stream lock keyset form ad) = Unit {0}
+IsStream (reseal_stream lock keyset form ad) = Unit {0}
 IsStream _ = ⊥
 
 -- a session is asked for

@@ -6,7 +6,7 @@ use Rattle.keyset_model.specs.Keyset.{Keys}
 use Rattle.keyset_model.specs.declared.keyset.KeysetFault.TheVariants as faults
 use Rattle.managers.specs.Table.{Table}
 use Rattle.segment_stream.specs.KeysModel.{KeysForStreams}
-use Rattle.segment_stream.specs.Pumping.{sealing, opening_any}
+use Rattle.segment_stream.specs.Pumping.{sealing, opening_any, resealing}
 use Rattle.segment_stream.specs.Sealing.{header_of}
 use Rattle.segment_stream.specs.Segments.{cipher_of, ciphers_of}
 use Rattle.segment_stream.specs.StreamKeys.{StreamUnfit, not_stream, bad_key, stream_unfit, primary_key, stream_keys}
@@ -54,6 +54,15 @@ seals_stream keys ad =
 -- the input opened under the first key whose first segment opens
 abbrev pub opens_stream : KeysForStreams → (ad : List ℕ) → Plan
 opens_stream keys ad = allocates (pumps (opening_any (ciphers_of ad keys.keys)))
+
+-- the input opened under the first key whose first segment opens, and its plaintext sealed under the primary
+-- key, behind a header of random bytes, both with these associated data
+abbrev pub reseals_stream : KeysForStreams → (ad : List ℕ) → Plan
+reseals_stream keys ad =
+    let cipher = cipher_of ad keys.primary in
+    allocates (draws sealings (fill (keys.primary.derived + 7))
+    (λ made. with_made made (λ random.
+    pumps (resealing (ciphers_of ad keys.keys) cipher (header_of cipher random)))))
 
 -- the status of a keyset that gives no keys for streams, and of want of memory
 abbrev pub stream_keys_refusal : StreamKeysFault → Status

@@ -63,7 +63,7 @@ use Rattle.tinkey_readable.specs.LineRuns.{asks, done_reply}
 use Rattle.tinkey_readable.specs.LockedRuns.{IsDoneUnder}
 use Rattle.tinkey_readable.specs.Lying.{Lies, LiesAs, Lying, lock_in}
 use Rattle.tinkey_readable.specs.Runs.{IsDone, IsFree, ReadIsStored, bytes_at}
-use Rattle.tinkey_readable.specs.StreamRuns.{WasSealed}
+use Rattle.tinkey_readable.specs.StreamRuns.{IsOpened, NoOtherBefore, WasSealed}
 use Rattle.tinkey_words.specs.Words.{AskedEnvelope, AskedWork, primitive_for, to_dopen, to_dseal, to_eopen, to_eseal, to_open, to_seal, to_tag, to_verify}
 
 -- ---- where something was made
@@ -215,12 +215,12 @@ verifies_anywhere fits fit kept tag body r was =
 -- ---- streams
 
 -- a stream that was sealed under a key of this record
-record MadeStream (r : Record) (ad stream plain : List ℕ) : Type 0 where
-  key : StreamKey
-  gives : stream_key_of r ≡ Ok key
-  alone : stream_answer (cipher_of ad key ∷ []) stream ≡ (plain, None)
+pub record MadeStream (r : Record) (ad stream plain : List ℕ) : Type 0 where
+  pub key : StreamKey
+  pub gives : stream_key_of r ≡ Ok key
+  pub alone : stream_answer (cipher_of ad key ∷ []) stream ≡ (plain, None)
 
-stream_maker : StreamBack → (before : Lying) (old : Keys) (r : Record) (ad stream : List ℕ) (told : Told) → Lies before old → primary_of old ≡ Some r → WasSealed ad before told stream → MadeStream r ad stream told.input
+pub stream_maker : StreamBack → (before : Lying) (old : Keys) (r : Record) (ad stream : List ℕ) (told : Told) → Lies before old → primary_of old ≡ Some r → WasSealed ad before told stream → MadeStream r ad stream told.input
 stream_maker back before old r ad stream told lies primary was =
     let u = keys_loaded standard_table (lock_in before.master was.lock) was.name before.text.form (λ k. seals_stream k ad) told was.done in
     let same = same_lying before old u.keys told was.lock was.name lies was.lies u.lies in
@@ -242,15 +242,18 @@ served_reached : (other : Lying) (keys : Keys) (primary : StreamKey) (next : Key
 served_reached other keys primary next told lock name serves is there =
     keys_reached standard_table (lock_in other.master lock) name other.text.form keys primary next told (taken_behind other keys told lock name serves.taken there) serves.fit is
 
-pub opens_stream_anywhere : StreamBack → ReadKeysFit → OpensStreamAnywhere
-opens_stream_anywhere back fit before other old keys r ad stream told lies primary was serves has only =
-    let m = stream_maker back before old r ad stream told lies primary was in
+pub opens_made : ReadKeysFit → (other : Lying) (keys : Keys) (r : Record) (ad stream plain : List ℕ) → MadeStream r ad stream plain → ServesStreams other keys → (has : HasKey r keys) → NoOtherBefore r has.place ad stream keys → IsOpened ad other stream plain
+opens_made fit other keys r ad stream plain m serves has only =
     let p = primary_there fit other keys serves in
-    let opens = opens_under keys r m.key ad stream told.input has m.gives only m.alone in
+    let opens = opens_under keys r m.key ad stream plain has m.gives only m.alone in
     λ t lock name there input.
     let reached' = served_reached other keys p.0 (λ k. opens_stream k ad) t lock name serves p.1 there in
-    let g = opened_so (with_primary keys p.0) ad t stream told.input input opens.answer in
+    let g = opened_so (with_primary keys p.0) ad t stream plain input opens.answer in
     (ap (λ (a : Answer). a.status) reached' ∙ g.0, ap (λ (a : Answer). a.output) reached' ∙ g.1)
+
+pub opens_stream_anywhere : StreamBack → ReadKeysFit → OpensStreamAnywhere
+opens_stream_anywhere back fit before other old keys r ad stream told lies primary was serves has only =
+    opens_made fit other keys r ad stream told.input (stream_maker back before old r ad stream told lies primary was) serves has only
 
 pub opens_first_anywhere : StreamBack → ReadKeysFit → OpensFirstAnywhere
 opens_first_anywhere back fit before other old keys r ad stream told lies primary was serves has =

@@ -23,6 +23,7 @@ pub mod PutLemmas
 pub mod ReachLemmas
 pub mod ReadableLemmas
 pub mod ResealLemmas
+pub mod ResealedStreamLemmas
 pub mod RunLemmas
 pub mod ReadBytesLemmas
 pub mod ReadIdLemmas

@@ -29,7 +29,7 @@ use Rattle.tinkey_plans.specs.Plan.{Answer, Told, answer, exchanges, writes}
 use Rattle.tinkey_plans.specs.Session.{holds_session, saves}
 use Rattle.tinkey_plans.specs.Using.{limit_for, works}
 use Rattle.tinkey_words.specs.declared.words.rows.Format.{Format}
-use Rattle.tinkey_words.specs.Words.{Asked, AskedWork, Lock, Place, create_keyset, edit_keyset, list_keyset, key_of, convert_keyset, list_key_templates, use_keyset, use_envelope, seal_stream, open_stream, open_range, self_test, session, help, version, to_seal, to_open, to_dseal, to_dopen, to_reseal, to_dreseal, to_tag, to_verify, to_derive, primitive_for}
+use Rattle.tinkey_words.specs.Words.{Asked, AskedWork, Lock, Place, create_keyset, edit_keyset, list_keyset, key_of, convert_keyset, list_key_templates, use_keyset, use_envelope, seal_stream, open_stream, reseal_stream, open_range, self_test, session, help, version, to_seal, to_open, to_dseal, to_dopen, to_reseal, to_dreseal, to_tag, to_verify, to_derive, primitive_for}
 use Rattle.tinkey_readable.specs.LineRuns.{asks, done_reply}
 use Rattle.tinkey_readable.specs.Runs.{Does, Handing, HandsOn, Run, Written, bytes_at, hands_on, keyset_of, read_in, session_handing}
 use Rattle.tinkey_readable.proofs.ReachLemmas.{IsDoneAnswer, load_done}
@@ -102,6 +102,7 @@ session_asked (use_keyset lock name form work out) is = absurd is
 session_asked (use_envelope lock name form template work out) is = absurd is
 session_asked (seal_stream lock name form ad) is = absurd is
 session_asked (open_stream lock name form ad) is = absurd is
+session_asked (reseal_stream lock name form ad) is = absurd is
 session_asked (open_range lock name form ad range out) is = absurd is
 session_asked (self_test seed lines) is = absurd is
 session_asked (help topic) is = absurd is

@@ -16,7 +16,7 @@ use Rattle.managers.specs.Table.{Table, scheme_at}
 use Rattle.managers.specs.Uses.{iv_size}
 use Rattle.seal_wrap.specs.Enveloped.{envelope_of, open_envelope_of, reseal_envelope_of}
 use Rattle.seal_wrap.specs.Enveloping.{IsAead, url_made}
-use Rattle.segment_stream.specs.Opening.{decides}
+use Rattle.segment_stream.specs.Opening.{decides, released}
 use Rattle.segment_stream.specs.Range.{range_of}
 use Rattle.segment_stream.specs.Sealing.{seal_decides}
 use Rattle.segment_stream.specs.Segments.{cipher_of, ciphers_of}
@@ -32,7 +32,7 @@ use Rattle.tinkey_plans.specs.Envelopes.{envelope_limit}
 use Rattle.tinkey_plans.specs.Plan.{Told, answer}
 use Rattle.tinkey_plans.specs.Using.{limit_for}
 use Rattle.tinkey_words.specs.declared.words.rows.Format.{Format}
-use Rattle.tinkey_words.specs.Words.{AskedEdit, AskedEnvelope, AskedRange, AskedWork, Lock, NewLock, Output, Place, convert_keyset, create_keyset, edit_keyset, list_keyset, open_range, open_stream, seal_stream, session, to_eopen, to_ereseal, to_eseal, use_envelope, use_keyset, to_seal, to_open, to_dseal, to_dopen, to_reseal, to_dreseal, to_tag, to_verify, to_derive, primitive_for}
+use Rattle.tinkey_words.specs.Words.{AskedEdit, AskedEnvelope, AskedRange, AskedWork, Lock, NewLock, Output, Place, convert_keyset, create_keyset, edit_keyset, list_keyset, open_range, open_stream, reseal_stream, seal_stream, session, to_eopen, to_ereseal, to_eseal, use_envelope, use_keyset, to_seal, to_open, to_dseal, to_dopen, to_reseal, to_dreseal, to_tag, to_verify, to_derive, primitive_for}
 use Rattle.tinkey_readable.specs.Lying.{FitsThere, LiesBehind, LiesThere, OpensLock, OpensNewLock}
 use Rattle.tinkey_readable.specs.Runs.{IsCreated, IsEdit, IsFree}
 
@@ -162,7 +162,21 @@ pub record StreamOpens (table : Table) (lock : Lock) (name : List ℕ) (form : F
   pub there : streams.primary_key keys ≡ Some primary
   pub opens : decides (ciphers_of ad (stream_keys keys)) told.input true ≡ None
 
--- a stream is sealed, and opened, to its end exactly where that is so
+-- Both of that: each segment opens in its place, and of what it opens to the primary key seals no more than
+-- 2^32 segments.
+pub record StreamReseals (table : Table) (lock : Lock) (name : List ℕ) (form : Format) (ad : List ℕ)
+    (told : Told) : Type 0 where
+  pub keys : Keys
+  pub lies : LiesBehind table lock (record { file = Some name; form = form }) told keys
+  pub fit : stream_unfit keys ≡ None
+  pub primary : StreamKey
+  pub there : streams.primary_key keys ≡ Some primary
+  pub enough : primary.derived + 7 ≤ length told.random
+  pub opens : decides (ciphers_of ad (stream_keys keys)) told.input true ≡ None
+  pub few : seal_decides (cipher_of ad primary) (take (primary.derived + 7) told.random)
+      (released (ciphers_of ad (stream_keys keys)) told.input true) ≡ None
+
+-- a stream is sealed, opened, and resealed, to its end exactly where that is so
 pub record StreamsDone : Type 0 where
   pub sealed : (table : Table) (lock : Lock) (name : List ℕ) (form : Format) (ad : List ℕ) (told : Told)
       → ((answer (command_plan table (seal_stream lock name form ad)) told).status ≡ status.Done)
@@ -170,6 +184,9 @@ pub record StreamsDone : Type 0 where
   pub opened : (table : Table) (lock : Lock) (name : List ℕ) (form : Format) (ad : List ℕ) (told : Told)
       → ((answer (command_plan table (open_stream lock name form ad)) told).status ≡ status.Done)
       ↔ StreamOpens table lock name form ad told
+  pub resealed : (table : Table) (lock : Lock) (name : List ℕ) (form : Format) (ad : List ℕ) (told : Told)
+      → ((answer (command_plan table (reseal_stream lock name form ad)) told).status ≡ status.Done)
+      ↔ StreamReseals table lock name form ad told
 
 -- ---- ranges
 

@@ -11,6 +11,7 @@ pub mod Lying
 pub mod RangeRuns
 pub mod Readable
 pub mod Resealing
+pub mod ResealedStreams
 pub mod Runs
 pub mod StreamRuns
 pub mod NamedRuns

@@ -15,6 +15,7 @@ ghost use Rattle.tinkey_readable.specs.NamedRuns.{KeysAreNamed};
 ghost use Rattle.tinkey_readable.specs.RangeRuns.{RunsOpenRange};
 ghost use Rattle.tinkey_readable.specs.Readable.{AnswersAreReadable, SessionsAreReadable};
 ghost use Rattle.tinkey_readable.specs.Resealing.{ResealedDopens, ResealedEnvelopesOpen, ResealedOpens};
+ghost use Rattle.tinkey_readable.specs.ResealedStreams.{ResealedStreamsOpen};
 ghost use Rattle.tinkey_readable.specs.Runs.{LocksStep, ReadIsStored, RunStep, RunsDopen, RunsDopenPresent, RunsOpen, RunsOpenPresent, RunsUnwrap, RunsVerify, WrapStep};
 ghost use Rattle.tinkey_readable.specs.StreamRuns.{RunsOpenStream, RunsOpenStreamPresent};
 
@@ -24,7 +25,7 @@ use seal_wrap::laws::{
     envelope_back, envelope_resealed, envelopes_fit, resealed_fit, sealings_fit,
     standard_data_keys, text_hides_keys, wrap_back_bytes,
 };
-use segment_stream::laws::{range_is_slice, stream_back};
+use segment_stream::laws::{range_is_slice, resealed_back, stream_back};
 use tinkey_cmds::laws::edits_keep_keysets;
 use tinkey_plans::laws::{done_exactly, fit_keysets_answer};
 use tinkey_session::laws::{
@@ -289,6 +290,19 @@ pub fn resealed_envelopes_open()
     envelopes_fit();
     resealed_fit();
     standard_data_keys();
+    read_keysets_fit();
+}
+
+/// What was sealed as a stream, and then resealed any number of times, opens to its plaintext with its
+/// associated data over every keyset that is accepted for streams and in which the primary key of the last
+/// resealing is ENABLED, where no other key before it opens the first segment of the last stream. Each
+/// resealing, by a run, was over a keyset in which the key of the stream before it was so. The earlier keys
+/// may then be gone.
+pub fn resealed_streams_open()
+    ensures { ResealedStreamsOpen }
+{
+    stream_back();
+    resealed_back();
     read_keysets_fit();
 }
 

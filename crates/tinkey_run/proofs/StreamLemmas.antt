@@ -9,7 +9,7 @@ use Rattle.segment_stream.specs.Cipher.{SegmentCipher, IsCipher}
 use Rattle.segment_stream.specs.KeysModel.{KeysForStreams, AreOf, AreSound}
 use Rattle.segment_stream.specs.Opening.{StreamRefusal, too_many, failed}
 use Rattle.segment_stream.specs.PumpModels.{SealerState, IsMade, pump_result}
-use Rattle.segment_stream.specs.Pumping.{Pumps, ShowsFaults, sealing, opening_any, fault_of, result_of}
+use Rattle.segment_stream.specs.Pumping.{Pumps, ShowsFaults, sealing, opening_any, resealing, fault_of, result_of}
 use Rattle.segment_stream.specs.Pumping as pass
 use Rattle.segment_stream.specs.Sealing.{header_of, sealed_behind, many_plain}
 use Rattle.segment_stream.specs.Segments.{cipher_of, ciphers_of}
@@ -22,6 +22,7 @@ use Rattle.segment_stream.specs.declared.keys.StreamKeysFault.{StreamKeysFault}
 use Rattle.segment_stream.specs.declared.keys.StreamKeysFault.TheVariants as key_faults
 use Rattle.segment_stream.proofs.CipherLemmas.{cipher_of-is_cipher, ciphers_of-are_ciphers}
 use Rattle.segment_stream.proofs.OpeningLemmas.{decides_stays}
+use Rattle.segment_stream.proofs.ResealingLemmas.{reseal-stays}
 use Rattle.segment_stream.proofs.SealAnswering.{seal-pass-answers}
 use Rattle.tink_spec.specs.Outside.{SourceState, SinkState, EntropyState, RanShort, Stood}
 use Rattle.tinkey_cmds.specs.Draws.{Drawn, fill, answered}
@@ -35,7 +36,7 @@ use Rattle.tinkey_plans.specs.Steps.{Passes}
 use Rattle.tinkey_plans.specs.Locks.{loads_locked}
 use Rattle.tinkey_words.specs.Words.{Lock}
 use Rattle.managers.specs.Table.{Table}
-use Rattle.tinkey_plans.specs.Streaming.{unless_unfit, keys_for, with_keys, loads_stream_keys, seals_stream, opens_stream, stream_keys_refusal}
+use Rattle.tinkey_plans.specs.Streaming.{unless_unfit, keys_for, with_keys, loads_stream_keys, seals_stream, opens_stream, reseals_stream, stream_keys_refusal}
 use Rattle.tinkey_plans.proofs.StepLemmas.{passes_then, ends_there}
 
 -- The keys.
@@ -118,6 +119,9 @@ sealing_lasts key header cipher = record { stays = λ taken more refusal decided
       let same : out taken ≡ sealed_behind key header (taken ++ more) true = cc in sym same,
     )
 
+resealing_lasts : (keys : List SegmentCipher) (key : SegmentCipher) (header : List ℕ) → All IsCipher keys → IsCipher key → IsLasting (resealing keys key header)
+resealing_lasts keys key header all cipher = record { stays = λ taken more refusal decided. reseal-stays keys key header taken more refusal all cipher decided }
+
 -- A pass that opens.
 
 pub opened_ends : (keys : KeysForStreams) (ad other : List ℕ) (result : Result (Unit {0}) OpenPumpFault) (s : Status) (old new : World) → AreSound keys → other ≡ ad → s ≡ pump_status result → OnlyStreams old new → Pumps (opening_any (ciphers_of other keys.keys)) [] [] false result old.source new.source old.sink new.sink → ShowsFaults result old.source new.source old.sink new.sink → Ends (opens_stream keys ad) old s new
@@ -157,4 +161,23 @@ sealed_ends keys ad sealer result s old entropy new sound made stood is only run
 -- the entropy failed at the header
 pub unsealed_ends : (keys : KeysForStreams) (ad : List ℕ) (old : World) (entropy : EntropyState) → RanShort old.entropy entropy (keys.primary.derived + 7) → Ends (seals_stream keys ad) old status.EntropyFault (record old { entropy = entropy })
 unsealed_ends keys ad old entropy ran =
+    inl (draw_failed refl (record { source = refl; sink = refl; store = refl }) (ran_out-fill old.entropy entropy (keys.primary.derived + 7) ran (omega arith)))
+
+-- A pass that opens and seals again.
+
+pub resealed_ends : (keys : KeysForStreams) (ad : List ℕ) (sealer : SealerState) (result : Result (Unit {0}) OpenPumpFault) (s : Status) (old : World) (entropy : EntropyState) (new : World) → AreSound keys → IsMade keys ad old.entropy entropy sealer → Stood old.entropy.faults entropy.faults → s ≡ pump_status result → OnlyStreams (record old { entropy = entropy }) new → Pumps (resealing (ciphers_of ad keys.keys) (cipher_of ad keys.primary) sealer.header) [] [] false result old.source new.source old.sink new.sink → ShowsFaults result old.source new.source old.sink new.sink → Ends (reseals_stream keys ad) old s new
+resealed_ends keys ad sealer result s old entropy new sound made stood is only run shown =
+    let cipher = cipher_of ad keys.primary in
+    inl (settled made.random entropy (Ok made.random) made.drew stood (λ more. fill_settles (keys.primary.derived + 7) made.random more made.whole) (record {
+      result = result;
+      status = is;
+      only = only;
+      pass = subst (λ (h : List ℕ). Pumps (resealing (ciphers_of ad keys.keys) cipher h) [] [] false result old.source new.source old.sink new.sink) made.header run;
+      shown = shown;
+      lasting = resealing_lasts (ciphers_of ad keys.keys) cipher (header_of cipher made.random) (ciphers_of-are_ciphers ad keys.keys sound.keys) (cipher_of-is_cipher ad keys.primary sound.primary);
+    }))
+
+-- the entropy failed at the header
+pub unresealed_ends : (keys : KeysForStreams) (ad : List ℕ) (old : World) (entropy : EntropyState) → RanShort old.entropy entropy (keys.primary.derived + 7) → Ends (reseals_stream keys ad) old status.EntropyFault (record old { entropy = entropy })
+unresealed_ends keys ad old entropy ran =
     inl (draw_failed refl (record { source = refl; sink = refl; store = refl }) (ran_out-fill old.entropy entropy (keys.primary.derived + 7) ran (omega arith)))

@@ -1,4 +1,4 @@
-//! sseal and sopen: the input as a stream, in one pass.
+//! sseal, sopen and sreseal: the input as a stream, in one pass.
 
 ghost use Rattle.std.specs.Prelude.{◌≡◌, IfOk};
 ghost use Rattle.segment_stream.specs.KeysModel.{AreSound, KeysForStreams};
@@ -6,7 +6,7 @@ ghost use Rattle.segment_stream.specs.PumpModels.{pump_result};
 ghost use Rattle.tinkey_plans.specs.Ends.{World, pump_status};
 ghost use Rattle.tinkey_plans.specs.Plan.{Plan};
 ghost use Rattle.tinkey_plans.specs.Steps.{Finishes, Passes, status_of};
-ghost use Rattle.tinkey_plans.specs.Streaming.{loads_stream_keys, seals_stream, opens_stream, stream_keys_refusal};
+ghost use Rattle.tinkey_plans.specs.Streaming.{loads_stream_keys, seals_stream, opens_stream, reseals_stream, stream_keys_refusal};
 ghost use Rattle.tinkey_words.specs.Words.{seen_datum, seen_lock};
 
 use crate::locks::load_locked;
@@ -158,6 +158,73 @@ fn open_under<S: Source, K: Sink>(
     match Opener::new(alloc, keys, ad.as_slice()) {
         Ok(opener) => opened(opener.pump(source, sink)),
         Err(_) => Err(Status::NoMemory),
+    }
+}
+
+/// sreseal: opens the input as a stream, and seals the plaintext under the primary key.
+#[inline(never)]
+pub(crate) fn reseal_stream<S: Source, K: Sink, E: Entropy>(
+    alloc: Global,
+    keys: Result<StreamKeys, Status>,
+    ad: Datum<'_>,
+    source: &mut S,
+    sink: &mut K,
+    entropy: &mut E,
+) -> Result<(), Status>
+    requires sound { IfOk keys AreSound }
+    ensures { (step : (KeysForStreams → Plan) → Plan) (first w : World) →
+        Passes step first keys
+        (record w {
+          source = S.state source.old;
+          sink = K.state sink.old;
+          entropy = E.state entropy.old;
+        }) →
+        Finishes (step (λ keys. reseals_stream keys (seen_datum ad.entry))) first result
+        (record w {
+          source = S.state source.new;
+          sink = K.state sink.new;
+          entropy = E.state entropy.new;
+        }) }
+{
+    match keys {
+        Ok(keys) => reseal_under(alloc, &keys, ad, source, sink, entropy),
+        Err(status) => Err(status),
+    }
+}
+
+/// Opens the input as a stream under these keys, and seals the plaintext under the primary one.
+fn reseal_under<S: Source, K: Sink, E: Entropy>(
+    alloc: Global,
+    keys: &StreamKeys,
+    ad: Datum<'_>,
+    source: &mut S,
+    sink: &mut K,
+    entropy: &mut E,
+) -> Result<(), Status>
+    requires sound { AreSound keys.now }
+    ensures { (w : World) → Finishes (reseals_stream keys.now (seen_datum ad.entry))
+        (record w {
+          source = S.state source.old;
+          sink = K.state sink.old;
+          entropy = E.state entropy.old;
+        }) result
+        (record w {
+          source = S.state source.new;
+          sink = K.state sink.new;
+          entropy = E.state entropy.new;
+        }) }
+{
+    let Ok(ad) = datum(alloc, ad) else {
+        return Err(Status::NoMemory);
+    };
+    let bytes = ad.as_slice();
+    let Ok(opener) = Opener::new(alloc, keys, bytes) else {
+        return Err(Status::NoMemory);
+    };
+    match Sealer::new(alloc, keys, bytes, entropy) {
+        Ok(sealer) => opened(opener.reseal(sealer, source, sink)),
+        Err(SealerFault::EntropyFault) => Err(Status::EntropyFault),
+        Err(SealerFault::NoMemory) => Err(Status::NoMemory),
     }
 }
 
