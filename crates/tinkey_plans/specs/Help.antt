@@ -498,21 +498,15 @@ command_text commands.ListKeyset =
     ++ codes "  tinkey list-keyset --in listed.json\n"
 command_text commands.KeyOf =
     codes "tinkey key-of: tells which keys may have sealed a text or an envelope, or made a tag\n\n"
-    ++ codes "  tinkey key-of --keyset FILE [--keyset-format json|binary] [--ad TEXT] [--ad-hex HEX]\n"
-    ++ codes "      [--master FILE] [--master-format json|binary] [--as text|envelope|stream]\n\n"
+    ++ codes "  tinkey key-of --keyset FILE [--keyset-format json|binary] [--master FILE]\n"
+    ++ codes "      [--master-format json|binary] [--as text|envelope]\n\n"
     ++ codes "Required:\n"
     ++ keyset_31
     ++ codes "\nOptional:\n"
-    ++ keyset_format_31
-    ++ codes "  --ad TEXT                    the associated data, only with --as stream: a text of at most\n"
-    ++ codes "                               1,048,576 bytes, taken as they stand; not beside --ad-hex\n"
-    ++ codes "  --ad-hex HEX                 the associated data in hexadecimal, only with --as stream: an\n"
-    ++ codes "                               even number of hexadecimal digits of either case, at most\n"
-    ++ codes "                               2,097,152, or none; not beside --ad\n"
-    ++ master_31 ++ master_format_31
-    ++ codes "  --as text|envelope|stream    what the input is: a sealed text or a tag, an envelope, or a\n"
-    ++ codes "                               stream: text, envelope or stream, in upper or lower case;\n"
-    ++ codes "                               text if it isn't given\n\n"
+    ++ keyset_format_31 ++ master_31 ++ master_format_31
+    ++ codes "  --as text|envelope           what the input is: a sealed text or a tag, or an envelope:\n"
+    ++ codes "                               text or envelope, in upper or lower case; text if it isn't\n"
+    ++ codes "                               given\n\n"
     ++ codes "Reads  the keyset, and the first 5 bytes of standard input, or the first 9 with --as\n"
     ++ codes "       envelope; of a stream it tells nothing, as streams have no output prefix\n"
     ++ codes "Gives  a line for each key, of any status, whose output prefix stands in front, and one that\n"

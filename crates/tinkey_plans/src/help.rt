@@ -604,20 +604,15 @@ Optional:
         CommandName::KeyOf => text!([] "\
 tinkey key-of: tells which keys may have sealed a text or an envelope, or made a tag
 
-  tinkey key-of --keyset FILE [--keyset-format json|binary] [--ad TEXT] [--ad-hex HEX]
-      [--master FILE] [--master-format json|binary] [--as text|envelope|stream]
+  tinkey key-of --keyset FILE [--keyset-format json|binary] [--master FILE]
+      [--master-format json|binary] [--as text|envelope]
 
 Required:
 " keyset_31 "
 Optional:
-" keyset_format_31 "  --ad TEXT                    the associated data, only with --as stream: a text of at most
-                               1,048,576 bytes, taken as they stand; not beside --ad-hex
-  --ad-hex HEX                 the associated data in hexadecimal, only with --as stream: an
-                               even number of hexadecimal digits of either case, at most
-                               2,097,152, or none; not beside --ad
-" master_31 master_format_31 "  --as text|envelope|stream    what the input is: a sealed text or a tag, an envelope, or a
-                               stream: text, envelope or stream, in upper or lower case;
-                               text if it isn't given
+" keyset_format_31 master_31 master_format_31 "  --as text|envelope           what the input is: a sealed text or a tag, or an envelope:
+                               text or envelope, in upper or lower case; text if it isn't
+                               given
 
 Reads  the keyset, and the first 5 bytes of standard input, or the first 9 with --as
        envelope; of a stream it tells nothing, as streams have no output prefix

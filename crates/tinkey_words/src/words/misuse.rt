@@ -43,8 +43,6 @@ pub enum Misfit {
     Lacks(CommandName, OptionName),
     /// The words end without the second option, which the first one needs; none before it among them all lacks its own.
     Without(CommandName, OptionName, OptionName),
-    /// The option means something for a stream alone, and the words end without `--as stream`.
-    NoStream(CommandName, OptionName),
 }
 
 /// The word of this place is at fault, for this reason.
