@@ -1,6 +1,6 @@
 //! A wrapped keyset is read and opened under a master keyset.
 
-ghost use Rattle.std.specs.Prelude.{◌≡◌, ◌≤◌, length, take, List, ℕ, IfOk};
+ghost use Rattle.std.specs.Prelude.{◌≡◌, ◌≤◌, Bool, length, take, List, ℕ, IfOk};
 ghost use Rattle.std.specs.List.{AllByRecursion};
 ghost use Rattle.key_msgs.specs.declared.primitive.Primitive.TheVariants.{Aead};
 ghost use Rattle.keyset_model.specs.Keyset.{IsShort, IsWithin, Keys};

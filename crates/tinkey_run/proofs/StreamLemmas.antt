@@ -176,8 +176,3 @@ resealed_ends keys ad sealer result s old entropy new sound made stood is only r
       shown = shown;
       lasting = resealing_lasts (ciphers_of ad keys.keys) cipher (header_of cipher made.random) (ciphers_of-are_ciphers ad keys.keys sound.keys) (cipher_of-is_cipher ad keys.primary sound.primary);
     }))
-
--- the entropy failed at the header
-pub unresealed_ends : (keys : KeysForStreams) (ad : List ℕ) (old : World) (entropy : EntropyState) → RanShort old.entropy entropy (keys.primary.derived + 7) → Ends (reseals_stream keys ad) old status.EntropyFault (record old { entropy = entropy })
-unresealed_ends keys ad old entropy ran =
-    inl (draw_failed refl (record { source = refl; sink = refl; store = refl }) (ran_out-fill old.entropy entropy (keys.primary.derived + 7) ran (omega arith)))

@@ -19,7 +19,7 @@ use crate::output::{finish_output, shown, write_output};
 use crate::ranging::open_stretch;
 use crate::self_testing::tell_self_test;
 use crate::session::answer_lines;
-use crate::streaming::{load_stream_keys, open_stream, seal_stream};
+use crate::streaming::{load_stream_keys, open_stream, reseal_stream, seal_stream};
 use crate::templates::list_templates;
 use crate::using::use_keyset;
 use lookahead::Lookahead;
@@ -208,6 +208,15 @@ fn dispatch<S: Source, K: Sink, E: Lookahead, D: Store>(
         } => {
             let keys = load_stream_keys(alloc, managers, lock, keyset, form, store);
             open_stream(alloc, keys, ad, source, sink)
+        }
+        Request::ResealStream {
+            lock,
+            keyset,
+            form,
+            ad,
+        } => {
+            let keys = load_stream_keys(alloc, managers, lock, keyset, form, store);
+            reseal_stream(alloc, keys, ad, source, sink, entropy)
         }
         Request::OpenRange {
             lock,

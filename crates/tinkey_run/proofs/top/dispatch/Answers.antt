@@ -64,6 +64,12 @@ returns-in-OpenStream g c =
     let x = c.in-OpenStream in
     rw x.is (c.open_stream.ensures (loads_stream_keys _ (seen_lock x.lock) x.keyset.now x.form) w (record w { store = g.D.Store.state c.load_stream_keys-keys-in-OpenStream.new.store }) (c.load_stream_keys-keys-in-OpenStream.ensures.passes w))
 
+pub returns-in-ResealStream : goal.returns-in-ResealStream
+returns-in-ResealStream g c =
+    let w = world (g.S.Source.state c.args.source.now) (g.K.Sink.state c.args.sink.now) (g.D.Store.state c.args.store.now) (g.E.Entropy.state c.args.entropy.now) in
+    let x = c.in-ResealStream in
+    rw x.is (c.reseal_stream.ensures (loads_stream_keys _ (seen_lock x.lock) x.keyset.now x.form) w (record w { store = g.D.Store.state c.load_stream_keys-keys-in-ResealStream.new.store }) (c.load_stream_keys-keys-in-ResealStream.ensures.passes w))
+
 pub returns-in-OpenRange : goal.returns-in-OpenRange
 returns-in-OpenRange g c =
     let w = world (g.S.Source.state c.args.source.now) (g.K.Sink.state c.args.sink.now) (g.D.Store.state c.args.store.now) (g.E.Entropy.state c.args.entropy.now) in
