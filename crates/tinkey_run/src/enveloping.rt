@@ -19,6 +19,7 @@ use crate::sealers::envelope_sealer_of;
 use crate::steps::{find_template, read_input_behind};
 use crate::using::{INPUT_LIMIT, SEALED_LIMIT, datum, handle_of, or_failed};
 use key_msgs::{Primitive, Template};
+use keyset_model::Keyset;
 use managers::{AeadManager, KeyManager, KeyTable, Managers};
 use seal_wrap::{
     ENVELOPE_ROOM, EnvelopeFault, data_key, envelope_key, envelope_open, envelope_reseal,
@@ -80,7 +81,7 @@ pub(crate) fn use_envelope<S: Source, E: Entropy, D: Store>(
             alloc,
             &handle,
             manager,
-            envelope_sealer_of(&keyset, &input[ENVELOPE_ROOM..]),
+            sealer_behind_room(&keyset, &input),
             input,
             entropy,
         ),
@@ -183,6 +184,14 @@ fn open_envelope(
         Ok(opened) => or_failed(opened, Unopened::Envelope, sealer),
         Err(_) => Err(Status::NoMemory),
     }
+}
+
+/// What is told of the envelope that stands behind the room of one.
+fn sealer_behind_room(keyset: &Keyset, input: &[u8]) -> Sealer
+    requires room { ENVELOPE_ROOM ≤ length input.now }
+    ensures { result ≡ envelope_sealer_of keyset.now (drop ENVELOPE_ROOM input.now) }
+{
+    envelope_sealer_of(keyset, &input[ENVELOPE_ROOM..])
 }
 
 /// ereseal, in place: the envelope that stands behind the room of one, with its data key sealed anew.

@@ -1,5 +1,4 @@
 use Rattle.std.proofs.Common.{drop}
-use Rattle.seal_wrap.proofs.OpenedInPlace.{rest_whole}
 use Rattle.tinkey_words.specs.Words.{seen_envelope, seen_lock}
 use Rattle.key_msgs.specs.Templates.{seen}
 use Rattle.tinkey_run.specs.Rooms.{envelope_room}
@@ -86,6 +85,9 @@ returns-in-Open g c = λ w.
     (envelope_with_input _ _ row work keys _ mid behind behind (drop (envelope_room work) c.in_ok-input.input.items) _ c.in_ok-handle.ensures.table (c.in_ok-manager.ensures.passes mid) (rw (c.envelope_limit.ensures.limit, c.envelope_room.ensures.room) at (c.in_ok-input.ensures.passes mid))
     (rw c.in-Open.is (c.open_envelope.ensures behind keys row c.in_ok-handle.ensures.over (rw c.deref.ensures.value at c.envelope_sealer_of.ensures))))
 
+pub sealer_behind_room-requires : goal.sealer_behind_room-requires
+sealer_behind_room-requires g c = record { room = rw c.deref-in-Reseal.ensures.value (rw (c.envelope_room.ensures.room, c.in-Reseal.is) at c.in_ok-input.ensures.room) }
+
 pub returns : goal.returns
 returns g c = λ w.
     let first = record w { source = g.S.Source.state c.args.source.now; entropy = g.E.Entropy.state c.args.entropy.now } in
@@ -98,4 +100,4 @@ returns g c = λ w.
     let work = seen_envelope c.args.work in
     envelope_with_handle _ (seen_lock c.args.lock) c.args.name.now c.args.form c.args.template.now work old mid new row keys _ (c.in_ok-template.ensures.passes old) (c.in_ok-keyset.ensures.passes first) (c.in_ok-handle.ensures.passes mid)
     (envelope_with_input _ _ row work keys _ mid behind new (drop (envelope_room work) c.in_ok-input.input.items) _ c.in_ok-handle.ensures.table (c.in_ok-manager.ensures.passes mid) (rw (c.envelope_limit.ensures.limit, c.envelope_room.ensures.room) at (c.in_ok-input.ensures.passes mid))
-    (rw c.in-Reseal.is (c.reseal_envelope.ensures behind keys row c.in_ok-handle.ensures.over (rw (c.deref.ensures.value, rest_whole 4096 c.in_ok-input.input.items) at c.envelope_sealer_of.ensures))))
+    (rw c.in-Reseal.is (c.reseal_envelope.ensures behind keys row c.in_ok-handle.ensures.over (rw c.deref-in-Reseal.ensures.value at c.sealer_behind_room.ensures))))
