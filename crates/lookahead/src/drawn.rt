@@ -7,8 +7,8 @@ ghost use Rattle.lookahead.specs.Lent.{told_lent};
 use std::marker::Model;
 use tink_base::{Entropy, Failed};
 
-/// An entropy over a slice that is lent to it, which contracts see as a `Lent`. It fails only where fewer
-/// bytes are left than asked.
+/// An entropy over a borrowed slice; contracts see a `Lent`. It fails only if fewer bytes are left
+/// than asked for.
 #[derive(Drop)]
 pub struct Drawn<'a> {
     bytes: &'a [u8],

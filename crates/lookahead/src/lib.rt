@@ -1,4 +1,4 @@
-//! Random bytes that are held ahead: they may be looked at, and used up afterwards.
+//! Random bytes that are held ahead: they can be inspected, and used up later.
 #![tactic(auto)]
 
 mod drawn;

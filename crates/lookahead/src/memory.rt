@@ -1,4 +1,4 @@
-//! An entropy in memory holds no byte ahead, so that each of its calls that is to fail is met.
+//! An entropy in memory holds no byte ahead, so each of its calls that must fail does happen.
 
 ghost use Rattle.std.specs.Prelude.{◌≡◌, [], take};
 ghost use Rattle.tink_spec.specs.Outside.{Drew, Stood};

@@ -13,19 +13,19 @@ pub enum ReadAllFault {
     Failed,
     /// The input has more bytes than the limit.
     TooLong,
-    /// Memory was refused.
+    /// Memory couldn't be allocated.
     NoMemory,
 }
 
-/// How many bytes one read asks for at the most.
+/// The most bytes that one read asks for.
 const PIECE: usize = 1 << 16;
 
-/// Reads all bytes up to the end, of which there may be `limit`, at most 2^30.
+/// Reads all bytes up to the end. There may be at most `limit` of them, itself at most 2^30.
 ///
-/// `Failed` comes only where the source failed, and `TooLong` exactly where `limit` + 1 bytes were
-/// taken. With any other answer at most `limit` bytes are gone, and with `Ok` all of them, up to
-/// the end. Nothing is read after the end was answered, and a failed read isn't tried again: but for
-/// `Failed` the count of faults is as it was.
+/// `Failed` comes only if the source failed, and `TooLong` if and only if `limit` + 1 bytes were
+/// taken. Any other answer consumes at most `limit` bytes, and `Ok` all of them, up to the end.
+/// Nothing is read after the end was reported, and a failed read isn't tried again: only `Failed`
+/// changes the count of faults.
 pub fn read_all<S: Source>(
     alloc: Global,
     source: &mut S,
@@ -52,8 +52,8 @@ pub fn read_all<S: Source>(
     read_behind(alloc, 0, source, limit)
 }
 
-/// Reads as `read_all` does, into a list that begins with `room` bytes for the caller to fill, at most
-/// 2^30: the bytes read stand behind them. What these bytes are isn't said.
+/// Reads as `read_all` does, into a list that begins with `room` bytes, at most 2^30, for the
+/// caller to fill; the bytes read follow. The values of the first `room` bytes are unspecified.
 pub fn read_behind<S: Source>(
     alloc: Global,
     room: usize,
@@ -113,8 +113,8 @@ pub fn read_behind<S: Source>(
 
 /// Writes all of `bytes`, without memory.
 ///
-/// `Failed` comes only where the sink failed. The first bytes were written then, and at least one
-/// of them wasn't. A failed write isn't tried again: with `Ok` the count of faults is as it was.
+/// `Failed` comes only if the sink failed. Then a prefix was written, and at least one byte wasn't.
+/// A failed write isn't tried again: `Ok` leaves the count of faults unchanged.
 pub fn write_all<K: Sink>(sink: &mut K, bytes: &[u8]) -> Result<(), Failed>
     ensures all { OnOk result (Took (K.state sink.old) (K.state sink.new) bytes.now) }
     ensures no_fault { OnOk result (Stood (K.state sink.old).faults (K.state sink.new).faults) }

@@ -6,7 +6,7 @@ use crate::NoMemory;
 use std::alloc::Global;
 use std::marker::Model;
 
-/// Bytes on the heap, which contracts see as the list of them.
+/// Bytes on the heap. Contracts see a list of bytes.
 #[derive(Drop)]
 pub struct Bytes {
     items: Vec<u8>,
@@ -28,7 +28,7 @@ impl Bytes {
         Bytes { items: from }
     }
 
-    /// The same bytes once more.
+    /// A copy of the bytes.
     pub fn copy(alloc: Global, from: &[u8]) -> Result<Bytes, NoMemory>
         ensures { IfOk result (λ bytes. bytes ≡ from.now) }
     {

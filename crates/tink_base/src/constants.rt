@@ -1,4 +1,4 @@
-//! Numbers of Tink's keyset format (tink.proto), and what names of ours begin with.
+//! Numbers of Tink's keyset format (tink.proto), and the prefix of temporary file names.
 
 /// The status of a key that may be used (KeyStatusType).
 pub const ENABLED: u32 = 1;
@@ -9,12 +9,13 @@ pub const DESTROYED: u32 = 3;
 
 /// The output prefix type of five bytes that start with 0x01 (OutputPrefixType).
 pub const TINK: u32 = 1;
-/// The output prefix type of five bytes that start with 0x00; its MACs take one byte 0x00 more.
+/// The output prefix type of five bytes that start with 0x00; its MACs are computed over one more
+/// byte, 0x00.
 pub const LEGACY: u32 = 2;
 /// The output prefix type of no bytes.
 pub const RAW: u32 = 3;
 /// The output prefix type of five bytes that start with 0x00.
 pub const CRUNCHY: u32 = 4;
 
-/// What a temporary name beside a new file begins with. It doesn't depend on the name that the file gets.
+/// The prefix of the temporary name beside a new file. It doesn't depend on the file's own name.
 pub const ASIDE: &str = ".tinkey-new-";

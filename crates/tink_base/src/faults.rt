@@ -5,11 +5,11 @@ ghost use Rattle.tink_base.specs.declared.faults.NoMemory.{NoMemory};
 
 use std::alloc::{AllocError, AllocFailed};
 
-/// An outside object failed. Its count of faults has risen then.
+/// An outside object failed, and its count of faults has risen.
 #[derive(Clone, Copy, Debug, PartialEq, Eq)]
 pub struct Failed;
 
-/// Memory was refused.
+/// Memory couldn't be allocated.
 #[derive(Clone, Copy, Debug, PartialEq, Eq)]
 pub struct NoMemory;
 

@@ -1,4 +1,4 @@
-//! A store in memory, which fails exactly at the calls that it is told.
+//! A store in memory that fails exactly at the calls it is told to fail.
 
 ghost use Rattle.std.specs.Prelude.{◌≡◌, ◌↔◌, ◌<◌, ◌^◌, length, drop, IfOk, IfSome, OnOk, OnErr, IsErr, IsErrOf, IsTrue, true, false, Contains, option_map};
 ghost use Rattle.std.specs.FinMap as map;
@@ -11,7 +11,7 @@ use crate::{Bytes, Created, Failed, Loaded, NoMemory, Store, StoreError, Text};
 use std::alloc::Global;
 use std::marker::Model;
 
-/// How many bytes a load counts as read at the most, but one, where it finds a file too long.
+/// One less than the most bytes that a load counts as read if it finds a file too long.
 const MOST: usize = 1 << 30;
 
 /// A store in memory, which contracts see as a `StoreInMemory`.
@@ -38,8 +38,8 @@ impl Model for MemStore {
 }
 
 impl MemStore {
-    /// An empty store. Its calls as a `Store` fail exactly where their numbers, from 1, stand in `fails`,
-    /// and change nothing then.
+    /// An empty store. A call of a `Store` method fails if and only if its number, counted from 1,
+    /// is in `fails`; then it changes nothing.
     pub fn new(alloc: Global, fails: Vec<u64>) -> MemStore
         ensures { result ≡
             record { files = map.empty; fails = fails.items; calls = 0; faults = 0; given = 0 } }
@@ -68,7 +68,7 @@ impl MemStore {
         }
     }
 
-    /// Lends the bytes of the file of this name, where there is one.
+    /// Lends the bytes of the file of this name, if there is one.
     pub fn get(&self, name: &str) -> Option<&[u8]>
         ensures { option_map (λ bytes. bytes.now) result ≡ map.get self.now.files name.now }
     {
@@ -87,14 +87,14 @@ impl MemStore {
         self.faults
     }
 
-    /// How many bytes of files it has given.
+    /// How many bytes of files it has returned.
     pub fn given(&self) -> u64
         ensures { result ≡ self.now.given }
     {
         self.given
     }
 
-    /// Counts a call, and tells whether it is to fail.
+    /// Counts a call, and returns whether it must fail.
     fn fails_now(&mut self) -> bool
         ensures kept { KeptFiles (told_store self.old) (told_store self.new) }
         ensures listed { IsTrue result ↔ Contains self.old.fails (next self.old.calls) }

@@ -4,10 +4,10 @@
 ghost use Rattle.std.specs.Prelude.{◌≡◌, ◌↔◌, ◌<◌, ◌⊎◌, IsNone};
 ghost use Rattle.tink_base.specs.Hash.{hash_of_number, hash_size};
 
-/// A hash function, as HMAC, HKDF and streams name one.
+/// A hash function, as HMAC, HKDF and streams use one.
 #[derive(Clone, Copy, Debug, PartialEq, Eq)]
 pub enum Hash {
-    /// SHA-1, of 20 bytes. It is used inside HMAC and HKDF alone.
+    /// SHA-1, of 20 bytes. It is used only inside HMAC and HKDF.
     Sha1,
     /// SHA-224, of 28 bytes.
     Sha224,
@@ -33,8 +33,8 @@ impl Hash {
         }
     }
 
-    /// The hash function of a number of Tink's `HashType`: `None` exactly where `number` isn't one
-    /// of 1 to 5.
+    /// The hash function with this number in Tink's `HashType`; `None` if and only if `number`
+    /// isn't from 1 to 5.
     pub fn from_number(number: u32) -> Option<Hash>
         ensures named { result ≡ hash_of_number number }
         ensures unknown { IsNone result ↔ (number ≡ 0) ⊎ (5 < number) }

@@ -1,7 +1,7 @@
 //! The outside of the program as traits, with objects in memory that meet them, and the small
 //! types that every crate above uses.
 //!
-//! A trait tells in its ghost `state` what an object holds and how often it has failed.
+//! A trait's ghost `state` says what an object holds and how often it has failed.
 #![tactic(auto)]
 
 mod all;

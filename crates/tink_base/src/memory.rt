@@ -1,4 +1,4 @@
-//! A source and a sink in memory, which fail exactly at the calls that they are told.
+//! A source and a sink in memory that fail exactly at the calls they are told to fail.
 
 ghost use Rattle.std.specs.Prelude.{◌≡◌, ◌<◌, ◌≤◌, ◌-◌, ◌↔◌, ◌⊎◌, [], length, take, drop, min, true, false, if◌then◌else◌, IfOk, IsErr, OnOk, OnErr, Contains};
 ghost use Rattle.tink_spec.specs.Outside.{Rose, RoseOnce, Stood, Gave, IsAtEnd, Took, late_after, next};
@@ -33,8 +33,8 @@ impl Model for MemSource {
 }
 
 impl MemSource {
-    /// A source of these bytes. A read gives at most `piece` bytes, at least 1, and fails exactly
-    /// at the calls whose numbers, from 1, stand in `fails`.
+    /// A source of these bytes. A read gives at most `piece` bytes, at least 1. It fails if and
+    /// only if its number, counted from 1, is in `fails`.
     pub fn new(bytes: Vec<u8>, piece: usize, fails: Vec<u64>) -> MemSource
         requires piece_bound { 0 < piece }
         ensures { result ≡ record {
@@ -119,7 +119,7 @@ fn counted_late(ended: bool, late: u64) -> u64
     if ended { late.saturating_add(1) } else { late }
 }
 
-/// Whether an end has been answered, where so many bytes were asked for and given.
+/// Whether an end has been reported, after a read that asked for `asked` bytes and gave `given`.
 fn is_ended(ended: bool, asked: usize, given: usize) -> bool
     ensures goes_on { 0 < given → result ≡ ended }
     ensures end { given ≡ 0 → 0 < asked → result ≡ true }
@@ -151,9 +151,9 @@ impl Model for MemSink {
 }
 
 impl MemSink {
-    /// A sink with room for `room` bytes, which are reserved. A write takes at most `piece` bytes,
-    /// at least 1, and what fits. It fails exactly at the calls whose numbers, from 1, stand in
-    /// `fails`, and where the room is full and there is something to write.
+    /// A sink with room for `room` bytes, which are reserved. A write takes as many bytes as fit,
+    /// at most `piece`, at least 1. It fails if and only if its number, counted from 1, is in
+    /// `fails`, or the room is full and there is something to write.
     pub fn new(
         alloc: Global,
         room: usize,

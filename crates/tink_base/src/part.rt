@@ -4,7 +4,7 @@ ghost use Rattle.std.specs.Prelude.{◌≡◌, ◌≤◌, length, slice_range};
 
 use std::ops::Range;
 
-/// The bytes of the list in that range, and no others. No memory is taken.
+/// The bytes of the list in that range. No memory is taken.
 pub fn part_of(mut bytes: Vec<u8>, range: Range<usize>) -> Vec<u8>
     requires ordered { range.start ≤ range.end }
     requires within { range.end ≤ length bytes.items }

@@ -7,12 +7,12 @@ use crate::Failed;
 
 /// A sink for bytes.
 pub trait Sink {
-    /// The bytes that were written, where the sink tells, and how often it has failed.
+    /// The bytes that were written, if the sink reports them, and how often it has failed.
     ghost state: { Self → SinkState };
 
-    /// Takes the first bytes of `piece`, and answers how many: at least one, unless `piece` is
-    /// empty. After `Failed` nothing of it was taken, and the count of faults has risen; with any
-    /// other answer it is as it was.
+    /// Takes the first bytes of `piece` and returns how many: at least one, unless `piece` is
+    /// empty. After `Failed` nothing was taken, and the count of faults has risen; any other answer
+    /// leaves it unchanged.
     fn write(&mut self, piece: &[u8]) -> Result<usize, Failed>
         ensures bound { IfOk result (λ n. n ≤ length piece.now) }
         ensures some { IfOk result (λ n. 0 < length piece.now → 0 < n) }

@@ -7,14 +7,14 @@ use crate::Failed;
 
 /// A source of bytes with an end.
 pub trait Source {
-    /// The bytes that are left, where the source tells, how often it has failed, and how often it was
-    /// asked after it had answered an end.
+    /// The bytes that are left, if the source reports them, how often it has failed, and how often
+    /// it was asked after it had reported an end.
     ghost state: { Self → SourceState };
 
-    /// Moves the next bytes into the front of `out`, and answers how many. The rest of `out` stays
-    /// as it was. 0 bytes into an `out` that isn't empty are the end of the input; an empty `out` ends
-    /// nothing. After `Failed` no byte is gone, and the count of faults has risen; with any other answer
-    /// it is as it was.
+    /// Moves the next bytes to the front of `out` and returns how many. The rest of `out` is
+    /// unchanged. 0 bytes into an `out` that isn't empty mean the end of the input; an empty `out`
+    /// ends nothing. After `Failed` no byte is consumed, and the count of faults has risen; any
+    /// other answer leaves it unchanged.
     fn read(&mut self, out: &mut [u8]) -> Result<usize, Failed>
         ensures bound { IfOk result (λ n. n ≤ length out.old) }
         ensures gives { IfOk result (λ n. Gave (state self.old) (state self.new) (take n out.new)) }

@@ -24,7 +24,7 @@ pub enum Loaded {
 pub enum Created {
     /// The file is new, with all the bytes.
     Made,
-    /// There was a file of the name, and nothing changed.
+    /// A file of the name existed, and nothing changed.
     Exists,
 }
 
@@ -33,20 +33,21 @@ pub enum Created {
 pub enum StoreError {
     /// The store failed.
     Failed,
-    /// Memory was refused.
+    /// Memory couldn't be allocated.
     NoMemory,
 }
 
 /// A store of files by their names.
 pub trait Store {
-    /// The files, where the store tells, how often it has failed, and how many bytes it has given.
+    /// The files, if the store reports them, how often it has failed, and how many bytes it has
+    /// returned.
     ghost state: { Self → StoreState };
 
-    /// Loads the file of this name where it has at most `limit` bytes. No file changes. The count of
-    /// faults has risen after `Failed`, and is as it was with any other answer. The count of bytes given
-    /// rises by those that were read: by the file's length after `Bytes`; by one more than the limit after
-    /// `TooLong`, or than 2^30 under a greater limit; by at most so many after an error; and not after
-    /// `Absent`.
+    /// Loads the file of this name if it has at most `limit` bytes. No file changes. The count of
+    /// faults has risen after `Failed`; any other answer leaves it unchanged. The count of bytes
+    /// given rises by the bytes read: by the file's length after `Bytes`; by one more than the
+    /// limit, or than 2^30 if the limit is greater, after `TooLong`; by at most that after an
+    /// error; and by 0 after `Absent`.
     fn load(&mut self, alloc: Global, name: &str, limit: usize) -> Result<Loaded, StoreError>
         ensures loads { IfOk result (λ found. Loads (state self.old) name.now limit found) }
         ensures kept { KeptFiles (state self.old) (state self.new) }
@@ -58,9 +59,9 @@ pub trait Store {
             RoseOnce (state self.old).faults (state self.new).faults }
         ensures given { GivenByLoad limit result (state self.old).given (state self.new).given };
 
-    /// Whether a new file of this name would find the name taken. No file changes. `Failed` comes also
-    /// where no new file could have the name. The count of faults has risen after `Failed`, and is as it
-    /// was with any other answer.
+    /// Whether the name is taken, so that no new file could get it. No file changes. `Failed` comes
+    /// also if no new file could have such a name. The count of faults has risen after `Failed`;
+    /// any other answer leaves it unchanged.
     fn is_taken(&mut self, name: &str) -> Result<bool, Failed>
         ensures tells { IfOk result (λ taken. IsTaken (state self.old) name.now taken) }
         ensures kept { KeptFiles (state self.old) (state self.new) }
@@ -69,9 +70,9 @@ pub trait Store {
         ensures once { OnErr result (RoseOnce (state self.old).faults (state self.new).faults) }
         ensures given { (state self.new).given ≡ (state self.old).given };
 
-    /// How many bytes the file of this name has, where there is one: fewer than 2^63. `Failed` comes also
-    /// where something without a length has the name. No file changes. The count of faults has risen
-    /// after `Failed`, and is as it was with any other answer.
+    /// How many bytes the file of this name has, if there is one: fewer than 2^63. `Failed` comes
+    /// also if something without a length has the name. No file changes. The count of faults has
+    /// risen after `Failed`; any other answer leaves it unchanged.
     fn size(&mut self, name: &str) -> Result<Option<u64>, Failed>
         ensures tells { IfOk result (λ size. HasSize (state self.old) name.now size) }
         ensures bound { IfOk result (λ size. IfSome size (λ n. n < 2 ^ 63)) }
@@ -81,10 +82,10 @@ pub trait Store {
         ensures once { OnErr result (RoseOnce (state self.old).faults (state self.new).faults) }
         ensures given { (state self.new).given ≡ (state self.old).given };
 
-    /// Reads some bytes of the file of this name, from the byte at `at` on, counted from 0: at least one,
-    /// and at most as many as `out` has. The rest of `out` stays as it was. `Failed` comes also where there
-    /// is no byte at that place any more. No file changes. The count of faults has risen after `Failed`,
-    /// and is as it was with any other answer. The count of bytes given rises by those that were read.
+    /// Reads bytes of the file of this name, starting at offset `at`: at least one, and at most as
+    /// many as `out` holds. The rest of `out` is unchanged. `Failed` comes also if there is no
+    /// longer a byte at that offset. No file changes. The count of faults has risen after `Failed`;
+    /// any other answer leaves it unchanged. The count of bytes given rises by the bytes read.
     fn read_at(&mut self, name: &str, at: u64, out: &mut [u8]) -> Result<usize, Failed>
         requires some { 0 < length out.old }
         requires within { HoldsLonger (state self.old) name.now at }
@@ -96,10 +97,10 @@ pub trait Store {
         ensures once { OnErr result (RoseOnce (state self.old).faults (state self.new).faults) }
         ensures given { (state self.new).given ≡ given_by_read (state self.old).given result };
 
-    /// Makes a new file of this name with these bytes; a file that is there is never replaced.
-    /// After `Failed` the file may be there with the first of the bytes, if the name was free. After
-    /// `NoMemory` no file has changed. The count of faults has risen after `Failed`, and is as it was
-    /// with any other answer.
+    /// Makes a new file of this name with these bytes; an existing file is never replaced. After
+    /// `Failed` the file may exist with a prefix of the bytes, if the name was free. After
+    /// `NoMemory` no file has changed. The count of faults has risen after `Failed`; any other
+    /// answer leaves it unchanged.
     fn create(&mut self, alloc: Global, name: &str, bytes: &[u8]) -> Result<Created, StoreError>
         ensures creates { IfOk result
             (λ made. Creates (state self.old) (state self.new) name.now bytes.now made) }

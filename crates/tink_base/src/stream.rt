@@ -1,5 +1,5 @@
-//! An entropy in memory, which fails exactly at the calls that it is told and where too few bytes are
-//! left.
+//! An entropy in memory, which fails exactly at the calls it is told to fail and when too few bytes
+//! are left.
 
 ghost use Rattle.std.specs.Prelude.{◌≡◌, ◌<◌, ◌↔◌, ◌⊎◌, length, take, drop, IsErr, OnOk, OnErr, Contains};
 ghost use Rattle.tink_spec.specs.Outside.{Drew, RanShort, RoseOnce, Stood, next};
@@ -30,8 +30,8 @@ impl Model for MemEntropy {
 }
 
 impl MemEntropy {
-    /// An entropy of these bytes. It fails exactly at the calls whose numbers, from 1, stand in
-    /// `fails`, and where fewer bytes are left than asked.
+    /// An entropy of these bytes. A call fails if and only if its number, counted from 1, is in
+    /// `fails`, or fewer bytes are left than asked for.
     pub fn new(stream: Vec<u8>, fails: Vec<u64>) -> MemEntropy
         ensures { result ≡
             record { left = stream.items; fails = fails.items; calls = 0; faults = 0 } }

@@ -6,7 +6,7 @@ use crate::NoMemory;
 use std::alloc::Global;
 use std::marker::Model;
 
-/// Text on the heap, which contracts see as the list of its UTF-8 bytes.
+/// Text on the heap. Contracts see the list of its UTF-8 bytes.
 #[derive(Drop)]
 pub struct Text {
     text: String,
@@ -28,7 +28,7 @@ impl Text {
         Text { text: from }
     }
 
-    /// The same text once more.
+    /// A copy of the text.
     pub fn copy(alloc: Global, from: &str) -> Result<Text, NoMemory>
         ensures { IfOk result (λ text. text ≡ from.now) }
     {

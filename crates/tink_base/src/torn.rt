@@ -1,4 +1,4 @@
-//! A store in memory that breaks off whatever it writes, as a disk does that is full.
+//! A store in memory that breaks off each write, as a full disk does.
 
 ghost use Rattle.std.specs.Prelude.{◌≡◌, ◌<◌, ◌^◌, length, drop, IfOk, IfSome, OnOk, OnErr, IsErr, IsErrOf, Some, None, option_map, take};
 ghost use Rattle.std.specs.FinMap as map;
@@ -36,8 +36,7 @@ impl Model for TornStore {
 }
 
 impl TornStore {
-    /// An empty store. Its `create` of a new file fails, and keeps the first bytes of it, at most
-    /// `keep` of them.
+    /// An empty store. Its `create` of a new file fails and keeps the first bytes, at most `keep`.
     pub fn new(alloc: Global, keep: usize) -> TornStore
         ensures { result ≡ record { files = map.empty; keep = keep; faults = 0; given = 0 } }
     {
@@ -57,7 +56,7 @@ impl TornStore {
         self.store.put(name, bytes)
     }
 
-    /// Lends the bytes of the file of this name, where there is one.
+    /// Lends the bytes of the file of this name, if there is one.
     pub fn get(&self, name: &str) -> Option<&[u8]>
         ensures { option_map (λ bytes. bytes.now) result ≡ map.get self.now.files name.now }
     {
@@ -156,8 +155,8 @@ impl Store for TornStore {
 
         ensures given { self.new.given ≡ self.old.given }
 
-        // No file is made whole: a name that is there is told so, and any other fails, with the
-        // first bytes left, unless memory is refused.
+        // No file is made whole: an existing name is reported, and any other fails with the first
+        // bytes left, unless memory can't be allocated.
         ensures there { IfOk result (λ made. made ≡ created.Exists) }
         ensures absent { IsErr result → map.get self.old.files name.now ≡ None }
         ensures torn { IsErrOf result StoreError.Failed → self.new ≡ record self.old {

@@ -5,7 +5,7 @@ ghost use Rattle.tink_spec.specs.Outside.{next};
 
 use std::marker::Model;
 
-/// How many keys were tried, which contracts see as that number. It stays at 2^64 - 1.
+/// How many keys were tried. Contracts see the number, which stays at 2^64 - 1 once there.
 #[derive(Drop)]
 pub struct Trials {
     count: u64,
@@ -20,14 +20,14 @@ impl Model for Trials {
 }
 
 impl Trials {
-    /// No key was tried yet.
+    /// A count of 0.
     pub fn new() -> Trials
         ensures { result ≡ 0 }
     {
         Trials { count: 0 }
     }
 
-    /// One more key is tried.
+    /// Counts one more key.
     pub fn tick(&mut self)
         ensures { self.new ≡ next self.old }
     {
