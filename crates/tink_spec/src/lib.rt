@@ -1,2 +1,3 @@
-//! Definitions that several crates cite and that name no type of ours. There is no code here.
+//! Definitions that several crates use and that name no type of this project. There is no code
+//! here.
 #![tactic(auto)]
