@@ -1,8 +1,8 @@
 //! GHASH (SP 800-38D, 6.4), up to eight blocks at a time.
 //!
 //! By the standard's sum with powers of H, eight steps of Horner's rule are one sum of eight
-//! products: GHASH so far is added to the first block, and block i of them has the factor H^(9 - i).
-//! Such a sum takes the moves and the fold of one product alone.
+//! products: GHASH so far is added to the first block, and block i has the factor H^(9 - i). Such a
+//! sum needs the shifts and the fold of only one product.
 ghost use Rattle.ghash.specs.Ghash.{ghash, padded_block, padded_blocks};
 ghost use Rattle.ghash.specs.Field.{prod};
 ghost use Rattle.std.specs.Prelude.{◌≡◌, ℕ, ◌+◌, ◌≤◌, List, [], ◌∷◌, ◌++◌, bit_xor, length};
@@ -12,15 +12,14 @@ ghost use Rattle.std.specs.Simd.Lanes.{chunk};
 use crate::products::{Factor, ONE, factor_of, lanes_of, multiply, no_factor, sum_of_products};
 use std::simd::prelude::*;
 
-// With so many bytes under one subkey H^2 to H^4 are made, which takes as long as twelve blocks do,
-// one by one, and spares two fifths of the time.
+// After this many bytes under one subkey, H^2 to H^4 are made. That takes as long as twelve single
+// blocks, and saves two fifths of the time.
 const PAYS_FOR_FOUR: usize = 320;
 
-// With so many H^5 to H^8 are, which takes a little longer and spares a sixth of the time.
+// After this many, H^5 to H^8 are. That takes a little longer, and saves a sixth of the time.
 const PAYS_FOR_EIGHT: usize = 4096;
 
-/// What is made of a hash subkey once, for GHASHes of many short messages: the subkey as a factor. It takes
-/// 512 bytes.
+/// A hash subkey as a factor, made once for GHASHes of many short messages. It takes 512 bytes.
 #[derive(Drop)]
 pub struct HashKey {
     factor: Factor,
@@ -39,18 +38,18 @@ impl HashKey {
     }
 }
 
-/// A running GHASH under one hash subkey: its powers H^8 to H as factors, and GHASH of the blocks so
-/// far. It takes 4 KiB, so lend it rather than move it.
+/// A running GHASH under one hash subkey: its powers H^8 to H as factors, and GHASH of the blocks
+/// so far. It takes 4 KiB, so borrow it rather than move it.
 ///
-/// Nothing that it does branches, or reads a place in memory, by the subkey or the data: only by
-/// lengths. H alone is a factor from the start, so a short message costs little; the other powers
-/// are made once, when as many bytes came as pay for them, all messages under the subkey together.
+/// No branch and no memory address depends on the subkey or the data, only on lengths. At first
+/// only H is a factor, so a short message is cheap; the other powers are made once, when the bytes
+/// of all messages under the subkey together pay for them.
 #[derive(Drop)]
 pub struct Ghash {
     factors: [Factor; 8],
     // How many of the factors are made, from the last on: 1, 4 or 8.
     made: usize,
-    // How many bytes came, up to the end of the type.
+    // How many bytes came, saturating at the type's maximum.
     taken: usize,
     y: u128,
 }
@@ -65,7 +64,7 @@ impl Ghash {
         Ghash::under(&HashKey::new(h))
     }
 
-    /// A GHASH of no block, under a hash subkey of which the factor is made.
+    /// A GHASH of no block, under a hash subkey whose factor is made.
     pub fn under(key: &HashKey) -> Ghash
         ensures { (h : ℕ) → IsSubkey key.now h → Holds result h [] }
     {
@@ -79,8 +78,8 @@ impl Ghash {
         hash
     }
 
-    /// Starts again with no block, under the same hash subkey: what is made of the subkey stays for
-    /// the next message.
+    /// Starts again with no block, under the same hash subkey: what was made of the subkey is kept
+    /// for the next message.
     pub fn restart(&mut self)
         ensures { (h : ℕ) (blocks : List ℕ) → Holds self.old h blocks → Holds self.new h [] }
     {
@@ -89,8 +88,8 @@ impl Ghash {
 
     /// Adds the blocks of `body`, of any length, with zeros after it up to a whole block.
     ///
-    /// Each call pads for itself: give a long string in pieces of whole blocks, and only its last
-    /// piece may end within one (SP 800-38D, 7.1, steps 4 and 5).
+    /// Each call pads for itself: give a long string in pieces of whole blocks; only its last piece
+    /// may end within a block (SP 800-38D, 7.1, steps 4 and 5).
     pub fn absorb(&mut self, body: &[u8])
         ensures { (h : ℕ) (blocks : List ℕ)
             → Holds self.old h blocks → Holds self.new h (blocks ++ padded_blocks body.now) }
@@ -101,7 +100,7 @@ impl Ghash {
         }
     }
 
-    // Makes the powers that are paid for, with `size` bytes more.
+    // Makes the powers that `size` more bytes pay for.
     fn prepare(&mut self, size: usize)
         ensures { (h : ℕ) (blocks : List ℕ) → Holds self.old h blocks → Holds self.new h blocks }
     {
@@ -112,7 +111,7 @@ impl Ghash {
         self.prepare_eight();
     }
 
-    // Makes the last four powers, where they are paid for.
+    // Makes H^5 to H^8, if enough bytes came to pay for them.
     fn prepare_eight(&mut self)
         ensures { (h : ℕ) (blocks : List ℕ) → Holds self.old h blocks → Holds self.new h blocks }
     {
@@ -168,7 +167,7 @@ impl Ghash {
         self.made = 8;
     }
 
-    // Adds a piece, as eight blocks at once where it can.
+    // Adds a piece, as eight blocks at once if possible.
     #[inline(always)]
     fn add_piece(&mut self, piece: &[u8])
         ensures { (h : ℕ) (blocks : List ℕ)
@@ -191,7 +190,7 @@ impl Ghash {
         }
     }
 
-    // Adds a piece, as four blocks at once where it can.
+    // Adds a piece, as four blocks at once if possible.
     #[inline(always)]
     fn add_half(&mut self, piece: &[u8])
         ensures { (h : ℕ) (blocks : List ℕ)
@@ -204,7 +203,7 @@ impl Ghash {
         }
     }
 
-    // GHASH after eight blocks more: eight steps of Horner's rule at once.
+    // GHASH after eight more blocks: eight steps of Horner's rule at once.
     #[inline(always)]
     fn after_eight(&self, piece: &[u8]) -> u128
         requires made { 8 ≤ self.now.made }
@@ -281,7 +280,7 @@ impl Ghash {
     }
 }
 
-// The block that starts at that byte.
+// The block that starts at byte `at`.
 #[inline(always)]
 fn loaded(piece: &[u8], at: usize) -> u8x16
     requires { at + 16 ≤ length piece.now }
@@ -290,8 +289,8 @@ fn loaded(piece: &[u8], at: usize) -> u8x16
     u8x16::from_slice(&piece[at..])
 }
 
-// GHASH so far, with the first block added. In lanes, since a block that is read as a number first
-// is put together byte by byte by the compiler, which takes a tenth of a group's time.
+// GHASH so far, with the first block added. It is in lanes, since the compiler assembles a block
+// that is first read as a number byte by byte, which takes a tenth of a group's time.
 #[inline(always)]
 fn with_first(y: u128, piece: &[u8]) -> u8x16
     requires { 16 ≤ length piece.now }

@@ -1,23 +1,23 @@
-//! Products of blocks with factors that are known before. No branch and no place in memory depends
-//! on a block or a factor.
+//! Products of blocks with factors known in advance. No branch and no memory address depends on a
+//! block or a factor.
 //!
 //! A byte in the leftmost place of a block is two numbers below 16. A factor keeps its products
 //! with the 16 numbers in each of the two leftmost places of four bits, cut into rows: row j has
-//! byte j of all 16 products of one place, and behind them those of the other. So a row is a vector
-//! of two halves, and a shuffle within each half looks up byte j of the products of all 16 bytes of
-//! a block, lanes b and 16 + b those of the two numbers of the byte in place b. A processor with
-//! registers of 32 bytes does that at once; for another each vector is two.
+//! byte j of all 16 products of the first place, then of the second. So a row is a vector of two
+//! halves, and a shuffle within each half looks up byte j of the products of all 16 bytes of a
+//! block: lanes b and 16 + b look up the two numbers of byte b. A processor with registers of 32
+//! bytes does that at once; elsewhere each vector is two.
 //!
-//! What lane b holds is worth x^(8 b) times as much. Byte j of each product goes j places on, so the
-//! sums of bytes are added from the last place to the first, and all moves by one place between,
-//! which multiplies by x^8. What has moved past the block is folded in at the end, by shifts. Several
-//! blocks, each with its own factor, share the moves and the fold; in memory only their rows are
-//! read, at places that the loop counts.
+//! Lane b has the weight x^(8 b). Byte j of each product moves j places on, so the sums of bytes
+//! are added from the last place to the first, with a shift by one place, which multiplies by x^8,
+//! in between. What is shifted past the block is folded in at the end. Several blocks, each with
+//! its own factor, share the shifts and the fold; from memory only their rows are read, at indices
+//! that the loop counts.
 //!
-//! Which form the compiler makes of it counts: blocks go from numbers to lanes by `lanes_of`, since
-//! `to_be_bytes` before a shuffle is built byte by byte; a row is masked by a vector of constants,
-//! since splats of single bytes take three times as long; `from_ref` lends a factor, where an array
-//! of one would copy it.
+//! The compiler's output matters: blocks go from numbers to lanes by `lanes_of`, since
+//! `to_be_bytes` before a shuffle is compiled byte by byte; a row is masked by a vector of
+//! constants, since splats of single bytes take three times as long; `from_ref` borrows a factor,
+//! which an array of one would copy.
 ghost use Rattle.ghash.specs.Field.{prod, shifted_factor};
 ghost use Rattle.ghash.specs.Places.{byte_rows, IsBlock, xor_sum, sum_of_products};
 ghost use Rattle.ghash.specs.FactorState.{IsFactor};
@@ -30,7 +30,7 @@ use crate::field::multiply_by_x;
 use std::simd::prelude::*;
 use std::slice::from_ref;
 
-// In lane v 255 where the number v has the bit of that worth, and else 0.
+// Lane v is 255 if the number v has the bit of that weight, and 0 otherwise.
 const EIGHTS: [u8; 16] = [
     0, 0, 0, 0, 0, 0, 0, 0, 255, 255, 255, 255, 255, 255, 255, 255,
 ];
@@ -57,7 +57,7 @@ pub struct Factor {
 /// The block 1 0^127, whose product with a factor is that factor.
 pub const ONE: u128 = 1 << 127;
 
-/// What stands where no factor is made yet.
+/// The value of a factor that isn't made yet.
 pub fn no_factor() -> Factor {
     Factor {
         rows: [[0; 32]; 16],
@@ -76,7 +76,7 @@ pub fn factor_of(h: u128) -> Factor
     }
 }
 
-// Each row of the first place with that of the second behind it.
+// Each row of the first place, followed by the same row of the second.
 #[inline(always)]
 fn side_by_side(left: &[[u8; 16]; 16], right: &[[u8; 16]; 16]) -> [[u8; 32]; 16]
     requires left { Each1 IsBlock left.now }
@@ -105,7 +105,7 @@ fn joined(first: u8x16, second: u8x16) -> u8x32
     )
 }
 
-// The rows of the leftmost place. The product of a number is the sum of those of its bits.
+// The rows of the leftmost place. The product of a number is the sum of the products of its bits.
 fn rows_of(h: u128) -> [[u8; 16]; 16]
     ensures { result ≡ byte_rows h 31 }
 {
@@ -125,7 +125,7 @@ fn rows_of(h: u128) -> [[u8; 16]; 16]
     rows
 }
 
-// The byte in place j, in the lanes of the mask.
+// Byte j in the lanes of the mask.
 #[inline(always)]
 fn masked(bytes: u8x16, j: u8, mask: [u8; 16]) -> u8x16
     requires long { length mask ≡ 16 }
@@ -135,8 +135,8 @@ fn masked(bytes: u8x16, j: u8, mask: [u8; 16]) -> u8x16
     bytes.swizzle_dyn_within::<16>(u8x16::splat(j)) & u8x16::from_array(mask)
 }
 
-// For each byte, what its left half looks up in the first half of a row, and behind them what its
-// right half looks up in the second.
+// What the left half of each byte looks up in a row's first half, then what its right half looks up
+// in the second.
 #[inline(always)]
 fn looked_up(row: [u8; 32], bytes: u8x16) -> u8x32
     ensures { result ≡ map (λ n. get_or row (n / 16) 0) bytes
@@ -160,7 +160,7 @@ fn added(sums: u8x32) -> u8x16
     first ^ second
 }
 
-// The bytes in place j of sums: lane b sums the products of the bytes in place b of the blocks.
+// Byte j of sums: lane b sums the products of byte b of the blocks.
 #[inline(always)]
 fn byte_sums(factors: &[Factor], blocks: &[[u8; 16]], j: usize) -> u8x16
     requires same { length factors.now ≡ length blocks.now }
@@ -182,8 +182,8 @@ fn byte_sums(factors: &[Factor], blocks: &[[u8; 16]], j: usize) -> u8x16
 
 /// The sum of the products of blocks, each with its own factor.
 ///
-/// Lane b of the sums is worth x^(8 b). From the last place on they are added, and what is there
-/// moves by one place between, which multiplies by x^8: so byte j goes j places on.
+/// Lane b of the sums has the weight x^(8 b). They are added from the last place to the first, with
+/// a shift by one place, which multiplies by x^8, in between: so byte j moves j places on.
 #[inline(always)]
 pub fn sum_of_products(factors: &[Factor], blocks: &[[u8; 16]]) -> u128
     requires same { length factors.now ≡ length blocks.now }
@@ -213,7 +213,7 @@ pub fn sum_of_products(factors: &[Factor], blocks: &[[u8; 16]]) -> u128
     reduced(left, right)
 }
 
-// The block of 31 bytes, and a zero, since x^128 is 1 + x + x^2 + x^7.
+// The block that 31 bytes and a zero reduce to, since x^128 is 1 + x + x^2 + x^7.
 #[inline(always)]
 fn reduced(left: u8x16, right: u8x16) -> u128
     requires { get_or right 15 0 ≡ 0 }
@@ -224,7 +224,7 @@ fn reduced(left: u8x16, right: u8x16) -> u128
     u128::from_be_bytes(left.to_array()) ^ past ^ (past >> 1) ^ (past >> 2) ^ (past >> 7)
 }
 
-/// The bytes of a block, the first one highest.
+/// The bytes of a block, the highest one first.
 #[inline(always)]
 pub fn lanes_of(block: u128) -> u8x16
     ensures { result ≡ to_be_bytes w128 block }

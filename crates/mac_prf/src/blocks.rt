@@ -1,4 +1,4 @@
-//! Blocks of 16 bytes as modes of AES need them, and tags compared.
+//! Blocks of 16 bytes as modes of AES need them, and the comparison of tags.
 
 ghost use Rattle.std.specs.Prelude.{◌≡◌, ◌↔◌, ◌-◌, ◌<◌, ◌∷◌, ◌++◌, length, replicate, IsTrue};
 ghost use Rattle.aes_core.specs.Bytes.{xor_bytes};
@@ -13,7 +13,7 @@ pub fn doubled(block: &[u8; 16]) -> [u8; 16]
     dbl(u128::from_be_bytes(*block)).to_be_bytes()
 }
 
-/// Fewer than 16 bytes, a bit 1 behind them, and zeros up to a block (SP 800-38B, 6.2, step 4; `pad` of
+/// Fewer than 16 bytes, padded to a block by a bit 1 and zeros (SP 800-38B, 6.2, step 4; `pad` of
 /// RFC 5297, 2.1).
 pub fn padded(part: &[u8]) -> [u8; 16]
     requires { length part.now < 16 }
@@ -36,7 +36,7 @@ pub fn xor(block: &[u8; 16], mask: &[u8; 16]) -> [u8; 16]
     sum
 }
 
-/// Whether two tags of one length are the same: all their bytes are compared, wherever they differ.
+/// Whether two tags of the same length are equal. All bytes are compared, wherever they differ.
 pub fn same_bytes(a: &[u8], b: &[u8]) -> bool
     requires { length a.now ≡ length b.now }
     ensures { IsTrue result ↔ (a.now ≡ b.now) }

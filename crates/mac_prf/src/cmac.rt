@@ -1,4 +1,4 @@
-//! CMAC (SP 800-38B, which RFC 4493 repeats) over AES, of a message that comes in pieces.
+//! CMAC (SP 800-38B, repeated in RFC 4493) with AES, of a message that comes in pieces.
 
 ghost use Rattle.std.specs.Prelude.{◌≡◌, ◌+◌, ◌-◌, ◌%◌, ◌<◌, ◌≤◌, ℕ, List, [], ◌∷◌, ◌++◌, length, replicate, take};
 ghost use Rattle.aes_core.specs.Bytes.{xor_bytes};
@@ -14,12 +14,12 @@ use aes_core::Aes;
 #[derive(Drop)]
 pub struct Cmac<'k> {
     aes: &'k Aes,
-    // C i of the whole blocks before those bytes that are held.
+    // C i of the whole blocks before the held bytes.
     chained: [u8; 16],
-    // The last bytes of the message, since the last block is masked. What comes after them counts
-    // for nothing.
+    // The last bytes of the message, held since the last block is masked. The bytes after `size`
+    // are unused.
     held: [u8; 16],
-    // How many bytes are held: none only of the empty message.
+    // How many bytes are held: 0 only for the empty message.
     size: usize,
     ghost within: { size ≤ 16 },
 }
@@ -50,7 +50,7 @@ impl<'k> Cmac<'k> {
             let (front, back) = body.split_at(room);
             self.hold(front);
             self.chain_held();
-            // The last block, whole or not, stays behind.
+            // The last block, whole or not, is held back.
             let (blocks, last) = back.split_at((back.len() - 1) / 16 * 16);
             self.chain(blocks);
             self.hold(last);
@@ -69,7 +69,7 @@ impl<'k> Cmac<'k> {
         self.size = end;
     }
 
-    // Chains the block that is held, which isn't the last one.
+    // Chains the held block, which isn't the last one.
     fn chain_held(&mut self)
         requires { self.old.size ≡ 16 }
         ensures keeps { (key m : List ℕ) → Keeps self.old key m → Keeps self.new key m }
@@ -79,7 +79,7 @@ impl<'k> Cmac<'k> {
         self.size = 0;
     }
 
-    // Chains whole blocks, none of which is the last one, where no byte is held.
+    // Chains whole blocks, none of them the last, when no byte is held.
     fn chain(&mut self, blocks: &[u8])
         requires none { self.old.size ≡ 0 }
         requires whole { length blocks.now % 16 ≡ 0 }

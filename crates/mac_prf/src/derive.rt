@@ -1,4 +1,4 @@
-//! HKDF (RFC 5869): many bytes for keys out of one secret.
+//! HKDF (RFC 5869): derives bytes for keys from one secret.
 
 ghost use Rattle.std.specs.Prelude.{◌≡◌, ◌↔◌, ◌*◌, ◌<◌, ◌≤◌, ℕ, List, [], ◌∷◌, ◌++◌, length, take, IsErr, OnErr, OnOk};
 ghost use Rattle.tink_base.specs.Hash.{hash_size};
@@ -10,17 +10,17 @@ use crate::hasher::LONGEST_DIGEST;
 use crate::hmac::Hmac;
 use tink_base::Hash;
 
-/// More bytes are asked for than HKDF gives: 255 digests (RFC 5869, 2.3).
+/// More bytes were asked for than HKDF gives: 255 digests (RFC 5869, 2.3).
 #[derive(Clone, Copy, Debug, PartialEq, Eq)]
 pub struct TooLong;
 
-/// Fills `out` with the bytes that HKDF derives from the secret `ikm` under `salt`, for the use that
-/// `info` names (RFC 5869, 2).
+/// Fills `out` with the bytes that HKDF derives from the secret `ikm` under `salt`, for the use
+/// that `info` names (RFC 5869, 2).
 ///
-/// Each of the three may have any length, also none: an empty salt stands for a digest's size of
-/// zeros (2.2). `TooLong` comes exactly where `out` has more than 255 times the bytes of a digest of
-/// `hash`; `out` is then as before. No memory is taken. No running time is promised, nor that a
-/// secret leaves memory.
+/// Each of the three may have any length, also 0: an empty salt means as many zeros as a digest has
+/// bytes (2.2). `TooLong` comes if and only if `out` has more than 255 times the bytes of a digest
+/// of `hash`; then `out` is unchanged. No memory is taken. Neither the running time nor the erasure
+/// of secrets is promised.
 pub fn hkdf(hash: Hash, ikm: &[u8], salt: &[u8], info: &[u8], out: &mut [u8]) -> Result<(), TooLong>
     ensures derived { OnOk result
         (out.new ≡ derived hash ikm.now salt.now info.now (length out.old)) }
@@ -30,10 +30,10 @@ pub fn hkdf(hash: Hash, ikm: &[u8], salt: &[u8], info: &[u8], out: &mut [u8]) ->
     hkdf_expand(&hkdf_extract(hash, ikm, salt), info, out)
 }
 
-/// PRK, extracted from the secret `ikm` under `salt` (RFC 5869, 2.2): the HMAC under it, which holds no
-/// message, for `hkdf_expand`.
+/// Extracts PRK from the secret `ikm` under `salt` (RFC 5869, 2.2). The result, for `hkdf_expand`,
+/// is the HMAC under PRK of no message yet.
 ///
-/// Both may have any length, also none, as for `hkdf`. No memory is taken.
+/// Both may have any length, also 0, as for `hkdf`. No memory is taken.
 pub fn hkdf_extract(hash: Hash, ikm: &[u8], salt: &[u8]) -> Hmac
     ensures holds { Holds result hash (extracted hash salt.now ikm.now) [] }
     ensures under { hash_of result ≡ hash }
@@ -44,11 +44,11 @@ pub fn hkdf_extract(hash: Hash, ikm: &[u8], salt: &[u8]) -> Hmac
     Hmac::new(hash, prk)
 }
 
-/// Fills `out` with the bytes that HKDF derives for the use that `info` names (RFC 5869, 2.3), where
-/// `prk` is under the pseudorandom key and holds no message: so `hkdf_extract` gives it.
+/// Fills `out` with the bytes that HKDF derives for the use that `info` names (RFC 5869, 2.3).
+/// `prk` is under the pseudorandom key and holds no message, as `hkdf_extract` returns it.
 ///
-/// `TooLong` comes exactly where `out` has more than 255 times the bytes of a digest of its hash
-/// function; `out` is then as before. No memory is taken.
+/// `TooLong` comes if and only if `out` has more than 255 times the bytes of a digest of its hash
+/// function; then `out` is unchanged. No memory is taken.
 pub fn hkdf_expand(prk: &Hmac, info: &[u8], out: &mut [u8]) -> Result<(), TooLong>
     ensures derived { (hash : Hash) (key : List ℕ) → Holds prk.now hash key []
         → OnOk result (out.new ≡ expanded hash key info.now (length out.old)) }
@@ -78,8 +78,8 @@ fn write_extracted(hash: Hash, salt: &[u8], ikm: &[u8], prk: &mut [u8])
     hmac.finish(prk);
 }
 
-// The first bytes of T, all of `out` (RFC 5869, 2.3). Each block but the last stands whole in
-// `out`, so the next one finds it there.
+// The first bytes of T, all of `out` (RFC 5869, 2.3). Each block but the last is whole in `out`,
+// where the next one reads it.
 fn write_blocks(prk: &Hmac, info: &[u8], out: &mut [u8])
     requires { length out.old ≤ 255 * hash_size (hash_of prk.now) }
     ensures { (hash : Hash) (key : List ℕ) → Holds prk.now hash key []
@@ -103,7 +103,7 @@ fn write_blocks(prk: &Hmac, info: &[u8], out: &mut [u8])
     }
 }
 
-// The first bytes of the block of this number, all of `out` (RFC 5869, 2.3).
+// The first bytes of block `number`, all of `out` (RFC 5869, 2.3).
 fn write_block(prk: &Hmac, before: &[u8], info: &[u8], number: u8, out: &mut [u8])
     requires { length out.old ≤ hash_size (hash_of prk.now) }
     ensures { (hash : Hash) (key : List ℕ) → Holds prk.now hash key []

@@ -1,4 +1,4 @@
-//! A running digest of FIPS 180-4 whose hash function is known only when it runs.
+//! A running digest of FIPS 180-4 whose hash function is known only at run time.
 
 ghost use Rattle.std.specs.Prelude.{◌≡◌, ◌≤◌, ℕ, List, [], ◌++◌, length, take};
 ghost use Rattle.tink_base.specs.Hash.{hash_size};
@@ -9,13 +9,13 @@ use sha1::Sha1;
 use sha2::{Digest, Sha224, Sha256, Sha384, Sha512};
 use tink_base::Hash;
 
-/// The bytes of the longest block, that of SHA-384 and SHA-512.
+/// The size of the longest block, of SHA-384 and SHA-512, in bytes.
 pub const LONGEST_BLOCK: usize = 128;
 
-/// The bytes of the longest digest, that of SHA-512.
+/// The size of the longest digest, of SHA-512, in bytes.
 pub const LONGEST_DIGEST: usize = 64;
 
-/// The bytes of a block of `hash` (FIPS 180-4, figure 1).
+/// The size of a block of `hash`, in bytes (FIPS 180-4, figure 1).
 pub fn block_len(hash: Hash) -> usize
     ensures { result ≡ block_size hash }
 {
@@ -49,7 +49,7 @@ impl Hasher {
         }
     }
 
-    /// A second hasher, which has taken the same message. No memory is taken.
+    /// A second hasher that has taken the same message. No memory is taken.
     pub fn copy(&self) -> Hasher
         ensures { result ≡ self.now }
     {
@@ -106,7 +106,7 @@ impl Hasher {
     }
 }
 
-// The clone of what is always cloned.
+// The clone of a value whose cloning never fails.
 fn copy_of<T: Clone>(hasher: &T) -> T
     requires { T.is_infallible hasher.now }
     ensures { T.is_clone hasher.now result }

@@ -14,10 +14,10 @@ const IPAD: u8 = 0x36;
 /// The byte of the outer pad (RFC 2104, 2).
 const OPAD: u8 = 0x5c;
 
-/// HMAC under one key, of a message that comes in pieces: `new`, or a `copy` of one that is kept, an
+/// HMAC under one key, of a message that comes in pieces: `new`, or a `copy` of a kept one, an
 /// `update` for each piece, and `finish`.
 ///
-/// No call takes memory. No running time is promised, nor that a key leaves memory.
+/// No call takes memory. Neither the running time nor the erasure of keys is promised.
 #[derive(Drop)]
 pub struct Hmac {
     // After K XOR ipad and the message so far.
@@ -32,7 +32,7 @@ impl Hmac {
 
     /// Begins with the empty message, under `key` (RFC 2104, 2).
     ///
-    /// `key` may have any length, also none: one longer than a block of `hash` is replaced by its
+    /// `key` may have any length, also 0: one longer than a block of `hash` is replaced by its
     /// digest.
     pub fn new(hash: Hash, key: &[u8]) -> Hmac
         ensures holds { Holds result hash key.now [] }
@@ -45,10 +45,10 @@ impl Hmac {
         }
     }
 
-    /// A second HMAC, under the same key and of the same message. No memory is taken.
+    /// A second HMAC under the same key and of the same message. No memory is taken.
     ///
-    /// One that has a key and no message is kept so, and copied for each message: neither the key nor
-    /// its two pads are hashed again then.
+    /// Keep one with a key and no message, and copy it for each message: then neither the key nor
+    /// its two pads are hashed again.
     pub fn copy(&self) -> Hmac
         ensures { result ≡ self.now }
     {
@@ -58,7 +58,7 @@ impl Hmac {
         }
     }
 
-    /// How many bytes a whole tag has: those of a digest of the hash function.
+    /// How many bytes a whole tag has: as many as a digest of the hash function.
     #[tactic(auto, unfolding(crate::specs::HmacState::hash_of))]
     pub fn tag_size(&self) -> usize
         ensures { result ≡ hash_size (hash_of self.now) }
@@ -75,7 +75,7 @@ impl Hmac {
         self.inner.update(body);
     }
 
-    /// Writes the first bytes of the message's tag into `out`, all that it has (RFC 2104, 2 and 5).
+    /// Writes the first bytes of the message's tag, as many as `out` has (RFC 2104, 2 and 5).
     ///
     /// `out` has at most as many bytes as a digest of the hash function.
     pub fn finish(self, out: &mut [u8])
@@ -92,8 +92,8 @@ impl Hmac {
     }
 }
 
-// The key, or its digest where it is longer than a block, with zeros after it up to the longest
-// block: the key's own block is at the front.
+// The key, or its digest if it is longer than a block, padded with zeros to the longest block; the
+// key's own block is its front.
 fn key_in_a_block(hash: Hash, key: &[u8]) -> [u8; LONGEST_BLOCK]
     ensures { take (block_size hash) result ≡ block_key hash key.now }
 {
@@ -118,7 +118,7 @@ fn with_zeros(key: &[u8]) -> [u8; LONGEST_BLOCK]
     block
 }
 
-// A hasher that has taken the block's key XOR a pad.
+// A hasher that has taken the key in the block XOR a pad.
 fn after_pad(hash: Hash, mut block: [u8; LONGEST_BLOCK], pad: u8) -> Hasher
     ensures { IsAfter result hash (xored (take (block_size hash) block) pad) }
 {

@@ -4,7 +4,8 @@ ghost use Rattle.mac_prf.specs.Laws.{CmacHasABlock, HkdfGivesBytes, TagsAreBytes
 
 use aes_core::laws::cipher_has_a_block;
 
-/// A whole tag of HMAC has the size of its hash function's digest, under any key and of any message.
+/// A whole tag of HMAC has the size of its hash function's digest, under any key and of any
+/// message.
 pub fn tags_have_their_size()
     ensures { TagsHaveTheirSize }
 {}
@@ -21,8 +22,7 @@ pub fn cmac_has_a_block()
     cipher_has_a_block();
 }
 
-/// What HKDF derives has the length that is asked for and consists of bytes, of any secret, salt
-/// and info.
+/// HKDF derives bytes, as many as asked for, for any secret, salt and info.
 pub fn hkdf_gives_bytes()
     ensures { HkdfGivesBytes }
 {}

@@ -1,6 +1,6 @@
-//! Tags of messages that come in pieces: HMAC (RFC 2104) with SHA-1 and SHA-2,
-//! and CMAC (SP 800-38B) over AES; HKDF (RFC 5869), which derives keys; and what modes of AES need of
-//! blocks and tags.
+//! Tags of messages that come in pieces: HMAC (RFC 2104) with SHA-1 and SHA-2, and CMAC (SP
+//! 800-38B) over AES; HKDF (RFC 5869), which derives keys; and the operations on blocks and tags
+//! that modes of AES need.
 #![tactic(auto)]
 
 pub mod blocks;
