@@ -19,8 +19,8 @@ const GCM_IV: usize = 12;
 /// The bytes of its tag.
 const TAG: usize = 16;
 
-/// A key of some kind of AEAD, with what is made of it for all of its work: the AES key is expanded, the
-/// hash subkey of AES-GCM is made, and a key of HMAC is in an `Hmac` that holds no message.
+/// A key of some kind of AEAD, prepared for all its work: the AES key is expanded, the hash subkey
+/// of AES-GCM is made, and a key of HMAC is in an `Hmac` that holds no message.
 #[derive(Clone, Copy)]
 pub enum AeadKey<'k> {
     /// AES-GCM (SP 800-38D) with an IV of 12 bytes and a tag of 16.
@@ -43,9 +43,9 @@ pub enum AeadKey<'k> {
 }
 
 impl AeadKey<'_> {
-    /// Whether the key's sizes are those of its kind: an IV of EAX has 12 or 16 bytes, one of
-    /// AES-CTR-HMAC 12 to 16, and its tag 10 up to a digest's. How long its key of HMAC is can't be
-    /// seen here.
+    /// Whether the key's sizes fit its kind: an IV of EAX has 12 or 16 bytes, an IV of AES-CTR-HMAC
+    /// 12 to 16, and its tag 10 up to a digest's size. The length of its HMAC key can't be checked
+    /// here.
     pub fn fits(&self) -> bool
         ensures { IsTrue result ↔ IsFit self.now }
     {
@@ -63,7 +63,7 @@ impl AeadKey<'_> {
         }
     }
 
-    /// How many bytes an IV has: 12 for AES-GCM, and else as many as the key says.
+    /// How many bytes an IV has: 12 for AES-GCM, otherwise as many as the key says.
     pub fn iv_size(&self) -> usize
         ensures { result ≡ iv_size_of self.now }
     {
@@ -74,13 +74,13 @@ impl AeadKey<'_> {
     }
 }
 
-/// Seals in place, and gives the list itself: behind its first bytes, so many as `at` says, which stay
-/// as they are, the IV, the ciphertext and the tag.
+/// Seals in place, and returns the same list: its first `at` bytes, unchanged, then the IV, the
+/// ciphertext and the tag.
 ///
-/// The plaintext stands behind `at` and room for the IV, whatever stands in that. It has at most 2^30
-/// bytes, as many as its ciphertext, and so has `ad`. No IV may serve twice under one key: this is for
-/// the caller to see to. `NoMemory` comes only where the list has no place for the tag, which has at
-/// most 64 bytes, and memory for more is wanting: the list's capacity is below its length and the tag's.
+/// The plaintext follows the first `at` bytes and room for the IV, whose values don't matter. It
+/// has at most 2^30 bytes, as many as its ciphertext, and so has `ad`. No IV may be used twice
+/// under one key: the caller must ensure that. `NoMemory` comes only if the list's capacity is
+/// below its length plus the tag's, at most 64 bytes, and memory for it can't be allocated.
 #[tactic(auto, unfolding(crate::specs::Eax::eax_seal, crate::specs::CtrHmac::ctr_hmac_seal))]
 pub fn seal(
     key: &AeadKey<'_>,
@@ -115,11 +115,11 @@ pub fn seal(
     }
 }
 
-/// Opens IV, ciphertext and tag, joined, in place, and answers where the plaintext stands in `bytes`
-/// then; what stands round it is as before.
+/// Opens IV, ciphertext and tag, joined, in place, and returns the plaintext's range in `bytes`;
+/// the bytes around it are unchanged.
 ///
-/// `bytes` have at most 2^30 + 96, and `ad` at most 2^30. The answer is `None` exactly where `bytes`
-/// are shorter than IV and tag, or the tag isn't the one computed anew; nothing was decrypted then. No
+/// `bytes` have at most 2^30 + 96, and `ad` at most 2^30. Returns `None` if and only if `bytes` are
+/// shorter than IV and tag, or the tag isn't the computed one; then nothing was decrypted. No
 /// memory is taken.
 #[tactic(auto, unfolding(crate::specs::Eax::eax_open, crate::specs::CtrHmac::ctr_hmac_open))]
 pub fn open(key: &AeadKey<'_>, bytes: &mut [u8], ad: &[u8]) -> Option<Range<usize>>
@@ -167,7 +167,7 @@ fn gcm_sealed(
     Ok(bytes)
 }
 
-// Seals in place what stands behind the first bytes, so many as `at` says, and answers the tag.
+// Seals in place what follows the first `at` bytes, and returns the tag.
 fn gcm_seal_behind(key: &GcmKey, at: usize, bytes: &mut [u8], iv: &[u8; 12], ad: &[u8]) -> [u8; 16]
     requires room { at + 12 ≤ length bytes.old }
     requires bytes_bound { length bytes.old ≤ at + 12 + 2 ^ 30 }
@@ -178,7 +178,7 @@ fn gcm_seal_behind(key: &GcmKey, at: usize, bytes: &mut [u8], iv: &[u8; 12], ad:
     gcm_seal_under_iv(key, &mut bytes[at..], iv, ad)
 }
 
-// Writes the IV into its room, encrypts in place what stands behind that, and answers the tag.
+// Writes the IV into its room, encrypts in place what follows, and returns the tag.
 fn gcm_seal_under_iv(key: &GcmKey, sealed: &mut [u8], iv: &[u8; 12], ad: &[u8]) -> [u8; 16]
     requires room { 12 ≤ length sealed.old }
     requires sealed_bound { length sealed.old ≤ 2 ^ 31 }
@@ -190,7 +190,7 @@ fn gcm_seal_under_iv(key: &GcmKey, sealed: &mut [u8], iv: &[u8; 12], ad: &[u8]) 
     key.seal_in_place(iv, ad, body)
 }
 
-// Opens in place, and answers where the plaintext stands then.
+// Opens in place, and returns the plaintext's range.
 fn gcm_opened(key: &GcmKey, bytes: &mut [u8], ad: &[u8]) -> Option<Range<usize>>
     requires bytes_bound { length bytes.old ≤ 2 ^ 30 + 96 }
     requires ad_bound { length ad.now ≤ 2 ^ 30 }

@@ -1,6 +1,6 @@
-//! What EAX makes of texts (Bellare, Rogaway and Wagner, 2004), with tags of 16 bytes.
+//! MACs and tags of EAX (Bellare, Rogaway and Wagner, 2004), with tags of 16 bytes.
 //!
-//! No branch and no place in memory depends on the key or on a byte of text or associated data.
+//! No branch and no memory address depends on the key or on a byte of text or associated data.
 
 ghost use Rattle.std.specs.Prelude.{◌≡◌, ℕ, List};
 ghost use Rattle.aes_core.specs.Bytes.{xor_bytes};
@@ -10,7 +10,7 @@ use aes_core::Aes;
 use mac_prf::Cmac;
 use mac_prf::blocks::xor;
 
-/// The MAC of the IV: counter mode begins there, and the tag is made with it.
+/// The MAC of the IV: counter mode starts from it, and the tag includes it.
 pub(crate) fn nonce_of(key: &Aes, iv: &[u8]) -> [u8; 16]
     ensures { result ≡ omac 0 key.now iv.now }
 {

@@ -1,7 +1,7 @@
 //! AES-GCM in place (SP 800-38D, 7), with an IV of 12 bytes and a tag of 16.
 //!
-//! No branch and no place in memory depends on the key or on a byte of text, associated data or tag,
-//! but for the answer whether the tag is the right one: so it is written, and no clause says it.
+//! No branch and no memory address depends on the key or on a byte of text, associated data or tag,
+//! except for the result of the tag's comparison: the bodies are written so, but no clause says it.
 
 ghost use Rattle.std.specs.Prelude.{◌≡◌, ◌≢◌, ◌↔◌, ◌*◌, ◌^◌, ◌≤◌, [], ◌∷◌, ◌++◌, length, IfOk, IsErr, IsTrue};
 ghost use Rattle.std.specs.Bool.{OnFalse, OnTrue};
@@ -15,10 +15,11 @@ use ghash::{Ghash, HashKey};
 use mac_prf::blocks::same_bytes;
 use std::marker::Model;
 
-/// AES-GCM under one key, for the segments of a stream: it keeps the expanded key, and all that GHASH makes
-/// of the hash subkey, as far as it was made. Contracts see it as the bytes of the key.
+/// AES-GCM under one key, for the segments of a stream: it keeps the expanded key and the powers of
+/// the hash subkey made so far. Contracts see the bytes of the key.
 ///
-/// It takes about 4 KiB, so lend it rather than move it. A key stays in memory as long as it does.
+/// It takes about 4 KiB, so borrow it rather than move it. The key stays in memory as long as it
+/// does.
 #[derive(Drop)]
 pub struct Gcm {
     aes: Aes,
@@ -39,7 +40,7 @@ impl Model for Gcm {
 impl Gcm {
     /// Expands a key of 16 or 32 bytes.
     ///
-    /// The answer is `KeySize` exactly where `key` has another length, 24 bytes among them.
+    /// Returns `KeySize` if and only if `key` has another length, 24 bytes included.
     pub fn new(key: &[u8]) -> Result<Gcm, KeySize>
         ensures key { IfOk result (λ gcm. gcm ≡ key.now) }
         ensures key_size { IsErr result ↔ ((length key.now ≢ 16) × (length key.now ≢ 32)) }
@@ -49,10 +50,10 @@ impl Gcm {
         Ok(Gcm { aes, hash })
     }
 
-    /// Encrypts `body` in place and answers the tag (SP 800-38D, 7.1).
+    /// Encrypts `body` in place and returns the tag (SP 800-38D, 7.1).
     ///
-    /// `body` has at most 2^31 bytes, and `ad` at most 2^30. No IV may serve twice under one key:
-    /// this is for the caller to see to. No memory is taken.
+    /// `body` has at most 2^31 bytes, and `ad` at most 2^30. No IV may be used twice under one key:
+    /// the caller must ensure that. No memory is taken.
     pub fn seal_in_place(&mut self, iv: &[u8; 12], ad: &[u8], body: &mut [u8]) -> [u8; 16]
         requires ad_bound { length ad.now ≤ 2 ^ 30 }
         requires body_bound { length body.old ≤ 2 ^ 31 }
@@ -63,11 +64,11 @@ impl Gcm {
         seal_with(&self.aes, &mut self.hash, iv, ad, body)
     }
 
-    /// Decrypts `body` in place, where the tag is the right one (SP 800-38D, 7.2).
+    /// Decrypts `body` in place, if the tag is the right one (SP 800-38D, 7.2).
     ///
-    /// `body` holds the ciphertext, of at most 2^31 bytes, and `ad` has at most 2^30. The answer is
-    /// `false` exactly where `tag` isn't that of IV, `ad` and ciphertext; nothing was decrypted
-    /// then. No memory is taken.
+    /// `body` holds the ciphertext, of at most 2^31 bytes, and `ad` has at most 2^30. Returns
+    /// `false` if and only if `tag` isn't the tag of IV, `ad` and ciphertext; then nothing was
+    /// decrypted. No memory is taken.
     pub fn open_in_place(
         &mut self,
         iv: &[u8; 12],
@@ -86,11 +87,11 @@ impl Gcm {
     }
 }
 
-/// A key of AES-GCM, with what is made of it once: its expansion, and the hash subkey as a factor of
-/// products. Contracts see it as the bytes of the key.
+/// A key of AES-GCM, prepared: its expansion, and the hash subkey as a factor of products.
+/// Contracts see the bytes of the key.
 ///
-/// It takes about 800 bytes, so lend it rather than move it, and may be lent to many at once. Powers of the
-/// hash subkey are made anew for each message that pays for them.
+/// It takes about 800 bytes, so borrow it rather than move it; many may borrow it at once. Powers
+/// of the hash subkey are made again for each message that is long enough to pay for them.
 #[derive(Drop)]
 pub struct GcmKey {
     aes: Aes,
@@ -112,7 +113,7 @@ impl Model for GcmKey {
 impl GcmKey {
     /// Expands a key of 16 or 32 bytes, and makes its hash subkey.
     ///
-    /// The answer is `KeySize` exactly where `key` has another length, 24 bytes among them.
+    /// Returns `KeySize` if and only if `key` has another length, 24 bytes included.
     pub fn new(key: &[u8]) -> Result<GcmKey, KeySize>
         ensures key { IfOk result (λ gcm. gcm ≡ key.now) }
         ensures key_size { IsErr result ↔ ((length key.now ≢ 16) × (length key.now ≢ 32)) }
@@ -122,7 +123,8 @@ impl GcmKey {
         Ok(GcmKey { aes, hash })
     }
 
-    /// Encrypts `body` in place and answers the tag (SP 800-38D, 7.1), as `Gcm::seal_in_place` does.
+    /// Encrypts `body` in place and returns the tag (SP 800-38D, 7.1), as `Gcm::seal_in_place`
+    /// does.
     pub fn seal_in_place(&self, iv: &[u8; 12], ad: &[u8], body: &mut [u8]) -> [u8; 16]
         requires ad_bound { length ad.now ≤ 2 ^ 30 }
         requires body_bound { length body.old ≤ 2 ^ 31 }
@@ -132,11 +134,11 @@ impl GcmKey {
         seal_with(&self.aes, &mut started(&self.aes, &self.hash), iv, ad, body)
     }
 
-    /// Decrypts `body` in place, where the tag is the right one (SP 800-38D, 7.2), as
+    /// Decrypts `body` in place, if the tag is the right one (SP 800-38D, 7.2), as
     /// `Gcm::open_in_place` does.
     ///
-    /// The answer is `false` exactly where `tag` isn't that of IV, `ad` and ciphertext; nothing was
-    /// decrypted then. No memory is taken.
+    /// Returns `false` if and only if `tag` isn't the tag of IV, `ad` and ciphertext; then nothing
+    /// was decrypted. No memory is taken.
     pub fn open_in_place(&self, iv: &[u8; 12], ad: &[u8], body: &mut [u8], tag: &[u8; 16]) -> bool
         requires ad_bound { length ad.now ≤ 2 ^ 30 }
         requires body_bound { length body.old ≤ 2 ^ 31 }
@@ -155,7 +157,7 @@ impl GcmKey {
     }
 }
 
-// What GHASH needs of H, the cipher of the block of zeros.
+// The hash subkey H, the cipher of the block of zeros, as GHASH needs it.
 fn subkey_of(aes: &Aes) -> HashKey
     ensures { IsSubkey result (hash_subkey aes.now) }
 {
@@ -206,7 +208,7 @@ fn open_with(
     same
 }
 
-// Encrypts or decrypts from the counter behind the first one, which is the tag's.
+// Encrypts or decrypts from the second counter; the first one is the tag's.
 fn crypt(aes: &Aes, iv: &[u8; 12], body: &mut [u8])
     ensures { body.new ≡ gcm_text aes.now iv.now body.old }
 {
@@ -230,7 +232,7 @@ fn tag_of(aes: &Aes, hash: &mut Ghash, iv: &[u8; 12], ad: &[u8], text: &[u8]) ->
     tag
 }
 
-// The counter block of this IV whose last byte is that number.
+// The counter block of this IV with the last byte `last`.
 fn counter_block(iv: &[u8; 12], last: u8) -> [u8; 16]
     ensures { result ≡ iv.now ++ 0 ∷ 0 ∷ 0 ∷ last ∷ [] }
 {
@@ -240,7 +242,7 @@ fn counter_block(iv: &[u8; 12], last: u8) -> [u8; 16]
     block
 }
 
-// The lengths of associated data and text, which are counted in bytes here, and in bits there.
+// The lengths of associated data and text, given in bytes, written in bits.
 fn length_block(ad: usize, text: usize) -> [u8; 16]
     requires ad_bound { ad ≤ 2 ^ 30 }
     requires text_bound { text ≤ 2 ^ 31 }

@@ -1,4 +1,4 @@
-//! Sealing by encryption and a tag over what was encrypted, which EAX and AES-CTR-HMAC have in common.
+//! Encryption and a tag over the ciphertext, which EAX and AES-CTR-HMAC have in common.
 
 ghost use Rattle.std.specs.Prelude.{◌≡◌, ◌↔◌, ◌+◌, ◌^◌, ◌<◌, ◌≤◌, ℕ, List, ◌++◌, drop, length, take, vec_capacity, IfOk, OnErr, IsTrue};
 ghost use Rattle.tink_spec.specs.InPlace.{OpensTo};
@@ -13,7 +13,7 @@ use mac_prf::blocks::same_bytes;
 use std::ops::Range;
 use tink_base::NoMemory;
 
-/// The bytes of the longest tag, which is a digest of SHA-512.
+/// The size of the longest tag, a digest of SHA-512, in bytes.
 pub(crate) const LONGEST_TAG: usize = 64;
 
 /// A key of EAX or of AES-CTR-HMAC.
@@ -32,8 +32,8 @@ pub(crate) enum Scheme<'k> {
 }
 
 impl Scheme<'_> {
-    /// Seals in place, and gives the list itself: behind its first bytes, so many as `at` says, which
-    /// stay as they are, the IV, the ciphertext and the tag.
+    /// Seals in place, and returns the same list: its first `at` bytes, unchanged, then the IV, the
+    /// ciphertext and the tag.
     pub(crate) fn seal(
         &self,
         at: usize,
@@ -60,8 +60,8 @@ impl Scheme<'_> {
         Ok(bytes)
     }
 
-    /// Opens IV, ciphertext and tag, joined, in place, and answers where the plaintext stands then. The tag
-    /// is computed anew and compared before anything is decrypted.
+    /// Opens IV, ciphertext and tag, joined, in place, and returns the plaintext's range. The tag
+    /// is computed and compared before anything is decrypted.
     pub(crate) fn open(&self, iv_size: usize, bytes: &mut [u8], ad: &[u8]) -> Option<Range<usize>>
         requires sound { IsSound self.now }
         requires iv_bound { iv_size ≤ 16 }
@@ -85,7 +85,7 @@ impl Scheme<'_> {
         Some(iv_size..end)
     }
 
-    // Seals in place what stands behind the first bytes, so many as `at` says, and writes the tag.
+    // Seals in place what follows the first `at` bytes, and writes the tag.
     fn seal_behind(&self, at: usize, bytes: &mut [u8], iv: &[u8], ad: &[u8], tag: &mut [u8])
         requires sound { IsSound self.now }
         requires iv_bound { length iv.now ≤ 16 }
@@ -100,7 +100,7 @@ impl Scheme<'_> {
         self.seal_in_place(&mut bytes[at..], iv, ad, tag);
     }
 
-    // Writes the IV into its room, encrypts in place what stands behind that, and writes the tag.
+    // Writes the IV into its room, encrypts in place what follows, and writes the tag.
     fn seal_in_place(&self, sealed: &mut [u8], iv: &[u8], ad: &[u8], tag: &mut [u8])
         requires sound { IsSound self.now }
         requires iv_bound { length iv.now ≤ 16 }
@@ -168,7 +168,7 @@ impl Scheme<'_> {
         }
     }
 
-    // Whether the tag is that of IV, associated data and ciphertext, computed anew.
+    // Whether the tag is the one computed of IV, associated data and ciphertext.
     fn is_tag(&self, start: &[u8; 16], iv: &[u8], ad: &[u8], text: &[u8], tag: &[u8]) -> bool
         requires sound { IsSound self.now }
         requires start { start.now ≡ start_under self.now iv.now }

@@ -1,7 +1,7 @@
 //! Segments of AES-CTR-HMAC in Tink's streaming AEAD, in place.
 //!
-//! No branch and no place in memory depends on a key or on a byte of text or tag, but for the answer
-//! whether the tag is the right one: so it is written, and no clause says it.
+//! No branch and no memory address depends on a key or on a byte of text or tag, except for the
+//! result of the tag's comparison: the bodies are written so, but no clause says it.
 
 ghost use Rattle.std.specs.Prelude.{◌≡◌, ◌↔◌, ◌≤◌, length, IsTrue};
 ghost use Rattle.std.specs.Bool.{OnFalse, OnTrue};
@@ -15,12 +15,12 @@ use mac_prf::blocks::same_bytes;
 use tink_base::Hash;
 
 /// Encrypts `body` in place and writes its tag: counter mode from `start`, where all 128 bits count
-/// (SP 800-38A), and the first bytes of HMAC under `mac` over `start` and the ciphertext (RFC 2104),
-/// as many as `tag` has.
+/// (SP 800-38A), and the first bytes of HMAC under `mac` over `start` and the ciphertext (RFC
+/// 2104), as many as `tag` has.
 ///
 /// `tag` has at most as many bytes as a digest of `hash`; `body` and `mac` may have any length. No
-/// start may serve twice under one key, nor one whose counters meet those of another: this is for
-/// the caller to see to. No memory is taken.
+/// start may be used twice under one key, nor one whose counters overlap another's: the caller must
+/// ensure that. No memory is taken.
 pub fn ctr_hmac_seal_in_place(
     aes: &Aes,
     hash: Hash,
@@ -37,11 +37,11 @@ pub fn ctr_hmac_seal_in_place(
     write_tag(hash, mac, start, body, tag);
 }
 
-/// Decrypts `body` in place, where the tag is the right one, as `ctr_hmac_seal_in_place` made it.
+/// Decrypts `body` in place, if the tag is the right one, as `ctr_hmac_seal_in_place` made it.
 ///
-/// `tag` has at most as many bytes as a digest of `hash`. The answer is `false` exactly where `tag`
-/// isn't that of `start` and the ciphertext, of as many bytes; all of them are compared before
-/// anything is decrypted, and `body` is as before then. No memory is taken.
+/// `tag` has at most as many bytes as a digest of `hash`. Returns `false` if and only if `tag`
+/// isn't the tag of `start` and the ciphertext, of as many bytes; all of them are compared before
+/// anything is decrypted, and then `body` is unchanged. No memory is taken.
 pub fn ctr_hmac_open_in_place(
     aes: &Aes,
     hash: Hash,

@@ -1,10 +1,10 @@
-//! Laws of the definitions. Each is the contract of a function that does nothing.
+//! Laws of the definitions. Each is the contract of a function with no effect.
 
 ghost use Rattle.siv_daead.specs.Laws.{SivOpensSealings, SivSealsBytes, SivSealsSixteenMore};
 
 use mac_prf::laws::cmac_has_a_block;
 
-/// Bytes open under a key and an associated datum to a plaintext exactly where they are what
+/// Bytes open under a key and an associated datum to a plaintext if and only if they are what
 /// sealing makes of it.
 pub fn siv_opens_sealings()
     ensures { SivOpensSealings }
@@ -15,7 +15,7 @@ pub fn siv_seals_sixteen_more()
     ensures { SivSealsSixteenMore }
 {}
 
-/// What sealing makes consists of bytes below 256, where key and plaintext do.
+/// What sealing makes consists of bytes below 256 if key and plaintext do.
 pub fn siv_seals_bytes()
     ensures { SivSealsBytes }
 {

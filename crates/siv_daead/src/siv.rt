@@ -14,11 +14,11 @@ use mac_prf::blocks::{doubled, padded, same_bytes, xor};
 use std::marker::Model;
 use std::ops::Range;
 
-// The bits of the counter that stay: the highest ones of bytes 8 and 12 are cleared (2.5).
+// The bits of the counter that are kept: the highest ones of bytes 8 and 12 are cleared (2.5).
 const KEPT_BITS: u128 = 0xffff_ffff_ffff_ffff_7fff_ffff_7fff_ffff;
 
-/// A key of AES-SIV: the expansions of its two halves, the first of which is for the SIV and the second
-/// for the ciphertext (RFC 5297, 2.6). Contracts see it as the bytes of the key.
+/// A key of AES-SIV: its two halves expanded, the first for the SIV and the second for the
+/// ciphertext (RFC 5297, 2.6). Contracts see the bytes of the key.
 #[derive(Drop)]
 pub struct SivKey {
     mac: Aes,
@@ -38,7 +38,7 @@ impl Model for SivKey {
 impl SivKey {
     /// Expands a key of 32 or 64 bytes.
     ///
-    /// The answer is `KeySize` exactly where `key` has another length.
+    /// Returns `KeySize` if and only if `key` has another length.
     pub fn new(key: &[u8]) -> Result<SivKey, KeySize>
         ensures key { IfOk result (λ siv_key. siv_key ≡ key.now) }
         ensures key_size { IsErr result ↔ ((length key.now ≢ 32) × (length key.now ≢ 64)) }
@@ -51,13 +51,12 @@ impl SivKey {
     }
 }
 
-/// Seals in place with the associated datum `ad` (RFC 5297, 2.6), and gives the list itself: behind
-/// its first bytes, so many as `at` says, which stay as they are, the SIV of 16 bytes and the
-/// ciphertext.
+/// Seals in place with the associated datum `ad` (RFC 5297, 2.6), and returns the same list: its
+/// first `at` bytes, unchanged, then the SIV of 16 bytes and the ciphertext.
 ///
-/// The plaintext stands behind `at` and room for the SIV, whatever stands in that. It has at most 2^30
-/// bytes, as many as its ciphertext, and so has `ad`. An empty `ad` is a datum too. The same key,
-/// plaintext and datum give the same bytes. No memory is taken.
+/// The plaintext follows the first `at` bytes and room for the SIV, whose values don't matter. It
+/// has at most 2^30 bytes, as many as its ciphertext, and so has `ad`. An empty `ad` is a datum
+/// too. The same key, plaintext and datum give the same bytes. No memory is taken.
 pub fn siv_seal(key: &SivKey, at: usize, mut bytes: Vec<u8>, ad: &[u8]) -> Vec<u8>
     requires room { at + 16 ≤ length bytes.items }
     requires plain_bound { length bytes.items ≤ at + 16 + 2 ^ 30 }
@@ -69,11 +68,11 @@ pub fn siv_seal(key: &SivKey, at: usize, mut bytes: Vec<u8>, ad: &[u8]) -> Vec<u
 }
 
 /// Opens in place what `siv_seal` made under the same key and associated datum (RFC 5297, 2.7), and
-/// answers where the plaintext stands in `bytes` then; what stands round it is as before.
+/// returns the plaintext's range in `bytes`; the bytes around it are unchanged.
 ///
-/// `bytes` have at most 2^30 + 96, and `ad` at most 2^30. The answer is `None` exactly where there are
-/// fewer than 16 bytes, or where the SIV that the plaintext has isn't the one in front. All bytes of
-/// the two are compared, and `bytes` are as before then. No memory is taken.
+/// `bytes` have at most 2^30 + 96, and `ad` at most 2^30. Returns `None` if and only if there are
+/// fewer than 16 bytes, or the SIV at the front isn't the one of the plaintext. All bytes of the
+/// two are compared; then `bytes` are unchanged. No memory is taken.
 pub fn siv_open(key: &SivKey, bytes: &mut [u8], ad: &[u8]) -> Option<Range<usize>>
     requires bytes_bound { length bytes.old ≤ 2 ^ 30 + 96 }
     requires ad_bound { length ad.now ≤ 2 ^ 30 }
@@ -91,7 +90,7 @@ pub fn siv_open(key: &SivKey, bytes: &mut [u8], ad: &[u8]) -> Option<Range<usize
     }
 }
 
-// Seals in place what stands behind the first bytes, so many as `at` says.
+// Seals in place what follows the first `at` bytes.
 fn seal_behind(key: &SivKey, at: usize, bytes: &mut [u8], ad: &[u8])
     requires room { at + 16 ≤ length bytes.old }
     ensures { bytes.new ≡ take at bytes.old ++ siv_seal key.now (drop 16 (drop at bytes.old)) ad.now }
@@ -99,7 +98,7 @@ fn seal_behind(key: &SivKey, at: usize, bytes: &mut [u8], ad: &[u8])
     seal_in_place(key, &mut bytes[at..], ad);
 }
 
-// Writes the SIV into its room, and encrypts in place what stands behind that (2.6).
+// Writes the SIV into its room, and encrypts in place what follows (2.6).
 fn seal_in_place(key: &SivKey, sealed: &mut [u8], ad: &[u8])
     requires room { 16 ≤ length sealed.old }
     ensures { sealed.new ≡ siv_seal key.now (drop 16 sealed.old) ad.now }
@@ -110,8 +109,8 @@ fn seal_in_place(key: &SivKey, sealed: &mut [u8], ad: &[u8])
     crypt(&key.ctr, &siv, body);
 }
 
-// Decrypts in place, where the SIV is that of the plaintext (2.7). Where it isn't, what was decrypted is
-// encrypted again.
+// Decrypts in place, and checks the SIV of the plaintext (2.7). If it differs, what was decrypted
+// is encrypted again.
 fn open_in_place(key: &SivKey, siv: &[u8; 16], ad: &[u8], body: &mut [u8]) -> bool
     ensures authentic { IsTrue result
         ↔ (siv.now ≡ s2v (mac_key key.now) ad.now (siv_text key.now siv.now body.old)) }
@@ -150,8 +149,8 @@ fn mac(key: &Aes, front: &[u8], back: &[u8]) -> [u8; 16]
     state.finish()
 }
 
-// Encrypts or decrypts in place, under the second half of the key, from the counter that follows
-// from the SIV (2.5 and 2.6).
+// Encrypts or decrypts in place, under the second half of the key, from the counter made from the
+// SIV (2.5 and 2.6).
 fn crypt(key: &Aes, siv: &[u8; 16], body: &mut [u8])
     ensures { body.new ≡ ctr key.now (first_counter siv.now) All128 body.old }
 {
