@@ -1,5 +1,5 @@
-//! AES-GCM-SIV (RFC 8452): authenticated encryption with associated data that forgives a repeated IV,
-//! under keys of 16 and 32 bytes.
+//! AES-GCM-SIV (RFC 8452): authenticated encryption with associated data, resistant to repeated
+//! IVs, under keys of 16 and 32 bytes.
 #![tactic(auto)]
 
 pub mod laws;

@@ -1,5 +1,5 @@
-//! POLYVAL (RFC 8452, 3) by way of GHASH (appendix A): a running GHASH takes each block with its bytes in
-//! the other order.
+//! POLYVAL (RFC 8452, 3) by GHASH (appendix A): a running GHASH takes each block with its bytes
+//! reversed.
 
 ghost use Rattle.std.specs.Prelude.{◌≡◌, ◌+◌, ◌-◌, ◌≤◌, ℕ, List, [], ◌++◌, length, map, replicate, reverse};
 ghost use Rattle.std.specs.Simd.Lanes.{put_chunk};
@@ -12,7 +12,7 @@ ghost use Rattle.gcm_siv.specs.Polyval.{mulx, turned};
 use ghash::{Ghash, multiply_by_x};
 use std::simd::prelude::*;
 
-// So many bytes are turned round on the stack at a time.
+// How many bytes are reversed on the stack at a time.
 const PIECE: usize = 512;
 
 /// GHASH of no block, under the hash subkey for this key of POLYVAL (appendix A).
@@ -22,7 +22,7 @@ pub(crate) fn hash_under(key: &[u8; 16]) -> Ghash
     Ghash::new(multiply_by_x(u128::from_le_bytes(*key)))
 }
 
-/// Adds the blocks of `text`, with zeros after it up to a whole block, each turned round.
+/// Adds the blocks of `text`, padded with zeros to a whole block, each reversed.
 pub(crate) fn absorb(hash: &mut Ghash, text: &[u8])
     ensures { (h : ℕ) (blocks : List ℕ) → Holds hash.old h blocks
         → Holds hash.new h (blocks ++ map turned (whole_blocks (right_padded text.now))) }
@@ -32,7 +32,7 @@ pub(crate) fn absorb(hash: &mut Ghash, text: &[u8])
     }
 }
 
-// The same of a piece, which is turned round in a copy.
+// The same for a piece, which is reversed in a copy.
 fn absorb_piece(hash: &mut Ghash, piece: &[u8])
     requires { length piece.now ≤ 512 }
     ensures { (h : ℕ) (blocks : List ℕ) → Holds hash.old h blocks
@@ -47,7 +47,7 @@ fn absorb_piece(hash: &mut Ghash, piece: &[u8])
     hash.absorb(&copy[..size]);
 }
 
-// A block that is written there.
+// Writes a block at `at`.
 #[inline(always)]
 fn write_block(copy: &mut [u8], at: usize, block: u8x16)
     requires { at + 16 ≤ length copy.old }
@@ -56,8 +56,8 @@ fn write_block(copy: &mut [u8], at: usize, block: u8x16)
     block.copy_to_slice(&mut copy[at..]);
 }
 
-// The block of at most 16 bytes, with zeros after them, turned round. In lanes, since a block that is
-// read as a number is put together byte by byte by the compiler.
+// The block of at most 16 bytes, padded with zeros and reversed. It is in lanes, since the compiler
+// assembles a block that is read as a number byte by byte.
 #[inline(always)]
 fn turned_block(piece: &[u8]) -> u8x16
     requires { length piece.now ≤ 16 }
@@ -67,7 +67,7 @@ fn turned_block(piece: &[u8]) -> u8x16
     loaded(piece).swizzle([15, 14, 13, 12, 11, 10, 9, 8, 7, 6, 5, 4, 3, 2, 1, 0])
 }
 
-// That block as it stands.
+// That block, not reversed.
 #[inline(always)]
 fn loaded(piece: &[u8]) -> u8x16
     requires { length piece.now ≤ 16 }

@@ -1,7 +1,7 @@
 //! AES-GCM-SIV (RFC 8452), with an IV of 12 bytes, which the RFC calls the nonce, and a tag of 16.
 //!
-//! No branch and no place in memory depends on the key or on a byte of text, associated data or tag,
-//! but for the answer whether the tag is the right one: so it is written, and no clause says it.
+//! No branch and no memory address depends on the key or on a byte of text, associated data or tag,
+//! except for the result of the tag's comparison: the bodies are written so, but no clause says it.
 
 ghost use Rattle.std.specs.Prelude.{◌≡◌, ◌⊎◌, ◌↔◌, ◌+◌, ◌^◌, ◌≤◌, ◌<◌, ◌*◌, ◌++◌, drop, length, take, vec_capacity, IfOk, OnErr, IsTrue};
 ghost use Rattle.std.specs.Bool.{OnFalse, OnTrue};
@@ -23,14 +23,14 @@ const IV: usize = 12;
 /// The bytes of a tag.
 const TAG: usize = 16;
 
-/// Seals in place (RFC 8452, 4), and gives the list itself: behind its first bytes, so many as `at`
-/// says, which stay as they are, the IV, the ciphertext and the tag.
+/// Seals in place (RFC 8452, 4), and returns the same list: its first `at` bytes, unchanged, then
+/// the IV, the ciphertext and the tag.
 ///
-/// The plaintext stands behind `at` and room for the IV, whatever stands in that. It has at most 2^30
-/// bytes, as many as its ciphertext, and so has `ad`. An IV that serves twice under one key tells
-/// whether plaintext and associated data were the same, and nothing else; still, each message should
-/// have its own. `NoMemory` comes only where the list has no place for the tag of 16 bytes, by its
-/// capacity, and memory for more is wanting.
+/// The plaintext follows the first `at` bytes and room for the IV, whose values don't matter. It
+/// has at most 2^30 bytes, as many as its ciphertext, and so has `ad`. An IV used twice under one
+/// key reveals only whether plaintext and associated data were the same; still, each message should
+/// have its own. `NoMemory` comes only if the list's capacity has no place for the tag of 16 bytes,
+/// and memory for it can't be allocated.
 pub fn gcm_siv_seal(
     key: &Aes,
     at: usize,
@@ -50,12 +50,12 @@ pub fn gcm_siv_seal(
     Ok(bytes)
 }
 
-/// Opens IV, ciphertext and tag, joined, in place (RFC 8452, 5), and answers where the plaintext stands
-/// in `bytes` then; what stands round it is as before.
+/// Opens IV, ciphertext and tag, joined, in place (RFC 8452, 5), and returns the plaintext's range
+/// in `bytes`; the bytes around it are unchanged.
 ///
-/// `bytes` have at most 2^30 + 96, and `ad` at most 2^30. The answer is `None` exactly where `bytes`
-/// are shorter than IV and tag, or the tag isn't the one that the plaintext has. All bytes of the two
-/// are compared, and `bytes` are as before then. No memory is taken.
+/// `bytes` have at most 2^30 + 96, and `ad` at most 2^30. Returns `None` if and only if `bytes` are
+/// shorter than IV and tag, or the tag isn't the one of the plaintext. All bytes of the two are
+/// compared; then `bytes` are unchanged. No memory is taken.
 pub fn gcm_siv_open(key: &Aes, bytes: &mut [u8], ad: &[u8]) -> Option<Range<usize>>
     requires bytes_bound { length bytes.old ≤ 2 ^ 30 + 96 }
     requires ad_bound { length ad.now ≤ 2 ^ 30 }
@@ -72,7 +72,7 @@ pub fn gcm_siv_open(key: &Aes, bytes: &mut [u8], ad: &[u8]) -> Option<Range<usiz
     }
 }
 
-// Seals in place what stands behind the first bytes, so many as `at` says, and answers the tag.
+// Seals in place what follows the first `at` bytes, and returns the tag.
 fn seal_behind(key: &Aes, at: usize, bytes: &mut [u8], iv: &[u8; 12], ad: &[u8]) -> [u8; 16]
     requires room { at + 12 ≤ length bytes.old }
     requires bytes_bound { length bytes.old ≤ at + 12 + 2 ^ 30 }
@@ -83,7 +83,7 @@ fn seal_behind(key: &Aes, at: usize, bytes: &mut [u8], iv: &[u8; 12], ad: &[u8])
     seal_under_iv(key, &mut bytes[at..], iv, ad)
 }
 
-// Writes the IV into its room, encrypts in place what stands behind that, and answers the tag (4).
+// Writes the IV into its room, encrypts in place what follows, and returns the tag (4).
 fn seal_under_iv(key: &Aes, sealed: &mut [u8], iv: &[u8; 12], ad: &[u8]) -> [u8; 16]
     requires room { 12 ≤ length sealed.old }
     requires sealed_bound { length sealed.old ≤ 2 ^ 31 }
@@ -96,7 +96,7 @@ fn seal_under_iv(key: &Aes, sealed: &mut [u8], iv: &[u8; 12], ad: &[u8]) -> [u8;
     seal_in_place(key, iv, ad, body)
 }
 
-// Encrypts in place, and answers the tag (4).
+// Encrypts in place, and returns the tag (4).
 fn seal_in_place(key: &Aes, iv: &[u8; 12], ad: &[u8], body: &mut [u8]) -> [u8; 16]
     requires ad_bound { length ad.now ≤ 2 ^ 30 }
     requires body_bound { length body.old ≤ 2 ^ 31 }
@@ -109,7 +109,7 @@ fn seal_in_place(key: &Aes, iv: &[u8; 12], ad: &[u8], body: &mut [u8]) -> [u8; 1
     tag
 }
 
-// Decrypts in place, where the tag is that of the plaintext (5). Where it isn't, what was decrypted is
+// Decrypts in place, and checks the tag of the plaintext (5). If it differs, what was decrypted is
 // encrypted again.
 fn open_in_place(key: &Aes, iv: &[u8; 12], ad: &[u8], body: &mut [u8], tag: &[u8; 16]) -> bool
     requires ad_bound { length ad.now ≤ 2 ^ 30 }
@@ -139,7 +139,7 @@ fn expanded(key: &[u8]) -> Aes
     }
 }
 
-// AES of the block of a number and of the IV: the first 8 bytes (4).
+// The first 8 bytes of AES of a number and the IV (4).
 fn derived_half(main: &Aes, iv: &[u8; 12], number: u8) -> [u8; 8]
     ensures { result ≡ derived_half main.now iv.now number }
 {
@@ -211,7 +211,7 @@ fn hashed(main: &Aes, iv: &[u8; 12], ad: &[u8], plain: &[u8]) -> [u8; 16]
     hash.finish().to_le_bytes()
 }
 
-// The lengths of associated data and plaintext, which are counted in bytes here, and in bits there.
+// The lengths of associated data and plaintext, given in bytes, written in bits.
 fn length_block(ad: usize, plain: usize) -> [u8; 16]
     requires ad_bound { ad ≤ 2 ^ 30 }
     requires plain_bound { plain ≤ 2 ^ 31 }

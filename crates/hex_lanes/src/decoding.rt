@@ -1,4 +1,4 @@
-//! Digits as bytes.
+//! Decodes digits to bytes.
 
 ghost use Rattle.std.specs.Prelude.{◌≡◌, ◌⊎◌, ◌*◌, ◌+◌, ◌%◌, ◌<◌, ◌≤◌, length, map, Result, IfErr, IfOk};
 ghost use Rattle.std.specs.Bool.{OnTrue};
@@ -13,9 +13,9 @@ use std::simd::prelude::*;
 
 /// The bytes that the text spells, two digits each, in either case.
 ///
-/// `OddLength` comes exactly where the text's length is odd, and else `InvalidHexCharacter` where a
-/// character is no digit: it tells the first such one, and its place. Memory is taken for the bytes, and
-/// `OutOfMemory` comes where it is refused.
+/// `OddLength` comes if and only if the text's length is odd; otherwise `InvalidHexCharacter`, with
+/// the first such character and its place, if some character isn't a digit. `OutOfMemory` comes
+/// only if memory for the bytes can't be allocated.
 pub fn decode(alloc: Global, text: &[u8]) -> Result<Vec<u8>, FromHexError>
     ensures ok { IfOk result (λ bytes. decode_of text.now ≡ Ok bytes.items) }
     ensures err { IfErr result (λ e. (e ≡ OutOfMemory) ⊎ (decode_of text.now ≡ Err e)) }
@@ -30,7 +30,8 @@ pub fn decode(alloc: Global, text: &[u8]) -> Result<Vec<u8>, FromHexError>
     hex::decode(alloc, text)
 }
 
-// The bytes that digits spell, over a slice of just their size, and whether all of the text are digits.
+// Writes the bytes that digits spell into a slice of exactly their size; returns whether all are
+// digits.
 #[inline(never)]
 fn decode_into(text: &[u8], bytes: &mut [u8]) -> bool
     requires size { length text.now ≡ 2 * length bytes.old }
@@ -48,7 +49,7 @@ fn decode_into(text: &[u8], bytes: &mut [u8]) -> bool
     decode_tail(&text[32 * whole..], &mut bytes[16 * whole..])
 }
 
-// The same of less than 32 digits.
+// The same for fewer than 32 digits.
 #[inline(always)]
 fn decode_tail(text: &[u8], bytes: &mut [u8]) -> bool
     requires size { length text.now ≡ 2 * length bytes.old }
@@ -76,7 +77,7 @@ fn store(bytes: &mut [u8], at: usize, block: u8x16)
     block.copy_to_slice(&mut bytes[at..]);
 }
 
-// The value of each character: that of a digit, and 255 where it is none.
+// The value of each character if it is a digit, otherwise 255.
 #[inline(always)]
 fn values(text: u8x32) -> u8x32
     ensures { result ≡ values text }

@@ -1,4 +1,4 @@
-//! Bytes as digits.
+//! Encodes bytes as digits.
 
 ghost use Rattle.std.specs.Prelude.{◌≡◌, ◌*◌, ◌+◌, ◌<◌, ◌≤◌, ◌++◌, length, OnErr, OnOk};
 ghost use Rattle.std.specs.Simd.Lanes.{put_chunk};
@@ -7,8 +7,8 @@ ghost use Rattle.hex.specs.Hex.{encode_lower};
 use std::alloc::AllocError;
 use std::simd::prelude::*;
 
-/// Adds the digits of `bytes` behind `text`, two for each byte, in lower case. Where memory is refused,
-/// `text` stays.
+/// Appends the digits of `bytes` to `text`, two for each byte, in lower case. If memory can't be
+/// allocated, `text` is unchanged.
 pub fn encode_onto(text: &mut Vec<u8>, bytes: &[u8]) -> Result<(), AllocError>
     ensures encoded { OnOk result (text.new.items ≡ text.old.items ++ encode_lower bytes.now) }
     ensures kept { OnErr result (text.new.items ≡ text.old.items) }
@@ -25,7 +25,7 @@ pub fn encode_onto(text: &mut Vec<u8>, bytes: &[u8]) -> Result<(), AllocError>
     Ok(())
 }
 
-// The digits of bytes, over a slice of just their size.
+// Writes the digits of bytes into a slice of exactly their size.
 #[inline(never)]
 fn encode_into(bytes: &[u8], digits: &mut [u8])
     requires size { length digits.old ≡ 2 * length bytes.now }
@@ -38,7 +38,7 @@ fn encode_into(bytes: &[u8], digits: &mut [u8])
     encode_tail(&bytes[16 * whole..], &mut digits[32 * whole..]);
 }
 
-// The same of less than 16 bytes.
+// The same for fewer than 16 bytes.
 #[inline(always)]
 fn encode_tail(bytes: &[u8], digits: &mut [u8])
     requires size { length digits.old ≡ 2 * length bytes.now }
