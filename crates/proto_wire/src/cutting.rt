@@ -10,10 +10,10 @@ use crate::reading::read_field;
 use crate::{Field, Fields, FieldsError, Kind, Wire};
 use std::alloc::Global;
 
-/// Cuts the part of `source` from `start` to `end`, places in bytes, into its fields.
+/// Cuts the part of `source` from byte `start` up to byte `end` into its fields.
 ///
-/// `Wire` comes exactly where the part can't be cut, with the place of the first field at fault. `NoMemory`
-/// comes only where a field stands at the front of the part, so never of an empty one.
+/// `Wire` comes if and only if the part can't be cut, with the place of the first field at fault.
+/// `NoMemory` comes only if the part begins with a field, so never for an empty part.
 pub fn fields(alloc: Global, source: &[u8], start: usize, end: usize) -> Result<Fields, FieldsError>
     requires ordered { start ≤ end }
     requires within { end ≤ length source.now }
@@ -45,7 +45,7 @@ pub fn fields(alloc: Global, source: &[u8], start: usize, end: usize) -> Result<
     Ok(Fields::own(items))
 }
 
-/// The fields of this field's payload. A fault inside has the place of the field itself.
+/// The fields of this field's payload. A fault inside is reported at the place of the field itself.
 pub fn embedded(alloc: Global, source: &[u8], field: Field) -> Result<Fields, FieldsError>
     requires { IsOf source.now field }
     ensures fields { GivesFields source.now result

@@ -1,4 +1,4 @@
-//! One field, and what ends the reading of fields.
+//! One field, and the errors of reading fields.
 
 ghost use Rattle.std.specs.Prelude.{◌≡◌};
 
@@ -30,11 +30,11 @@ pub struct Field {
     pub at: usize,
     /// The place in `source` of the first byte of a `Bytes` payload, 0 for any other kind.
     pub start: usize,
-    /// The place in `source` behind the last byte of a `Bytes` payload, 0 for any other kind.
+    /// The place in `source` after the last byte of a `Bytes` payload, 0 for any other kind.
     pub end: usize,
 }
 
-/// A field at fault: it can't be cut, or isn't of the kind that was asked for.
+/// A field at fault: it can't be cut, or isn't of the kind asked for.
 #[derive(Clone, Copy, Debug, PartialEq, Eq)]
 pub struct Wire {
     /// The place in the source of the tag's first byte.
@@ -46,7 +46,7 @@ pub struct Wire {
 pub enum FieldsError {
     /// The first field at fault.
     Wire(Wire),
-    /// Memory was refused.
+    /// Memory couldn't be allocated.
     NoMemory,
 }
 

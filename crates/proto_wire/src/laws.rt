@@ -1,4 +1,4 @@
-//! Laws of the definitions of the wire. These functions do nothing: their contracts are the laws.
+//! Laws of the definitions of the wire. Each is the contract of a function with no effect.
 
 ghost use Rattle.proto_wire.specs.Laws.{CuttingIsSpelling};
 ghost use Rattle.proto_wire.specs.Written.{VarintsAreShort, WrittenIsCutBack};
@@ -8,12 +8,12 @@ pub fn cutting_is_spelling()
     ensures { CuttingIsSpelling }
 {}
 
-/// A written varint stands for its number, and none that does is shorter.
+/// A written varint means its number, and no varint of that number is shorter.
 pub fn varints_are_short()
     ensures { VarintsAreShort }
 {}
 
-/// What is written is cut back into its field, whatever stands behind it.
+/// A written field is cut back into itself, whatever follows it.
 pub fn written_is_cut_back()
     ensures { WrittenIsCutBack }
 {}

@@ -1,7 +1,7 @@
 //! Protobuf fields: a part of a message is cut into its fields, fields give numbers, bytes and
 //! embedded messages, and a writer writes them.
 //!
-//! The rules of reading stand in `tink_spec`. Groups are refused.
+//! The rules of reading are in `tink_spec`. Groups are refused.
 #![tactic(auto)]
 
 mod cutting;

@@ -1,4 +1,4 @@
-//! The fields of a message, and what they give by their numbers.
+//! The fields of a message, and lookups by field number.
 
 ghost use Rattle.std.specs.Prelude.{◌≡◌, ◌<◌, ◌≤◌, ◌^◌, ◌++◌, List, ℕ, length, Some, IfOk, OnOk, OnErr, slice_get};
 ghost use Rattle.std.specs.List.{AllByRecursion};
@@ -11,7 +11,7 @@ use std::alloc::Global;
 use std::marker::Model;
 use tink_base::NoMemory;
 
-/// Fields in order, which contracts see as the list of them.
+/// Fields in order. Contracts see a list of fields.
 #[derive(Debug, Drop)]
 pub struct Fields {
     items: Vec<Field>,
@@ -41,7 +41,7 @@ impl Fields {
         self.items.len()
     }
 
-    /// The field of this place, counted from 0.
+    /// The field at this index, counted from 0.
     pub fn field(&self, i: usize) -> Field
         requires place_bound { i < length self.now }
         ensures { slice_get self.now i ≡ Some result }
@@ -49,7 +49,7 @@ impl Fields {
         self.items[i]
     }
 
-    /// Adds fields behind these. After `NoMemory` these are as before, and `other` is gone.
+    /// Appends fields. After `NoMemory` this list is unchanged, and `other` is gone.
     pub fn append(&mut self, other: Fields) -> Result<(), NoMemory>
         ensures appended { OnOk result (self.new ≡ self.old ++ other) }
         ensures kept { OnErr result (self.new ≡ self.old) }
@@ -60,10 +60,10 @@ impl Fields {
         }
     }
 
-    /// The low 32 bits of the last field of this number, 0 where there is none.
+    /// The low 32 bits of the last field of this number, 0 if there is none.
     ///
-    /// `Wire` comes exactly where a field of this number isn't a varint, with the place of the first
-    /// such.
+    /// `Wire` comes if and only if a field of this number isn't a varint, with the place of the
+    /// first one.
     pub fn number_of(&self, number: u32) -> Result<u32, Wire>
         ensures { (source : List ℕ) →
             GivesNumber result (number_in number (seen_all source self.now)) }
@@ -80,11 +80,11 @@ impl Fields {
         Ok((value % (1 << 32)) as u32)
     }
 
-    /// The places of the last payload of this number, its first byte and the one behind its last;
-    /// (0, 0) where there is none.
+    /// The range of the last payload of this number: the place of its first byte, and the place
+    /// after its last one; (0, 0) if there is none.
     ///
-    /// `Wire` comes exactly where a field of this number isn't `Bytes`, with the place of the first
-    /// such.
+    /// `Wire` comes if and only if a field of this number isn't `Bytes`, with the place of the
+    /// first one.
     pub fn span_of(&self, number: u32) -> Result<(usize, usize), Wire>
         ensures { (source : List ℕ) → AllByRecursion (IsOf source) self.now →
             GivesSpan source result (bytes_in number (seen_all source self.now)) }
@@ -107,8 +107,8 @@ impl Fields {
 
     /// The fields of all payloads of this number, in order; `self` was cut from `source`.
     ///
-    /// `Wire` comes exactly where a field of this number isn't `Bytes` or its payload can't be cut,
-    /// with the place of the first such field's tag.
+    /// `Wire` comes if and only if a field of this number isn't `Bytes` or its payload can't be
+    /// cut, with the place of the first such field's tag.
     pub fn merged(&self, alloc: Global, source: &[u8], number: u32) -> Result<Fields, FieldsError>
         requires of_source { AllByRecursion (IsOf source.now) self.now }
         ensures merged { GivesFields source.now result

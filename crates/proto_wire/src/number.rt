@@ -3,10 +3,10 @@
 ghost use Rattle.std.specs.Prelude.{◌≡◌, ◌<◌, ◌≤◌, ◌%◌, ◌^◌, List, ℕ, length, take, drop, position, nat_lt, option_map, IfSome};
 ghost use Rattle.tink_spec.specs.Varint.{groups, number_front};
 
-/// How many bytes a varint has at most.
+/// The most bytes that a varint has.
 const LONGEST: usize = 10;
 
-/// The number of the varint at the front, and how many bytes that takes. Bytes may follow it.
+/// The number of the varint at the front, and how many bytes it takes. Bytes may follow.
 pub fn front_number(bytes: &[u8]) -> Option<(u64, usize)>
     ensures some { IfSome result (λ found. 0 < found.1) }
     ensures within { IfSome result (λ found. found.1 ≤ length bytes.now) }
@@ -24,7 +24,7 @@ fn last_place(bytes: &[u8]) -> Option<usize>
     bytes.iter().take(LONGEST).position(|b| *b < 128)
 }
 
-/// The low 64 bits of the groups of seven bits, the lowest of which comes first.
+/// The low 64 bits of the groups of seven bits, the lowest group first.
 fn low_groups(bytes: &[u8]) -> u64
     ensures { result ≡ groups bytes.now % 2 ^ 64 }
 {

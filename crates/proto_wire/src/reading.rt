@@ -18,11 +18,11 @@ struct Tag {
     wire_type: u32,
     /// The place of its first byte.
     at: usize,
-    /// The place behind its last byte.
+    /// The place after its last byte.
     behind: usize,
 }
 
-/// The field at this place of a part of `source` that ends at `end`, and the place behind it.
+/// The field at this place of a part of `source` that ends at `end`, and the place after it.
 pub fn read_field(source: &[u8], at: usize, end: usize) -> Option<(Field, usize)>
     requires ordered { at ≤ end }
     requires within { end ≤ length source.now }
@@ -58,7 +58,7 @@ fn read_tag(source: &[u8], at: usize, end: usize) -> Option<Tag>
     })
 }
 
-/// The field of this tag, and the place behind it.
+/// The field of this tag, and the place after it.
 fn read_payload(source: &[u8], tag: Tag, end: usize) -> Option<(Field, usize)>
     requires ordered { tag.behind ≤ end }
     requires within { end ≤ length source.now }
@@ -120,7 +120,7 @@ fn read_payload(source: &[u8], tag: Tag, end: usize) -> Option<(Field, usize)>
     }
 }
 
-/// The place behind so many bytes.
+/// The place after `size` bytes.
 fn read_fixed(size: usize, at: usize, end: usize) -> Option<usize>
     requires { at ≤ end }
     ensures { SomeIff result (size ≤ end - at) (at + size) }
@@ -132,7 +132,7 @@ fn read_fixed(size: usize, at: usize, end: usize) -> Option<usize>
     }
 }
 
-/// The places of the bytes behind a length that stands at this place.
+/// The range of the bytes after the length at this place.
 fn read_span(source: &[u8], at: usize, end: usize) -> Option<(usize, usize)>
     requires ordered { at ≤ end }
     requires within { end ≤ length source.now }
@@ -143,14 +143,14 @@ fn read_span(source: &[u8], at: usize, end: usize) -> Option<(usize, usize)>
         (at < span.0) × (span.0 ≤ span.1) × (span.1 ≤ end)) }
 {
     let (size, start) = read_number(source, at, end)?;
-    // The size can be any number of 64 bits, so it is compared with what is left.
+    // The size can be any 64-bit number, so it is compared with what is left.
     if size > (end - start) as u64 {
         return None;
     }
     Some((start, start + size as usize))
 }
 
-/// The number at this place, and the place behind it.
+/// The number at this place, and the place after it.
 fn read_number(source: &[u8], at: usize, end: usize) -> Option<(u64, usize)>
     requires ordered { at ≤ end }
     requires within { end ≤ length source.now }

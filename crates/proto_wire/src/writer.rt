@@ -1,4 +1,4 @@
-//! Fields, written one behind the other.
+//! Fields, written one after another.
 
 ghost use Rattle.std.specs.Prelude.{◌≡◌, ◌<◌, ◌≤◌, ◌*◌, ◌+◌, ◌^◌, ◌++◌, [], ℕ, length, take, OnOk, OnErr};
 ghost use Rattle.tink_spec.specs.Wire.{greatest_number};
@@ -14,10 +14,10 @@ const VARINT: u32 = 0;
 /// The wire type of bytes.
 const BYTES: u32 = 2;
 
-/// A message that is being written, which contracts see as its bytes so far.
+/// A message being written. Contracts see its bytes so far.
 ///
-/// Fields are to be written in the order of their numbers, as other writers do. After `NoMemory` a
-/// writer is as it was before that call.
+/// Write fields in the order of their numbers, as other writers do. `NoMemory` leaves a writer
+/// unchanged.
 #[derive(Drop)]
 pub struct Writer {
     items: Vec<u8>,
@@ -41,7 +41,7 @@ impl Writer {
         }
     }
 
-    /// Writes a number in the field of this number, and nothing where it is 0.
+    /// Writes a number in the field of this number, and nothing if it is 0.
     pub fn uint32(&mut self, number: u32, value: u32) -> Result<(), NoMemory>
         requires least { 0 < number }
         requires most { number ≤ greatest_number }
@@ -59,7 +59,7 @@ impl Writer {
         result
     }
 
-    /// Writes bytes in the field of this number, and nothing where there are none.
+    /// Writes bytes in the field of this number, and nothing if there are none.
     pub fn bytes(&mut self, number: u32, value: &[u8]) -> Result<(), NoMemory>
         requires least { 0 < number }
         requires most { number ≤ greatest_number }
@@ -97,7 +97,7 @@ impl Writer {
     }
 }
 
-/// Appends a field with a number. At an error a part of it may stand behind what was there.
+/// Appends a field with a number. After an error a part of it may have been appended.
 fn push_number_field(items: &mut Vec<u8>, number: u32, value: u32) -> Result<(), NoMemory>
     requires most { number ≤ greatest_number }
     ensures written { OnOk result
@@ -108,7 +108,7 @@ fn push_number_field(items: &mut Vec<u8>, number: u32, value: u32) -> Result<(),
     push_varint(items, value)
 }
 
-/// Appends a field with bytes. At an error a part of it may stand behind what was there.
+/// Appends a field with bytes. After an error a part of it may have been appended.
 fn push_bytes_field(items: &mut Vec<u8>, number: u32, content: &[u8]) -> Result<(), NoMemory>
     requires most { number ≤ greatest_number }
     requires length_bound { length content.now < 2 ^ 31 }
@@ -122,7 +122,7 @@ fn push_bytes_field(items: &mut Vec<u8>, number: u32, content: &[u8]) -> Result<
     Ok(())
 }
 
-/// Appends a varint. At an error a part of it may stand behind what was there.
+/// Appends a varint. After an error a part of it may have been appended.
 fn push_varint(items: &mut Vec<u8>, value: u32) -> Result<(), NoMemory>
     ensures written { OnOk result (items.new.items ≡ items.old.items ++ varint_of value) }
     ensures kept { take (length items.old.items) items.new.items ≡ items.old.items }

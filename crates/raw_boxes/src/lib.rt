@@ -1,5 +1,5 @@
-//! A box as the pointer to its memory and its allocator, and the box again. So the memory's owner
-//! can be a struct that C holds.
+//! A box taken apart into the pointer to its memory and its allocator, and put together again, so
+//! that a struct that C holds can own the memory.
 #![tactic(auto)]
 
 ghost use Rattle.std.specs.Prelude.{◌≡◌};
@@ -8,7 +8,7 @@ ghost use Rattle.std_alloc.specs.Box.Ownership.{box_owns};
 use std::alloc::Allocator;
 use std::marker::Model;
 
-/// The parts of a box, which own its memory and its value together.
+/// The parts of a box, which together own its memory and its value.
 pub struct RawBox<T, A: Allocator> {
     pub at: *mut T,
     pub alloc: A,
