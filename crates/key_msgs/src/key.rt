@@ -1,4 +1,4 @@
-//! Keys, and why a message gives none.
+//! Keys, and why a message gives no key.
 
 ghost use Rattle.std.specs.Prelude.{◌≡◌};
 ghost use Rattle.key_msgs.specs.Keys.{type_of, hash_number};
@@ -58,14 +58,14 @@ pub enum KeyKind {
     CmacPrf {
         key: Bytes,
     },
-    /// AesGcmHkdfStreamingKey: the hash is that of HKDF.
+    /// AesGcmHkdfStreamingKey: the hash is HKDF's.
     GcmStream {
         key: Bytes,
         segment: u32,
         derived: u32,
         hash: Hash,
     },
-    /// AesCtrHmacStreamingKey: the hashes are those of HKDF and of HMAC.
+    /// AesCtrHmacStreamingKey: the hashes are HKDF's and HMAC's.
     CtrStream {
         key: Bytes,
         segment: u32,
@@ -105,11 +105,11 @@ impl KeyKind {
 /// Why a key message gives no key.
 #[derive(Clone, Copy, Debug, PartialEq, Eq)]
 pub enum KeyFault {
-    /// The type URL is none of the key types'.
+    /// No key type has the type URL.
     NotKnown,
-    /// The message breaks this rule, the first one.
+    /// The first rule that the message breaks.
     Bad(Rule),
-    /// Memory was refused.
+    /// Memory couldn't be allocated.
     NoMemory,
 }
 

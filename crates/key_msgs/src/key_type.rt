@@ -85,7 +85,7 @@ impl KeyType {
         }
     }
 
-    /// The type of a URL: `None` exactly where none of the types has it. No memory is taken.
+    /// The type with this URL; `None` if and only if no type has it. No memory is taken.
     #[tactic(auto, unfolding(crate::specs::KeyTypes::type_of_url))]
     pub fn from_url(url: &str) -> Option<KeyType>
         ensures { result ≡ type_of_url url.now }
@@ -99,8 +99,8 @@ impl KeyType {
     }
 }
 
-/// The primitive of a type URL: `None` exactly where none of the key types has the URL. No memory is
-/// taken.
+/// The primitive of the type with this URL; `None` if and only if no key type has the URL. No
+/// memory is taken.
 pub fn primitive_of(url: &str) -> Option<Primitive>
     ensures { result ≡ option_map primitive_of_type (type_of_url url.now) }
 {

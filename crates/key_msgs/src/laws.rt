@@ -1,10 +1,10 @@
-//! Laws of the definitions of keys. These functions do nothing: their contracts are the laws.
+//! Laws of the definitions of keys. Each is the contract of a function with no effect.
 
 ghost use Rattle.key_msgs.specs.Templates.{MadeKeysAreValid};
 ghost use Rattle.key_msgs.specs.Writing.{KeysReadBack};
 
 /// The message of a key that keeps the rules, with lists of at most 2^31 bytes each, reads back to
-/// that key under the key's own type.
+/// that key under its own type.
 pub fn key_back()
     ensures { KeysReadBack }
 {}

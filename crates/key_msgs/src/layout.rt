@@ -7,8 +7,8 @@ ghost use Rattle.key_msgs.specs.KeyTypes.{layout_of, aes_ctr_fields, hmac_fields
 
 use crate::KeyType;
 
-/// The field numbers of a message that has one key value, beside its version; 0 stands for a field
-/// that the message doesn't have.
+/// The field numbers of a message that has one key value; 0 means a field that the message doesn't
+/// have. The version isn't listed.
 #[derive(Clone, Copy)]
 pub struct Layout {
     /// `params`, which holds the fields up to `hmac_params`.

@@ -1,5 +1,5 @@
-//! Keys of Tink's symmetric key types: their messages, read and written, and the templates by which
-//! new ones are made.
+//! Keys of Tink's symmetric key types: their messages, read and written, and the templates from
+//! which new ones are made.
 #![tactic(auto)]
 
 mod key;

@@ -1,4 +1,4 @@
-//! Keys of the contents of their messages.
+//! Keys made from the contents of their messages.
 
 ghost use Rattle.std.specs.Prelude.{◌≡◌};
 ghost use Rattle.tink_base.specs.Hash.{hash_of_number};
@@ -42,7 +42,7 @@ pub(crate) fn key_from(
     }
 }
 
-/// The hash function of this number, where there is one.
+/// The hash function of this number, if there is one.
 fn known_hash(number: u32) -> Result<Hash, Rule>
     ensures { result ≡ known_hash (hash_of_number number) }
 {

@@ -2,8 +2,8 @@
 
 use std::marker::Model;
 
-/// The known fields of a key message, those of its inner messages among them. What a message doesn't
-/// have is 0 or empty.
+/// The known fields of a key message, including its inner messages. What a message doesn't have is
+/// 0 or empty.
 #[derive(Drop)]
 pub(crate) struct Message<'a> {
     /// The greatest version of the message and its inner key messages.
@@ -11,11 +11,11 @@ pub(crate) struct Message<'a> {
     pub iv_size: u32,
     pub segment: u32,
     pub derived: u32,
-    /// The number of the hash function; of a stream it is that of HKDF.
+    /// The number of the hash function; for a stream, of HKDF's.
     pub hash: u32,
     pub tag_size: u32,
     pub salt: &'a [u8],
-    /// The key value; of an AesCtrHmacAeadKey that of its AesCtrKey.
+    /// The key value; for an AesCtrHmacAeadKey, its AesCtrKey's.
     pub key: &'a [u8],
     /// The number of the hash function of the HMAC beside a cipher.
     pub mac_hash: u32,

@@ -5,7 +5,7 @@
 pub enum Primitive {
     /// Authenticated encryption with associated data.
     Aead,
-    /// The same, deterministic.
+    /// Deterministic authenticated encryption with associated data.
     Daead,
     /// Message authentication.
     Mac,

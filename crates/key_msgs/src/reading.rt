@@ -30,8 +30,8 @@ const HMAC_KEY: u32 = 3;
 
 /// Reads the message of a key with this type URL.
 ///
-/// `NotKnown` comes exactly where none of the key types has the URL. `Bad` comes only where the
-/// message breaks a rule of its type, and names the first one; a key that is given breaks none.
+/// `NotKnown` comes if and only if no key type has the URL. `Bad` comes only if the message breaks
+/// a rule of its type, and names the first one; a returned key breaks no rule.
 pub fn read_key(alloc: Global, url: &str, value: &[u8]) -> Result<KeyKind, KeyFault>
     ensures key { ReadsKey result (type_of_url url.now) value.now }
     ensures valid { IfOk result IsValid }
@@ -52,7 +52,7 @@ fn read_key_of(alloc: Global, key_type: KeyType, value: &[u8]) -> Result<KeyKind
     check(alloc, key_type, &message)
 }
 
-/// What a message of this type holds.
+/// The contents of a message of this type.
 fn read_message<'a>(
     alloc: Global,
     source: &'a [u8],
@@ -68,7 +68,7 @@ fn read_message<'a>(
     }
 }
 
-/// What a message with one key value holds, by its field numbers.
+/// The contents of a message with one key value, by its field numbers.
 fn read_plain<'a>(
     alloc: Global,
     source: &'a [u8],
@@ -105,7 +105,7 @@ fn read_plain<'a>(
     })
 }
 
-/// What an AesCtrHmacAeadKey message holds.
+/// The contents of an AesCtrHmacAeadKey message.
 fn read_ctr_hmac<'a>(
     alloc: Global,
     source: &'a [u8],

@@ -1,10 +1,10 @@
 //! The rules that a key message keeps.
 
 /// A rule of key messages, in the order in which the rules are tried. Each covers all fields of its
-/// kind in the message, those of inner messages too.
+/// kind in the message, inner messages included.
 #[derive(Clone, Copy, Debug, PartialEq, Eq)]
 pub enum Rule {
-    /// The bytes are a message: they can be cut into fields, and each known field has its wire type.
+    /// The bytes are a message: they cut into fields, and each known field has its wire type.
     Form,
     /// The versions are 0.
     Version,

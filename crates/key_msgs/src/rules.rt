@@ -31,7 +31,7 @@ pub(crate) fn first_broken(key_type: KeyType, message: &Message<'_>) -> Option<R
     }
 }
 
-/// The hash functions are such as the key type takes.
+/// The key type takes the hash functions.
 fn hash_fits(key_type: KeyType, message: &Message<'_>) -> bool
     ensures { result ≡ hash_fits key_type message.now }
 {
@@ -50,7 +50,7 @@ fn hash_fits(key_type: KeyType, message: &Message<'_>) -> bool
     }
 }
 
-/// One of the five hash functions has this number.
+/// Whether one of the five hash functions has this number.
 fn is_hash(number: u32) -> bool
     ensures { result ≡ is_hash number }
 {
@@ -105,7 +105,7 @@ fn tag_fits(key_type: KeyType, message: &Message<'_>) -> bool
     }
 }
 
-/// A tag of HMAC has at least 10 bytes, and at most those of the digest, if the hash is known.
+/// A tag of HMAC has at least 10 bytes, and at most as many as the digest if the hash is known.
 fn is_tag_of(hash: u32, size: u32) -> bool
     ensures { result ≡ is_tag_of (hash_of_number hash) size }
 {
@@ -125,7 +125,8 @@ fn derived_fits(key_type: KeyType, message: &Message<'_>) -> bool
     }
 }
 
-/// A segment has a size that the key type takes: there is room behind the stream's header and a tag.
+/// A segment has a size that the key type takes: beside the stream's header and a tag there is
+/// room.
 fn segment_fits(key_type: KeyType, message: &Message<'_>) -> bool
     ensures { result ≡ segment_fits key_type message.now }
 {

@@ -1,4 +1,4 @@
-//! The templates by which new keys are made.
+//! The templates from which new keys are made.
 
 ghost use Rattle.std.specs.Prelude.{◌≡◌, ◌≢◌, ◌<◌, ◌≤◌, ℕ, [], length, Some, option_map, slice_get, IfOk, Contains};
 ghost use Rattle.key_msgs.specs.KeyTypes.{primitive_of_type, url_of_type};
@@ -11,15 +11,15 @@ use std::alloc::Global;
 use std::marker::Model;
 use tink_base::{Bytes, Hash, NoMemory, RAW, TINK};
 
-/// What a template makes. Sizes are in bytes; what isn't named is fixed.
+/// What a template makes. Sizes are in bytes; what isn't listed is fixed.
 #[derive(Clone, Copy)]
 pub enum Recipe {
     /// An AesGcmKey of this size.
     Gcm(u32),
     /// An AesEaxKey of this size, with IVs of 16.
     Eax(u32),
-    /// An AesCtrHmacAeadKey of an AES key of the first size and tags of the second, with IVs of 16
-    /// and an HMAC key of 32 for SHA-256.
+    /// An AesCtrHmacAeadKey with an AES key of the first size and tags of the second, IVs of 16 and
+    /// an HMAC key of 32 for SHA-256.
     CtrHmac(u32, u32),
     /// An AesSivKey of 64.
     Siv,
@@ -33,7 +33,7 @@ pub enum Recipe {
     HmacPrf(u32, Hash),
     /// An AesCmacPrfKey of 32.
     CmacPrf,
-    /// An AesGcmHkdfStreamingKey of this size, which derived keys have too, for SHA-256 and segments
+    /// An AesGcmHkdfStreamingKey of the first size, as are derived keys, for SHA-256 and segments
     /// of the second size.
     GcmStream(u32, u32),
     /// An AesCtrHmacStreamingKey likewise, with tags of 32 for SHA-256.
@@ -50,7 +50,7 @@ struct TemplateRow {
     recipe: Recipe,
 }
 
-/// A template: a row of the table, which contracts see as its place. It is one of 36.
+/// A template: one of the table's 36 rows. Contracts see its index.
 #[derive(Clone, Copy)]
 pub struct Template {
     row: usize,
@@ -177,7 +177,8 @@ fn raw(name: &'static str, recipe: Recipe) -> Option<TemplateRow>
     })
 }
 
-/// The template of this row, counted from 0: `None` exactly from 36 on. No memory is taken.
+/// The template of this row, counted from 0; `None` if and only if `row` is 36 or more. No memory
+/// is taken.
 pub fn template_at(row: usize) -> Option<Template>
     ensures { option_map seen result ≡ slice_get templates row }
 {
@@ -188,7 +189,7 @@ pub fn template_at(row: usize) -> Option<Template>
     }
 }
 
-/// The row of this place.
+/// The row at this index.
 fn row_at(row: usize) -> Option<TemplateRow>
     ensures { option_map seen_row result ≡ slice_get templates row }
 {
@@ -203,7 +204,7 @@ fn row_at(row: usize) -> Option<TemplateRow>
     }
 }
 
-/// The row of this place, where keys seal, deterministically or not.
+/// The row at this index of the templates for AEAD and deterministic AEAD.
 fn sealing_row(row: usize) -> Option<TemplateRow>
     requires most { row < 14 }
     ensures { option_map seen_row result ≡ slice_get templates row }
@@ -227,7 +228,7 @@ fn sealing_row(row: usize) -> Option<TemplateRow>
     }
 }
 
-/// The row of this place, where keys tag or are pseudo-random functions.
+/// The row at this index of the templates for MAC and PRF.
 fn tag_row(row: usize) -> Option<TemplateRow>
     requires least { 14 ≤ row }
     requires most { row < 24 }
@@ -248,7 +249,7 @@ fn tag_row(row: usize) -> Option<TemplateRow>
     }
 }
 
-/// The row of this place, where keys are for streams.
+/// The row at this index of the templates for streams.
 fn stream_row(row: usize) -> Option<TemplateRow>
     requires least { 24 ≤ row }
     requires most { row < 32 }
@@ -273,7 +274,7 @@ fn stream_row(row: usize) -> Option<TemplateRow>
     }
 }
 
-/// The row of this place, where keys are for AES-GCM-SIV, and none from 36 on.
+/// The row at this index of the templates for AES-GCM-SIV; `None` from 36 on.
 fn gcm_siv_row(row: usize) -> Option<TemplateRow>
     requires least { 32 ≤ row }
     ensures { option_map seen_row result ≡ slice_get templates row }
@@ -290,16 +291,16 @@ fn gcm_siv_row(row: usize) -> Option<TemplateRow>
 /// Why a name gives no template.
 #[derive(Clone, Copy, Debug, PartialEq, Eq)]
 pub enum TemplateFault {
-    /// The name is that of a template of Tink for asymmetric keys.
+    /// A template of Tink for asymmetric keys has this name.
     Asymmetric,
-    /// No template is known by the name.
+    /// No known template has this name.
     Unknown,
 }
 
 /// The template of this name. No memory is taken.
 ///
-/// `Asymmetric` comes exactly where the name is that of one of ten templates of Tink for asymmetric
-/// keys, and `Unknown` exactly where it is neither such a name nor one of the table.
+/// `Asymmetric` comes if and only if one of ten templates of Tink for asymmetric keys has the name,
+/// and `Unknown` if and only if neither these nor the table have it.
 pub fn template_named(name: &str) -> Result<Template, TemplateFault>
     ensures { FindsTemplate name.now result }
 {
@@ -317,7 +318,7 @@ pub fn template_named(name: &str) -> Result<Template, TemplateFault>
     }
 }
 
-/// One of Tink's templates for asymmetric keys has this name.
+/// Whether one of Tink's templates for asymmetric keys has this name.
 fn is_asymmetric(name: &str) -> bool
     ensures { result ≡ is_asymmetric name.now }
 {
@@ -333,8 +334,8 @@ fn is_asymmetric(name: &str) -> bool
         || name == "RSA_SSA_PSS_4096_SHA512_SHA512_64_F4"
 }
 
-/// The key of the template whose key material is `random`, of the template's `random_len` bytes. An
-/// AES-CTR key comes before its HMAC key.
+/// The template's key with the key material `random`, `random_len` bytes long. An AES-CTR key comes
+/// before its HMAC key.
 pub fn make_key(alloc: Global, template: &Template, random: &[u8]) -> Result<KeyKind, NoMemory>
     requires size { length random.now ≡ random_of (seen template.now) }
     ensures { IfOk result (λ key. key ≡ made (seen template.now) random.now) }
@@ -345,7 +346,7 @@ pub fn make_key(alloc: Global, template: &Template, random: &[u8]) -> Result<Key
     }
 }
 
-/// The key of an AesCtrHmacAeadKey template: an AES-CTR key of this size, and behind it an HMAC key.
+/// The key of an AesCtrHmacAeadKey template: an AES-CTR key of this size, then an HMAC key.
 fn make_ctr_hmac(
     alloc: Global,
     size: u32,
@@ -365,7 +366,7 @@ fn make_ctr_hmac(
     })
 }
 
-/// The key of a template for keys of one key value, which is this one.
+/// The key with this key value, of a template for keys with one key value.
 fn make_single(alloc: Global, recipe: Recipe, key: Bytes) -> KeyKind
     requires single { (size tag_size : ℕ) → recipe ≢ CtrHmac size tag_size }
     ensures { result ≡ made_by recipe key }

@@ -16,7 +16,7 @@ use proto_wire::Writer;
 use std::alloc::Global;
 use tink_base::{Bytes, Hash, NoMemory};
 
-/// What the message of a key holds.
+/// The contents of a key's message.
 fn contents_of<'k>(key: &'k KeyKind) -> Message<'k>
     ensures { result ≡ contents_of key.now }
 {
@@ -80,7 +80,7 @@ fn contents_of<'k>(key: &'k KeyKind) -> Message<'k>
     }
 }
 
-/// A message with a key value, and nothing beside it.
+/// A message with only a key value.
 fn with_key<'k>(key: &'k [u8]) -> Message<'k>
     ensures { result ≡ record nothing { key = key.now } }
 {
@@ -109,7 +109,7 @@ fn with_hash<'k>(key: &'k Bytes, hash: Hash) -> Message<'k>
     }
 }
 
-/// The message of a key for streams, without what it holds of HMAC.
+/// The message of a key for streams, without its HMAC parts.
 fn with_segment<'k>(key: &'k Bytes, segment: u32, derived: u32, hash: Hash) -> Message<'k>
     ensures { result ≡
         record nothing { key = key.now; segment = segment; derived = derived; hash = hash_number hash } }
@@ -121,8 +121,8 @@ fn with_segment<'k>(key: &'k Bytes, segment: u32, derived: u32, hash: Hash) -> M
     }
 }
 
-/// Writes a number in the field of this number, and nothing where that is 0, which stands for a field
-/// that the message doesn't have.
+/// Writes a number in the field of this number, and nothing if the field number is 0, which means a
+/// field that the message doesn't have.
 fn put_number(writer: &mut Writer, number: u32, value: u32) -> Result<(), NoMemory>
     requires most { number ≤ greatest_number }
     ensures { OnOk result
@@ -135,8 +135,8 @@ fn put_number(writer: &mut Writer, number: u32, value: u32) -> Result<(), NoMemo
     }
 }
 
-/// Writes an inner message, also one with no bytes, in the field of this number, and nothing where
-/// that is 0.
+/// Writes an inner message, even an empty one, in the field of this number, and nothing if the
+/// field number is 0.
 fn put_message(writer: &mut Writer, number: u32, payload: &[u8]) -> Result<(), NoMemory>
     requires most { number ≤ greatest_number }
     requires length_bound { length payload.now < 2 ^ 31 }
@@ -150,7 +150,7 @@ fn put_message(writer: &mut Writer, number: u32, payload: &[u8]) -> Result<(), N
     }
 }
 
-/// Writes bytes in the field of this number, and nothing where that is 0.
+/// Writes bytes in the field of this number, and nothing if the field number is 0.
 fn put_bytes(writer: &mut Writer, number: u32, value: &[u8]) -> Result<(), NoMemory>
     requires most { number ≤ greatest_number }
     requires length_bound { length value.now < 2 ^ 31 }
@@ -211,7 +211,7 @@ fn write_plain(alloc: Global, layout: Layout, message: &Message<'_>) -> Result<V
     }
 }
 
-/// What the message of the HMAC key beside a cipher holds.
+/// The contents of the message of the HMAC key beside a cipher.
 fn mac_message<'k>(message: &Message<'k>) -> Message<'k>
     ensures { result ≡ mac_contents message.now }
 {
@@ -236,11 +236,11 @@ fn write_ctr_hmac(alloc: Global, message: &Message<'_>) -> Result<Vec<u8>, NoMem
     Ok(writer.finish())
 }
 
-/// Writes the message of a key: its fields by number, without those that are 0 or empty and without
-/// its version, which is 0, and with all inner messages, also those with no bytes.
+/// Writes the message of a key: fields in the order of their numbers, omitting those that are 0 or
+/// empty, such as the version, but with all inner messages, even empty ones.
 ///
-/// The key values and the salt have at most 2^30 bytes each, so that each inner message has fewer than
-/// 2^31. An error says that memory was refused.
+/// The key values and the salt have at most 2^30 bytes each, so that each inner message has fewer
+/// than 2^31. An error means that memory couldn't be allocated.
 pub fn write_key(alloc: Global, key: &KeyKind) -> Result<Vec<u8>, NoMemory>
     requires lists_bound { ListsWithin (2 ^ 30) (contents_of key.now) }
     ensures { IfOk result (λ bytes. bytes.items ≡ value_of key.now) }

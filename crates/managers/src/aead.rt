@@ -17,7 +17,7 @@ use std::alloc::Global;
 use std::ops::Range;
 use tink_base::{NoMemory, Trials};
 
-/// The bytes of an IV of AES-GCM, and of AES-GCM-SIV.
+/// The size of an IV of AES-GCM and of AES-GCM-SIV, in bytes.
 const GCM_IV: usize = 12;
 
 /// How many bytes an IV has under a key of any kind.
@@ -31,8 +31,8 @@ fn iv_size_under(key: &KeyKind) -> usize
     }
 }
 
-/// Seals in place under a valid key of any kind, behind the first `at` bytes: to no bytes where it isn't
-/// one of an AEAD.
+/// Seals in place, after the first `at` bytes, under a valid key of any kind: to no bytes if it
+/// isn't an AEAD key.
 fn seal_under(
     key: &Prepared,
     at: usize,
@@ -78,7 +78,7 @@ fn seal_under(
     }
 }
 
-/// Seals in place by AES-GCM-SIV, behind the first `at` bytes.
+/// Seals in place by AES-GCM-SIV, after the first `at` bytes.
 fn seal_by_gcm_siv(
     key: &Aes,
     at: usize,
@@ -99,7 +99,7 @@ fn seal_by_gcm_siv(
     }
 }
 
-/// Opens in place under a valid key of any kind: nothing where it isn't one of an AEAD.
+/// Opens in place under a valid key of any kind: nothing if it isn't an AEAD key.
 fn open_under(key: &Prepared, bytes: &mut [u8], ad: &[u8]) -> Option<Range<usize>>
     requires valid { IsValid key.now }
     requires bytes_bound { length bytes.old ≤ 2 ^ 30 + 96 }

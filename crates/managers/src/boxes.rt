@@ -1,4 +1,4 @@
-//! A box of a manager is a manager, with the URL and the scheme of what is in it.
+//! A box of a manager is a manager, with the URL and the scheme of its content.
 
 use crate::{AeadManager, CheckFault, DaeadManager, KeyManager, MacManager, Prepared, PrfManager};
 use std::alloc::Global;

@@ -14,8 +14,8 @@ use std::alloc::Global;
 use std::ops::Range;
 use tink_base::{NoMemory, Trials};
 
-/// Seals in place under a valid key of any kind, behind the first `at` bytes: to no bytes where it isn't
-/// one of a deterministic AEAD.
+/// Seals in place, after the first `at` bytes, under a valid key of any kind: to no bytes if it
+/// isn't a deterministic AEAD key.
 fn dseal_under(key: &Prepared, at: usize, mut bytes: Vec<u8>, ad: &[u8]) -> Vec<u8>
     requires valid { IsValid key.now }
     requires room { at + 16 ≤ length bytes.items }
@@ -33,7 +33,7 @@ fn dseal_under(key: &Prepared, at: usize, mut bytes: Vec<u8>, ad: &[u8]) -> Vec<
     }
 }
 
-/// Opens in place under a valid key of any kind: nothing where it isn't one of a deterministic AEAD.
+/// Opens in place under a valid key of any kind: nothing if it isn't a deterministic AEAD key.
 fn dopen_under(key: &Prepared, bytes: &mut [u8], ad: &[u8]) -> Option<Range<usize>>
     requires valid { IsValid key.now }
     requires bytes_bound { length bytes.old ≤ 2 ^ 30 + 96 }

@@ -1,4 +1,4 @@
-//! The first bytes of HMAC and of CMAC, which tags and pseudo-random functions give.
+//! The first bytes of HMAC and of CMAC, for tags and pseudo-random functions.
 
 ghost use Rattle.std.specs.Prelude.{◌≡◌, ◌≤◌, ℕ, List, [], length, take};
 ghost use Rattle.mac_prf.specs.Cmac.{cmac};
@@ -11,8 +11,8 @@ ghost use Rattle.managers.specs.Uses.{tagged};
 use aes_core::Aes;
 use mac_prf::{Cmac, Hmac};
 
-/// Writes the first bytes of HMAC, as many as `out` has, of the body and of one byte 0 behind it
-/// where `zero` says so. `keyed` is under the key, and holds no message.
+/// Writes the first bytes of HMAC, as many as `out` has, of the body, followed by a byte 0 if
+/// `zero` is set. `keyed` is under the key, and holds no message.
 pub(crate) fn write_hmac(keyed: &Hmac, body: &[u8], zero: bool, out: &mut [u8])
     requires room { length out.old ≤ hash_size (hash_of keyed.now) }
     ensures { (hash : Hash) (key : List ℕ) → Holds keyed.now hash key []
@@ -26,7 +26,7 @@ pub(crate) fn write_hmac(keyed: &Hmac, body: &[u8], zero: bool, out: &mut [u8])
     state.finish(out);
 }
 
-/// The same of CMAC.
+/// The same for CMAC.
 pub(crate) fn write_cmac(aes: &Aes, body: &[u8], zero: bool, out: &mut [u8])
     requires room { length out.old ≤ 16 }
     ensures { out.new ≡ take (length out.old) (cmac aes.now (tagged zero body.now)) }

@@ -1,9 +1,9 @@
-//! The interfaces of managers of keys. What contracts see of a manager is its type URL and its
-//! scheme, which is a kind of keys; nothing ties an interface to the schemes of its primitive.
+//! The interfaces of managers of keys. Contracts see a manager's type URL and its scheme, which is
+//! a kind of keys; nothing ties an interface to the schemes of its primitive.
 //!
-//! A call takes a key that the manager admits: a valid key of its scheme, as `check` gives one, with
-//! what is made of it once. Plaintexts, associated data, bodies and inputs have at most 2^30 bytes,
-//! and what is opened at most 2^30 + 96. `NoMemory` comes for want of memory alone.
+//! A call takes a key that the manager admits: a valid key of its scheme, prepared, as `check`
+//! returns it. Plaintexts, associated data, bodies and inputs have at most 2^30 bytes, and sealed
+//! bytes at most 2^30 + 96. `NoMemory` comes only if memory can't be allocated.
 
 ghost use Rattle.std.specs.Prelude.{◌≡◌, ◌+◌, ◌^◌, ◌≤◌, ◌++◌, ℕ, List, drop, length, take, IfOk};
 ghost use Rattle.std.specs.Str.{bytes_eq};
@@ -21,9 +21,9 @@ use tink_base::{NoMemory, Trials};
 /// Why a key message gives no key.
 #[derive(Clone, Copy, Debug, PartialEq, Eq)]
 pub enum CheckFault {
-    /// The message breaks this rule, the first one.
+    /// The first rule that the message breaks.
     Bad(Rule),
-    /// Memory was refused.
+    /// Memory couldn't be allocated.
     NoMemory,
 }
 
@@ -37,10 +37,10 @@ pub trait KeyManager: Drop {
     fn type_url(&self) -> &str
         ensures { result.now ≡ url self.now };
 
-    /// Reads a key message as one of the scheme.
+    /// Reads a key message of the scheme.
     ///
-    /// `Bad` comes exactly where the message breaks a rule of the scheme's key type, and names the
-    /// first one. A key that is given is what the message reads as, and the manager admits it.
+    /// `Bad` comes if and only if the message breaks a rule of the scheme's key type, and names the
+    /// first one. A returned key is what the message reads as, and the manager admits it.
     fn check(&self, alloc: Global, value: &[u8]) -> Result<Prepared, CheckFault>
         ensures reading { IsReading (key_under (scheme self.now) value.now) result }
         ensures admitted { IfOk result (IsAdmitted (scheme self.now)) };
@@ -53,12 +53,12 @@ pub trait AeadManager: KeyManager {
         requires admitted { IsAdmitted (Self.scheme self.now) key.now }
         ensures { result ≡ iv_size key.now };
 
-    /// Seals in place with `iv`, of `iv_size` bytes. In `bytes` stands what goes in front, of `at` bytes,
-    /// which stays; then room for the IV, whatever is in it; and the plaintext. The IV is written into
-    /// its room, the ciphertext over the plaintext, and the tag behind. Under a key of no AEAD the first
-    /// `at` bytes alone are given.
+    /// Seals in place with `iv`, of `iv_size` bytes. `bytes` holds `at` bytes of front, which are
+    /// kept, then room for the IV, with any values, and the plaintext. The IV is written into its
+    /// room, the ciphertext over the plaintext, and the tag after it. Under a key that is no AEAD
+    /// key, the result is the first `at` bytes alone.
     ///
-    /// No IV may serve twice under one key: this is for the caller to see to.
+    /// No IV may be used twice under one key: the caller must ensure that.
     fn seal(
         &self,
         key: &Prepared,
@@ -75,11 +75,11 @@ pub trait AeadManager: KeyManager {
         ensures { IfOk result (λ sealed. sealed.items ≡ take at bytes.items
             ++ seal_of key.now iv.now (drop (at + iv_size key.now) bytes.items) ad.now) };
 
-    /// Opens IV, ciphertext and tag, joined, in place, and counts one trial. The answer is where the
-    /// plaintext stands in `bytes` then; what stands round it is as before.
+    /// Opens IV, ciphertext and tag, joined, in place, and counts one trial. Returns the
+    /// plaintext's range in `bytes`; the bytes around it are unchanged.
     ///
-    /// `None` comes exactly where `bytes` are shorter than IV and tag, or the tag isn't the one
-    /// computed anew; they are as before then. No memory is taken.
+    /// `None` comes if and only if `bytes` are shorter than IV and tag, or the tag isn't the
+    /// computed one; then `bytes` are unchanged. No memory is taken.
     fn open(
         &self,
         key: &Prepared,
@@ -94,13 +94,13 @@ pub trait AeadManager: KeyManager {
         ensures one_trial { trials.new ≡ next trials.old };
 }
 
-/// A manager that seals and opens, deterministic: the same key, plaintext and associated data give
-/// the same bytes.
+/// A manager that seals and opens deterministically: the same key, plaintext and associated data
+/// give the same bytes.
 pub trait DaeadManager: KeyManager {
-    /// Seals in place. In `bytes` stands what goes in front, of `at` bytes, which stays; then room of 16
-    /// bytes for the tag, whatever is in it; and the plaintext. The tag is written into its room, and the
-    /// ciphertext over the plaintext. Under a key of no deterministic AEAD the first `at` bytes alone are
-    /// given.
+    /// Seals in place. `bytes` holds `at` bytes of front, which are kept, then 16 bytes of room for
+    /// the tag, with any values, and the plaintext. The tag is written into its room, and the
+    /// ciphertext over the plaintext. Under a key that is no deterministic AEAD key, the result is
+    /// the first `at` bytes alone.
     fn seal(
         &self,
         key: &Prepared,
@@ -115,11 +115,11 @@ pub trait DaeadManager: KeyManager {
         ensures { IfOk result (λ sealed. sealed.items ≡ take at bytes.items
             ++ dseal_of key.now (drop (at + 16) bytes.items) ad.now) };
 
-    /// Opens sealed bytes in place, and counts one trial. The answer is where the plaintext stands in
-    /// `bytes` then; what stands round it is as before.
+    /// Opens sealed bytes in place, and counts one trial. Returns the plaintext's range in `bytes`;
+    /// the bytes around it are unchanged.
     ///
-    /// `None` comes exactly where `bytes` are shorter than a tag, or the tag isn't the one computed
-    /// anew; they are as before then. No memory is taken.
+    /// `None` comes if and only if `bytes` are shorter than a tag, or the tag isn't the computed
+    /// one; then `bytes` are unchanged. No memory is taken.
     fn open(
         &self,
         key: &Prepared,
@@ -136,7 +136,7 @@ pub trait DaeadManager: KeyManager {
 
 /// A manager that makes and verifies tags: message authentication.
 pub trait MacManager: KeyManager {
-    /// The tag of `body`, and of one byte 0 behind it where `zero` says so.
+    /// The tag of `body`, followed by a byte 0 if `zero` is set.
     fn tag(
         &self,
         alloc: Global,
@@ -148,7 +148,8 @@ pub trait MacManager: KeyManager {
         requires body_bound { length body.now ≤ 2 ^ 30 }
         ensures { IfOk result (λ tag. tag.items ≡ tag_of key.now (tagged zero body.now)) };
 
-    /// Whether `tag` is that tag, whole, and counts one trial. No memory is taken.
+    /// Whether `tag` is the whole tag of `body`, as `tag` computes it. Counts one trial. No memory
+    /// is taken.
     fn verify(
         &self,
         key: &Prepared,
@@ -170,7 +171,7 @@ pub trait PrfManager: KeyManager {
         requires admitted { IsAdmitted (Self.scheme self.now) key.now }
         ensures { result ≡ greatest key.now };
 
-    /// As many bytes of the function at `input` as `size` says, at most `greatest`.
+    /// The first `size` bytes of the function at `input`, at most `greatest`.
     fn derive(
         &self,
         alloc: Global,

@@ -1,4 +1,4 @@
-//! Laws of the definitions. Each is the contract of a function that does nothing else.
+//! Laws of the definitions. Each is the contract of a function with no effect.
 
 ghost use Rattle.managers.specs.Laws.{DopensSealings, OpensSealings, ReadingIsAdmitted, SealingsOpen};
 
@@ -11,8 +11,8 @@ pub fn reading_is_admitted()
     ensures { ReadingIsAdmitted }
 {}
 
-/// Bytes open under a valid key of an AEAD and associated data to a plaintext exactly where they are
-/// what sealing makes of it, with the IV at their own front.
+/// Bytes open under a valid key of an AEAD and associated data to a plaintext if and only if they
+/// are what sealing makes of it, with the IV at their front.
 pub fn opens_sealings()
     ensures { OpensSealings }
 {
@@ -22,16 +22,16 @@ pub fn opens_sealings()
     gcm_siv_opens_sealings();
 }
 
-/// What is sealed under a valid key of an AEAD, with an IV of the key's size, opens under that key and
-/// the same associated data to the plaintext.
+/// What is sealed under a valid key of an AEAD, with an IV of the key's size, opens under that key
+/// and the same associated data to the plaintext.
 pub fn sealings_open()
     ensures { SealingsOpen }
 {
     opens_sealings();
 }
 
-/// Bytes open under a valid key of a deterministic AEAD and associated data to a plaintext exactly
-/// where they are what sealing makes of it.
+/// Bytes open under a valid key of a deterministic AEAD and associated data to a plaintext if and
+/// only if they are what sealing makes of it.
 pub fn dopens_sealings()
     ensures { DopensSealings }
 {

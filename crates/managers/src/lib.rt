@@ -1,5 +1,5 @@
-//! Managers of keys, found at run time by their type URL: the interfaces by which a keyset's keys
-//! are used, what serves each kind of key, and the table of those that a program hands in.
+//! Managers of keys, found at run time by their type URL: the interfaces for using a keyset's keys,
+//! the managers of the standard kinds, and the table of managers that a program supplies.
 #![tactic(auto)]
 
 mod aead;

@@ -32,7 +32,7 @@ fn contains_url<M: KeyManager>(managers: &[M], url: &str) -> bool
     false
 }
 
-// Whether two managers have one URL.
+// Whether two managers have the same URL.
 fn repeats<M: KeyManager>(managers: &[M]) -> bool
     ensures { result ≡ has_repeat (entries_by M.url M.scheme managers.now) }
 {
@@ -44,7 +44,7 @@ fn repeats<M: KeyManager>(managers: &[M]) -> bool
     false
 }
 
-// Whether a manager of the one list has the URL of one of the other.
+// Whether a manager of one list has the URL of one of the other.
 fn shares<M: KeyManager, N: KeyManager>(left: &[M], right: &[N]) -> bool
     ensures { result ≡ shares_url (entries_by M.url M.scheme left.now)
         (entries_by N.url N.scheme right.now) }
@@ -87,7 +87,7 @@ fn shares_with_three<L: KeyManager, A: KeyManager, B: KeyManager, C: KeyManager>
     before || behind
 }
 
-// Whether two managers of two lists have one URL.
+// Whether two managers of two lists have the same URL.
 fn repeats_in_two<A: KeyManager, B: KeyManager>(first: &[A], second: &[B]) -> bool
     ensures { result ≡ has_repeat
         (entries_by A.url A.scheme first.now ++ entries_by B.url B.scheme second.now) }
@@ -98,7 +98,7 @@ fn repeats_in_two<A: KeyManager, B: KeyManager>(first: &[A], second: &[B]) -> bo
     within || across || beyond
 }
 
-// Whether two managers of three lists have one URL.
+// Whether two managers of three lists have the same URL.
 fn repeats_in_three<A: KeyManager, B: KeyManager, C: KeyManager>(
     first: &[A],
     second: &[B],
@@ -113,7 +113,7 @@ fn repeats_in_three<A: KeyManager, B: KeyManager, C: KeyManager>(
     within || across || beyond
 }
 
-// Whether two managers of four lists have one URL.
+// Whether two managers of four lists have the same URL.
 pub(crate) fn repeats_in_four<A: KeyManager, D: KeyManager, M: KeyManager, P: KeyManager>(
     aead: &[A],
     daead: &[D],

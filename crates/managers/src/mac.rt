@@ -14,7 +14,7 @@ use mac_prf::blocks::same_bytes;
 use std::alloc::Global;
 use tink_base::{NoMemory, Trials};
 
-/// How many bytes the longest tag has, a whole digest of SHA-512.
+/// The size of the longest tag, a whole digest of SHA-512, in bytes.
 const LONGEST_TAG: usize = 64;
 
 /// How many bytes a tag has under a valid key of any kind.
@@ -29,7 +29,7 @@ fn tag_size(key: &KeyKind) -> usize
     }
 }
 
-/// Writes the tag of the body under a valid key of any kind: no byte where it isn't one for tags.
+/// Writes the tag of the body under a valid key of any kind: no byte if it isn't a MAC key.
 fn write_tag(key: &Prepared, body: &[u8], zero: bool, out: &mut [u8])
     requires valid { IsValid key.now }
     requires whole { length out.old ≡ tag_size_of key.now }
@@ -63,7 +63,7 @@ fn verify_under(key: &Prepared, tag: &[u8], body: &[u8], zero: bool) -> bool
     are_same(tag, anew)
 }
 
-/// Whether two lists of bytes are the same. Where they have one length all bytes are compared,
+/// Whether two lists of bytes are equal. If their lengths are equal, all bytes are compared,
 /// wherever they differ.
 fn are_same(a: &[u8], b: &[u8]) -> bool
     ensures { result ≡ bytes_eq a.now b.now }

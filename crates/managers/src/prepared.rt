@@ -1,4 +1,4 @@
-//! Keys with what is made of them once.
+//! Keys, prepared once for all their work.
 
 ghost use Rattle.std.specs.Prelude.{◌≡◌, ◌⊎◌, length};
 ghost use Rattle.key_msgs.specs.Keys.{IsValid};
@@ -11,14 +11,14 @@ use mac_prf::{Hmac, hkdf_extract};
 use siv_daead::SivKey;
 use std::marker::Model;
 
-/// A valid key, with what is made of it once for all of its work. Contracts see it as the key.
+/// A valid key, prepared once for all its work. Contracts see the key.
 ///
-/// An AES key is expanded (FIPS 197, 5.2), of AES-SIV both halves are, and of AES-GCM the hash subkey is made
-/// too (SP 800-38D, 7.1). Of a key of HMAC both pads
-/// are hashed (RFC 2104, 2), that of AES-CTR-HMAC among them. Of a key of HKDF the pseudorandom key is
-/// extracted (RFC 5869, 2.2), and its pads are hashed. Of keys for streams nothing is made.
+/// An AES key is expanded (FIPS 197, 5.2), with both halves for AES-SIV, and with the hash subkey
+/// for AES-GCM (SP 800-38D, 7.1). For HMAC, also in AES-CTR-HMAC, both pads are hashed (RFC 2104,
+/// 2). For HKDF the pseudorandom key is extracted (RFC 5869, 2.2) and its pads are hashed. Keys for
+/// streams aren't prepared.
 ///
-/// It takes about 800 bytes beside the bytes of the key, whatever its kind, so lend it rather than move
+/// It takes about 800 bytes beside the key's own, whatever its kind, so borrow it rather than move
 /// it.
 #[derive(Drop)]
 pub struct Prepared {
@@ -26,14 +26,14 @@ pub struct Prepared {
     made: Made,
 }
 
-/// What is made of a key.
+/// What is prepared of a key.
 #[derive(Drop)]
 enum Made {
     /// The expansion of an AES-GCM key, and its hash subkey.
     Gcm(GcmKey),
     /// The expansion of its AES key.
     Aes(Aes),
-    /// Those of both halves of an AES-SIV key.
+    /// The expansions of both halves of an AES-SIV key.
     Siv(SivKey),
     /// HMAC under its key, or under the pseudorandom key of HKDF, before any message.
     Hmac(Hmac),
@@ -56,7 +56,7 @@ impl Model for Prepared {
 }
 
 impl Prepared {
-    /// Makes what the work of a valid key needs. No memory is taken.
+    /// Prepares a valid key. No memory is taken.
     pub fn new(kind: KeyKind) -> Prepared
         requires valid { IsValid kind }
         ensures { result ≡ kind }
@@ -73,7 +73,7 @@ impl Prepared {
         &self.kind
     }
 
-    /// What is made of its AES-GCM key.
+    /// Its AES-GCM key, prepared.
     pub(crate) fn gcm(&self) -> &GcmKey
         requires { UsesGcm self.now }
         ensures { result.now ≡ gcm_in self.now }
@@ -106,8 +106,8 @@ impl Prepared {
         }
     }
 
-    /// HMAC under its key, or under the pseudorandom key of HKDF, before any message: to be copied for
-    /// each.
+    /// HMAC under its key, or under the pseudorandom key of HKDF, before any message: copy it for
+    /// each message.
     pub(crate) fn hmac(&self) -> &Hmac
         requires { UsesHmac self.now }
         ensures { IsHmacOf self.now result.now }
@@ -119,7 +119,7 @@ impl Prepared {
     }
 }
 
-/// What is made of a valid key.
+/// What is prepared of a valid key.
 fn made_of(kind: &KeyKind) -> Made
     requires valid { IsValid kind.now }
     ensures { IsMadeOf kind.now result }

@@ -27,8 +27,8 @@ fn greatest_under(key: &KeyKind) -> usize
     }
 }
 
-/// Derives under a valid key of any kind as many bytes as `out` has, which are none where the key
-/// isn't one of a pseudo-random function.
+/// Derives as many bytes as `out` has under a valid key of any kind; `out` is empty if the key
+/// isn't a PRF key.
 fn write_derived(key: &Prepared, input: &[u8], out: &mut [u8])
     requires valid { IsValid key.now }
     requires within { length out.old ≤ greatest key.now }

@@ -8,8 +8,8 @@ use crate::{CheckFault, Prepared};
 use key_msgs::{KeyFault, KeyType, read_key};
 use std::alloc::Global;
 
-/// Reads a key message as one of this type, and makes of the key what its work needs. A manager's own URL may be any text, so the message is
-/// read under the URL of the type.
+/// Reads a key message of this type, and prepares the key. A manager's own URL may be any text, so
+/// the message is read under the URL of the type.
 pub(crate) fn read_as(
     alloc: Global,
     key_type: KeyType,

@@ -1,4 +1,4 @@
-//! The managers that a program hands in.
+//! The managers that a program supplies.
 
 ghost use Rattle.std.specs.Prelude.{◌≡◌, ◌<◌, List, length, slice_get, Some, IfOk, is_err};
 ghost use Rattle.managers.specs.Table.{Entry, Table, entries_by, entries_of, has_same_url, place_of};
@@ -7,7 +7,7 @@ use crate::lists::{find_url, repeats_in_four};
 use crate::{AeadManager, DaeadManager, KeyManager, MacManager, PrfManager};
 use key_msgs::Primitive;
 
-/// Two managers have one type URL.
+/// Two managers have the same type URL.
 #[derive(Clone, Copy, Debug, PartialEq, Eq)]
 pub struct SameUrl;
 
@@ -62,7 +62,7 @@ impl KeyTable for Managers {
     } };
 }
 
-/// The managers that were handed in, each in the list of the primitive that it is to serve.
+/// The managers supplied, each in the list of its primitive.
 #[derive(Drop)]
 pub struct Managers {
     aead: Vec<Box<dyn AeadManager>>,
@@ -114,8 +114,8 @@ fn lend_prf(b: &Box<dyn PrfManager>) -> &dyn PrfManager
 impl Managers {
     /// Takes the managers of each primitive.
     ///
-    /// `SameUrl` comes exactly where two of all the managers have one URL; all are dropped then. No
-    /// memory is taken.
+    /// `SameUrl` comes if and only if two of all the managers have the same URL; then all are
+    /// dropped. No memory is taken.
     pub fn new(
         aead: Vec<Box<dyn AeadManager>>,
         daead: Vec<Box<dyn DaeadManager>>,
@@ -148,8 +148,8 @@ impl Managers {
 
     /// The place of the first manager of a primitive with this type URL.
     ///
-    /// `None` comes exactly where none of that primitive's managers has the URL, so always for
-    /// streams. No memory is taken.
+    /// `None` comes if and only if no manager of that primitive has the URL, so always for streams.
+    /// No memory is taken.
     pub fn find(&self, primitive: Primitive, url: &str) -> Option<usize>
         ensures { result ≡ place_of (⟦<Managers as KeyTable>⟧.table self.now) primitive url.now }
     {
@@ -162,7 +162,7 @@ impl Managers {
         }
     }
 
-    /// The manager at a place among those of Aead.
+    /// The manager at index `at` of the AEAD managers.
     pub fn aead_at(&self, at: usize) -> &dyn AeadManager
         requires { at < length (⟦<Managers as KeyTable>⟧.table self.now).aead }
         ensures { slice_get (⟦<Managers as KeyTable>⟧.table self.now).aead at ≡ Some (record {
@@ -173,7 +173,7 @@ impl Managers {
         lend_aead(&self.aead[at])
     }
 
-    /// The manager at a place among those of Daead.
+    /// The manager at index `at` of the deterministic AEAD managers.
     pub fn daead_at(&self, at: usize) -> &dyn DaeadManager
         requires { at < length (⟦<Managers as KeyTable>⟧.table self.now).daead }
         ensures { slice_get (⟦<Managers as KeyTable>⟧.table self.now).daead at ≡ Some (record {
@@ -184,7 +184,7 @@ impl Managers {
         lend_daead(&self.daead[at])
     }
 
-    /// The manager at a place among those of Mac.
+    /// The manager at index `at` of the MAC managers.
     pub fn mac_at(&self, at: usize) -> &dyn MacManager
         requires { at < length (⟦<Managers as KeyTable>⟧.table self.now).mac }
         ensures { slice_get (⟦<Managers as KeyTable>⟧.table self.now).mac at ≡ Some (record {
@@ -195,7 +195,7 @@ impl Managers {
         lend_mac(&self.mac[at])
     }
 
-    /// The manager at a place among those of Prf.
+    /// The manager at index `at` of the PRF managers.
     pub fn prf_at(&self, at: usize) -> &dyn PrfManager
         requires { at < length (⟦<Managers as KeyTable>⟧.table self.now).prf }
         ensures { slice_get (⟦<Managers as KeyTable>⟧.table self.now).prf at ≡ Some (record {
