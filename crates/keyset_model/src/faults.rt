@@ -7,10 +7,10 @@ ghost use Rattle.keyset_model.specs.Keyset.{fault_of, first_without, has_id, is_
 use crate::{KeysetFault, Record};
 use tink_base::{CRUNCHY, DESTROYED, ENABLED, TINK};
 
-/// How many records a keyset may have.
+/// The most records that a keyset may have.
 const MOST_RECORDS: usize = 1000;
 
-/// The last number of a key material type that has a name (tink.proto, KeyMaterialType).
+/// The greatest number of a key material type with a name (tink.proto, KeyMaterialType).
 const REMOTE: u32 = 4;
 
 /// The first fault of these records with this primary id.
@@ -96,7 +96,7 @@ fn place_without_material(records: &[Record]) -> Option<usize>
     records.iter().position(|key| !has_material(key))
 }
 
-/// The place of the first record that has to have key data and has none.
+/// The place of the first record that must have key data and has none.
 #[tactic(auto, unfolding(crate::specs::Keyset::first_without))]
 fn place_without_key_data(records: &[Record]) -> Option<usize>
     ensures { result ≡ first_without has_key_data records.now }

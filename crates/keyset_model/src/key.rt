@@ -29,7 +29,7 @@ pub(crate) const VALUE: u32 = 2;
 
 pub(crate) const KEY_MATERIAL_TYPE: u32 = 3;
 
-/// The record of a field `key` of `source`. `Wire` has the place of the field's tag.
+/// The record of a field `key` of `source`. `Wire` holds the place of the field's tag.
 pub fn read_key(alloc: Global, source: &[u8], field: Field) -> Result<Record, ReadError>
     requires size_bound { length source.now ≤ 2 ^ 30 }
     requires of_source { IsOf source.now field }
@@ -84,7 +84,7 @@ fn read_record(alloc: Global, source: &[u8], key: &Fields) -> Result<Record, Rea
     })
 }
 
-/// The text of the last field of this number, empty where there is none.
+/// The text of the last field of this number, empty if there is none.
 ///
 /// `Wire` names the first field of this number that isn't bytes or isn't UTF-8.
 fn text_of<'a>(source: &'a [u8], message: &Fields, number: u32) -> Result<&'a str, Wire>

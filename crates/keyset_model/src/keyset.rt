@@ -1,4 +1,4 @@
-//! Keysets, well formed by their type.
+//! Keysets, well formed by their type's invariant.
 
 ghost use Rattle.std.specs.Prelude.{◌≡◌, ◌<◌, ◌≤◌, ◌≢◌, ◌↔◌, length, Some, None, IsNone, All, slice_get, position, ◌==◌, IfOk, IfSome};
 ghost use Rattle.std.specs.List.{AllByRecursion};
@@ -12,7 +12,7 @@ use std::marker::Model;
 use tink_base::{ENABLED, NoMemory};
 
 /// Why records with a primary id are no keyset, in the order in which faults are looked for. Places
-/// are counted from 0, and a fault names the smallest place that has it.
+/// count from 0, and a fault names the first place that has it.
 #[derive(Clone, Copy, Debug, PartialEq, Eq)]
 pub enum KeysetFault {
     /// There is no record.
@@ -31,13 +31,13 @@ pub enum KeysetFault {
     NoPrimary,
     /// No record with the primary id is ENABLED.
     PrimaryNotEnabled,
-    /// These two records, the first two such, are ENABLED and have the primary id.
+    /// These two records, the first two of their kind, are ENABLED and have the primary id.
     AmbiguousPrimary(usize, usize),
 }
 
 /// A keyset: records, one of them primary, with none of the faults of `KeysetFault`. So there are 1
-/// to 1,000 records, and exactly one of them is ENABLED and has the primary id (`laws`). Ids may repeat
-/// otherwise.
+/// to 1,000 records, and exactly one of them is ENABLED and has the primary id (`laws`). Ids may
+/// repeat otherwise.
 #[derive(Drop)]
 pub struct Keyset {
     primary: u32,
@@ -71,7 +71,7 @@ impl Keyset {
         }
     }
 
-    /// The same keyset once more.
+    /// A copy of the keyset.
     pub fn copy(&self, alloc: Global) -> Result<Keyset, NoMemory>
         ensures { IfOk result (λ copy. copy ≡ self.now) }
     {
@@ -89,11 +89,11 @@ impl Keyset {
         self.primary
     }
 
-    /// The place of the primary record, the one that is ENABLED and has the primary id, counted from 0. No
-    /// memory is taken.
+    /// The place, counted from 0, of the primary record: the one that is ENABLED and has the
+    /// primary id. No memory is taken.
     ///
-    /// It is there, as a keyset has no fault. The clause `well_formed` hands out what a caller knows of
-    /// each keyset: how many records it has, that each is known, and that no other record is primary.
+    /// It exists, since a keyset has no fault. The clause `well_formed` states what holds for each
+    /// keyset: how many records it has, that each is known, and that no other record is primary.
     pub fn primary_at(&self) -> usize
         ensures faultless { fault_of self.now ≡ None }
         ensures well_formed { IsWellFormed self.now }
@@ -128,7 +128,7 @@ impl Keyset {
         self.records.len()
     }
 
-    /// The record of this place, counted from 0.
+    /// The record at this place, counted from 0.
     pub fn record_at(&self, i: usize) -> &Record
         requires place_bound { i < length self.now.records }
         ensures record_there { slice_get self.now.records i ≡ Some result.now }
@@ -138,7 +138,7 @@ impl Keyset {
         &self.records[i]
     }
 
-    /// The place of the first record of this id, `None` exactly where no record has it.
+    /// The place of the first record with this id; `None` if and only if no record has it.
     pub fn find(&self, id: u32) -> Option<usize>
         ensures place { result ≡ position (λ r. r.id == id) self.now.records }
         ensures none { IsNone result ↔ All (λ r. r.id ≢ id) self.now.records }
@@ -148,7 +148,7 @@ impl Keyset {
     }
 }
 
-/// The same records once more.
+/// A copy of the records.
 fn copy_all(alloc: Global, records: &[Record]) -> Result<Vec<Record>, NoMemory>
     ensures { IfOk result (λ copies. copies.items ≡ records.now) }
 {

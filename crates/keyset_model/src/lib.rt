@@ -1,6 +1,6 @@
 //! Keysets: lists of records with a primary, their binary form read and written, and their listing.
 //!
-//! A `Keyset` is well formed as its type's invariant. Edits stand in a crate above.
+//! A `Keyset` is well formed as its type's invariant. Edits are in a crate above.
 #![tactic(auto)]
 
 mod faults;

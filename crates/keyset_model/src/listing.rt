@@ -41,7 +41,7 @@ pub fn prefix_name(prefix: u32) -> &'static str
     }
 }
 
-/// The listing of a keyset: the line of its primary id, and six lines a record.
+/// The listing of a keyset: a line for its primary id, and six lines for each record.
 pub fn info_text(alloc: Global, keyset: &Keyset) -> Result<Vec<u8>, NoMemory>
     ensures { IfOk result (λ text. text.items ≡ info_of keyset.now) }
 {
@@ -80,7 +80,7 @@ fn push_number(out: &mut Vec<u8>, number: u32) -> Result<(), NoMemory>
     Ok(())
 }
 
-/// Adds text as it stands between quotes.
+/// Adds text escaped for quotes.
 fn push_escaped(out: &mut Vec<u8>, text: &[u8]) -> Result<(), NoMemory>
     ensures { OnOk result (out.new.items ≡ out.old.items ++ escaped text.now) }
 {
@@ -90,7 +90,7 @@ fn push_escaped(out: &mut Vec<u8>, text: &[u8]) -> Result<(), NoMemory>
     Ok(())
 }
 
-/// Adds a byte as it stands between quotes.
+/// Adds a byte escaped for quotes.
 fn push_escaped_byte(out: &mut Vec<u8>, byte: u8) -> Result<(), NoMemory>
     ensures { OnOk result (out.new.items ≡ out.old.items ++ escaped_byte byte) }
 {

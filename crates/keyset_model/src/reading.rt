@@ -20,19 +20,19 @@ pub(crate) const PRIMARY_KEY_ID: u32 = 1;
 
 pub(crate) const KEY: u32 = 2;
 
-/// How many records are held while a keyset is read: one more than it may have. Those behind them
-/// are read for their faults alone and aren't held, as the keyset has too many already.
+/// How many records are held while a keyset is read: one more than it may have. Further ones are
+/// read only for faults and not held, as the keyset has too many already.
 const KEPT: usize = 1001;
 
 /// Why bytes give no keyset.
 #[derive(Clone, Copy, Debug, PartialEq, Eq)]
 pub enum ReadError {
-    /// The bytes are no `Keyset` message; the place is that of the tag of the first outermost field
-    /// at fault.
+    /// The bytes are no `Keyset` message; the place is the tag of the first outermost field at
+    /// fault.
     Wire(Wire),
-    /// The message has this fault, the first one.
+    /// The first fault of the message.
     Fault(KeysetFault),
-    /// Memory was refused.
+    /// Memory couldn't be allocated.
     NoMemory,
 }
 
@@ -83,9 +83,9 @@ impl<T: Drop> From<AllocFailed<T>> for ReadError {
 
 /// Reads the binary form of a keyset, a `Keyset` message of tink.proto, of at most 2^30 bytes.
 ///
-/// `Wire` comes exactly where the bytes can't be cut into fields, a known field has another wire
-/// type than its own, or a type URL isn't UTF-8. `Fault` comes exactly where the message is read
-/// and has that fault first. No URL and no value has more bytes than `bytes`, and what was read can be
+/// `Wire` comes if and only if the bytes can't be cut into fields, a known field has the wrong wire
+/// type, or a type URL isn't UTF-8. `Fault` comes if and only if the message is read and this is
+/// its first fault. No URL and no value has more bytes than `bytes`, and what was read can be
 /// written.
 pub fn read_binary(alloc: Global, bytes: &[u8]) -> Result<Keyset, ReadError>
     requires size_bound { length bytes.now ≤ 2 ^ 30 }
@@ -101,7 +101,7 @@ pub fn read_binary(alloc: Global, bytes: &[u8]) -> Result<Keyset, ReadError>
     Ok(keyset)
 }
 
-/// The first records of a `Keyset` message of these fields, in order, as many as are kept.
+/// The first records of a `Keyset` message of these fields, in order, at most `KEPT`.
 ///
 /// `Wire` names the first field at fault: a primary id that is no varint, or a key that isn't bytes
 /// or can't be read.
@@ -126,9 +126,9 @@ fn read_records(alloc: Global, source: &[u8], message: &Fields) -> Result<Vec<Re
     Ok(records)
 }
 
-/// The record of a field of a keyset, `None` where it isn't a key.
+/// The record of a field of a keyset; `None` if the field isn't a key.
 ///
-/// `Wire` comes exactly where the field is at fault, with its place.
+/// `Wire` comes if and only if the field is at fault, with its place.
 fn read_field(alloc: Global, source: &[u8], field: Field) -> Result<Option<Record>, ReadError>
     requires size_bound { length source.now ≤ 2 ^ 30 }
     requires of_source { IsOf source.now field }

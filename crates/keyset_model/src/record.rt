@@ -1,11 +1,11 @@
-//! One key of a keyset, as it is kept.
+//! One key of a keyset.
 
 ghost use Rattle.std.specs.Prelude.{◌≡◌, IfOk};
 
 use std::alloc::Global;
 use tink_base::{Bytes, NoMemory, Text};
 
-/// A record: one key with its place in the keyset (`Key` and `KeyData` of tink.proto).
+/// A record: one key of the keyset and its properties (`Key` and `KeyData` of tink.proto).
 #[derive(Drop)]
 pub struct Record {
     /// The key id.
@@ -14,7 +14,7 @@ pub struct Record {
     pub status: u32,
     /// The output prefix type, as tink.proto numbers it.
     pub prefix: u32,
-    /// The type URL, empty where the key has no key data.
+    /// The type URL, empty if the key has no key data.
     pub url: Text,
     /// The key message, in the form that the type URL names.
     pub value: Bytes,
@@ -25,14 +25,14 @@ pub struct Record {
 impl Record {
     ghost use Rattle.keyset_model.specs.Keyset.{is_bare};
 
-    /// Whether the record has no key data: neither URL nor value nor key material type.
+    /// Whether the record has no key data: no URL, no value and no key material type.
     pub fn is_bare(&self) -> bool
         ensures { result ≡ is_bare self.now }
     {
         self.url.as_str().is_empty() && self.value.as_slice().is_empty() && self.material == 0
     }
 
-    /// The same record once more.
+    /// A copy of the record.
     pub fn copy(&self, alloc: Global) -> Result<Record, NoMemory>
         ensures { IfOk result (λ r. r ≡ self.now) }
     {

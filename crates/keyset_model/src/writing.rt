@@ -14,12 +14,13 @@ use proto_wire::Writer;
 use std::alloc::Global;
 use tink_base::NoMemory;
 
-/// Writes the binary form of a keyset, a `Keyset` message of tink.proto: fields by number, without
-/// those that are 0 or empty. A record without URL, value and material has no key data.
+/// Writes the binary form of a keyset, a `Keyset` message of tink.proto: fields in the order of
+/// their numbers, omitting those that are 0 or empty. A record without URL, value and material has
+/// no key data.
 ///
-/// A keyset's records have URLs and values of at most 2^30 bytes each. Here those of a record have
-/// together at most 256 less than 2^31, so that each message has fewer than 2^31 bytes. An error says
-/// that memory was refused.
+/// A keyset's records have URLs and values of at most 2^30 bytes each. Here URL and value of a
+/// record together have at most 2^31 - 256, so that each message has fewer than 2^31 bytes. An
+/// error means that memory couldn't be allocated.
 pub fn write_binary(alloc: Global, keyset: &Keyset) -> Result<Vec<u8>, NoMemory>
     requires short { AllByRecursion IsShort keyset.now.records }
     ensures { IfOk result (λ bytes. bytes.items ≡ binary_of keyset.now) }
