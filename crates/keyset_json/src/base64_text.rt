@@ -11,12 +11,12 @@ use base64::engine::general_purpose::{
 use std::alloc::Global;
 use tink_base::{Bytes, NoMemory};
 
-/// The bytes that a text stands for in base64 (RFC 4648, sections 4 and 5): in the standard
-/// alphabet or the one for URLs and file names, with all its padding or none.
+/// Decodes base64 (RFC 4648, sections 4 and 5): in the standard alphabet or the one for URLs and
+/// file names, with all of its padding or none.
 ///
-/// `None` comes exactly where the text is no such encoding: where it has another character or
-/// characters of both alphabets, where its length or its padding doesn't fit, or where bits behind
-/// the last byte aren't 0.
+/// `None` comes if and only if the text is no such encoding: if it has another character, or
+/// characters of both alphabets, if its length or padding is wrong, or if bits after the last byte
+/// aren't 0.
 pub fn read_bytes(alloc: Global, text: &str) -> Result<Option<Bytes>, NoMemory>
     ensures value { IfOk result (λ bytes. bytes ≡ bytes_of_text text.now) }
     ensures encoding { IfOk result (λ bytes. IsEncoding text.now bytes) }
@@ -33,7 +33,7 @@ pub fn read_bytes(alloc: Global, text: &str) -> Result<Option<Bytes>, NoMemory>
     decoded(alloc, &URL_SAFE_NO_PAD, text)
 }
 
-/// What one engine reads.
+/// What one engine decodes.
 fn decoded(alloc: Global, engine: &GeneralPurpose, text: &str) -> Result<Option<Bytes>, NoMemory>
     ensures value { IfOk result (λ bytes. bytes ≡ decoded_of engine.now text.now) }
     ensures strict { IsStrict engine.now

@@ -1,4 +1,4 @@
-//! The members of an object, by their forms. `Shape` has the path of what isn't of its form.
+//! The members of an object, by their forms. `Shape` holds the path of what isn't of its form.
 
 ghost use Rattle.std.specs.Prelude.{◌≡◌, Ok, [], IfOk, IfErr, OnOk};
 ghost use Rattle.serde_json.specs.Data.{null};
@@ -47,7 +47,7 @@ pub fn is_object(value: &Value, path: Path) -> Result<(), JsonError>
     }
 }
 
-/// The object of a member, or `missing`, which is null, where it is missing.
+/// The object of a member; `missing`, which is null, if there is no such member.
 pub fn read_object<'v>(
     object: &'v Value,
     path: Path,
@@ -69,7 +69,7 @@ pub fn read_object<'v>(
     }
 }
 
-/// The text of a member, empty where it is missing.
+/// The text of a member, empty if it is missing.
 pub fn read_text(object: &Value, path: Path) -> Result<&str, JsonError>
     ensures text { IfOk result (λ text. field as_str [] path (view object.now) ≡ Ok text.now) }
     ensures fault { IfErr result (λ error. IsShape error (field as_str [] path (view object.now))) }
@@ -83,7 +83,7 @@ pub fn read_text(object: &Value, path: Path) -> Result<&str, JsonError>
     }
 }
 
-/// The bytes of a member, none where it is missing.
+/// The bytes of a member, empty if it is missing.
 pub fn read_base64(alloc: Global, object: &Value, path: Path) -> Result<Bytes, JsonError>
     ensures { Gives result (field bytes_of [] path (view object.now)) }
 {
@@ -99,7 +99,7 @@ pub fn read_base64(alloc: Global, object: &Value, path: Path) -> Result<Bytes, J
     }
 }
 
-/// The number of 32 bits of a member, 0 where it is missing.
+/// The 32-bit number of a member, 0 if it is missing.
 pub fn read_number(object: &Value, path: Path) -> Result<u32, JsonError>
     ensures { Gives result (field uint32_of 0 path (view object.now)) }
 {
@@ -112,7 +112,7 @@ pub fn read_number(object: &Value, path: Path) -> Result<u32, JsonError>
     }
 }
 
-/// The number of an enum of a member, 0 where it is missing.
+/// The number of an enum of a member, 0 if it is missing.
 pub fn read_enum(object: &Value, path: Path, names: Names) -> Result<u32, JsonError>
     ensures { Gives result (field (enum_of (names_of names)) 0 path (view object.now)) }
 {

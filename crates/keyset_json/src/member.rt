@@ -9,7 +9,7 @@ use serde_json::Value;
 /// A member of a keyset in JSON.
 #[derive(Clone, Copy, Debug, PartialEq, Eq)]
 pub enum Member {
-    /// The whole.
+    /// The whole keyset.
     Keyset,
     PrimaryKeyId,
     /// The list of keys, or one of them.
@@ -23,8 +23,8 @@ pub enum Member {
     OutputPrefixType,
 }
 
-/// Where a member stands: `key` is the place of its key in the list, counted from 0, and `None` for
-/// a member of the keyset.
+/// The place of a member: `key` is the index of its key in the list, counted from 0, and `None` for
+/// a member of the keyset itself.
 #[derive(Clone, Copy, Debug, PartialEq, Eq)]
 pub struct Path {
     pub key: Option<usize>,
@@ -80,7 +80,7 @@ impl Member {
     }
 }
 
-/// The value, `None` where it is null.
+/// The value; `None` if it is null.
 fn unless_null<'v>(value: Option<&'v Value>) -> Option<&'v Value>
     ensures { option_map (λ v. view v.now) result
         ≡ unless_null (option_map (λ v. view v.now) value.entry) }

@@ -32,7 +32,7 @@ impl Names {
         }
     }
 
-    /// A number of 32 bits, or a name.
+    /// A 32-bit number, or a name.
     pub(crate) fn read(self, value: &Value) -> Option<u32>
         ensures { result ≡ enum_of (names_of self) (view value.now) }
     {
@@ -43,7 +43,7 @@ impl Names {
         }
     }
 
-    /// The name of a number, empty where it has none.
+    /// The name of a number, empty if it has none.
     pub(crate) fn name_of(self, number: u32) -> &'static str
         ensures { result.now ≡ name_at (names_of self) number }
     {

@@ -1,7 +1,7 @@
-//! How deep the lists and objects of a text nest, before it is read.
+//! The nesting depth of a text's lists and objects, checked before it is read.
 //!
-//! `serde_json` reads a value inside another one by a call inside a call, up to 127 of them, for which a stack
-//! of 64 KiB has no room. What is read here nests no deeper than 32; Tink's keysets nest 4 deep.
+//! `serde_json` reads nested values by recursion, up to 127 levels, for which a stack of 64 KiB has
+//! no room. What is read here nests at most 32 deep; Tink's keysets nest 4 deep.
 
 ghost use Rattle.std.specs.Prelude.{◌≡◌, ◌≤◌, List, ℕ, ◌∷◌, ◌&&◌, IfSome};
 ghost use Rattle.keyset_json.specs.Nesting.{opens, closes, is_outside, next, nests_within, is_shallow, goes_on, most_levels};
@@ -9,14 +9,14 @@ ghost use Rattle.keyset_json.specs.Nesting.{opens, closes, is_outside, next, nes
 /// The most levels of lists and objects that a text may have.
 const MOST: usize = 32;
 
-/// How a byte stands to a string.
+/// Where a byte is relative to strings.
 #[derive(Clone, Copy)]
 pub(crate) enum Quoting {
-    /// Outside of each.
+    /// Outside strings.
     Outside,
     /// In one, or at its end.
     Inside,
-    /// In one, behind a backslash.
+    /// In one, after a backslash.
     Escaped,
 }
 
@@ -32,7 +32,7 @@ impl Quoting {
         }
     }
 
-    /// How the byte behind this one stands.
+    /// The state of the byte after this one.
     fn next(self, byte: u8) -> Quoting
         ensures { result ≡ next self byte }
     {
@@ -58,7 +58,7 @@ impl Quoting {
     }
 }
 
-/// How many levels are open before a byte, and how it stands to a string.
+/// How many levels are open before a byte, and where it is relative to strings.
 #[derive(Clone, Copy)]
 pub(crate) struct Levels {
     level: usize,
@@ -80,7 +80,7 @@ impl Levels {
         self.quoting.is_outside() && (byte == b']' || byte == b'}')
     }
 
-    /// The levels behind this byte, and none where it opens one too many.
+    /// The levels after this byte; `None` if it opens one too many.
     fn after(self, byte: u8) -> Option<Levels>
         requires level_bound { self.level ≤ most_levels }
         ensures level { IfSome result (λ levels. levels.level ≤ most_levels) }
@@ -108,7 +108,8 @@ impl Levels {
     }
 }
 
-/// Whether the lists and objects of a text nest no deeper than 32. Brackets and braces in strings don't count.
+/// Whether the lists and objects of a text nest at most 32 deep. Brackets and braces in strings
+/// don't count.
 pub(crate) fn is_shallow(text: &[u8]) -> bool
     ensures { result ≡ is_shallow text.now }
 {

@@ -1,4 +1,4 @@
-//! Numbers of 32 bits in JSON.
+//! 32-bit numbers in JSON.
 
 ghost use Rattle.std.specs.Prelude.{◌≡◌};
 ghost use Rattle.serde_json.specs.View.{view, number_view};
@@ -7,7 +7,7 @@ ghost use Rattle.keyset_json.specs.Numbers.{number_of_num, uint32_of};
 use serde_json::{Number, Value};
 use tink_base::number_in;
 
-/// A number of 32 bits, or 1 to 10 digits of one as a text.
+/// A 32-bit number, or a text of 1 to 10 digits of one.
 pub fn read_uint32(value: &Value) -> Option<u32>
     ensures { result ≡ uint32_of (view value.now) }
 {
@@ -18,7 +18,7 @@ pub fn read_uint32(value: &Value) -> Option<u32>
     }
 }
 
-/// A number of 32 bits that is written in digits alone.
+/// A 32-bit number written only in digits.
 pub fn read_number(number: &Number) -> Option<u32>
     ensures { result ≡ number_of_num (number_view number.now) }
 {

@@ -24,14 +24,14 @@ use tink_base::{Bytes, NoMemory, Text};
 /// Why bytes give no keyset, in the order in which causes are looked for.
 #[derive(Clone, Copy, Debug, PartialEq, Eq)]
 pub enum JsonError {
-    /// The bytes, less one newline at their end, are no JSON text, or its lists and objects nest deeper than
-    /// 32.
+    /// The bytes, less one newline at their end, are no JSON text, or lists and objects nest deeper
+    /// than 32.
     NotJson,
-    /// This member is the first that isn't of its form.
+    /// The first member that isn't of its form.
     Shape(Path),
-    /// The keyset has this fault, the first one.
+    /// The first fault of the keyset.
     Fault(KeysetFault),
-    /// Memory was refused.
+    /// Memory couldn't be allocated.
     NoMemory,
 }
 
@@ -62,16 +62,16 @@ impl<T: Drop> From<AllocFailed<T>> for JsonError {
 /// Reads a keyset from JSON (the JSON mapping of proto3, of tink.proto's `Keyset`), of at most 2^30
 /// bytes.
 ///
-/// A member is taken by its name or, where the object has none of that name, by its field's name in
-/// tink.proto. null counts as missing, what is missing is 0 or empty, and other members are passed
-/// over. Of a name that stands twice the last value counts, as `serde_json` reads it.
+/// A member is taken by its name or, if the object has none of that name, by its field's name in
+/// tink.proto. null counts as missing, what is missing is 0 or empty, and other members are
+/// ignored. If a name occurs twice, the last value counts, as `serde_json` reads it.
 ///
-/// `NotJson` comes exactly where `serde_json` reads no value from the bytes, one newline at their
-/// end left off, or lists and objects nest deeper than 32 in them. `Shape` has the first member that
-/// isn't of its form, where members are looked at in this order: the whole, primaryKeyId, the list of
-/// keys; then of each key the key itself, keyData, typeUrl, value, keyMaterialType, status, keyId,
-/// outputPrefixType. `Fault` comes exactly where each member is of its form and the keyset has that
-/// fault first. URL and value of each record have at most as many bytes as the source.
+/// `NotJson` comes if and only if `serde_json` reads no value from the bytes, less one newline at
+/// their end, or lists and objects nest deeper than 32. `Shape` holds the first member that isn't
+/// of its form, in this order: the whole, primaryKeyId, the list of keys; then for each key the key
+/// itself, keyData, typeUrl, value, keyMaterialType, status, keyId, outputPrefixType. `Fault` comes
+/// if and only if each member is of its form and this is the keyset's first fault. URL and value of
+/// each record have at most as many bytes as the source.
 pub fn read_json(alloc: Global, bytes: &[u8]) -> Result<Keyset, JsonError>
     requires size_bound { length bytes.now ≤ 2 ^ 30 }
     ensures keyset { GivesKeyset result (reads_json bytes.now) }
@@ -99,7 +99,7 @@ pub fn without_newline(bytes: &[u8]) -> &[u8]
     }
 }
 
-/// Whether a newline stands at the end.
+/// Whether the last byte is a newline.
 fn ends_in_newline(bytes: &[u8]) -> bool
     ensures newline { result ≡ ends_in_newline bytes.now }
     ensures some { IsTrue result → 1 ≤ length bytes.now }
@@ -107,9 +107,9 @@ fn ends_in_newline(bytes: &[u8]) -> bool
     !bytes.is_empty() && bytes[bytes.len() - 1] == b'\n'
 }
 
-/// The JSON value of a text. `NotJson` comes exactly where `serde_json` reads none from it, or lists and objects
-/// nest deeper than 32 in it. No other error comes but `NoMemory`, which comes only of bytes that are UTF-8, at
-/// least one, and nest no deeper.
+/// The JSON value of a text. `NotJson` comes if and only if `serde_json` reads no value from it, or
+/// lists and objects nest deeper than 32. The only other error is `NoMemory`, which comes only for
+/// bytes that are UTF-8, at least one, and nest no deeper.
 pub fn read_value(alloc: Global, text: &[u8]) -> Result<Value, JsonError>
     ensures value { IfOk result (λ value. json_value text.now ≡ Some (view value)) }
     ensures none { IfErr result (λ error. IsNoValue error (json_value text.now)) }

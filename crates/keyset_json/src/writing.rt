@@ -64,7 +64,7 @@ fn key_value(alloc: Global, key: &Record) -> Result<Value, AllocError>
     Ok(Value::Object(members))
 }
 
-/// The key data of a record as a member, and none where the record is bare.
+/// The key data of a record as a member; no member if the record is bare.
 fn data_member(alloc: Global, key: &Record) -> Result<Map<String, Value>, AllocError>
     ensures { IfOk result (λ members. members_view members.entries ≡ data_member key.now) }
 {
