@@ -24,9 +24,10 @@ const MOST_RECORDS: usize = 1000;
 /// A new keyset: one ENABLED key of a template, which is primary.
 ///
 /// Its id is four random bytes, big-endian, drawn until it isn't 0, at most 64 times; the bytes of
-/// the key are drawn behind it, in one call. `Refused` comes exactly where each of those ids is 0,
-/// and is `IdsExhausted`. `EntropyFault` comes only where the entropy failed; whole ids were drawn
-/// by then, and nothing else, but what the failed fill may have lost. At `NoMemory` all has been drawn.
+/// the key are drawn after it, in one call. `Refused` comes if and only if each of those ids is 0,
+/// and holds `IdsExhausted`. `EntropyFault` comes only if the entropy failed; by then only whole
+/// ids were drawn, apart from what the failed fill may have lost. At `NoMemory` everything has been
+/// drawn.
 pub fn create<E: Entropy>(
     alloc: Global,
     template: &Template,
@@ -51,11 +52,11 @@ pub fn create<E: Entropy>(
 
 /// A keyset after an edit.
 ///
-/// A new key gets an id as in `create`, which no record has. An edit with an id is of the first
-/// record that has it, and all others stay in their places. `Refused` comes exactly where the edit
-/// is refused, with the first reason in the order of the edit's own checks; only `IdsExhausted`
-/// comes after bytes were drawn. `EntropyFault` comes only where the entropy failed; whole ids were
-/// drawn by then, and nothing else, but what the failed fill may have lost. At `NoMemory` all that the
+/// A new key gets an id as in `create`, but one that no record has. An edit with an id changes the
+/// first record that has it; all others stay in place. `Refused` comes if and only if the edit is
+/// refused, with the first reason in the order of the edit's own checks; only `IdsExhausted` comes
+/// after bytes were drawn. `EntropyFault` comes only if the entropy failed; by then only whole ids
+/// were drawn, apart from what the failed fill may have lost. At `NoMemory` everything that the
 /// edit draws has been drawn. A keyset of short records gives one of short records.
 pub fn apply<E: Entropy>(
     alloc: Global,
@@ -80,7 +81,7 @@ pub fn apply<E: Entropy>(
     }
 }
 
-/// Puts a new key behind the others.
+/// Adds a new key at the end.
 fn add<E: Entropy>(
     alloc: Global,
     keyset: &Keyset,
@@ -106,7 +107,7 @@ fn add<E: Entropy>(
     Ok(rebuilt(keyset.primary(), records))
 }
 
-/// Puts a new key behind the others, and makes it primary.
+/// Adds a new key at the end, and makes it primary.
 fn rotate<E: Entropy>(
     alloc: Global,
     keyset: &Keyset,
@@ -133,7 +134,7 @@ fn rotate<E: Entropy>(
     Ok(rebuilt(new_primary, records))
 }
 
-/// Why a keyset takes no key of a template, whatever is drawn.
+/// Why a keyset takes no key of a template, whatever bytes are drawn.
 fn full_or_mixed(keyset: &Keyset, template: &Template) -> Option<CmdFault>
     ensures { result ≡ full_or_mixed keyset.now (seen template.now) }
 {
@@ -155,7 +156,7 @@ fn alone(alloc: Global, key: Record) -> Result<Vec<Record>, NoMemory>
     Ok(one)
 }
 
-/// The records of a keyset, and one behind them.
+/// The records of a keyset and one more at the end.
 fn grown(alloc: Global, keyset: &Keyset, key: Record) -> Result<Vec<Record>, NoMemory>
     ensures faultless { fault_of keyset.now ≡ None }
     ensures same { IfOk result (λ records. records.items ≡ keyset.now.records ++ (key ∷ [])) }

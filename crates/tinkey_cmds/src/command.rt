@@ -1,27 +1,27 @@
-//! What is asked of a keyset, and why it is refused.
+//! Edits of a keyset, and why they are refused.
 
 ghost use Rattle.std.specs.Prelude.{◌≡◌};
 
 use key_msgs::Rule;
 use tink_base::NoMemory;
 
-/// An edit of a keyset, whose template is here or has a name. An id names the first record that has
+/// An edit of a keyset, with a template or a template's name. An id names the first record that has
 /// it.
 #[derive(Clone, Copy)]
 pub enum Command<T> {
-    /// A new key of this template stands behind the others.
+    /// Adds a new key of this template at the end.
     Add(T),
-    /// The same, and the new key is primary.
+    /// The same, and makes the new key primary.
     Rotate(T),
-    /// This key is primary.
+    /// Makes this key primary.
     Promote(u32),
-    /// This key is ENABLED.
+    /// Makes this key ENABLED.
     Enable(u32),
-    /// This key is DISABLED.
+    /// Makes this key DISABLED.
     Disable(u32),
-    /// This key is DESTROYED, and its key data is gone.
+    /// Makes this key DESTROYED, and removes its key data.
     Destroy(u32),
-    /// This key is gone.
+    /// Removes this key.
     Delete(u32),
 }
 
@@ -30,15 +30,15 @@ pub enum Command<T> {
 pub enum CmdFault {
     /// No record has the id.
     KeyNotFound,
-    /// The id is the primary one.
+    /// The id is the primary id.
     KeyIsPrimary,
-    /// The record to be primary isn't ENABLED.
+    /// The record to make primary isn't ENABLED.
     KeyNotEnabled,
     /// The record is DESTROYED.
     KeyDestroyed,
-    /// The key message of the record to be ENABLED breaks this rule, the first one.
+    /// The first rule that the key message of the record to enable breaks.
     KeyRefused(Rule),
-    /// The key is of another primitive than the primary one.
+    /// The key's primitive differs from the primary key's.
     MixedPrimitive,
     /// None of 64 draws gave a new id.
     IdsExhausted,
@@ -55,7 +55,7 @@ pub enum CmdError {
     Refused(CmdFault),
     /// The entropy failed.
     EntropyFault,
-    /// Memory was refused.
+    /// Memory couldn't be allocated.
     NoMemory,
 }
 

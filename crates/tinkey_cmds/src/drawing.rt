@@ -15,7 +15,7 @@ use keyset_model::{Keyset, Record};
 use std::alloc::Global;
 use tink_base::{Bytes, ENABLED, Entropy, Failed, NoMemory, Text};
 
-/// How often an id is drawn.
+/// The most times that an id is drawn.
 const DRAWS: u32 = 64;
 
 /// The most random bytes that a template's key takes.
@@ -24,7 +24,7 @@ const MOST_RANDOM: usize = 64;
 /// The key material type of symmetric keys (tink.proto, KeyMaterialType).
 const SYMMETRIC: u32 = 1;
 
-/// Whether a new record can't have this id, as it is 0 or a record has it.
+/// Whether a new record can't have this id, since it is 0 or a record has it.
 fn is_taken(keyset: Option<&Keyset>, id: u32) -> bool
     ensures { result ≡ is_taken (records_in (option_copied keyset.entry)) id }
 {
@@ -37,8 +37,8 @@ fn is_taken(keyset: Option<&Keyset>, id: u32) -> bool
     }
 }
 
-/// An id for a new record: four bytes, big-endian. `None` comes exactly where each of 64 draws gave
-/// an id that is taken.
+/// An id for a new record: four bytes, big-endian. `None` comes if and only if each of 64 draws
+/// gave an id that is taken.
 fn draw_id<E: Entropy>(keyset: Option<&Keyset>, entropy: &mut E) -> Result<Option<u32>, Failed>
     ensures id { DrewId result (new_id 64 (records_in (option_copied keyset.entry)))
         (E.state entropy.old) (E.state entropy.new) }
@@ -102,8 +102,8 @@ fn record_of(alloc: Global, template: &Template, id: u32, random: &[u8]) -> Resu
     })
 }
 
-/// The record that a template makes for this keyset, or for none. Nothing is allocated before all
-/// is drawn.
+/// The record that a template makes for this keyset, or for no keyset. Nothing is allocated before
+/// everything is drawn.
 pub(crate) fn new_record<E: Entropy>(
     alloc: Global,
     template: &Template,

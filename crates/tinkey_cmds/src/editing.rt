@@ -1,5 +1,5 @@
-//! The edits of records, by their ids: none of them draws random bytes. An id names the first
-//! record that has it, and all others stay.
+//! The edits of records by their ids, which draw no random bytes. An id names the first record that
+//! has it; all others stay.
 
 ghost use Rattle.std.specs.Prelude.{◌≡◌, ◌==◌, ◌&&◌, not, Some, None, IfOk, position};
 ghost use Rattle.std.specs.List.{list_any, AllByRecursion};
@@ -107,7 +107,7 @@ pub(crate) fn delete(alloc: Global, keyset: &Keyset, id: u32) -> Result<Keyset, 
     Ok(rebuilt(keyset.primary(), records))
 }
 
-/// Whether a record behind this place, the first one of the id, has the id too and is ENABLED.
+/// Whether a record after `place`, the first place of the id, also has the id and is ENABLED.
 fn has_other(keyset: &Keyset, id: u32, place: usize) -> bool
     requires place { Some place ≡ position (has_id id) keyset.now.records }
     ensures { result ≡ list_any (is_primary id) (without id keyset.now.records) }
@@ -122,7 +122,7 @@ fn has_other(keyset: &Keyset, id: u32, place: usize) -> bool
     false
 }
 
-/// Whether a record of this id would be primary by being made ENABLED, beside the one that is.
+/// Whether making this record ENABLED would give the keyset a second primary record.
 fn is_rival(keyset: &Keyset, id: u32, key: &Record) -> bool
     ensures { result ≡ (id == keyset.now.primary && not (is_enabled key.now)) }
 {
@@ -141,13 +141,13 @@ pub(crate) fn rebuilt(primary: u32, records: Vec<Record>) -> Keyset
     }
 }
 
-/// The records of a keyset once more.
+/// A copy of a keyset's records.
 pub(crate) fn copies(alloc: Global, keyset: &Keyset) -> Result<Vec<Record>, NoMemory>
     ensures faultless { fault_of keyset.now ≡ None }
     ensures same { IfOk result (λ records. records.items ≡ keyset.now.records) }
     ensures sizes { IfOk result (λ records. AllByRecursion HasSizes records.items) }
 {
-    // a keyset has no fault by its type, and this call says so
+    // a keyset has no fault by its type, which this call states
     let _primary = keyset.primary_record();
     let mut records = Vec::new(alloc);
     for i in 0..keyset.len() {
@@ -157,7 +157,7 @@ pub(crate) fn copies(alloc: Global, keyset: &Keyset) -> Result<Vec<Record>, NoMe
     Ok(records)
 }
 
-/// The records of a keyset with another status at the place of an id.
+/// The records of a keyset, with this status at the place of an id.
 fn with_status(
     alloc: Global,
     keyset: &Keyset,
@@ -176,7 +176,7 @@ fn with_status(
     Ok(records)
 }
 
-/// The records of a keyset with the one at the place of an id DESTROYED, with no key data.
+/// The records of a keyset, with the one at the place of an id DESTROYED and without key data.
 fn with_destroyed(
     alloc: Global,
     keyset: &Keyset,
@@ -210,7 +210,7 @@ fn without(alloc: Global, keyset: &Keyset, id: u32, place: usize) -> Result<Vec<
     Ok(records)
 }
 
-/// Whether two type URLs, or none known, have one primitive.
+/// Whether two type URLs have the same primitive, or both have none known.
 pub(crate) fn is_same(a: Option<Primitive>, b: Option<Primitive>) -> bool
     ensures { result ≡ is_same a b }
 {
@@ -232,7 +232,8 @@ pub(crate) fn primary_primitive(keyset: &Keyset) -> Option<Primitive>
     primitive_of(keyset.primary_record().url.as_str())
 }
 
-/// The first rule that a record's key message breaks, or none, also where its URL isn't known.
+/// The first rule that a record's key message breaks; `None` if it breaks none or its URL isn't
+/// known.
 fn broken_rule(alloc: Global, key: &Record) -> Result<Option<Rule>, NoMemory>
     ensures { IfOk result (λ rule. rule ≡ rule_of key.now.url key.now.value) }
 {

@@ -1,4 +1,4 @@
-//! The edits of a keyset: its creation by a template, new keys, and the retirement of old ones.
+//! The edits of a keyset: its creation from a template, new keys, and the retirement of old ones.
 #![tactic(auto)]
 
 mod applying;
