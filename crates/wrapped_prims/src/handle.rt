@@ -21,17 +21,18 @@ use managers::{
 use std::alloc::Global;
 use tink_base::{ENABLED, LEGACY, NoMemory, RAW};
 
-/// Why a keyset can't serve for a primitive under some managers. The first ENABLED record with a
-/// fault is told, by its place in the keyset from 0, with the first of its faults in this order.
+/// Why a keyset can't serve for a primitive under some managers. Reports the place in the keyset,
+/// counted from 0, of the first ENABLED record with a fault, and the first of its faults in this
+/// order.
 #[derive(Clone, Copy, Debug, PartialEq, Eq)]
 pub enum HandleFault {
-    /// None of the primitive's managers has this record's type URL.
+    /// No manager of the primitive has this record's type URL.
     NoManager(usize),
-    /// Its manager refuses this record's value, for this rule, the first one that it breaks.
+    /// The manager refuses this record's value, for the first rule that it breaks.
     BadKey(usize, Rule),
     /// The primitive is Prf, and this record's output prefix type isn't RAW.
     NotRaw(usize),
-    /// Memory was refused.
+    /// Memory couldn't be allocated.
     NoMemory,
 }
 
@@ -45,7 +46,7 @@ impl From<NoMemory> for HandleFault {
     }
 }
 
-/// The keys of a keyset, each of which its manager has checked and prepared once, for one primitive.
+/// The keys of a keyset for one primitive, each checked by its manager and prepared once.
 #[derive(Drop)]
 pub struct Handle<'m> {
     pub(crate) managers: &'m Managers,
@@ -53,7 +54,7 @@ pub struct Handle<'m> {
     pub(crate) held: Held,
 }
 
-// What the manager at this place says of a key message.
+// The key that the manager at this place reads from a key message.
 fn check_at(
     managers: &Managers,
     alloc: Global,
@@ -77,7 +78,7 @@ fn check_at(
     }
 }
 
-// Whether the primitive has no place for the record's prefix.
+// Whether the primitive doesn't allow the record's prefix.
 fn has_no_place(primitive: Primitive, from: &Record) -> bool
     ensures { prefix_fault primitive from.now ≡ if result then Some NotRaw else None }
 {
@@ -87,7 +88,7 @@ fn has_no_place(primitive: Primitive, from: &Record) -> bool
     }
 }
 
-// What is kept of the record of this place.
+// What is kept of the record at place `i`.
 fn keep(
     managers: &Managers,
     alloc: Global,
@@ -127,8 +128,8 @@ fn keep(
 impl<'m> Handle<'m> {
     /// The handle of a keyset's keys for a primitive, which isn't Stream.
     ///
-    /// A fault other than `NoMemory` comes exactly where an ENABLED record can't serve: it is that
-    /// of the first such record. Records that aren't ENABLED don't matter.
+    /// A fault other than `NoMemory` comes if and only if an ENABLED record can't serve: it is the
+    /// fault of the first such record. Records that aren't ENABLED don't matter.
     pub fn new(
         alloc: Global,
         keyset: &Keyset,
@@ -163,9 +164,9 @@ impl<'m> Handle<'m> {
         self.primitive
     }
 
-    /// The output prefixes of the ENABLED records that have one, each once and in the order of their first
-    /// records. Beside each stand the places in the keyset, counted from 0 and in its order, of the
-    /// ENABLED records with that prefix. No memory is taken.
+    /// The output prefixes of the ENABLED records that have one, each once and in the order of
+    /// their first records. Each comes with the places in the keyset, in order and counted from 0,
+    /// of the ENABLED records with that prefix. No memory is taken.
     pub fn prefixes(&self) -> &IndexMap<[u8; 5], Places>
         ensures { (keys : Keys)
             → IsOver (⟦<Managers as KeyTable>⟧.table self.now.managers.now) self.now.primitive keys

@@ -16,7 +16,7 @@ use managers::Prepared;
 use std::alloc::Global;
 use tink_base::{NoMemory, RAW, TINK};
 
-/// The key of an ENABLED record, with what is made of it once, and the place of its manager.
+/// The prepared key of an ENABLED record, and the place of its manager.
 #[derive(Drop)]
 pub(crate) struct Kept {
     pub(crate) place: usize,
@@ -25,21 +25,21 @@ pub(crate) struct Kept {
     pub(crate) key: Prepared,
 }
 
-/// What is kept of each record of a keyset, at the record's own place. Nothing is kept of a record that
+/// What is kept of each record of a keyset, at the record's own place; nothing of a record that
 /// isn't ENABLED.
 #[derive(Drop)]
 pub(crate) struct Held {
     pub(crate) slots: Vec<Option<Kept>>,
     /// The places of the kept keys that have a prefix, by that prefix.
     pub(crate) index: IndexMap<[u8; 5], Places>,
-    /// The places of the kept keys that have none.
+    /// The places of the kept keys that have no prefix.
     pub(crate) raw: Vec<usize>,
     /// The place of the primary record.
     pub(crate) primary: usize,
 }
 
 impl Held {
-    /// Of no records yet.
+    /// Holds no records yet.
     pub(crate) fn new(alloc: Global, primary: usize) -> Held
         ensures { IsOfNone primary result }
     {
@@ -51,7 +51,7 @@ impl Held {
         }
     }
 
-    /// Adds what is kept of the next record, which has this place.
+    /// Adds what is kept of the next record, at this place.
     pub(crate) fn add(
         &mut self,
         alloc: Global,
@@ -70,8 +70,8 @@ impl Held {
         Ok(())
     }
 
-    /// The places of the keys with this prefix, in the order of the keyset. Other than five bytes are no
-    /// prefix.
+    /// The places of the keys with this prefix, in the order of the keyset; none if `prefix` hasn't
+    /// five bytes.
     pub(crate) fn places(&self, prefix: &[u8]) -> &[usize]
         ensures { result.now ≡ places_at prefix.now self.now.index.entries }
     {
@@ -85,7 +85,7 @@ impl Held {
     }
 }
 
-// Notes a place under a prefix, behind those that are there.
+// Appends a place to those of a prefix.
 fn note(
     alloc: Global,
     index: &mut IndexMap<[u8; 5], Places>,
@@ -105,7 +105,7 @@ fn note(
     Ok(())
 }
 
-// A first byte, and the id as four bytes, the highest first.
+// A first byte, and the id as four bytes, big-endian.
 fn five_bytes(first: u8, id: u32) -> [u8; 5]
     ensures bytes { result ≡ first ∷ to_be_bytes w32 id }
     ensures word { id < 2 ^ 32 }
@@ -114,7 +114,7 @@ fn five_bytes(first: u8, id: u32) -> [u8; 5]
     [first, a, b, c, d]
 }
 
-/// What stands in front of the record's outputs.
+/// The prefix of the record's outputs.
 pub(crate) fn prefix(from: &Record) -> Option<[u8; 5]>
     ensures prefix { result ≡ prefix_of from.now }
     ensures word { HasWordId from.now }
@@ -124,7 +124,7 @@ pub(crate) fn prefix(from: &Record) -> Option<[u8; 5]>
     if from.prefix == RAW { None } else { Some(five) }
 }
 
-/// The bytes of a prefix, of which there are none where there is no prefix.
+/// The bytes of a prefix; no bytes if there is no prefix.
 pub(crate) fn front(prefix: &Option<[u8; 5]>) -> &[u8]
     ensures bytes { result.now ≡ prefix_bytes prefix.now }
     ensures size { length result.now ≡ length (prefix_bytes prefix.now) }
@@ -136,7 +136,7 @@ pub(crate) fn front(prefix: &Option<[u8; 5]>) -> &[u8]
     }
 }
 
-/// The first five bytes, or all of fewer, and the rest.
+/// The first five bytes, or all if there are fewer, and the rest.
 pub(crate) fn cut_prefix(bytes: &[u8]) -> (&[u8], &[u8])
     ensures head { result.0.now ≡ take 5 bytes.now }
     ensures rest { result.1.now ≡ drop 5 bytes.now }

@@ -1,4 +1,4 @@
-//! What a handle keeps, without the managers that it was made under.
+//! What a handle keeps, without its managers.
 
 ghost use Rattle.std.specs.Prelude.{◌≡◌};
 
@@ -8,8 +8,8 @@ use key_msgs::Primitive;
 use managers::{KeyTable, Managers};
 use std::alloc::Global;
 
-/// The checked and prepared keys of a handle. A program that can't lend managers for as long as it keeps
-/// the keys keeps these, and makes a handle of them again under managers of the same table.
+/// The checked and prepared keys of a handle. A program that can't lend managers for as long as it
+/// keeps the keys keeps these, and makes a handle of them under managers of the same table again.
 #[derive(Drop)]
 pub struct HeldKeys {
     pub(crate) primitive: Primitive,
@@ -17,7 +17,7 @@ pub struct HeldKeys {
 }
 
 impl HeldKeys {
-    /// No keys, for what stands in a place while its keys are elsewhere. No memory is taken.
+    /// No keys, as a placeholder while the keys are elsewhere. No memory is taken.
     pub fn none(alloc: Global) -> HeldKeys {
         HeldKeys {
             primitive: Primitive::Aead,
@@ -47,8 +47,8 @@ impl<'m> Handle<'m> {
         HeldKeys { primitive, held }
     }
 
-    /// The handle of these keys under managers. It is over the keyset that the handle was over which
-    /// held the keys before, where the managers are of the same table. No memory is taken.
+    /// A handle of these keys under managers. If the managers have the same table as before, it is
+    /// over the same keyset as the handle that the keys came from. No memory is taken.
     pub fn of_keys(keys: HeldKeys, managers: &'m Managers) -> Handle<'m>
         ensures primitive { result.primitive ≡ keys.primitive }
         ensures held { result.held ≡ keys.held }

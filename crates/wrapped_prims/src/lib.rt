@@ -1,5 +1,5 @@
-//! Handles: the work of a keyset under the managers that a program hands in. A handle seals, opens,
-//! tags, verifies and derives with the keys of a keyset, each of which a manager has checked.
+//! Handles: the work of a keyset under managers that a program supplies. A handle seals, opens,
+//! tags, verifies and derives with the keys of a keyset, each checked by a manager.
 #![tactic(auto)]
 
 mod handle;

@@ -1,4 +1,4 @@
-//! What a handle makes with its primary key: tags, deterministic sealings and derived bytes.
+//! What a handle makes with its primary key: tags, deterministic ciphertexts and derived bytes.
 
 ghost use Rattle.std.specs.Prelude.{◌≡◌, ◌+◌, ◌++◌, ◌^◌, ◌≤◌, drop, length, IfOk, IfErr, Some, Ok, slice_get};
 ghost use Rattle.key_msgs.specs.declared.primitive.Primitive.TheVariants.{Daead, Mac, Prf};
@@ -20,15 +20,15 @@ use managers::{DaeadManager, KeyTable, MacManager, Managers, PrfManager};
 use std::alloc::Global;
 use tink_base::NoMemory;
 
-/// The bytes of a SIV (RFC 5297).
+/// The size of an SIV, in bytes (RFC 5297).
 const SIV: usize = 16;
 
 /// Why no bytes were derived.
 #[derive(Clone, Copy, Debug, PartialEq, Eq)]
 pub enum DeriveFault {
-    /// More bytes were asked for than this many, the most that the primary key gives.
+    /// More bytes were asked for than the primary key gives; this is the most that it gives.
     OutputTooLong(usize),
-    /// Memory was refused.
+    /// Memory couldn't be allocated.
     NoMemory,
 }
 
@@ -42,7 +42,7 @@ impl From<NoMemory> for DeriveFault {
     }
 }
 
-/// The primary record's key. The managers and the primitive are those for which the keys are held.
+/// The primary record's key. The keys are held for these managers and this primitive.
 pub(crate) fn primary<'h>(_managers: &Managers, _primitive: Primitive, held: &'h Held) -> &'h Kept
     requires over { (keys : Keys)
         × IsOver (⟦<Managers as KeyTable>⟧.table _managers.now) _primitive keys held.now }
@@ -60,7 +60,7 @@ pub(crate) fn primary<'h>(_managers: &Managers, _primitive: Primitive, held: &'h
     }
 }
 
-/// The bytes behind a prefix.
+/// A prefix, then the bytes.
 fn behind_prefix(alloc: Global, prefix: &Option<[u8; 5]>, bytes: &[u8]) -> Result<Vec<u8>, NoMemory>
     ensures { IfOk result (λ out. out.items ≡ prefix_bytes prefix.now ++ bytes.now) }
 {
@@ -70,7 +70,7 @@ fn behind_prefix(alloc: Global, prefix: &Option<[u8; 5]>, bytes: &[u8]) -> Resul
     Ok(out)
 }
 
-/// How many bytes stand before a ciphertext under a kept key: its prefix, and the SIV.
+/// How many bytes precede a ciphertext under a kept key: its prefix, and the SIV.
 fn siv_room(kept: &Kept) -> usize
     ensures room { result ≡ siv_room_of kept.now }
     ensures bound { result ≤ 2 ^ 10 }
@@ -78,7 +78,7 @@ fn siv_room(kept: &Kept) -> usize
     front(&kept.prefix).len() + SIV
 }
 
-/// Seals in place under a kept key, behind its prefix.
+/// Seals in place under a kept key, after its prefix.
 fn dseal_kept(
     managers: &Managers,
     kept: &Kept,
@@ -101,7 +101,7 @@ fn dseal_kept(
 
 impl Handle<'_> {
     /// The tag of a body of at most 2^30 bytes, under the primary key: its prefix and the tag. A
-    /// LEGACY key tags the body and one byte 0 behind it.
+    /// LEGACY key tags the body followed by a byte 0.
     pub fn tag(&self, alloc: Global, body: &[u8]) -> Result<Vec<u8>, NoMemory>
         requires over { (keys : Keys)
             × IsOver (⟦<Managers as KeyTable>⟧.table self.now.managers.now) Mac keys self.now.held }
@@ -136,8 +136,8 @@ impl Handle<'_> {
         self.dseal_in_place(bytes, ad)
     }
 
-    /// How many bytes `dseal` puts before the ciphertext: the primary key's prefix, and the tag, which is
-    /// the SIV. No memory is taken.
+    /// How many bytes `dseal` puts before the ciphertext: the primary key's prefix, and the SIV as
+    /// tag. No memory is taken.
     pub fn dseal_room(&self) -> usize
         requires over { (keys : Keys)
             × IsOver (⟦<Managers as KeyTable>⟧.table self.now.managers.now) Daead keys
@@ -148,8 +148,8 @@ impl Handle<'_> {
         siv_room(primary(self.managers, Primitive::Daead, &self.held))
     }
 
-    /// Seals as `dseal` does, in place: the plaintext is what stands in `bytes` behind the first
-    /// `dseal_room` bytes, whatever these are.
+    /// Seals as `dseal` does, in place: the plaintext is what follows the first `dseal_room` bytes
+    /// of `bytes`, whatever these are.
     pub fn dseal_in_place(&self, bytes: Vec<u8>, ad: &[u8]) -> Result<Vec<u8>, NoMemory>
         requires over { (keys : Keys)
             × IsOver (⟦<Managers as KeyTable>⟧.table self.now.managers.now) Daead keys
@@ -168,8 +168,8 @@ impl Handle<'_> {
         Ok(sealed)
     }
 
-    /// So many bytes of the pseudo-random function of the primary key at an input of at most 2^30
-    /// bytes. `OutputTooLong` comes exactly where that is more than the key gives.
+    /// The first `size` bytes of the primary key's pseudo-random function at an input of at most
+    /// 2^30 bytes. `OutputTooLong` comes if and only if the key gives fewer.
     pub fn derive(&self, alloc: Global, input: &[u8], size: usize) -> Result<Vec<u8>, DeriveFault>
         requires over { (keys : Keys)
             × IsOver (⟦<Managers as KeyTable>⟧.table self.now.managers.now) Prf keys self.now.held }

@@ -16,7 +16,7 @@ use managers::{KeyTable, Managers};
 use std::alloc::Global;
 use tink_base::{NoMemory, Trials, part_of};
 
-// Opens the list in place with the kept keys of a primitive that opens.
+// Opens the list in place with the kept keys of a primitive that can open.
 fn open_list(
     managers: &Managers,
     primitive: Primitive,
@@ -45,9 +45,9 @@ fn open_list(
 impl Handle<'_> {
     /// Opens sealed bytes, of at most 2^30 + 96 bytes, with associated data of at most 2^30.
     ///
-    /// The plaintext is that of the first candidate that opens, and `None` comes exactly where none
-    /// does. Each trial of a key is counted, in the order of the candidates up to the one that opens: at
-    /// most one for each candidate.
+    /// Returns the plaintext of the first candidate that opens; `None` if and only if no candidate
+    /// does. Candidates are tried in order up to the one that opens, and each trial is counted: at
+    /// most one for each.
     pub fn open(
         &self,
         alloc: Global,
@@ -77,8 +77,8 @@ impl Handle<'_> {
         }
     }
 
-    /// Opens as `open` does, in place: what is given is the list of the sealed bytes, with the plaintext in
-    /// it alone. No memory is taken.
+    /// Opens as `open` does, in place: returns the list of the sealed bytes, now with only the
+    /// plaintext. No memory is taken.
     pub fn open_in_place(&self, bytes: Vec<u8>, ad: &[u8], trials: &mut Trials) -> Option<Vec<u8>>
         requires over { (keys : Keys)
             × IsOver (⟦<Managers as KeyTable>⟧.table self.now.managers.now) Aead keys self.now.held }
@@ -109,9 +109,9 @@ impl Handle<'_> {
     /// Opens bytes that were sealed without an IV, of at most 2^30 + 96 bytes, with associated data
     /// of at most 2^30.
     ///
-    /// The plaintext is that of the first candidate that opens, and `None` comes exactly where none
-    /// does. Each trial of a key is counted, in the order of the candidates up to the one that opens: at
-    /// most one for each candidate.
+    /// Returns the plaintext of the first candidate that opens; `None` if and only if no candidate
+    /// does. Candidates are tried in order up to the one that opens, and each trial is counted: at
+    /// most one for each.
     pub fn dopen(
         &self,
         alloc: Global,
@@ -141,8 +141,8 @@ impl Handle<'_> {
         }
     }
 
-    /// Opens as `dopen` does, in place: what is given is the list of the sealed bytes, with the plaintext in
-    /// it alone. No memory is taken.
+    /// Opens as `dopen` does, in place: returns the list of the sealed bytes, now with only the
+    /// plaintext. No memory is taken.
     pub fn dopen_in_place(&self, bytes: Vec<u8>, ad: &[u8], trials: &mut Trials) -> Option<Vec<u8>>
         requires over { (keys : Keys)
             × IsOver (⟦<Managers as KeyTable>⟧.table self.now.managers.now) Daead keys self.now.held }
@@ -170,10 +170,11 @@ impl Handle<'_> {
         )
     }
 
-    /// Whether some candidate's part is its whole tag of the body, which has at most 2^30 bytes.
+    /// Whether `tag`, less a candidate's prefix, is that candidate's whole tag of the body. The
+    /// body has at most 2^30 bytes.
     ///
-    /// Each trial of a key is counted, in the order of the candidates up to the one whose tag it is: at
-    /// most one for each candidate. No memory is taken.
+    /// Candidates are tried in order up to the one whose tag it is, and each trial is counted: at
+    /// most one for each. No memory is taken.
     pub fn verify(&self, tag: &[u8], body: &[u8], trials: &mut Trials) -> bool
         requires over { (keys : Keys)
             × IsOver (⟦<Managers as KeyTable>⟧.table self.now.managers.now) Mac keys self.now.held }

@@ -6,7 +6,7 @@ use std::alloc::Global;
 use std::marker::Model;
 use tink_base::NoMemory;
 
-/// Places of records in a keyset, counted from 0, which contracts see as the list of them.
+/// Places of records in a keyset, counted from 0. Contracts see a list of places.
 #[derive(Drop)]
 pub struct Places {
     items: Vec<usize>,
@@ -30,7 +30,7 @@ impl Places {
         }
     }
 
-    /// Adds a place behind these.
+    /// Appends a place.
     pub(crate) fn push(&mut self, place: usize) -> Result<(), NoMemory>
         ensures { OnOk result (self.new ≡ self.old ++ place ∷ []) }
     {

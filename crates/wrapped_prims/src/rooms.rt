@@ -1,14 +1,14 @@
-//! Room in front of a plaintext, which is sealed where it stands.
+//! Room in front of a plaintext that is sealed in place.
 
 ghost use Rattle.std.specs.Prelude.{◌≡◌, ◌+◌, ◌++◌, ◌^◌, ◌≤◌, ℕ, drop, length, take, IfOk};
 
 use std::alloc::Global;
 use tink_base::NoMemory;
 
-/// The bytes of the longest tag, which is a digest of SHA-512.
+/// The size of the longest tag, a digest of SHA-512, in bytes.
 const LONGEST_TAG: usize = 64;
 
-/// A plaintext behind so many bytes of room. There is capacity for any tag behind it.
+/// `room` bytes and the plaintext, with capacity for any tag after it.
 pub(crate) fn behind_room(alloc: Global, room: usize, plain: &[u8]) -> Result<Vec<u8>, NoMemory>
     requires room_bound { room ≤ 2 ^ 10 }
     requires plain_bound { length plain.now ≤ 2 ^ 30 }
@@ -21,7 +21,7 @@ pub(crate) fn behind_room(alloc: Global, room: usize, plain: &[u8]) -> Result<Ve
     Ok(bytes)
 }
 
-/// The list with what goes in front over its first bytes.
+/// The list with `front` written over its first bytes.
 pub(crate) fn with_front(front: &[u8], mut bytes: Vec<u8>) -> Vec<u8>
     requires room { length front.now ≤ length bytes.items }
     ensures size { length result.items ≡ length bytes.items }
@@ -32,7 +32,7 @@ pub(crate) fn with_front(front: &[u8], mut bytes: Vec<u8>) -> Vec<u8>
     bytes
 }
 
-// Writes what goes in front over the first bytes.
+// Writes `front` over the first bytes.
 fn put_front(front: &[u8], bytes: &mut [u8])
     requires room { length front.now ≤ length bytes.old }
     ensures { bytes.new ≡ front.now ++ drop (length front.now) bytes.old }

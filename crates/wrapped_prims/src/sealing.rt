@@ -25,7 +25,7 @@ use tink_base::{Entropy, Failed, NoMemory};
 pub enum SealFault {
     /// The entropy failed.
     EntropyFault,
-    /// Memory was refused.
+    /// Memory couldn't be allocated.
     NoMemory,
 }
 
@@ -44,7 +44,7 @@ fn draw_iv<E: Entropy>(entropy: &mut E, iv: &mut [u8]) -> Result<(), Failed>
     entropy.fill(iv)
 }
 
-// How many bytes stand before a ciphertext under a kept key: its prefix, and an IV.
+// How many bytes precede a ciphertext under a kept key: its prefix, and an IV.
 fn room_under(managers: &Managers, kept: &Kept) -> usize
     requires served { IsServedBy
         (slice_get (⟦<Managers as KeyTable>⟧.table managers.now).aead kept.now.place) kept.now.key }
@@ -55,7 +55,7 @@ fn room_under(managers: &Managers, kept: &Kept) -> usize
     front(&kept.prefix).len() + iv_size
 }
 
-// Seals in place under a kept key with this IV, behind the key's prefix.
+// Seals in place under a kept key with this IV, after the key's prefix.
 fn seal_with(
     managers: &Managers,
     kept: &Kept,
@@ -78,7 +78,7 @@ fn seal_with(
     manager.seal(&kept.key, prefix.len(), bytes, iv, ad)
 }
 
-// Seals in place under a kept key, behind its prefix.
+// Seals in place under a kept key, after its prefix.
 fn seal_kept<E: Entropy>(
     managers: &Managers,
     alloc: Global,
@@ -117,8 +117,8 @@ impl Handle<'_> {
     /// Seals a plaintext under the primary key: its prefix, IV, ciphertext and tag. Plaintext and
     /// associated data have at most 2^30 bytes each.
     ///
-    /// One IV is drawn, in one fill, unless it has no bytes. `EntropyFault` comes only where the
-    /// entropy failed at that. After `NoMemory` nothing or the IV was drawn.
+    /// One IV is drawn, in one fill, unless it has no bytes. `EntropyFault` comes only if that fill
+    /// failed. After `NoMemory` either nothing or the IV was drawn.
     pub fn seal<E: Entropy>(
         &self,
         alloc: Global,
@@ -149,8 +149,8 @@ impl Handle<'_> {
         }
     }
 
-    /// How many bytes `seal` puts before the ciphertext: the primary key's prefix, and an IV. No memory is
-    /// taken.
+    /// How many bytes `seal` puts before the ciphertext: the primary key's prefix, and an IV. No
+    /// memory is taken.
     pub fn seal_room(&self) -> usize
         requires over { (keys : Keys)
             × IsOver (⟦<Managers as KeyTable>⟧.table self.now.managers.now) Aead keys self.now.held }
@@ -163,8 +163,8 @@ impl Handle<'_> {
         )
     }
 
-    /// Seals as `seal` does, in place: the plaintext is what stands in `bytes` behind the first
-    /// `seal_room` bytes, whatever these are.
+    /// Seals as `seal` does, in place: the plaintext is what follows the first `seal_room` bytes of
+    /// `bytes`, whatever these are.
     pub fn seal_in_place<E: Entropy>(
         &self,
         alloc: Global,

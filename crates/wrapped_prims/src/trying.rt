@@ -1,4 +1,4 @@
-//! Opening in place and verifying with kept keys: those of a prefix, and then those of none.
+//! Opening in place and verifying with kept keys: first those of a prefix, then those without.
 
 ghost use Rattle.std.specs.Prelude.{◌≡◌, ◌+◌, ◌^◌, ◌≤◌, drop, length, option_to_list, slice_get, take};
 ghost use Rattle.std.specs.Str.{bytes_eq};
@@ -69,7 +69,7 @@ fn try_at(
     }
 }
 
-// Tries the keys that are kept at these places, in order.
+// Tries the keys kept at these places, in order.
 fn try_places(
     managers: &Managers,
     primitive: Primitive,
@@ -134,8 +134,8 @@ fn try_prefixed(
     }
 }
 
-/// Tries the keys with the prefix at the front of the bytes, and then those with none. The answer is where
-/// the plaintext stands in the bytes then.
+/// Tries the keys with the prefix at the front of the bytes, then those without. Returns the
+/// plaintext's range in the bytes.
 pub(crate) fn try_all(
     managers: &Managers,
     primitive: Primitive,
@@ -163,7 +163,7 @@ pub(crate) fn try_all(
     try_places(managers, primitive, slots, raw, bytes, ad, trials)
 }
 
-// Whether the tag of the body under the key that is kept at this place is this one.
+// Whether `tag` is the tag of the body under the key kept at this place.
 fn verify_at(
     managers: &Managers,
     slots: &[Option<Kept>],
@@ -205,7 +205,7 @@ fn verify_key(
         .verify(&kept.key, tag, body, kept.is_legacy, trials)
 }
 
-// Tries the tag under the keys that are kept at these places, in order.
+// Tries the tag under the keys kept at these places, in order.
 fn verify_places(
     managers: &Managers,
     slots: &[Option<Kept>],
@@ -229,7 +229,7 @@ fn verify_places(
     false
 }
 
-/// Tries the tag under the keys with the prefix at its front, and then under those with none.
+/// Tries the tag under the keys with the prefix at its front, then under those without.
 pub(crate) fn verify_all(
     managers: &Managers,
     held: &Held,
