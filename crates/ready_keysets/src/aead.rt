@@ -1,4 +1,4 @@
-//! Work of AEADs under the standard managers, which are made for one call.
+//! Work of AEADs under the standard managers, made for one call.
 
 ghost use Rattle.std.specs.Prelude.{◌≡◌, ◌≤◌, length, IfOk, IfErr, OnErr};
 ghost use Rattle.key_msgs.specs.KeyTypes.{url_of_type};
@@ -62,7 +62,7 @@ fn hold_among(
     }
 }
 
-/// Does work with the held keys, which is theirs.
+/// Does work with the held keys, of their primitive.
 pub(crate) fn perform(
     alloc: Global,
     keys: &mut HeldKeys,
@@ -109,7 +109,8 @@ fn perform_among(
     }
 }
 
-/// The keyset that an encrypted text gives under a master, whose keys are prepared for this call alone.
+/// The keyset that an encrypted text gives under a master, whose keys are prepared only for this
+/// call.
 pub(crate) fn unwrap(
     alloc: Global,
     master: &Keyset,

@@ -1,4 +1,4 @@
-//! Work of deterministic AEADs under the standard managers, which are made for one call.
+//! Work of deterministic AEADs under the standard managers, made for one call.
 
 ghost use Rattle.std.specs.Prelude.{◌≡◌, IfOk, IfErr, OnErr};
 ghost use Rattle.key_msgs.specs.KeyTypes.{url_of_type};
@@ -56,7 +56,7 @@ fn hold_among(
     }
 }
 
-/// Does work with the held keys, which is theirs.
+/// Does work with the held keys, of their primitive.
 pub(crate) fn perform(
     alloc: Global,
     keys: &mut HeldKeys,

@@ -1,8 +1,8 @@
 //! Keysets that are ready for work: the keys of a keyset for one primitive, kept beside it without
-//! managers, and what they seal, open, tag, verify and derive into a slice of the caller's.
+//! managers, and sealing, opening, tagging, verifying and deriving with them into a caller's slice.
 //!
-//! The managers of the standard table are made anew for each call, those of the one primitive.
-//! Streams aren't served. A keyset can be read from its text, or opened from an encrypted one.
+//! For each call the standard managers of its primitive are made again. Streams aren't served. A
+//! keyset can be read from its text, or opened from an encrypted one.
 #![tactic(auto)]
 
 mod aead;

@@ -67,7 +67,7 @@ pub(crate) fn perform_under(
     done
 }
 
-/// Does work by a handle.
+/// Does work with a handle.
 fn perform_by(
     alloc: Global,
     handle: &Handle<'_>,
@@ -95,7 +95,7 @@ fn perform_by(
     }
 }
 
-/// Writes an answer at the front of the output, where there is room.
+/// Writes an answer at the front of the output, if there is room.
 fn put(bytes: &[u8], out: &mut [u8]) -> Result<usize, Refusal>
     ensures answered { (lack : RefusalValue) → IsAnswered lack (Some bytes.now) out.old out.new result }
     ensures kept { OnErr result (out.new ≡ out.old) }

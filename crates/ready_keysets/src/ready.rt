@@ -64,8 +64,8 @@ fn perform(
 impl ReadyKeyset {
     /// Makes a keyset's keys ready for a primitive, which isn't Stream.
     ///
-    /// `UnfitKey` comes exactly where an ENABLED key can't serve for the primitive. No other
-    /// refusal comes but `NoMemory`.
+    /// `UnfitKey` comes if and only if an ENABLED key can't serve for the primitive. The only other
+    /// refusal is `NoMemory`.
     #[tactic(auto, using(crate::proofs::ReadyLemmas::over_at))]
     pub fn new(alloc: Global, keyset: Keyset, primitive: Primitive) -> Result<ReadyKeyset, Refusal>
         requires no_stream { primitive ≢ Stream }
@@ -85,14 +85,14 @@ impl ReadyKeyset {
         self.keys.primitive()
     }
 
-    /// Does a piece of work, writes the answer at the front of `out`, and says how many bytes it
-    /// has. Behind these, and wherever no answer is given, `out` stays as it was.
+    /// Does a piece of work, writes the answer to the front of `out`, and returns how many bytes it
+    /// has. The rest of `out` is unchanged; without an answer all of it is.
     ///
-    /// `OtherPrimitive` comes only where the work isn't the keys' own, and then there is no answer.
-    /// `TooLong` comes where an input has more than 2^30 bytes or more bytes are to be derived than
-    /// the primary key gives, `FewRandomBytes` where they are fewer than its IV, `Refused` where
-    /// nothing opens the bytes or the tag isn't one of the body, `NoRoom` where `out` is shorter
-    /// than the answer: never otherwise. Else only `NoMemory` is left.
+    /// `OtherPrimitive` comes only if the work isn't of the keys' primitive, and then there is no
+    /// answer. `TooLong` comes only if an input has more than 2^30 bytes or more bytes are to be
+    /// derived than the primary key gives, `FewRandomBytes` only if they are fewer than its IV,
+    /// `Refused` only if no key opens the bytes or the tag isn't the body's, `NoRoom` only if `out`
+    /// is shorter than the answer. The only other refusal is `NoMemory`.
     #[tactic(auto, using(crate::proofs::ReadyLemmas::over_at, crate::proofs::ReadyLemmas::outcome_of))]
     pub fn perform(
         &mut self,

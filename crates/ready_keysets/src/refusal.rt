@@ -6,7 +6,7 @@ ghost use Rattle.ready_keysets.specs.declared.refusal.Refusal.TheVariants as ref
 use std::alloc::AllocFailed;
 use tink_base::NoMemory;
 
-/// Why there is no answer. Nothing was written then.
+/// Why there is no answer. Nothing was written.
 #[derive(Clone, Copy, Debug, PartialEq, Eq)]
 pub enum Refusal {
     /// The text of the master is no keyset.
@@ -15,11 +15,11 @@ pub enum Refusal {
     UnfitMaster,
     /// The text is no encrypted keyset.
     NoWrapped,
-    /// The text is no keyset, or what was opened of an encrypted one is none.
+    /// The text, or what an encrypted text was opened to, is no keyset.
     NoKeyset,
     /// An ENABLED key of the keyset can't serve for the primitive.
     UnfitKey,
-    /// The keys are for another primitive than the work.
+    /// The keys are for another primitive than the work's.
     OtherPrimitive,
     /// A text or an input has more than 2^30 bytes, an encrypted keyset more than 4,194,304 or its
     /// master more than 1,048,576, or more bytes were to be derived than the primary key gives.
@@ -31,7 +31,7 @@ pub enum Refusal {
     Refused,
     /// The answer has more bytes than the output.
     NoRoom,
-    /// Memory was refused.
+    /// Memory couldn't be allocated.
     NoMemory,
 }
 

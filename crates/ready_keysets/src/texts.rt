@@ -14,10 +14,10 @@ use keyset_model::{ReadError, read_binary};
 use std::alloc::Global;
 
 impl ReadyKeyset {
-    /// Makes the keyset ready that a text in JSON is, for a primitive, which isn't Stream.
+    /// Makes the keyset in a JSON text ready for a primitive, which isn't Stream.
     ///
-    /// `TooLong` comes only where the text has more than 2^30 bytes, `NoKeyset` only where it is no
-    /// keyset, and `UnfitKey` only where it is one of which an ENABLED key can't serve.
+    /// `TooLong` comes only if the text has more than 2^30 bytes, `NoKeyset` only if it is no
+    /// keyset, and `UnfitKey` only if an ENABLED key of the keyset can't serve.
     pub fn of_json(alloc: Global, text: &[u8], primitive: Primitive) -> Result<ReadyKeyset, Refusal>
         requires no_stream { primitive ≢ Stream }
         ensures made { IfOk result (IsOf primitive (reads_json text.now)) }
@@ -33,7 +33,7 @@ impl ReadyKeyset {
         }
     }
 
-    /// Makes the keyset ready whose binary form this is, as `of_json` does.
+    /// Makes the keyset with this binary form ready, as `of_json` does.
     pub fn of_binary(
         alloc: Global,
         bytes: &[u8],

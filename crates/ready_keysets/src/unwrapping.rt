@@ -23,14 +23,15 @@ const ENCRYPTED_LIMIT: usize = 4_194_304;
 const MASTER_LIMIT: usize = 1_048_576;
 
 impl ReadyKeyset {
-    /// Makes the keyset ready that is sealed in an encrypted text, for a primitive, which isn't Stream.
-    /// Each of the two texts is in JSON or else in the binary form. The master's keys are let go.
+    /// Makes the keyset sealed in an encrypted text ready for a primitive, which isn't Stream. Each
+    /// of the two texts is in JSON or in the binary form. The master's keys aren't kept.
     ///
-    /// `TooLong` comes only where the encrypted text has more than 4,194,304 bytes or the master's more
-    /// than 1,048,576. Else the first step that fails is told: `NoMaster` where the master's text is no
-    /// keyset, `UnfitMaster` where an ENABLED key of it can't serve as an AEAD, `NoWrapped` where the
-    /// encrypted text isn't of its form, `Refused` where no key of the master opens it, `NoKeyset` where
-    /// what was opened is no keyset, and `UnfitKey` where an ENABLED key of that can't serve.
+    /// `TooLong` comes only if the encrypted text has more than 4,194,304 bytes or the master's
+    /// more than 1,048,576. Otherwise the first step that fails is reported: `NoMaster` if the
+    /// master's text is no keyset, `UnfitMaster` if an ENABLED key of it can't serve as an AEAD,
+    /// `NoWrapped` if the encrypted text isn't of its form, `Refused` if no key of the master opens
+    /// it, `NoKeyset` if what was opened is no keyset, and `UnfitKey` if an ENABLED key of that
+    /// keyset can't serve.
     #[tactic(auto, using(crate::proofs::UnwrapLemmas::lacking_inside, crate::proofs::UnwrapLemmas::unfit_inside))]
     pub fn of_wrapped(
         alloc: Global,
@@ -75,7 +76,7 @@ fn keyset_inside(
     }
 }
 
-/// The master that a text is.
+/// The master keyset in a text.
 #[tactic(auto, using(crate::proofs::UnwrapLemmas::read_ok, crate::proofs::UnwrapLemmas::read_none))]
 fn read_master(alloc: Global, text: &[u8], json: bool) -> Result<Keyset, Refusal>
     requires bound { length text.now ≤ 1048576 }
@@ -115,7 +116,7 @@ pub(crate) fn unwrap_under(
     }
 }
 
-/// The same by a handle of the master.
+/// The same with a handle of the master.
 fn unwrap_by(
     alloc: Global,
     handle: &Handle<'_>,
@@ -134,7 +135,7 @@ fn unwrap_by(
     }
 }
 
-/// What a fault of unwrapping is called.
+/// The refusal for a fault of unwrapping.
 fn refusal(fault: UnwrapFault) -> Refusal
     ensures { result ≡ refusal_of fault }
 {

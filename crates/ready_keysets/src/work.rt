@@ -1,4 +1,4 @@
-//! What is asked of a keyset.
+//! The work that a keyset does.
 
 ghost use Rattle.std.specs.Bool.{OnFalse, OnTrue};
 ghost use Rattle.std.specs.Prelude.{◌≡◌};
@@ -18,13 +18,13 @@ pub enum Work<'a> {
     Open(&'a [u8], &'a [u8]),
     /// Seal a plaintext with associated data, without an IV.
     Dseal(&'a [u8], &'a [u8]),
-    /// Open with associated data what was sealed without an IV.
+    /// Open, with associated data, bytes sealed without an IV.
     Dopen(&'a [u8], &'a [u8]),
     /// Tag a body.
     Tag(&'a [u8]),
     /// Verify this tag, of this body. The answer has no bytes.
     Verify(&'a [u8], &'a [u8]),
-    /// Derive from an input so many bytes.
+    /// Derive this many bytes from an input.
     Derive(&'a [u8], usize),
 }
 

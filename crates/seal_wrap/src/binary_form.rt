@@ -1,5 +1,5 @@
-//! The binary form of a wrapped keyset, written and read (tink.proto: EncryptedKeyset, KeysetInfo and
-//! its KeyInfo).
+//! The binary form of a wrapped keyset, written and read (tink.proto: EncryptedKeyset, KeysetInfo
+//! and its KeyInfo).
 
 ghost use Rattle.std.specs.Prelude.{◌≡◌, ◌≤◌, ◌+◌, ◌^◌, Ok, Err, length, IfOk, IfErr};
 ghost use Rattle.std.specs.List.{AllByRecursion};
@@ -25,7 +25,7 @@ const ENCRYPTED_KEYSET: u32 = 2;
 
 const KEYSET_INFO: u32 = 3;
 
-// The field numbers of `KeysetInfo`; the first one is that of a `Keyset`, too.
+// The field numbers of `KeysetInfo`; the first one is also a `Keyset`'s.
 const PRIMARY_KEY_ID: u32 = 1;
 
 const KEY_INFO: u32 = 2;
@@ -85,11 +85,12 @@ fn write_key_info(alloc: Global, key: &Record) -> Result<Vec<u8>, NoMemory>
     Ok(writer.finish())
 }
 
-/// The encrypted bytes of an `EncryptedKeyset` message: those of its last field of that number, and none
-/// where there is none.
+/// The encrypted bytes of an `EncryptedKeyset` message: those of its last field of that number,
+/// empty if there is none.
 ///
-/// `OuterWire` comes exactly where the message can't be cut into fields, or one of the two known fields
-/// isn't bytes, with the place of the first field at fault. What the info's bytes are isn't looked at.
+/// `OuterWire` comes if and only if the message can't be cut into fields, or one of the two known
+/// fields isn't bytes, with the place of the first field at fault. The info's bytes aren't
+/// examined.
 pub fn read_wrapped_binary(alloc: Global, text: &[u8]) -> Result<&[u8], UnwrapFault>
     ensures sealed { IfOk result (λ sealed. sealed_in_binary text.now ≡ Ok sealed.now) }
     ensures refusal { IfErr result (λ fault. IsRefusal fault (sealed_in_binary text.now)) }
@@ -106,7 +107,8 @@ pub fn read_wrapped_binary(alloc: Global, text: &[u8]) -> Result<&[u8], UnwrapFa
     }
 }
 
-/// The encrypted bytes of these fields. `Wire` has the first of the two known ones that isn't bytes.
+/// The encrypted bytes of these fields. `Wire` holds the first of the two known fields that isn't
+/// bytes.
 fn encrypted_bytes<'t>(text: &'t [u8], message: &Fields) -> Result<&'t [u8], Wire>
     requires of_source { AllByRecursion (IsOf text.now) message.now }
     ensures sealed { IfOk result (λ sealed.
@@ -139,11 +141,13 @@ fn bytes_at(text: &[u8], field: Field) -> Result<&[u8], Wire>
     Ok(&text[field.start..field.end])
 }
 
-/// Whether the text is an encrypted keyset in the binary form: an `EncryptedKeyset` message with encrypted
-/// bytes, at least one, and without the primary id that a `Keyset` has; if an info is wanted, with that, too.
+/// Whether the text is an encrypted keyset in the binary form: an `EncryptedKeyset` message with at
+/// least one encrypted byte, without the primary id of a `Keyset`, and, if `informed`, with an
+/// info.
 ///
-/// The keys of a keyset in clear have the number of the encrypted bytes. So if the fields of that number are
-/// all keys, ask with an info. No master is needed: what is in clear is looked at, and not believed.
+/// The keys of a keyset in clear have the field number of the encrypted bytes, so ask for an info
+/// if all fields of that number are keys. No master is needed: what is in clear is examined but not
+/// trusted.
 #[tactic(auto, unfolding(crate::specs::Unwrapped::is_wrapped_binary))]
 pub fn is_wrapped_binary(alloc: Global, text: &[u8], informed: bool) -> Result<bool, NoMemory>
     ensures { IfOk result (λ wrapped. wrapped ≡ is_wrapped_binary text.now informed) }
@@ -155,7 +159,7 @@ pub fn is_wrapped_binary(alloc: Global, text: &[u8], informed: bool) -> Result<b
     }
 }
 
-/// Whether these fields are those of an encrypted keyset.
+/// Whether these are the fields of an encrypted keyset.
 fn is_encrypted(text: &[u8], message: &Fields, informed: bool) -> bool
     requires of_source { AllByRecursion (IsOf text.now) message.now }
     ensures { result ≡ is_encrypted informed (seen_all text.now message.now) }
@@ -163,7 +167,7 @@ fn is_encrypted(text: &[u8], message: &Fields, informed: bool) -> bool
     has_sealed(text, message) && is_no_id(text, message) && (!informed || has_info(text, message))
 }
 
-/// Whether there are encrypted bytes, at least one.
+/// Whether there is at least one encrypted byte.
 fn has_sealed(text: &[u8], message: &Fields) -> bool
     requires of_source { AllByRecursion (IsOf text.now) message.now }
     ensures { result ≡ has_sealed (encrypted_in (seen_all text.now message.now)) }
@@ -174,7 +178,7 @@ fn has_sealed(text: &[u8], message: &Fields) -> bool
     }
 }
 
-/// Whether there is no primary id, or 0.
+/// Whether the primary id is missing or 0.
 fn is_no_id(text: &[u8], message: &Fields) -> bool
     ensures { result ≡ is_no_id (number_in 1 (seen_all text.now message.now)) }
 {
@@ -184,7 +188,7 @@ fn is_no_id(text: &[u8], message: &Fields) -> bool
     }
 }
 
-/// Whether there is an info, of at least one byte.
+/// Whether there is an info of at least one byte.
 fn has_info(text: &[u8], message: &Fields) -> bool
     requires of_source { AllByRecursion (IsOf text.now) message.now }
     ensures { result ≡ has_info (bytes_in 3 (seen_all text.now message.now)) }

@@ -18,7 +18,7 @@ use tink_base::{Entropy, NoMemory};
 /// Why a template has no manager for its keys, in the order in which causes are looked for.
 #[derive(Clone, Copy, Debug, PartialEq, Eq)]
 pub enum DataKeyFault {
-    /// The template's keys aren't those of an AEAD.
+    /// The template's keys aren't AEAD keys.
     NotAead,
     /// No AEAD manager has the type URL of the template's keys.
     NoManager,
@@ -26,9 +26,9 @@ pub enum DataKeyFault {
 
 /// The manager of the keys that a template makes.
 ///
-/// `NotAead` comes exactly where the template's primitive isn't Aead. `NoManager` comes exactly where it
-/// is, and the managers have no AEAD manager with the type URL of the template's keys. No memory is
-/// taken.
+/// `NotAead` comes if and only if the template's primitive isn't Aead. `NoManager` comes if and
+/// only if it is, and the managers have no AEAD manager with the type URL of the template's keys.
+/// No memory is taken.
 pub fn data_key<'m>(
     managers: &'m Managers,
     template: &Template,
@@ -58,7 +58,7 @@ pub(crate) struct DataKey {
     pub(crate) key: Prepared,
 }
 
-/// Draws so many random bytes, in one fill; of no bytes nothing is asked for.
+/// Draws `size` random bytes, in one fill; draws nothing if `size` is 0.
 pub(crate) fn draw<E: Entropy>(
     alloc: Global,
     size: usize,
@@ -91,7 +91,7 @@ fn value_made(alloc: Global, template: &Template, random: &[u8]) -> Result<Vec<u
     write_key(alloc, &key)
 }
 
-/// Makes a data key of random bytes that are drawn in one fill, and has its manager check it.
+/// Makes a data key from random bytes drawn in one fill, and has its manager check it.
 pub(crate) fn make<E: Entropy>(
     alloc: Global,
     manager: &dyn AeadManager,

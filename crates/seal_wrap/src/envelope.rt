@@ -1,8 +1,8 @@
-//! Envelope sealing (Google's Tink: KmsEnvelopeAead): a plaintext is sealed under a data key that was
-//! made for it alone, and the data key under a keyset.
+//! Envelope sealing (Google's Tink: KmsEnvelopeAead): a plaintext is sealed under a data key made
+//! for it alone, and the data key under a keyset.
 //!
-//! An envelope is the length of the sealed data key as four bytes, the highest first, the sealed data
-//! key, and the payload: IV, ciphertext and tag under the data key, without a prefix. The data key's
+//! An envelope is the length of the sealed data key as four bytes, big-endian, the sealed data key,
+//! and the payload: IV, ciphertext and tag under the data key, without a prefix. The data key's
 //! message is sealed with empty associated data.
 
 ghost use Rattle.std.specs.Prelude.{◌≡◌, ◌+◌, ◌^◌, ◌<◌, ◌≤◌, ℕ, List, drop, length, slice_range, take, IfOk, IfErr, IfSome, OnOk, option_map};
@@ -32,21 +32,21 @@ use wrapped_prims::{Handle, SealFault};
 pub enum EnvelopeFault {
     /// The entropy failed.
     EntropyFault,
-    /// The data key that was made breaks this rule of its manager's scheme, the first one.
+    /// The first rule of its manager's scheme that the new data key breaks.
     Refused(Rule),
-    /// Memory was refused.
+    /// Memory couldn't be allocated.
     NoMemory,
 }
 
-/// The bytes of the length of a sealed data key.
+/// The size of the length of a sealed data key, in bytes.
 const LENGTH: usize = 4;
 
-/// How many bytes stand before the plaintext that `envelope_seal` takes, for the length of the sealed data
-/// key, that key, and an IV of the data key. They are more than these ever have: the message of a data key
-/// has at most 1,000 bytes, its sealing at most 85 more, and an IV at most 16.
+/// How many bytes precede the plaintext that `envelope_seal` takes: room for the length of the
+/// sealed data key, that key, and an IV of the data key. It is more than these ever need: a data
+/// key's message has at most 1,000 bytes, its sealing at most 85 more, and an IV at most 16.
 pub const ENVELOPE_ROOM: usize = 4096;
 
-/// Writes what stands before a payload over `front`, which has its size.
+/// Writes what precedes a payload over `front`, which has its size.
 fn write_before(sealed: &[u8], front: &mut [u8])
     requires sealed_bound { length sealed.now < 2 ^ 32 }
     requires size { length front.old ≡ 4 + length sealed.now }
@@ -57,7 +57,7 @@ fn write_before(sealed: &[u8], front: &mut [u8])
     key.copy_from_slice(sealed);
 }
 
-/// The list with what stands before a payload in it, from `start` on.
+/// The list with what precedes a payload written into it, from `start` on.
 fn with_before(sealed: &[u8], start: usize, mut bytes: Vec<u8>) -> Vec<u8>
     requires sealed_bound { length sealed.now < 2 ^ 32 }
     requires within { start + (4 + length sealed.now) ≤ length bytes.items }
@@ -72,8 +72,8 @@ fn with_before(sealed: &[u8], start: usize, mut bytes: Vec<u8>) -> Vec<u8>
     bytes
 }
 
-/// Makes the payload in place, behind the first `at` bytes and room for an IV: the plaintext that stands
-/// there under the data key, with an IV that is drawn in one fill, unless it has no bytes.
+/// Makes the payload in place: seals what follows the first `at` bytes and room for an IV, under
+/// the data key, with an IV drawn in one fill, unless it has no bytes.
 fn seal_payload<E: Entropy>(
     alloc: Global,
     manager: &dyn AeadManager,
@@ -102,8 +102,8 @@ fn seal_payload<E: Entropy>(
     }
 }
 
-/// Seals under a data key that was made, whose message is short, as `envelope_seal` does. What was drawn
-/// before is told by the caller.
+/// Seals as `envelope_seal` does, under a data key that was made, whose message is short. The
+/// caller's contract states what was drawn before.
 fn seal_made<E: Entropy>(
     alloc: Global,
     handle: &Handle<'_>,
@@ -154,18 +154,18 @@ fn seal_made<E: Entropy>(
     Ok(part_of(bytes, start..end))
 }
 
-/// Seals a plaintext in an envelope, in place: under a fresh data key of the template, and that key under
-/// the primary key of the handle's keyset. The plaintext is what stands in `bytes` behind the first
-/// `ENVELOPE_ROOM` bytes, whatever these are, and the envelope is all that the list holds then. Plaintext
-/// and associated data have at most 16,777,216 bytes each. The manager is that of the template's keys, as
-/// `data_key` gives it.
+/// Seals a plaintext in an envelope, in place: under a fresh data key of the template, and that key
+/// under the primary key of the handle's keyset. The plaintext is what follows the first
+/// `ENVELOPE_ROOM` bytes of `bytes`, whatever these are; the result is the envelope alone.
+/// Plaintext and associated data have at most 16,777,216 bytes each. The manager is the one of the
+/// template's keys, as `data_key` returns it.
 ///
-/// The data key is drawn in one fill, then an IV of the primary key, then one of the data key, each in one
-/// fill unless it has no bytes. `EntropyFault` comes only where the entropy failed at one of these, and
-/// what was drawn are the fills before it; what that one took is lost. `Refused` comes exactly where the
-/// data key that was made breaks a rule of the manager's scheme, and names the first one; the fill of the
-/// data key alone was drawn then. After `NoMemory` none, one, two or all of the fills were drawn. No output
-/// prefix stands in front of the payload. No running time is promised.
+/// The data key is drawn in one fill, then an IV of the primary key, then one of the data key, each
+/// in one fill unless it has no bytes. `EntropyFault` comes only if one of these fills failed; the
+/// fills before it were drawn, and what the failed one took is lost. `Refused` comes if and only if
+/// the new data key breaks a rule of the manager's scheme, and names the first one; then only the
+/// data key was drawn. After `NoMemory` none, one, two or all of the fills were drawn. The payload
+/// has no output prefix. No running time is promised.
 pub fn envelope_seal<E: Entropy>(
     alloc: Global,
     handle: &Handle<'_>,
@@ -203,8 +203,8 @@ pub fn envelope_seal<E: Entropy>(
     seal_made(alloc, handle, manager, &made, bytes, ad, entropy)
 }
 
-/// Opens a payload in place under the data key with this message, and answers where the plaintext stands
-/// then.
+/// Opens a payload in place under the data key with this message, and returns the plaintext's
+/// range.
 fn open_with(
     alloc: Global,
     manager: &dyn AeadManager,
@@ -225,8 +225,8 @@ fn open_with(
     }
 }
 
-/// Opens in place what stands behind the length of the sealed data key, and answers where the plaintext
-/// stands in `bytes` then.
+/// Opens in place what follows the length of the sealed data key, and returns the plaintext's
+/// range.
 fn open_behind(
     alloc: Global,
     handle: &Handle<'_>,
@@ -258,7 +258,7 @@ fn open_behind(
     }
 }
 
-/// Opens an envelope in place, and answers where the plaintext stands in `bytes` then.
+/// Opens an envelope in place, and returns the plaintext's range in `bytes`.
 fn open_envelope(
     alloc: Global,
     handle: &Handle<'_>,
@@ -287,13 +287,13 @@ fn open_envelope(
     }
 }
 
-/// Opens an envelope, of at most 16,778,240 bytes, with associated data of at most 16,777,216, in place:
-/// what is given is the envelope's list, with the plaintext in it alone.
+/// Opens an envelope, of at most 16,778,240 bytes, with associated data of at most 16,777,216, in
+/// place: returns the envelope's list, now with only the plaintext.
 ///
-/// `None` comes exactly where there are fewer than four bytes; the length in the first four is 0 or above
-/// the number of bytes that follow; no key of the handle's keyset opens the sealed data key with empty
-/// associated data; what it opens to isn't a valid key of the manager's scheme; or the payload doesn't
-/// open under that key. An error says that memory was refused.
+/// `None` comes if and only if there are fewer than four bytes; the length in the first four is 0
+/// or above the number of bytes after them; no key of the handle's keyset opens the sealed data key
+/// with empty associated data; what it opens to isn't a valid key of the manager's scheme; or the
+/// payload doesn't open under that key. An error means that memory couldn't be allocated.
 pub fn envelope_open(
     alloc: Global,
     handle: &Handle<'_>,
@@ -318,7 +318,7 @@ pub fn envelope_open(
     }
 }
 
-/// The data key of an envelope that was opened.
+/// The data key of an envelope, opened.
 #[derive(Drop)]
 pub struct EnvelopeKey {
     /// The message of the data key.
@@ -327,7 +327,7 @@ pub struct EnvelopeKey {
     pub payload: usize,
 }
 
-/// The message of a data key, where it is a valid one of the manager's scheme.
+/// The message of a data key, if it is a valid message of the manager's scheme.
 fn valid_message(
     alloc: Global,
     manager: &dyn AeadManager,
@@ -345,7 +345,7 @@ fn valid_message(
     }
 }
 
-/// Opens the data key of this size, with which `bytes` begin: its message.
+/// Opens the data key of this size at the front of `bytes`, and returns its message.
 fn key_behind(
     alloc: Global,
     handle: &Handle<'_>,
@@ -375,10 +375,10 @@ fn key_behind(
 
 /// Opens the data key of an envelope, of at most 16,778,240 bytes; the payload isn't opened.
 ///
-/// `None` comes exactly where there are fewer than four bytes; the length in the first four is 0 or above
-/// the number of bytes that follow; no key of the handle's keyset opens the sealed data key with empty
-/// associated data; or what it opens to isn't a valid key of the manager's scheme. An error says that memory
-/// was refused.
+/// `None` comes if and only if there are fewer than four bytes; the length in the first four is 0
+/// or above the number of bytes after them; no key of the handle's keyset opens the sealed data key
+/// with empty associated data; or what it opens to isn't a valid key of the manager's scheme. An
+/// error means that memory couldn't be allocated.
 pub fn envelope_key(
     alloc: Global,
     handle: &Handle<'_>,
@@ -409,13 +409,13 @@ pub fn envelope_key(
     }
 }
 
-/// Seals the data key of an envelope anew, in place: under the primary key of the handle's keyset, with
-/// empty associated data. The envelope stands in `bytes` behind the first `ENVELOPE_ROOM` bytes, whatever
-/// these are, and its data key is the one given; the new envelope is all that the list holds then, and has the
+/// Seals the data key of an envelope again, in place: under the primary key of the handle's keyset,
+/// with empty associated data. The envelope follows the first `ENVELOPE_ROOM` bytes of `bytes`,
+/// whatever these are, and `key` is its data key; the result is the new envelope alone, with the
 /// same payload. An envelope has at most 16,778,240 bytes.
 ///
-/// One IV is drawn, in one fill, unless it has no bytes. `EntropyFault` comes only where the entropy failed
-/// at that. After `NoMemory` nothing or the IV was drawn. No running time is promised.
+/// One IV is drawn, in one fill, unless it has no bytes. `EntropyFault` comes only if that fill
+/// failed. After `NoMemory` either nothing or the IV was drawn. No running time is promised.
 pub fn envelope_reseal<E: Entropy>(
     alloc: Global,
     handle: &Handle<'_>,

@@ -23,8 +23,8 @@ const ENCRYPTED_KEYSET: &str = "encryptedKeyset";
 /// The name of their field in tink.proto.
 const ENCRYPTED_KEYSET_FIELD: &str = "encrypted_keyset";
 
-/// The JSON text of sealed bytes and the info of a keyset: compact, with the names of members in byte
-/// order, and a newline. An empty type URL is left out.
+/// The JSON text of sealed bytes and the info of a keyset: compact, with the names of members in
+/// byte order, and a newline. An empty type URL is left out.
 pub fn write_wrapped_json(
     alloc: Global,
     keyset: &Keyset,
@@ -38,7 +38,7 @@ pub fn write_wrapped_json(
     Ok(text)
 }
 
-/// The object of the whole.
+/// The object of the whole text.
 fn wrapped_value(alloc: Global, keyset: &Keyset, sealed: &[u8]) -> Result<Value, AllocError>
     ensures { IfOk result (λ value. view value ≡ wrapped_value sealed.now (info_of keyset.now)) }
 {
@@ -102,7 +102,7 @@ fn key_value(alloc: Global, key: &Record) -> Result<Value, AllocError>
     Ok(Value::Object(members))
 }
 
-/// A type URL as a member, and none where it is empty.
+/// A type URL as a member; no member if it is empty.
 fn url_member(alloc: Global, url: &str) -> Result<Map<String, Value>, AllocError>
     ensures { IfOk result (λ members. members_view members.entries ≡ url_member url.now) }
 {
@@ -118,12 +118,12 @@ fn url_member(alloc: Global, url: &str) -> Result<Map<String, Value>, AllocError
     Ok(members)
 }
 
-/// The encrypted bytes of a JSON text, less one newline at its end, and none where the member is missing
+/// The encrypted bytes of a JSON text, less one newline at its end; empty if the member is missing
 /// or null.
 ///
-/// `NotJson` comes exactly where `serde_json` reads no value from it, or lists and objects nest deeper than 32
-/// in it. `Member` comes exactly where the value isn't an object, or the member is there and isn't base64 in a
-/// text. Other members aren't looked at.
+/// `NotJson` comes if and only if `serde_json` reads no value from it, or lists and objects nest
+/// deeper than 32. `Member` comes if and only if the value isn't an object, or the member is
+/// present but no base64 text. Other members are ignored.
 pub fn read_wrapped_json(alloc: Global, text: &[u8]) -> Result<Bytes, UnwrapFault>
     ensures sealed { IfOk result (λ sealed. sealed_in_json text.now ≡ Ok sealed) }
     ensures refusal { IfErr result (λ fault. IsRefusal fault (sealed_in_json text.now)) }
@@ -154,7 +154,7 @@ fn encrypted_of(alloc: Global, value: &Value) -> Result<Bytes, UnwrapFault>
     }
 }
 
-/// The bytes of the member, none where it is null.
+/// The bytes of the member, empty if it is null.
 fn member_bytes(alloc: Global, member: &Value) -> Result<Bytes, UnwrapFault>
     ensures sealed { IfOk result (λ sealed.
         or_member (member_bytes (Some (view member.now))) ≡ Ok sealed) }
@@ -172,8 +172,8 @@ fn member_bytes(alloc: Global, member: &Value) -> Result<Bytes, UnwrapFault>
     }
 }
 
-/// What an object has of the encrypted bytes, by its name or, where it has none of that name, by that
-/// of the field.
+/// An object's member of the encrypted bytes, by its JSON name or, if there is none, by the field's
+/// name.
 fn encrypted_member(object: &Value) -> Option<&Value>
     ensures { option_map (λ v. view v.now) result ≡ encrypted_member (view object.now) }
 {

@@ -1,4 +1,4 @@
-//! Laws of the definitions. Each is the contract of a function that does nothing else.
+//! Laws of the definitions. Each is the contract of a function with no effect.
 
 ghost use Rattle.seal_wrap.specs.EnvelopeLaws.{DataKeysAreServed, DataKeysAreValid, EnvelopeBack, EnvelopeResealed, EnvelopesFit, ResealedFit};
 ghost use Rattle.seal_wrap.specs.Laws.{TextHidesKeys, WrapBack, WrapBackBytes};
@@ -11,8 +11,9 @@ use keyset_model::laws::binary_back;
 use managers::laws::{reading_is_admitted, sealings_open};
 use wrapped_prims::laws::same_key_opens;
 
-/// What was wrapped under a master whose primary key isn't RAW unwraps under every master in which that key
-/// is ENABLED and alone under its output prefix: in the form in which it was written, to the keyset.
+/// What was wrapped under a master whose primary key isn't RAW unwraps, in the form in which it was
+/// written, to the keyset under every master in which that key is ENABLED and alone under its
+/// output prefix.
 pub fn wrap_back()
     ensures { WrapBack }
 {
@@ -20,8 +21,8 @@ pub fn wrap_back()
     same_key_opens();
 }
 
-/// The same where the key messages of the master, the keyset's binary form and the random bytes are
-/// bytes: nothing is asked of what was sealed.
+/// The same if the key messages of the master, the keyset's binary form and the random bytes are
+/// bytes: nothing is required of the sealed bytes.
 pub fn wrap_back_bytes()
     ensures { WrapBackBytes }
 {
@@ -29,14 +30,14 @@ pub fn wrap_back_bytes()
     sealings_are_bytes();
 }
 
-/// What a keyset seals has at most 85 bytes more than the plaintext, whatever its key and the random
-/// bytes, and at most 21 where it is sealed without an IV.
+/// What a keyset seals has at most 85 bytes more than the plaintext, whatever its key and the
+/// random bytes, and at most 21 if it is sealed without an IV.
 pub fn sealings_fit()
     ensures sealed { SealingsFit }
     ensures dsealed { DsealingsFit }
 {}
 
-/// What is sealed of bytes are bytes, where the key messages of the keyset and the random bytes are.
+/// Sealing bytes gives bytes if the key messages of the keyset and the random bytes are bytes.
 pub fn sealings_are_bytes()
     ensures { SealingsAreBytes }
 {
@@ -46,15 +47,15 @@ pub fn sealings_are_bytes()
     gcm_siv_seals_bytes();
 }
 
-/// A wrapped text is made of the sealed bytes and the info alone, and no key message is in the info.
+/// A wrapped text depends only on the sealed bytes and the info, and the info holds no key message.
 pub fn text_hides_keys()
     ensures { TextHidesKeys }
 {}
 
-/// What was sealed in an envelope under a keyset whose primary key isn't RAW opens to the plaintext, with
-/// the scheme of an AEAD and the associated data with which it was sealed, under every keyset in which
-/// that key is ENABLED and alone under its output prefix. The data key is that of a template of the table
-/// for keys of AEADs.
+/// What was sealed in an envelope under a keyset whose primary key isn't RAW opens to the
+/// plaintext, with the same AEAD scheme and associated data, under every keyset in which that key
+/// is ENABLED and alone under its output prefix. The data key is made from an AEAD template of the
+/// table.
 pub fn envelope_back()
     ensures { EnvelopeBack }
 {
@@ -63,11 +64,11 @@ pub fn envelope_back()
     reading_is_admitted();
 }
 
-/// What was sealed in an envelope under a keyset whose primary key isn't RAW, and resealed under a second one
-/// in which that key is ENABLED and alone under its output prefix, and whose own primary key isn't RAW, opens
-/// to the plaintext under every keyset in which the second one's primary key is ENABLED and alone under its
-/// output prefix: with the scheme and the associated data with which it was sealed, whatever became of the
-/// first key. The data key is that of a template of the table for keys of AEADs.
+/// What was sealed in an envelope under a keyset whose primary key isn't RAW, and resealed under a
+/// second one in which that key is ENABLED and alone under its output prefix, and whose own primary
+/// key isn't RAW, opens to the plaintext, with the same scheme and associated data, under every
+/// keyset in which the second one's primary key is ENABLED and alone under its output prefix,
+/// whatever became of the first key. The data key is made from an AEAD template of the table.
 pub fn envelope_resealed()
     ensures { EnvelopeResealed }
 {
@@ -76,21 +77,21 @@ pub fn envelope_resealed()
     reading_is_admitted();
 }
 
-/// An envelope that was resealed has at most 85 bytes more than it had, whoever made it.
+/// Resealing makes an envelope at most 85 bytes longer, whoever made it.
 pub fn resealed_fit()
     ensures { ResealedFit }
 {}
 
-/// An envelope has at most 251 bytes more than the plaintext, whatever its keys and the random bytes, where
-/// the data key is that of a template of the table for keys of AEADs.
+/// An envelope has at most 251 bytes more than the plaintext, whatever its keys and the random
+/// bytes, if the data key is made from an AEAD template of the table.
 pub fn envelopes_fit()
     ensures { EnvelopesFit }
 {
     reading_is_admitted();
 }
 
-/// Under the standard table each template of the table for keys of AEADs has a manager, and each key that
-/// it makes is a valid one of that manager's scheme: no data key is refused.
+/// Under the standard managers each AEAD template of the table has a manager, and each key that it
+/// makes is valid for that manager's scheme: no data key is refused.
 pub fn standard_data_keys()
     ensures served { DataKeysAreServed }
     ensures valid { DataKeysAreValid }

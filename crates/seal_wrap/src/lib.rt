@@ -1,7 +1,7 @@
 //! Encrypted keysets: a keyset is sealed under a master keyset, and written with its info in the
 //! binary form or as JSON (tink.proto's `EncryptedKeyset`); and it is read and opened again.
 //!
-//! What the info of a text says isn't believed, and isn't read.
+//! The info of a text is neither trusted nor read.
 //!
 //! Envelopes: a plaintext is sealed under a data key of its own, and the data key under a keyset.
 #![tactic(auto)]

@@ -16,8 +16,8 @@ use std::alloc::Global;
 use tink_base::{NoMemory, Trials};
 use wrapped_prims::Handle;
 
-/// Why a text gives no keyset, in the order in which causes are looked for: the first one is told.
-/// Places are those of tags, counted in bytes from 0.
+/// Why a text gives no keyset, in the order in which causes are looked for: the first one is
+/// reported. Places are offsets of tags, in bytes from 0.
 #[derive(Clone, Copy, Debug, PartialEq, Eq)]
 pub enum UnwrapFault {
     /// The text is no `EncryptedKeyset` message; this is the place of the first field at fault.
@@ -30,20 +30,21 @@ pub enum UnwrapFault {
     NotOpened,
     /// What was opened is no `Keyset` message; this is the place in it of the first field at fault.
     InnerWire(usize),
-    /// What was opened has this fault of a keyset, the first one.
+    /// The first keyset fault of what was opened.
     Fault(KeysetFault),
-    /// Memory was refused.
+    /// Memory couldn't be allocated.
     NoMemory,
 }
 
-/// Unwraps a keyset from a text of at most 4,194,304 bytes, an `EncryptedKeyset` of tink.proto as JSON
-/// or else in its binary form, under the keys of the handle's keyset, the master.
+/// Unwraps a keyset from a text of at most 4,194,304 bytes, an `EncryptedKeyset` of tink.proto as
+/// JSON or in its binary form, under the keys of the handle's keyset, the master.
 ///
-/// The encrypted bytes alone are read: in the binary form the last field of that number, and in JSON
-/// the member `encryptedKeyset` or, where the object has none of that name, `encrypted_keyset`; null
-/// counts as missing, and what is missing is empty. They are opened with empty associated data, and the
-/// plaintext is read as the binary form of a keyset. Each refusal but `NoMemory` comes exactly where its
-/// step is the first that fails. URL and value of each record have at most as many bytes as the text.
+/// Only the encrypted bytes are read: in the binary form the last field of that number, and in JSON
+/// the member `encryptedKeyset` or, if the object has none of that name, `encrypted_keyset`; null
+/// counts as missing, and what is missing is empty. They are opened with empty associated data, and
+/// the plaintext is read as the binary form of a keyset. Each refusal except `NoMemory` comes if
+/// and only if its step is the first to fail. URL and value of each record have at most as many
+/// bytes as the text.
 pub fn unwrap_keyset(
     alloc: Global,
     handle: &Handle<'_>,
@@ -75,8 +76,8 @@ pub fn unwrap_keyset(
     }
 }
 
-/// Whether the text is an encrypted keyset as JSON: its encrypted bytes are read, as `unwrap_keyset` reads
-/// them, and aren't empty.
+/// Whether the text is an encrypted keyset as JSON: its encrypted bytes can be read, as
+/// `unwrap_keyset` reads them, and aren't empty.
 #[tactic(auto, unfolding(crate::specs::Unwrapped::is_wrapped_json))]
 pub fn is_wrapped_json(alloc: Global, text: &[u8]) -> Result<bool, NoMemory>
     ensures { IfOk result (λ wrapped. wrapped ≡ is_wrapped_json text.now) }
@@ -87,9 +88,9 @@ pub fn is_wrapped_json(alloc: Global, text: &[u8]) -> Result<bool, NoMemory>
     }
 }
 
-/// The first five of a text's encrypted bytes, or all of fewer: the output prefix of the key that sealed them, where
-/// that has one. The bytes are read as `unwrap_keyset` reads them, and there are none where it can't read them.
-/// Nothing is opened.
+/// The first five of a text's encrypted bytes, or all if there are fewer: the output prefix of the
+/// key that sealed them, if it has one. The bytes are read as `unwrap_keyset` reads them; if it
+/// can't, the result is empty. Nothing is opened.
 pub fn encrypted_front(alloc: Global, text: &[u8], json: bool) -> Result<Vec<u8>, NoMemory>
     ensures { IfOk result (λ front.
         front.items ≡ take 5 (encrypted_bytes (sealed_in json text.now))) }
@@ -107,7 +108,7 @@ pub fn encrypted_front(alloc: Global, text: &[u8], json: bool) -> Result<Vec<u8>
     }
 }
 
-/// The first five bytes, or all of fewer.
+/// The first five bytes, or all if there are fewer.
 fn copied_front(alloc: Global, bytes: &[u8]) -> Result<Vec<u8>, NoMemory>
     ensures { IfOk result (λ front. front.items ≡ take 5 bytes.now) }
 {
@@ -120,7 +121,7 @@ fn copied_front(alloc: Global, bytes: &[u8]) -> Result<Vec<u8>, NoMemory>
     Ok(front)
 }
 
-/// No byte, of a text that is refused so, unless memory was refused.
+/// No bytes, for a text refused with this fault, unless memory couldn't be allocated.
 fn no_front(alloc: Global, fault: UnwrapFault) -> Result<Vec<u8>, NoMemory>
     ensures { IfOk result (λ front. (json : Bool) (text : List ℕ)
         → IsRefusal fault (sealed_in json text)
@@ -137,7 +138,7 @@ fn no_front(alloc: Global, fault: UnwrapFault) -> Result<Vec<u8>, NoMemory>
     }
 }
 
-/// A text that is refused so is no encrypted keyset, unless memory was refused.
+/// A text refused with this fault is no encrypted keyset, unless memory couldn't be allocated.
 fn unless_starved(fault: UnwrapFault) -> Result<bool, NoMemory>
     ensures { IfOk result (λ wrapped. (text : List ℕ)
         → IsRefusal fault (sealed_in_json text) → wrapped ≡ has_sealed (sealed_in_json text)) }

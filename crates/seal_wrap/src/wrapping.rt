@@ -24,17 +24,17 @@ use wrapped_prims::{Handle, SealFault};
 pub enum WrapFault {
     /// The entropy failed.
     EntropyFault,
-    /// Memory was refused.
+    /// Memory couldn't be allocated.
     NoMemory,
 }
 
-/// Wraps a keyset: its binary form, of at most 2^30 bytes, is sealed with empty associated data under
-/// the primary key of the handle's keyset, the master, and written beside the keyset's info as an
-/// `EncryptedKeyset` of tink.proto, as JSON or else in the binary form.
+/// Wraps a keyset: its binary form, of at most 2^30 bytes, is sealed with empty associated data
+/// under the primary key of the handle's keyset, the master, and written with the keyset's info as
+/// an `EncryptedKeyset` of tink.proto, as JSON or in the binary form.
 ///
-/// One IV is drawn, in one fill, unless it has no bytes. `EntropyFault` comes only where the entropy
-/// failed at that. After `NoMemory` nothing or the IV was drawn. Of the master nothing is in the text but
-/// the output prefix of its primary key.
+/// One IV is drawn, in one fill, unless it has no bytes. `EntropyFault` comes only if that fill
+/// failed. After `NoMemory` either nothing or the IV was drawn. The text holds nothing of the
+/// master except the output prefix of its primary key.
 pub fn wrap<E: Entropy>(
     alloc: Global,
     handle: &Handle<'_>,
@@ -72,7 +72,8 @@ pub fn wrap<E: Entropy>(
     }
 }
 
-/// The text of sealed bytes with the info of a keyset. The clause `bytes` hands out that these are bytes.
+/// The text of sealed bytes with the info of a keyset. The clause `bytes` states that these are
+/// bytes.
 fn text_of(alloc: Global, keyset: &Keyset, json: bool, sealed: &[u8]) -> Result<Vec<u8>, NoMemory>
     requires size_bound { length (binary_of keyset.now) ≤ 2 ^ 30 }
     requires sealed_bound { length sealed.now ≤ 2 ^ 30 + 96 }
