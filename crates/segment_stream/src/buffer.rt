@@ -1,5 +1,5 @@
-//! A buffer that is filled from behind and emptied from the front. It lies in a block that is reserved
-//! once, and is lengthened there as bytes come, so that what isn't used isn't touched.
+//! A buffer that is filled at the back and emptied from the front. Its block is reserved once, and
+//! it grows within the block as bytes come, so that unused memory isn't touched.
 
 ghost use Rattle.std.specs.Prelude.{◌≡◌, ◌+◌, ◌-◌, ◌≤◌, ◌<◌, [], length, take, drop, OnErr, OnOk, IfOk};
 ghost use Rattle.std.specs.Borrow.{sem};
@@ -11,18 +11,18 @@ ghost use Rattle.segment_stream.specs.Reading.{GaveBelow, IsInPlace, ReadBehind,
 use std::alloc::Global;
 use tink_base::{Failed, NoMemory, Source};
 
-/// How many bytes a buffer is lengthened by at once, at most.
+/// The most bytes by which a buffer grows at once.
 const STEP: usize = 65536;
 
-/// Bytes in a block that was reserved for as many as there may ever be. `reserved` alone takes memory,
-/// and no call hands out the allocator.
+/// Bytes in a block reserved for as many as there may ever be. Only `reserved` takes memory, and no
+/// call returns the allocator.
 #[derive(Drop)]
 pub(crate) struct Buffer {
     bytes: Vec<u8>,
 }
 
 impl Buffer {
-    /// No bytes, in a block for so many.
+    /// No bytes, in a block for `size` bytes.
     pub(crate) fn reserved(alloc: Global, size: usize) -> Result<Buffer, NoMemory>
         ensures empty { IfOk result (λ buffer. buffer.bytes.items ≡ []) }
         ensures room { IfOk result (λ buffer. vec_capacity buffer.bytes ≡ size) }
@@ -41,7 +41,7 @@ impl Buffer {
         self.bytes.as_slice()
     }
 
-    /// The bytes, to be written over.
+    /// The bytes, for overwriting.
     pub(crate) fn as_mut_slice(&mut self) -> &mut [u8]
         ensures* writes_back { sem 𝓛 (lends_bytes self.entry result) }
         ensures value { result.now ≡ self.old.bytes.items }
@@ -51,8 +51,8 @@ impl Buffer {
     }
 }
 
-/// Reads once behind the first `len` bytes of the buffer, up to `end`, and answers how many bytes
-/// came: none only at the end.
+/// Reads once after the first `len` bytes of the buffer, up to `end`, and returns how many bytes
+/// came: 0 only at the end.
 pub(crate) fn fill<S: Source>(
     source: &mut S,
     buffer: &mut [u8],
@@ -80,7 +80,8 @@ pub(crate) fn fill<S: Source>(
     }
 }
 
-/// Adds so many zero bytes to the buffer. No memory is taken: its block has room for them, and stays.
+/// Adds `count` zero bytes to the buffer. No memory is taken: its block has room for them, and
+/// isn't moved.
 pub(crate) fn lengthen(buffer: &mut Buffer, count: usize)
     requires room { vec_len buffer.old.bytes + count ≤ vec_capacity buffer.old.bytes }
     ensures len { vec_len buffer.new.bytes ≡ vec_len buffer.old.bytes + count }
@@ -93,8 +94,8 @@ pub(crate) fn lengthen(buffer: &mut Buffer, count: usize)
     }
 }
 
-/// Adds zero bytes until the buffer has so many, if it hasn't. No memory is taken: its block has room
-/// for them, and stays.
+/// Adds zero bytes until the buffer has at least `end`. No memory is taken: its block has room for
+/// them, and isn't moved.
 pub(crate) fn lengthen_to(buffer: &mut Buffer, end: usize)
     requires room { end ≤ vec_capacity buffer.old.bytes }
     ensures len { end ≤ vec_len buffer.new.bytes }
@@ -108,8 +109,8 @@ pub(crate) fn lengthen_to(buffer: &mut Buffer, end: usize)
     }
 }
 
-/// Reads once behind the first `len` bytes, up to `end`, as `fill` does. A buffer of no more than
-/// `len` bytes is lengthened first, by at most `STEP`. No memory is taken: its block stays.
+/// Reads once after the first `len` bytes, up to `end`, as `fill` does. A buffer of no more than
+/// `len` bytes grows first, by at most `STEP`. No memory is taken: its block isn't moved.
 fn fill_reserved<S: Source>(
     source: &mut S,
     buffer: &mut Buffer,
@@ -141,8 +142,8 @@ fn fill_reserved<S: Source>(
     fill(source, buffer.bytes.as_mut_slice(), len, there)
 }
 
-/// Reads behind the first `held` bytes of the buffer until it holds `end`, or the end was seen, and
-/// answers how many it holds then. No memory is taken: the buffer's block stays.
+/// Reads after the first `held` bytes of the buffer until it holds `end`, or the end was seen, and
+/// returns how many it then holds. No memory is taken: the buffer's block isn't moved.
 pub(crate) fn fill_until<S: Source>(
     source: &mut S,
     buffer: &mut Buffer,
@@ -181,7 +182,7 @@ pub(crate) fn fill_until<S: Source>(
     Ok(len)
 }
 
-/// Moves what the first `len` bytes of the buffer hold behind the first `by` to the front.
+/// Moves bytes `by` to `len` of the buffer to the front.
 pub(crate) fn turn(buffer: &mut [u8], by: usize, len: usize)
     requires within { by ≤ len }
     requires fits { len ≤ length buffer.old }

@@ -13,13 +13,12 @@ use aes_core::Aes;
 use mac_prf::hkdf;
 use tink_base::Hash;
 
-/// The bytes of a derived key of HMAC.
+/// The size of a derived HMAC key, in bytes.
 const MAC_KEY: usize = 32;
 
 impl Stream {
-    /// The stream with this header, under a key and associated data: the keys of its segments are derived
-    /// from the header's salt. `header` has as many bytes as the key's `header_size` says. No memory is
-    /// taken.
+    /// The stream with this header, under a key and associated data: the keys of its segments are
+    /// derived with the header's salt. `header` has `header_size` bytes. No memory is taken.
     pub fn new(key: &StreamKey, ad: &[u8], header: &[u8]) -> Stream
         requires sound { IsSound key.now }
         requires whole { length header.now ≡ header_size key.now }
@@ -37,7 +36,7 @@ impl Stream {
     }
 }
 
-// Fills `out` with what HKDF derives from the key value.
+// Fills `out` with bytes that HKDF derives from the key value.
 fn derive(key: &StreamKey, ad: &[u8], salt: &[u8], out: &mut [u8])
     requires { length out.old ≤ 64 }
     ensures { out.new ≡ hkdf key.now.hash key.now.value salt.now ad.now (length out.old) }

@@ -1,4 +1,4 @@
-//! Why a pass over a stream ends before its end.
+//! Why a pass over a stream ends early.
 
 /// Why a stream wasn't opened to its end.
 #[derive(Clone, Copy, Debug, PartialEq, Eq)]
@@ -9,8 +9,8 @@ pub enum OpenPumpFault {
     WriteFault,
     /// A byte follows 2^32 segments, of which all but the last are known to authenticate.
     TooManySegments,
-    /// This segment, counted from 0, is the first that doesn't authenticate in its place; 0 also
-    /// where no key's first segment does.
+    /// This segment, counted from 0, is the first that doesn't authenticate in its place; also 0 if
+    /// the first segment authenticates under no key.
     StreamFailed(u64),
 }
 
@@ -21,15 +21,15 @@ pub enum SealPumpFault {
     ReadFault,
     /// The sink failed.
     WriteFault,
-    /// The plaintext has a byte behind 2^32 full segments.
+    /// The plaintext has more bytes than 2^32 full segments hold.
     TooManySegments,
 }
 
-/// Why plaintext that came wasn't sealed to its end.
+/// Why plaintext that came in pieces wasn't sealed to its end.
 #[derive(Clone, Copy, Debug, PartialEq, Eq)]
 pub enum UpdateFault {
     /// The sink failed.
     WriteFault,
-    /// The plaintext has a byte behind 2^32 full segments.
+    /// The plaintext has more bytes than 2^32 full segments hold.
     TooManySegments,
 }

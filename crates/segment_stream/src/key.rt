@@ -5,10 +5,10 @@ ghost use Rattle.segment_stream.specs.Segments.{header_size};
 
 use tink_base::{Bytes, Hash};
 
-/// The bytes of a tag of AES-GCM.
+/// The size of a tag of AES-GCM, in bytes.
 pub(crate) const GCM_TAG: usize = 16;
 
-/// The bytes of a header beside its salt: the length byte and the nonce prefix.
+/// The size of a header without its salt, in bytes: the length byte and the nonce prefix.
 const BESIDE_SALT: usize = 8;
 
 /// A key of one of Tink's two kinds of streams. Sizes are in bytes.
@@ -39,15 +39,16 @@ pub(crate) enum SegmentScheme {
 }
 
 impl StreamKey {
-    /// The bytes of a header, at most 40: the length byte, the salt and the nonce prefix of 7 bytes. No
-    /// memory is taken.
+    /// The size of a header in bytes, at most 40: the length byte, the salt and the nonce prefix of
+    /// 7. No memory is taken.
     pub fn header_size(&self) -> usize
         ensures { result ≡ header_size self.now }
     {
         self.derived as usize + BESIDE_SALT
     }
 
-    /// The size of a full segment, in bytes. The header counts into the first one. No memory is taken.
+    /// The size of a full segment, in bytes. The header counts into the first one. No memory is
+    /// taken.
     pub fn segment_size(&self) -> usize
         ensures { result ≡ self.now.segment }
     {

@@ -1,4 +1,4 @@
-//! The keys for streams of a keyset.
+//! A keyset's keys for streams.
 
 ghost use Rattle.std.specs.Prelude.{◌≡◌, [], ◌∷◌, ◌++◌, ◌+◌, ◌≤◌, ◌<◌, ◌^◌, None, IfOk, IfErr, OnOk};
 ghost use Rattle.std.specs.List.{AllByRecursion};
@@ -14,15 +14,15 @@ use std::alloc::Global;
 use std::marker::Model;
 use tink_base::{ENABLED, NoMemory};
 
-/// Why a keyset gives no keys for streams: of the first ENABLED record that gives none, its place,
-/// counted from 0.
+/// Why a keyset gives no keys for streams, with the place, counted from 0, of the first ENABLED
+/// record that gives no key.
 #[derive(Clone, Copy, Debug, PartialEq, Eq)]
 pub enum StreamKeysFault {
-    /// The type URL of this record is none of the two for streams.
+    /// This record's type URL isn't one of the two for streams.
     NotStream(usize),
-    /// The key message of this record breaks this rule first.
+    /// The first rule that this record's key message breaks.
     BadKey(usize, Rule),
-    /// Memory was refused.
+    /// Memory couldn't be allocated.
     NoMemory,
 }
 
@@ -36,8 +36,8 @@ impl From<NoMemory> for StreamKeysFault {
     }
 }
 
-/// The keys for streams of a keyset: those of its ENABLED records, in their order, whatever their
-/// prefix types; that of the primary record seals, and each of them opens.
+/// A keyset's keys for streams: those of its ENABLED records, in order, whatever their prefix
+/// types. The primary record's key seals, and each of them opens.
 #[derive(Drop)]
 pub struct StreamKeys {
     primary: StreamKey,
@@ -60,10 +60,10 @@ impl Model for StreamKeys {
 }
 
 impl StreamKeys {
-    /// The keys of this keyset, or why it gives none.
+    /// The keys of this keyset, or why it gives no keys.
     ///
-    /// `NotStream` and `BadKey` come exactly where some ENABLED record gives no key for streams, and
-    /// name the first such record with its first fault.
+    /// `NotStream` and `BadKey` come if and only if some ENABLED record gives no key for streams,
+    /// and name the first such record with its first fault.
     pub fn new(alloc: Global, keyset: &Keyset) -> Result<StreamKeys, StreamKeysFault>
         ensures keys { IfOk result (λ keys. AreOf keys keyset.now) }
         ensures sound { IfOk result AreSound }
@@ -73,7 +73,7 @@ impl StreamKeys {
         let keys = read_all(alloc, keyset)?;
         match stream_key_of(alloc, keyset.primary_record()) {
             Ok(primary) => Ok(StreamKeys { primary, keys }),
-            // It gave a key before, so memory was refused.
+            // It gave a key before, so memory couldn't be allocated.
             Err(_) => Err(StreamKeysFault::NoMemory),
         }
     }
@@ -123,7 +123,7 @@ fn largest_of(keys: &[StreamKey]) -> usize
     largest
 }
 
-/// The fault of the record of this place.
+/// The fault of the record at this place.
 fn at_place(i: usize, fault: StreamFault) -> StreamKeysFault
     ensures { result ≡ at_place i fault }
 {
@@ -134,7 +134,7 @@ fn at_place(i: usize, fault: StreamFault) -> StreamKeysFault
     }
 }
 
-/// Puts a key behind the others.
+/// Appends a key.
 fn add(keys: &mut Vec<StreamKey>, key: StreamKey) -> Result<(), NoMemory>
     ensures { OnOk result (keys.new.items ≡ keys.old.items ++ key ∷ []) }
 {
@@ -142,7 +142,7 @@ fn add(keys: &mut Vec<StreamKey>, key: StreamKey) -> Result<(), NoMemory>
     Ok(())
 }
 
-/// The keys of the ENABLED records, in their order.
+/// The keys of the ENABLED records, in order.
 fn read_all(alloc: Global, keyset: &Keyset) -> Result<Vec<StreamKey>, StreamKeysFault>
     ensures keys { IfOk result (λ keys. keys.items ≡ stream_keys keyset.now) }
     ensures sound { IfOk result (λ keys. AllByRecursion IsSound keys.items) }

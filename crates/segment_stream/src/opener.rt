@@ -16,7 +16,7 @@ use std::alloc::Global;
 use std::marker::Model;
 use tink_base::{NoMemory, Sink, Source};
 
-/// What opens one stream under the keys of a keyset.
+/// Opens one stream under the keys of a keyset.
 #[derive(Drop)]
 pub struct Opener<'k> {
     keys: &'k StreamKeys,
@@ -38,10 +38,10 @@ impl<'k> Model for Opener<'k> {
 }
 
 impl<'k> Opener<'k> {
-    /// Makes ready to open a stream with this associated data, which may have any length.
+    /// Prepares to open a stream with this associated data, of any length.
     ///
     /// The buffer is reserved here, once: one byte more than the largest segment under these keys.
-    /// It is lengthened in its block as bytes come, by at most 65,536 at once.
+    /// It grows within its block as bytes come, by at most 65,536 at once.
     pub fn new(alloc: Global, keys: &'k StreamKeys, ad: &'k [u8]) -> Result<Opener<'k>, NoMemory>
         ensures { IfOk result (λ opener. opener ≡
             record { keys = keys.now; ad = ad.now; room = largest_of keys.now.keys + 1 }) }
@@ -52,19 +52,19 @@ impl<'k> Opener<'k> {
         }
     }
 
-    /// Opens the stream that the source gives, and writes its plaintext.
+    /// Opens the stream from the source, and writes its plaintext.
     ///
-    /// The stream's key is the first whose first segment authenticates, in the order of the keyset;
-    /// a key is tried when one byte more than its segment was taken or the end was seen, and that
-    /// key alone opens the rest. Plaintext is written once its segment has authenticated in its
-    /// place, and all of it before the next read. `Ok` says that the input was read to its end, and
-    /// each segment has opened.
+    /// The stream's key is the first, in the order of the keyset, under which the first segment
+    /// authenticates. A key is tried when one byte more than its segment was taken or the end was
+    /// seen; only the stream's key opens the rest. Plaintext is written once its segment has
+    /// authenticated in its place, and all of it before the next read. `Ok` means that the input
+    /// was read to its end, and each segment has opened.
     ///
-    /// `StreamFailed` comes exactly where the bytes taken decide it, and so does `TooManySegments`.
-    /// `ReadFault` comes only where the source failed before anything was decided, and
-    /// `WriteFault` only where the sink failed: then a front of what the bytes taken release was
-    /// written, and with every other answer exactly that. Nothing is read after the end was seen,
-    /// and nothing that failed is tried again. No memory is taken.
+    /// `StreamFailed` comes if and only if the bytes taken decide it, and so does
+    /// `TooManySegments`. `ReadFault` comes only if the source failed before anything was decided,
+    /// and `WriteFault` only if the sink failed: then a prefix of what the bytes taken release was
+    /// written, with any other answer exactly that. Nothing is read after the end was seen, and no
+    /// failed call is tried again. No memory is taken.
     pub fn pump<S: Source, K: Sink>(self, source: &mut S, sink: &mut K) -> Result<(), OpenPumpFault>
         ensures pumps { Pumps (opening_any (ciphers_of self.entry.ad self.entry.keys.keys)) [] []
             false result (S.state source.old) (S.state source.new) (K.state sink.old)
@@ -77,19 +77,19 @@ impl<'k> Opener<'k> {
         open_any(self.keys.keys(), self.ad, &mut buffer, source, sink)
     }
 
-    /// Opens the stream that the source gives, as `pump` does, and seals its plaintext again as it comes,
-    /// as this sealer does, whose header is written before the first read. The plaintext lies in the two
-    /// buffers alone. `Ok` says that the input was read to its end, each segment has opened, and the
-    /// whole plaintext was sealed.
+    /// Opens the stream from the source, as `pump` does, and seals its plaintext again as it comes,
+    /// with this sealer, whose header is written before the first read. The plaintext is only in
+    /// the two buffers. `Ok` means that the input was read to its end, each segment has opened, and
+    /// the whole plaintext was sealed.
     ///
-    /// Where anything else is answered no segment was written that is sealed as the last one of its
-    /// stream, except that a front of it may have been where the sink failed at it. `TooManySegments`
-    /// comes exactly where the plaintext has too many segments for the sealer, or the bytes taken decide
-    /// it; and `StreamFailed` exactly where these decide that, and the plaintext before has not too many.
-    /// `ReadFault` comes only where the source failed before anything was decided, and `WriteFault` only
-    /// where the sink failed: then a front of what the bytes taken reseal to was written, and with every
-    /// other answer exactly that. Nothing is read after the end was seen, and nothing that failed is tried
-    /// again. No memory is taken.
+    /// With any other answer no segment sealed as its stream's last one was written, except perhaps
+    /// a prefix of it if the sink failed there. `TooManySegments` comes if and only if the
+    /// plaintext has too many segments for the sealer, or the bytes taken decide it; and
+    /// `StreamFailed` if and only if the bytes taken decide that, and the plaintext before has not
+    /// too many. `ReadFault` comes only if the source failed before anything was decided, and
+    /// `WriteFault` only if the sink failed: then a prefix of what the bytes taken reseal to was
+    /// written, with any other answer exactly that. Nothing is read after the end was seen, and no
+    /// failed call is tried again. No memory is taken.
     pub fn reseal<S: Source, K: Sink>(
         self,
         sealer: Sealer,

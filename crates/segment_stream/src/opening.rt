@@ -1,4 +1,4 @@
-//! Opening the segments of a stream behind the first, in one pass over one buffer.
+//! Opening the segments of a stream after the first, in one pass over one buffer.
 
 ghost use Rattle.std.specs.Prelude.{◌≡◌, ℕ, ◌+◌, ◌≤◌, ◌<◌, ◌^◌, List, length, take, false, true};
 ghost use Rattle.tink_spec.specs.Outside.{IsAtEnd, StopsAtEnd};
@@ -19,13 +19,14 @@ use tink_base::{Sink, Source, write_all};
 pub(crate) enum SegmentEnd {
     /// Its plaintext was written.
     Written,
-    /// Its plaintext was not written to its end.
+    /// Its plaintext wasn't written to the end.
     Unwritten,
     /// It doesn't open.
     Refused,
 }
 
-/// Opens a segment in its place, and writes its plaintext. One that doesn't open stays as it was.
+/// Opens a segment in its place, and writes its plaintext. A segment that doesn't open is
+/// unchanged.
 pub(crate) fn write_segment<K: Sink>(
     stream: &mut Stream,
     number: u64,
@@ -50,7 +51,7 @@ pub(crate) fn write_segment<K: Sink>(
     }
 }
 
-/// The refusal where a segment that a byte follows doesn't open.
+/// The refusal if a segment with a byte after it doesn't open.
 pub(crate) fn refused(number: u64) -> OpenPumpFault
     ensures many { number + 1 ≡ 2 ^ 32 → result ≡ OpenPumpFault.TooManySegments }
     ensures few { number + 1 < 2 ^ 32 → result ≡ OpenPumpFault.StreamFailed number }
@@ -62,9 +63,9 @@ pub(crate) fn refused(number: u64) -> OpenPumpFault
     }
 }
 
-/// Opens the rest of a stream, when its first segment has opened and the first `held` bytes of the
-/// buffer are what was taken behind it, up to the end or not. Where the end wasn't seen, the buffer
-/// has room for one byte more than a segment.
+/// Opens the rest of a stream whose first segment has opened. The first `held` bytes of the buffer
+/// were taken after it; `whole` says whether the end was seen. If not, the buffer has room for one
+/// byte more than a segment.
 pub(crate) fn open_rest<S: Source, K: Sink>(
     stream: &mut Stream,
     buffer: &mut [u8],
@@ -112,7 +113,7 @@ pub(crate) fn open_rest<S: Source, K: Sink>(
                 SegmentEnd::Refused => Err(OpenPumpFault::StreamFailed(number)),
             };
         } else {
-            // once for all segments that were opened since the last read
+            // once for all segments opened since the last read
             turn(buffer, start, len);
             len -= start;
             start = 0;

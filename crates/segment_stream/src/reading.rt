@@ -1,4 +1,4 @@
-//! The key for streams of a record.
+//! A record's key for streams.
 
 ghost use Rattle.std.specs.Prelude.{◌≡◌, Some, IfOk};
 ghost use Rattle.key_msgs.specs.Keys.{IsValid};
@@ -15,11 +15,11 @@ use std::alloc::Global;
 /// Why a record gives no key for streams.
 #[derive(Clone, Copy, Debug, PartialEq, Eq)]
 pub(crate) enum StreamFault {
-    /// Its type URL is none of the two for streams.
+    /// Its type URL isn't one of the two for streams.
     NotStream,
-    /// Its message breaks this rule first.
+    /// The first rule that its message breaks.
     BadKey(Rule),
-    /// Memory was refused.
+    /// Memory couldn't be allocated.
     NoMemory,
 }
 
@@ -57,7 +57,7 @@ fn read_as(
     }
 }
 
-/// The key, where it is one for streams.
+/// The key, if it is for streams.
 fn own(kind: KeyKind) -> Result<StreamKey, StreamFault>
     requires { IsValid kind }
     ensures key { GivesStreamKey result (of_kind kind) }

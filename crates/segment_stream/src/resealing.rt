@@ -1,5 +1,5 @@
-//! A stream opened and sealed again in one pass, over two buffers: that of the keys that open, and that
-//! of the key that seals.
+//! A stream opened and sealed again in one pass, over two buffers, one for opening and one for
+//! sealing.
 
 ghost use Rattle.std.specs.Prelude.{◌≡◌, ℕ, ◌+◌, ◌≤◌, ◌<◌, ◌^◌, List, [], length, take, drop, false, true, OnErr, OnOk};
 ghost use Rattle.std.specs.List.{AllByRecursion};
@@ -22,12 +22,12 @@ use crate::trying::{begins, decide};
 use crate::{OpenPumpFault, SealingStream, UpdateFault};
 use tink_base::{Sink, Source};
 
-/// How a segment ended whose plaintext is sealed again.
+/// How a segment whose plaintext is sealed again ended.
 #[derive(Clone, Copy, Debug, PartialEq, Eq)]
 enum SegmentPassed {
     /// Its plaintext was taken by the sealing side.
     Sealed,
-    /// Its plaintext wasn't taken to its end.
+    /// Its plaintext wasn't taken to the end.
     Unsealed(UpdateFault),
     /// It doesn't open.
     Refused,
@@ -44,7 +44,7 @@ enum TrialPassed {
     Refused,
 }
 
-/// Opens a segment in its place, and seals its plaintext. One that doesn't open stays as it was.
+/// Opens a segment in its place, and seals its plaintext. A segment that doesn't open is unchanged.
 fn pass_segment<K: Sink>(
     stream: &mut Stream,
     number: u64,
@@ -70,7 +70,7 @@ fn pass_segment<K: Sink>(
     }
 }
 
-/// A fault of the sealing side, as one of the pass.
+/// A fault of the sealing side, as a fault of the pass.
 fn halted(fault: UpdateFault) -> OpenPumpFault
     ensures { result ≡ halt_fault fault }
 {
@@ -158,8 +158,8 @@ fn pass_rest<S: Source, K: Sink>(
     }
 }
 
-/// Opens the first segment, of those bytes that the buffer holds, as `open_first` does, and seals its
-/// plaintext. Where it doesn't open the buffer stays as it was.
+/// Opens the first segment, in the bytes that the buffer holds, as `open_first` does, and seals its
+/// plaintext. If it doesn't open, the buffer is unchanged.
 fn pass_first<K: Sink>(
     key: &StreamKey,
     ad: &[u8],
@@ -198,7 +198,7 @@ fn pass_first<K: Sink>(
 }
 
 /// Opens a stream under the first of the keys that opens its first segment, as `open_any` does, and
-/// seals its plaintext, but for the end: the last piece stays held. No memory is taken.
+/// seals its plaintext except the end: the last piece stays held. No memory is taken.
 pub(crate) fn pass_any<S: Source, K: Sink>(
     keys: &[StreamKey],
     ad: &[u8],

@@ -24,15 +24,15 @@ use tink_base::{Entropy, Failed, Sink, Source, write_all};
 pub enum SealerFault {
     /// The entropy failed.
     EntropyFault,
-    /// Memory was refused.
+    /// Memory couldn't be allocated.
     NoMemory,
 }
 
-/// What seals one stream under the primary key of a keyset.
+/// Seals one stream under the primary key of a keyset.
 #[derive(Drop)]
 pub struct Sealer {
     stream: Stream,
-    /// The bytes of the header, which stands in front of the buffer.
+    /// The size of the header, at the front of the buffer, in bytes.
     header: usize,
     buffer: Buffer,
 }
@@ -55,13 +55,12 @@ impl Model for Sealer {
 }
 
 impl Sealer {
-    /// Makes ready to seal a stream under the primary key, with this associated data, which may
-    /// have any length.
+    /// Prepares to seal a stream under the primary key, with this associated data, of any length.
     ///
     /// The buffer is reserved here, once: one byte more than the largest segment under these keys.
-    /// It is lengthened in its block as bytes come, by at most 65,536 at once. Then salt and nonce
-    /// prefix are drawn, in one fill. `EntropyFault` comes only where the entropy failed at that.
-    /// After `NoMemory` nothing was drawn.
+    /// It grows within its block as bytes come, by at most 65,536 at once. Then salt and nonce
+    /// prefix are drawn, in one fill. `EntropyFault` comes only if that fill failed. After
+    /// `NoMemory` nothing was drawn.
     pub fn new<E: Entropy>(
         alloc: Global,
         keys: &StreamKeys,
@@ -96,14 +95,14 @@ impl Sealer {
 
     /// Seals what the source gives, and writes the stream. The header is written before the first
     /// read, and each segment when one byte more than its plaintext was taken, or the end was seen.
-    /// `Ok` says that the input was read to its end.
+    /// `Ok` means that the input was read to its end.
     ///
-    /// `TooManySegments` comes exactly where 2^32 full segments of plaintext and one more byte were
-    /// taken. `ReadFault` comes only where the source failed, and `WriteFault` only where the sink
-    /// failed: then a front of what the bytes taken seal was written, and with every other answer
-    /// exactly that. Nothing is read after the end was seen, and nothing that failed is tried
-    /// again. No memory is taken. A segment and its tag are handed to the sink together, which no
-    /// clause says.
+    /// `TooManySegments` comes if and only if 2^32 full segments of plaintext and one more byte
+    /// were taken. `ReadFault` comes only if the source failed, and `WriteFault` only if the sink
+    /// failed: then a prefix of what the bytes taken seal to was written, with any other answer
+    /// exactly that. Nothing is read after the end was seen, and no failed call is tried again. No
+    /// memory is taken. A segment and its tag are passed to the sink together, which no clause
+    /// says.
     pub fn pump<S: Source, K: Sink>(self, source: &mut S, sink: &mut K) -> Result<(), SealPumpFault>
         ensures pumps { (cipher : SegmentCipher) → SealsUnder self cipher
             → Pumps (sealing cipher self.header) [] [] false (pump_result result)
@@ -120,8 +119,8 @@ impl Sealer {
         }
     }
 
-    /// Begins a stream whose plaintext comes in pieces: writes its header. `Failed` comes only where the
-    /// sink failed: a front of the header was written then. No memory is taken.
+    /// Begins a stream whose plaintext comes in pieces: writes its header. `Failed` comes only if
+    /// the sink failed; then a prefix of the header was written. No memory is taken.
     pub fn begin<K: Sink>(self, sink: &mut K) -> Result<SealingStream, Failed>
         ensures begun { IfOk result (λ begun. (cipher : SegmentCipher) → SealsUnder self cipher
             → HasSealed begun cipher self.header [] self.header) }
@@ -149,7 +148,7 @@ impl Sealer {
     }
 }
 
-/// Puts a header of so many bytes in front of the buffer: that number, and random bytes.
+/// Writes a header of `header` bytes to the front of the buffer: its size, then random bytes.
 fn draw_header<E: Entropy>(buffer: &mut [u8], header: usize, entropy: &mut E) -> Result<(), Failed>
     requires some { 0 < header }
     requires byte { header < 256 }
@@ -168,8 +167,8 @@ fn draw_header<E: Entropy>(buffer: &mut [u8], header: usize, entropy: &mut E) ->
     }
 }
 
-/// Seals the first `plain` bytes as a segment in their place, puts its tag behind them, over what stood
-/// there, and writes both at once.
+/// Seals the first `plain` bytes as a segment in their place, writes their tag over the bytes after
+/// them, and writes both to the sink at once.
 pub(crate) fn write_sealed<K: Sink>(
     stream: &mut Stream,
     number: u64,
@@ -199,7 +198,7 @@ pub(crate) fn write_sealed<K: Sink>(
     }
 }
 
-/// Where the plaintext of a segment begins in the buffer: behind the header in the first.
+/// Where the plaintext of a segment begins in the buffer: after the header for the first one.
 pub(crate) fn plain_from(number: u64, header: usize) -> usize
     ensures first { number ≡ 0 → result ≡ header }
     ensures later { 0 < number → result ≡ 0 }
@@ -207,8 +206,8 @@ pub(crate) fn plain_from(number: u64, header: usize) -> usize
     if number == 0 { header } else { 0 }
 }
 
-/// Seals a stream whose header was written, and stands in front of the buffer. No memory is taken:
-/// the buffer's block stays.
+/// Seals a stream whose header was written, and is at the front of the buffer. No memory is taken:
+/// the buffer's block isn't moved.
 fn seal_behind<S: Source, K: Sink>(
     stream: &mut Stream,
     header: usize,
@@ -240,9 +239,10 @@ fn seal_behind<S: Source, K: Sink>(
     }
 }
 
-/// Seals a stream whose header was written, when the first `held` bytes of the buffer are the header
-/// and what was taken, up to the end or not, and at most one byte more than the plaintext of a segment.
-/// The buffer has room for them and a tag, and where the end wasn't seen for one byte more than a segment.
+/// Seals a stream whose header was written. The first `held` bytes of the buffer are the header and
+/// what was taken, at most one byte more than a segment's plaintext; `whole` says whether the end
+/// was seen. The buffer has room for them and a tag, and if the end wasn't seen, for one byte more
+/// than a segment.
 fn seal_rest<S: Source, K: Sink>(
     stream: &mut Stream,
     header: usize,
@@ -276,7 +276,7 @@ fn seal_rest<S: Source, K: Sink>(
     loop {
         let from = plain_from(number, header);
         if len > size {
-            // the tag takes the place of the byte that follows, which then goes to the front
+            // the tag overwrites the next byte, which then goes to the front
             let next = buffer[size];
             match write_sealed(
                 stream,

@@ -1,4 +1,4 @@
-//! A stream that is sealed as its plaintext comes, in pieces of any size.
+//! A stream sealed as its plaintext comes, in pieces of any size.
 
 ghost use Rattle.std.specs.Prelude.{◌≡◌, ℕ, ◌+◌, ◌-◌, ◌≤◌, ◌<◌, ◌^◌, List, ◌++◌, length, take, drop, IfErr, IfOk, OnErr, OnOk};
 ghost use Rattle.std.specs.Vec.{vec_capacity, vec_len};
@@ -14,17 +14,17 @@ use crate::segments::{LAST_NUMBER, Stream};
 use std::marker::Model;
 use tink_base::{Failed, Sink};
 
-/// A stream that is being sealed: `Sealer::begin`, an `update` for each piece of the plaintext, and
+/// A stream being sealed: `Sealer::begin`, an `update` for each piece of the plaintext, and
 /// `finish`.
 ///
-/// No call takes memory: the buffer is that of the `Sealer`.
+/// No call takes memory: the buffer is the `Sealer`'s.
 #[derive(Drop)]
 pub struct SealingStream {
     pub(crate) stream: Stream,
     pub(crate) header: usize,
     pub(crate) buffer: Buffer,
-    /// The bytes of the buffer that are held: those of the piece that is being filled, which in the first
-    /// are the header and plaintext. What stands behind them counts for nothing.
+    /// How many bytes of the buffer are held: the piece being filled, with the header in the first
+    /// one. The bytes after them are unused.
     pub(crate) held: usize,
     pub(crate) number: u64,
 }
@@ -48,14 +48,14 @@ impl Model for SealingStream {
 }
 
 impl SealingStream {
-    /// Takes the next bytes of the plaintext, of which there may be any number, and writes each segment
-    /// that is settled by them: one that a byte follows. How the plaintext is cut into pieces doesn't
-    /// change the stream.
+    /// Takes the next bytes of the plaintext, any number of them, and writes each segment that they
+    /// settle: one with a byte after it. How the plaintext is cut into pieces doesn't change the
+    /// stream.
     ///
-    /// `TooManySegments` comes exactly where 2^32 full segments of plaintext and one more byte were
-    /// taken; what they seal was written then. `WriteFault` comes only where the sink failed: a front of
-    /// what the bytes taken seal was written then, and nothing is tried again. After an error nothing is
-    /// promised of further calls. No memory is taken.
+    /// `TooManySegments` comes if and only if 2^32 full segments of plaintext and one more byte
+    /// were taken; then what they seal to was written. `WriteFault` comes only if the sink failed:
+    /// then a prefix of what the bytes taken seal to was written, and nothing is tried again. After
+    /// an error nothing is promised about further calls. No memory is taken.
     pub fn update<K: Sink>(&mut self, plain: &[u8], sink: &mut K) -> Result<(), UpdateFault>
         ensures sealed { OnOk result
             (Seals self.old self.new plain.now (K.state sink.old) (K.state sink.new)) }
@@ -73,7 +73,7 @@ impl SealingStream {
         Ok(())
     }
 
-    /// Takes the first of these bytes, as many as the piece that is being filled has room for.
+    /// Takes the first of these bytes, as many as the piece being filled has room for.
     fn take_some<K: Sink>(&mut self, plain: &[u8], sink: &mut K) -> Result<usize, UpdateFault>
         requires some { 0 < length plain.now }
         ensures least { IfOk result (λ n. 0 < n) }
@@ -94,8 +94,8 @@ impl SealingStream {
         Ok(n)
     }
 
-    /// Writes the piece that is being filled where it is full, since a byte follows it, and answers for how
-    /// many bytes there is room then.
+    /// Writes the piece being filled if it is full, since a byte follows it, and returns for how
+    /// many bytes there is then room.
     fn make_room<K: Sink>(&mut self, sink: &mut K) -> Result<usize, UpdateFault>
         ensures some { IfOk result (λ room. 0 < room) }
         ensures room { IfOk result (λ room. length self.new.held + room
@@ -131,8 +131,8 @@ impl SealingStream {
         Ok(size)
     }
 
-    /// Ends the stream: the piece that is held is sealed as the last segment, and written. `Failed` comes
-    /// only where the sink failed: a front of what the plaintext seals was written then.
+    /// Ends the stream: the held piece is sealed as the last segment, and written. `Failed` comes
+    /// only if the sink failed; then a prefix of what the plaintext seals to was written.
     pub fn finish<K: Sink>(self, sink: &mut K) -> Result<(), Failed>
         ensures sealed { OnOk result (SealsLast self (K.state sink.old) (K.state sink.new)) }
         ensures no_fault { OnOk result (Stood (K.state sink.old).faults (K.state sink.new).faults) }
@@ -159,7 +159,7 @@ impl SealingStream {
     }
 }
 
-/// Seals as a segment what the buffer holds behind its first `from` bytes, up to `held`, and writes it.
+/// Seals bytes `from` to `held` of the buffer as a segment, and writes it.
 fn seal_held<K: Sink>(
     stream: &mut Stream,
     number: u64,
@@ -195,8 +195,8 @@ fn seal_held<K: Sink>(
     }
 }
 
-/// Puts a piece behind the first `held` bytes of the buffer. No memory is taken: its block has room for
-/// it, and stays.
+/// Puts a piece after the first `held` bytes of the buffer. No memory is taken: its block has room
+/// for it, and isn't moved.
 fn hold(buffer: &mut Buffer, held: usize, piece: &[u8])
     requires within { held ≤ vec_len buffer.old.bytes }
     requires room { held + length piece.now ≤ vec_capacity buffer.old.bytes }

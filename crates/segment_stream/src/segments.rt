@@ -10,7 +10,7 @@ use aes_core::Aes;
 use std::marker::Model;
 use tink_base::Hash;
 
-/// The bytes of a nonce prefix.
+/// The size of a nonce prefix, in bytes.
 pub(crate) const PREFIX: usize = 7;
 
 /// The number of the last segment that a stream may have.
@@ -29,16 +29,16 @@ pub(crate) struct CtrHmacKeys {
 /// The keys of one stream, derived from its key, its associated data and its header.
 #[derive(Drop)]
 pub(crate) enum SegmentKeys {
-    /// With what GHASH makes of the key, for all segments.
+    /// Including GHASH's powers of the hash subkey, for all segments.
     Gcm(Gcm),
     CtrHmac(CtrHmacKeys),
 }
 
-/// What seals and opens the segments of one stream.
+/// Seals and opens the segments of one stream.
 #[derive(Drop)]
 pub struct Stream {
     pub(crate) keys: SegmentKeys,
-    /// The front of each nonce.
+    /// The nonce prefix.
     pub(crate) prefix: [u8; 7],
     /// The size of a full segment, in bytes.
     pub(crate) size: usize,
@@ -65,7 +65,7 @@ impl Stream {
         self.size
     }
 
-    /// The bytes of a tag, at most 64.
+    /// The size of a tag in bytes, at most 64.
     pub fn tag_size(&self) -> usize
         ensures size { result ≡ tag_size_under self.now.keys }
         ensures bound { result ≤ 64 }
@@ -97,11 +97,11 @@ impl Stream {
         }
     }
 
-    /// Opens a segment in its place, and answers how many bytes its plaintext has, which stand in
-    /// front then. `number` counts from 0, is below 2^32, and `last` is whether the stream ends with this
-    /// segment; the first segment is passed without the header. `None` comes exactly where the segment
-    /// doesn't authenticate in that place: it stays as it was then. The stream opens as it did before. No
-    /// memory is taken.
+    /// Opens a segment in place, and returns how many bytes its plaintext has, which are then at
+    /// its front. `number` counts from 0 and is below 2^32, and `last` says whether the stream ends
+    /// with this segment; the first segment is passed without the header. `None` comes if and only
+    /// if the segment doesn't authenticate at that number; then it is unchanged. The stream opens
+    /// as before. No memory is taken.
     pub fn open(&mut self, number: u64, last: bool, segment: &mut [u8]) -> Option<usize>
         requires number { number < 2 ^ 32 }
         requires bound { length segment.old ≤ 2 ^ 31 }
@@ -126,7 +126,7 @@ impl Stream {
         }
     }
 
-    // Decrypts the ciphertext of a segment in its place, where the tag is the right one.
+    // Decrypts the ciphertext of a segment in place, if the tag is right.
     fn open_body(&mut self, number: u64, last: bool, body: &mut [u8], tag: &[u8]) -> bool
         requires number { number < 2 ^ 32 }
         requires bound { length body.old ≤ 2 ^ 31 }

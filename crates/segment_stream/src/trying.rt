@@ -22,14 +22,14 @@ use tink_base::{Failed, Sink, Source};
 pub(crate) enum Trial {
     /// Its first segment opened, and the plaintext was written.
     Written(Stream),
-    /// Its first segment opened, and the plaintext was not written to its end.
+    /// Its first segment opened, and the plaintext wasn't written to the end.
     Unwritten,
     /// Its first segment doesn't open.
     Refused,
 }
 
 /// Reads, unless the end was seen, until it is decided whether the first segment opens under a key
-/// of this segment size. Answers how many bytes the buffer holds, and whether the end was seen.
+/// of this segment size. Returns how many bytes the buffer holds, and whether the end was seen.
 pub(crate) fn decide<S: Source>(
     source: &mut S,
     buffer: &mut Buffer,
@@ -62,7 +62,7 @@ pub(crate) fn decide<S: Source>(
     }
 }
 
-/// Whether a header of the key's length stands in front.
+/// Whether the bytes begin with a header of the key's length.
 pub(crate) fn begins(key: &StreamKey, taken: &[u8]) -> bool
     requires { IsSound key.now }
     ensures { result ≡ has_header (cipher_of [] key.now) taken.now }
@@ -71,8 +71,8 @@ pub(crate) fn begins(key: &StreamKey, taken: &[u8]) -> bool
     taken.len() >= header && taken[0] as usize == header
 }
 
-/// Opens the first segment, of those bytes that the buffer holds, and writes its plaintext. Where
-/// it doesn't open the buffer stays as it was.
+/// Opens the first segment, in the bytes that the buffer holds, and writes its plaintext. If it
+/// doesn't open, the buffer is unchanged.
 fn open_first<K: Sink>(
     key: &StreamKey,
     ad: &[u8],
@@ -104,7 +104,7 @@ fn open_first<K: Sink>(
 }
 
 /// Opens a stream under the first of the keys that opens its first segment. The keys are tried in
-/// their order, each when it is decided. No memory is taken: the buffer's block stays.
+/// order, each when it is decided. No memory is taken: the buffer's block isn't moved.
 pub(crate) fn open_any<S: Source, K: Sink>(
     keys: &[StreamKey],
     ad: &[u8],
