@@ -13,7 +13,7 @@ use crate::Device;
 use crate::piece::{PieceFault, open_piece};
 use crate::sizes::Begun;
 
-/// Puts bytes behind those of `plain`. No memory is taken: its block has room for them.
+/// Appends bytes to `plain`. No memory is taken: its block has room for them.
 fn append(plain: &mut Vec<u8>, bytes: &[u8])
     requires room { vec_len plain.old + length bytes.now ≤ vec_capacity plain.old }
     ensures bytes { plain.new.items ≡ plain.old.items ++ bytes.now }
@@ -24,8 +24,8 @@ fn append(plain: &mut Vec<u8>, bytes: &[u8])
     }
 }
 
-/// Puts bytes behind those of `plain`, without the first `skip` of them, and until there are `most`.
-/// Answers how many of `skip` are left.
+/// Appends bytes to `plain`, without the first `skip` of them, until it has `most`. Returns how
+/// many of `skip` are left.
 fn add(plain: &mut Vec<u8>, bytes: &[u8], skip: u64, most: usize) -> u64
     requires room { most ≤ vec_capacity plain.old }
     requires within { vec_len plain.old ≤ most }
@@ -41,8 +41,8 @@ fn add(plain: &mut Vec<u8>, bytes: &[u8], skip: u64, most: usize) -> u64
     skip - start as u64
 }
 
-/// Opens so many pieces from this number on, each in its place, and puts their plaintexts into `plain`,
-/// without the first `skip` bytes and at most `most` of them. No memory is taken.
+/// Opens `count` pieces from number `first` on, each in its place, and puts their plaintexts into
+/// `plain`, without the first `skip` bytes and at most `most` bytes. No memory is taken.
 pub(crate) fn open_run<V: Device>(
     device: &mut V,
     begun: &mut Begun,

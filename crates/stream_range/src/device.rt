@@ -1,4 +1,4 @@
-//! What is read at any place.
+//! Reading at any offset.
 
 ghost use Rattle.std.specs.Prelude.{◌≡◌, ℕ, ◌+◌, ◌<◌, ◌≤◌, ◌^◌, length, drop, IfOk, OnOk, OnErr};
 ghost use Rattle.tink_base.specs.Store.{given_by_read};
@@ -7,13 +7,13 @@ ghost use Rattle.stream_range.specs.Device.{DeviceState, KeptDevice, ReadsSome, 
 
 use tink_base::Failed;
 
-/// A fixed count of bytes that are read at any place.
+/// A fixed number of bytes that can be read at any offset.
 pub trait Device {
-    /// How many bytes there are, which they are, where the device tells, which files the store has that it is
-    /// one of, how many bytes it has given, and how often it has failed.
+    /// How many bytes there are, which they are, if the device reports them, the files of the store
+    /// that it belongs to, how many bytes it has returned, and how often it has failed.
     ghost state: { Self → DeviceState };
 
-    /// Which borrow the device holds, if it holds one, so that the lender is known again.
+    /// The borrow that the device holds, if any, so that the lender can be recognized.
     ghost lent: { Self → ℕ };
 
     /// How many bytes there are: fewer than 2^63.
@@ -22,10 +22,10 @@ pub trait Device {
         ensures bound { result < 2 ^ 63 }
         ensures told { TellsSize (state self.now) };
 
-    /// Reads some bytes from the byte at `at` on, counted from 0: at least one, and at most as many as
-    /// `out` has, which lie in its front then. The rest of `out` stays as it was. `out` isn't empty, and
-    /// ends within the device's size. The count of faults has risen after `Failed`, and is as it was with
-    /// any other answer. The count of bytes given rises by those that were read.
+    /// Reads bytes, starting at offset `at`, to the front of `out`: at least one, and at most as
+    /// many as `out` has. The rest of `out` is unchanged. `out` isn't empty, and ends within the
+    /// device's size. The count of faults has risen after `Failed`; any other answer leaves it
+    /// unchanged. The count of bytes given rises by the bytes read.
     fn read_at(&mut self, at: u64, out: &mut [u8]) -> Result<usize, Failed>
         requires some { 0 < length out.old }
         requires within { at + length out.old ≤ (state self.old).size }

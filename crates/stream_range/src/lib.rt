@@ -1,5 +1,5 @@
-//! Ranges of a stream's plaintext (Tink's streaming AEAD), opened from the segments that cover them,
-//! over a device that is read at any place. What isn't read isn't authenticated.
+//! Ranges of a stream's plaintext (Tink's streaming AEAD), opened from the segments that cover
+//! them, over a device that is read at any offset. What isn't read isn't authenticated.
 #![tactic(auto)]
 
 mod covering;

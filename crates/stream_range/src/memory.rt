@@ -1,4 +1,4 @@
-//! A device in memory, which fails exactly at the calls that it is told.
+//! A device in memory, which fails exactly at the calls it is told to fail.
 
 ghost use Rattle.std.specs.Prelude.{◌≡◌, ◌↔◌, ℕ, ◌+◌, ◌<◌, ◌≤◌, ◌^◌, min, length, drop, IfOk, OnOk, OnErr, IsErr, Contains};
 ghost use Rattle.tink_base.specs.Store.{given_by_read};
@@ -10,7 +10,7 @@ use crate::Device;
 use std::marker::Model;
 use tink_base::Failed;
 
-/// A device over bytes in memory, which contracts see as a `DeviceInMemory`.
+/// A device over bytes in memory. Contracts see a `DeviceInMemory`.
 #[derive(Drop)]
 pub struct MemDevice {
     bytes: Vec<u8>,
@@ -33,8 +33,8 @@ impl Model for MemDevice {
 }
 
 impl MemDevice {
-    /// A device of these bytes. A read gives at most `piece` bytes, at least 1, and fails exactly at the
-    /// calls of `read_at` whose numbers, from 1, stand in `fails`.
+    /// A device of these bytes. A read gives at most `piece` bytes, at least 1. A call of `read_at`
+    /// fails if and only if its number, counted from 1, is in `fails`.
     pub fn new(bytes: Vec<u8>, piece: usize, fails: Vec<u64>) -> MemDevice
         requires piece_bound { 0 < piece }
         ensures { result ≡ record {
@@ -63,7 +63,7 @@ impl MemDevice {
         self.faults
     }
 
-    /// How many bytes it has given.
+    /// How many bytes it has returned.
     pub fn given(&self) -> u64
         ensures { result ≡ self.now.given }
     {

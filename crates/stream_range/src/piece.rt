@@ -25,7 +25,7 @@ pub(crate) enum PieceFault {
     ReadFault,
 }
 
-/// Reads once behind the first `done` bytes of `out`, which lies at `at`.
+/// Reads once after the first `done` bytes of `out`, which lies at `at`.
 fn read_on<V: Device>(device: &mut V, at: u64, out: &mut [u8], done: usize) -> Result<usize, Failed>
     requires some { done < length out.old }
     requires within { at + length out.old ≤ (V.state device.old).size }
@@ -77,8 +77,8 @@ pub(crate) fn read_all<V: Device>(device: &mut V, at: u64, out: &mut [u8]) -> Re
     Ok(())
 }
 
-/// Opens the bytes of the piece of this number in their place, and answers how far behind their front
-/// the plaintext stands, and how many bytes it has.
+/// Opens the bytes of the piece of this number in place, and returns the plaintext's offset in them
+/// and its size.
 fn open_bytes(
     begun: &mut Begun,
     number: u64,
@@ -102,9 +102,9 @@ fn open_bytes(
     }
 }
 
-/// Reads the piece of this number into the front of the buffer and opens it in its place. Answers how
-/// far behind the buffer's front its plaintext stands, and how many bytes it has. A piece of a number
-/// from 2^32 on isn't read, and doesn't open.
+/// Reads the piece of this number to the front of the buffer and opens it in place. Returns the
+/// plaintext's offset in the buffer and its size. A piece with a number of 2^32 or more isn't read,
+/// and doesn't open.
 pub(crate) fn open_piece<V: Device>(
     device: &mut V,
     begun: &mut Begun,

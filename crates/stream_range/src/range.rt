@@ -21,22 +21,22 @@ use segment_stream::StreamKeys;
 use std::alloc::Global;
 use tink_base::NoMemory;
 
-/// Why a range wasn't opened. Pieces are counted from 0. What refuses a range is looked for in this
-/// order: no key opens the first piece; the final piece doesn't open as the last; the range ends behind
-/// the plaintext; a piece that covers it doesn't open in its place.
+/// Why a range wasn't opened. Pieces are counted from 0. The causes are checked in this order: no
+/// key opens the first piece; the final piece doesn't open as the last; the range ends past the
+/// plaintext; a piece that covers it doesn't open in its place.
 #[derive(Clone, Copy, Debug, PartialEq, Eq)]
 pub enum RangeFault {
-    /// The piece of this number doesn't open in its place; it is 0 where no key opens the first one.
+    /// The piece of this number doesn't open in its place; it is 0 if no key opens the first one.
     StreamFailed(u64),
-    /// The range ends behind the plaintext.
+    /// The range ends past the plaintext.
     PastEnd,
-    /// The device failed. It may come in place of any other answer.
+    /// The device failed. This may come instead of any other answer.
     ReadFault,
-    /// Memory was refused, before anything was read.
+    /// Memory couldn't be allocated, before anything was read.
     NoMemory,
 }
 
-/// The fault of a range whose piece has this one.
+/// The fault of a range whose piece has this fault.
 fn fault_of(fault: PieceFault) -> RangeFault
     ensures { result ≡ fault_of fault }
 {
@@ -46,7 +46,7 @@ fn fault_of(fault: PieceFault) -> RangeFault
     }
 }
 
-/// A buffer of so many bytes.
+/// A buffer of `size` bytes.
 fn zeros(alloc: Global, size: usize) -> Result<Vec<u8>, NoMemory>
     ensures { IfOk result (λ bytes. bytes.items ≡ replicate size 0) }
 {
@@ -56,8 +56,8 @@ fn zeros(alloc: Global, size: usize) -> Result<Vec<u8>, NoMemory>
     }
 }
 
-/// Opens the range of a stream that was begun, after its final piece, into `plain`, which is empty and
-/// has room for it. The buffer has room for a segment. No memory is taken.
+/// Opens the range of a begun stream, after its final piece, into `plain`, which is empty and has
+/// room for it. The buffer has room for a segment. No memory is taken.
 fn open_begun<V: Device>(
     device: &mut V,
     begun: &mut Begun,
@@ -116,8 +116,8 @@ fn open_begun<V: Device>(
     }
 }
 
-/// Opens the range of a stream into `plain`, which is empty and has room for it. The buffer has room for
-/// the largest segment, or for the whole stream. No memory is taken.
+/// Opens the range of a stream into `plain`, which is empty and has room for it. The buffer has
+/// room for the largest segment, or for the whole stream. No memory is taken.
 fn open_into<V: Device>(
     keys: &StreamKeys,
     ad: &[u8],
@@ -166,19 +166,21 @@ fn open_into<V: Device>(
     }
 }
 
-/// The plaintext's bytes from offset `from` up to offset `to`, counted from 0, of a sealed stream of Tink's
-/// streaming AEAD on the device, with this associated data. `from` is at most `to`, and the range has at
-/// most 16,777,216 bytes. The first of the keys that opens the first segment in its place is the stream's.
+/// Opens bytes `from` up to `to`, counted from 0, of the plaintext of a sealed stream of Tink's
+/// streaming AEAD on the device, with this associated data. `from` is at most `to`, and the range
+/// has at most 16,777,216 bytes. The stream's key is the first one that opens the first segment in
+/// its place.
 ///
-/// Read are the first segment, the final one, which has to open as the last, and those that cover the
-/// range, each of which has to open in its place; an empty range has none of these. Segments that aren't
-/// read needn't authenticate. `StreamFailed` and `PastEnd` come exactly where one of these doesn't open, or
-/// the range ends behind the plaintext. A segment of a number from 2^32 on doesn't open. `ReadFault` comes
-/// only where the device failed, which isn't asked again then. The device gives at most as many segments of
-/// the largest size as cover the range, and two; only two where no key is chosen, or at `PastEnd`.
+/// It reads the first segment, the final one, which must open as the last, and the segments that
+/// cover the range, each of which must open in its place; an empty range has none of these.
+/// Segments that aren't read needn't authenticate. `StreamFailed` and `PastEnd` come if and only if
+/// one of these doesn't open, or the range ends past the plaintext. A segment with a number of 2^32
+/// or more doesn't open. `ReadFault` comes only if the device failed; then it isn't asked again.
+/// The device returns at most the bytes of as many segments of the largest size as cover the range,
+/// plus two; only two if no key is chosen, or at `PastEnd`.
 ///
-/// All memory is taken before the first read: the result's, and one buffer of the largest segment, or of
-/// the whole stream where it is shorter.
+/// All memory is taken before the first read: the result's, and a buffer for the largest segment,
+/// or for the whole stream if that is shorter.
 pub fn open_range<V: Device>(
     alloc: Global,
     keys: &StreamKeys,

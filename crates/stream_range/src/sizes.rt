@@ -1,4 +1,4 @@
-//! Where the pieces of a stream and its plaintext lie.
+//! The positions of a stream's pieces and of its plaintext.
 
 ghost use Rattle.std.specs.Prelude.{◌≡◌, ◌+◌, ◌-◌, ◌*◌, ◌/◌, ◌<◌, ◌≤◌, ◌^◌, ◌==◌, if◌then◌else◌};
 ghost use Rattle.stream_range.specs.Skipped.{skipped};
@@ -8,7 +8,7 @@ use segment_stream::Stream;
 /// The sizes of a stream, in bytes.
 #[derive(Clone, Copy)]
 pub(crate) struct Sizes {
-    /// A full segment, with its tag, and the first one with the header.
+    /// A full segment with its tag, the first one including the header.
     pub(crate) segment: u64,
     pub(crate) header: u64,
     pub(crate) tag: u64,
@@ -24,7 +24,7 @@ pub(crate) struct Begun {
 }
 
 impl Sizes {
-    /// The number of the final piece of a stream of so many bytes.
+    /// The number of the final piece of a stream of `size` bytes.
     pub(crate) fn final_piece(&self, size: u64) -> u64
         ensures number { result ≡ (size - 1) / self.now.segment }
         ensures within { result * self.now.segment ≤ size }
@@ -32,7 +32,7 @@ impl Sizes {
         size.saturating_sub(1) / self.segment
     }
 
-    /// How many bytes of a stream of so many bytes are plaintext.
+    /// How many bytes of a stream of `size` bytes are plaintext.
     pub(crate) fn plain_length(&self, size: u64) -> u64
         requires { size < 2 ^ 63 }
         ensures { result ≡
@@ -65,7 +65,7 @@ impl Sizes {
         last + 1 - self.piece_of(from)
     }
 
-    /// How many bytes of the plaintext of the first covering piece lie before the range.
+    /// How many plaintext bytes of the first covering piece are before the range.
     pub(crate) fn before(&self, from: u64) -> u64
         requires { from < 2 ^ 63 }
         ensures { result ≡ from - ((from + self.now.header) / (self.now.segment - self.now.tag)
@@ -75,7 +75,7 @@ impl Sizes {
         from.saturating_sub(start.saturating_sub(self.header))
     }
 
-    /// How many bytes of a piece stand before its segment.
+    /// How many bytes of a piece precede its segment.
     pub(crate) fn skipped(&self, number: u64) -> u64
         ensures is { result ≡ skipped self.now.header number }
         ensures bound { result ≤ self.now.header }

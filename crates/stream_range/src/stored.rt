@@ -7,7 +7,7 @@ ghost use Rattle.stream_range.specs.Stored.{size_in};
 use crate::Device;
 use tink_base::{Failed, Store};
 
-/// One file of a store, whose counts are those of the store.
+/// One file of a store, with the store's counts.
 #[derive(Drop)]
 pub struct StoreDevice<'s, D: Store> {
     store: &'s mut D,

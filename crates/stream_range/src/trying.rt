@@ -9,7 +9,7 @@ ghost use Rattle.stream_range.specs.Reading.{Begins, Chosen, Fit, NoneChosen, Un
 use crate::sizes::{Begun, Sizes};
 use segment_stream::{Stream, StreamKey};
 
-/// The stream with the header that stands in front, if it is one of the key's length.
+/// The stream with the header at the front, if it has the key's length.
 fn begin(key: &StreamKey, ad: &[u8], front: &[u8]) -> Option<Begun>
     requires { IsSound key.now }
     ensures { MatchOption result (has_header (cipher_of ad.now key.now) front.now ≡ false)
@@ -28,9 +28,9 @@ fn begin(key: &StreamKey, ad: &[u8], front: &[u8]) -> Option<Begun>
     Some(Begun { stream, sizes })
 }
 
-/// The stream that is begun under the key, if its first segment opens in its place. `front` holds the
-/// first bytes of a stream of `size` bytes, the whole first segment among them. It stays as it was where
-/// the segment doesn't open.
+/// The stream begun under the key, if its first segment opens in its place. `front` holds the first
+/// bytes of a stream of `size` bytes, including the whole first segment. It is unchanged if the
+/// segment doesn't open.
 fn try_key(key: &StreamKey, ad: &[u8], size: u64, front: &mut [u8]) -> Option<Begun>
     requires sound { IsSound key.now }
     requires front { min key.now.segment size ≤ length front.old }
@@ -55,8 +55,8 @@ fn try_key(key: &StreamKey, ad: &[u8], size: u64, front: &mut [u8]) -> Option<Be
     }
 }
 
-/// The stream that is begun under the first of the keys that opens its first segment in its place.
-/// `front` holds the first bytes of a stream of `size` bytes, the first segment of each key among them.
+/// The stream begun under the first of the keys that opens its first segment in its place. `front`
+/// holds the first bytes of a stream of `size` bytes, including each key's first segment.
 pub(crate) fn choose_key(
     keys: &[StreamKey],
     ad: &[u8],
