@@ -1,4 +1,4 @@
-//! What the keys of a handle answer a line.
+//! The answers to lines by the keys of a handle.
 
 ghost use Rattle.std.specs.Prelude.{◌≡◌, ◌≤◌, ◌^◌, length, option_map};
 ghost use Rattle.tink_spec.specs.Outside.{EntropyState};
@@ -44,7 +44,7 @@ fn open(alloc: Global, handle: &Handle<'_>, sealed: &[u8], ad: &[u8]) -> Result<
     }
 }
 
-/// The plaintext, or that nothing opened.
+/// The plaintext, or the refusal if no key opened.
 fn opened_reply(opened: Option<Vec<u8>>) -> Reply
     ensures { result ≡ opened_reply (option_map (λ plain. plain.items) opened) }
 {
@@ -173,7 +173,7 @@ fn verify(handle: &Handle<'_>, tag: &[u8], body: &[u8]) -> Reply
     }
 }
 
-/// derive: so many bytes, where the primary key gives them.
+/// derive: this many bytes, if the primary key gives them.
 fn derive(alloc: Global, handle: &Handle<'_>, size: u32, input: &[u8]) -> Result<Reply, LineFault>
     requires held { Answers (⟦<Managers as KeyTable>⟧.table handle.now.managers.now)
         (Derive size input.now) handle.now.held }
@@ -191,7 +191,7 @@ fn derive(alloc: Global, handle: &Handle<'_>, size: u32, input: &[u8]) -> Result
     }
 }
 
-/// The answer to a line by the keys that it needs.
+/// The answer to a line, by the keys that it needs.
 pub(crate) fn answer<E: Entropy>(
     alloc: Global,
     handle: &Handle<'_>,

@@ -1,4 +1,4 @@
-//! Laws of the definitions. Each is the contract of a function that does nothing else.
+//! Laws of the definitions. Each is the contract of a function with no effect.
 
 ghost use Rattle.key_msgs.specs.declared.primitive.Primitive.TheVariants.{Aead, Daead, Mac};
 ghost use Rattle.tinkey_session.specs.KeptKeys.{AllIdsStayDistinct, DataStays, EnableGivesBack, EnabledIsAlone, FirstsHaveDistinctIds, IdsStayDistinct, KeptByAllEdits, KeptByEdits, KeptByItsId, NoOtherToEnable};
@@ -21,7 +21,7 @@ use wrapped_prims::laws::{
     enabled_key_dopens, enabled_key_opens, same_key_dopens, same_key_opens, same_key_verifies,
 };
 
-/// No record of a keyset is unfit under the standard table exactly where the keyset is sound: each
+/// No record of a keyset is unfit under the standard table if and only if the keyset is sound: each
 /// ENABLED record has the URL of a key type for the primitive, and a valid key of that type.
 pub fn sound_usable()
     ensures aead { SoundIsUsable Aead }
@@ -29,12 +29,12 @@ pub fn sound_usable()
     ensures mac { SoundIsUsable Mac }
 {}
 
-/// An accepted edit of a sound keyset is sound, for the same primitive, and a new keyset is sound
-/// for that of its template.
+/// An accepted edit of a sound keyset gives a keyset sound for the same primitive, and a new keyset
+/// is sound for its template's.
 ///
-/// Each record of an edited keyset is an old one but for its status, an old one destroyed, or the one
-/// new record, whose id isn't 0 and was not in use; and a record that the edit doesn't name is as it was,
-/// in its place.
+/// Each record of an edited keyset is an old one, perhaps with another status, an old one
+/// destroyed, or the one new record, whose id isn't 0 and wasn't in use; a record that the edit
+/// doesn't name is unchanged and in its place.
 pub fn sound_kept()
     ensures edits { EditsKeepSound }
     ensures firsts { FirstsAreSound }
@@ -46,8 +46,8 @@ pub fn sound_kept()
     edits_leave_others();
 }
 
-/// After any edits, accepted or refused, a keyset is one, and a sound one is sound for the same
-/// primitive.
+/// After any edits, accepted or refused, a keyset is still a keyset, and a sound one is sound for
+/// the same primitive.
 pub fn edited_kept()
     ensures keysets { EditedIsKeyset }
     ensures sound { EditedIsSound }
@@ -55,38 +55,38 @@ pub fn edited_kept()
     sound_kept();
 }
 
-/// What a keyset sealed, another one opens, as it is after any edits, accepted or refused, while the key
-/// that sealed is ENABLED there and alone under its prefix: with the same associated data, to the plaintext.
-/// The key isn't RAW.
+/// What a keyset sealed opens, with the same associated data, to the plaintext under another one,
+/// as after any edits, accepted or refused, while the key that sealed is ENABLED there and alone
+/// under its prefix. The key isn't RAW.
 pub fn kept_open()
     ensures { KeptOpen }
 {
     same_key_opens();
 }
 
-/// The same of sealing without an IV.
+/// The same for sealing without an IV.
 pub fn kept_dopen()
     ensures { KeptDopen }
 {
     same_key_dopens();
 }
 
-/// What was sealed under a key of any output prefix type opens to some plaintext, while the key is there,
-/// ENABLED.
+/// What was sealed under a key of any output prefix type opens to some plaintext while the key is
+/// there, ENABLED.
 pub fn kept_open_present()
     ensures { KeptOpenPresent }
 {
     enabled_key_opens();
 }
 
-/// The same of sealing without an IV.
+/// The same for sealing without an IV.
 pub fn kept_dopen_present()
     ensures { KeptDopenPresent }
 {
     enabled_key_dopens();
 }
 
-/// A tag verifies after any edits, while the keyset has the key that made it, ENABLED. The key may
+/// A tag verifies after any edits while the keyset has the key that made it, ENABLED. The key may
 /// be of any output prefix type.
 pub fn kept_tag()
     ensures { KeptTag }
@@ -94,18 +94,18 @@ pub fn kept_tag()
     same_key_verifies();
 }
 
-/// A key with a prefix that is ENABLED and alone under it stays so, with the same id, prefix, URL and value,
-/// over any edits, accepted or refused, of which no accepted one disables, destroys or deletes its id, or
-/// enables another key under its prefix.
+/// A key with a prefix that is ENABLED and alone under it stays so, with the same id, prefix, URL
+/// and value, over any edits, accepted or refused, if no accepted one disables, destroys or deletes
+/// its id, or enables another key under its prefix.
 pub fn kept_by_edits()
     ensures one { KeptByEdits }
     ensures all { KeptByAllEdits }
 {}
 
-/// A keyset whose ids are distinct has distinct ids after any edits, accepted or refused, since a new key has
-/// an id that no record has; and a new keyset has. No edit of it enables another key under the prefix of one
-/// that is ENABLED and alone under it: so only an accepted edit that disables, destroys or deletes its own id
-/// takes that key away.
+/// A keyset whose ids are distinct has distinct ids after any edits, accepted or refused, since a
+/// new key has an id that no record has; so has a new keyset. No edit of such a keyset enables
+/// another key under the prefix of one that is ENABLED and alone under it, so only an accepted edit
+/// that disables, destroys or deletes its own id removes that key.
 pub fn edits_keep_ids_distinct()
     ensures one { IdsStayDistinct }
     ensures all { AllIdsStayDistinct }
@@ -114,9 +114,9 @@ pub fn edits_keep_ids_distinct()
     ensures kept { KeptByItsId }
 {}
 
-/// Where ids are distinct, each ENABLED key with a prefix is alone under it, and an edit that enables a key
-/// gives it back: all that makes it stays over any edits and lines that don't destroy or delete its id, also
-/// over those that disable it.
+/// If ids are distinct, each ENABLED key with a prefix is alone under it, and an edit that enables
+/// a key restores it: all that makes it is kept over any edits and lines that don't destroy or
+/// delete its id, even if they disable it.
 pub fn enable_gives_back()
     ensures alone { EnabledIsAlone }
     ensures stays { DataStays }
@@ -124,10 +124,10 @@ pub fn enable_gives_back()
     ensures back { EnableGivesBack }
 {}
 
-/// A key with a prefix that is ENABLED and alone under it stays so over a session of which no accepted line
-/// disables, destroys or deletes its id, or enables another key under its prefix: before each line, and in
-/// what the session leaves. Ids that are distinct stay so; and where they are, only lines with its own id
-/// count.
+/// A key with a prefix that is ENABLED and alone under it stays so over a session, before each line
+/// and in the last keyset, if no accepted line disables, destroys or deletes its id, or enables
+/// another key under its prefix. Distinct ids stay distinct; and if they are, only lines with its
+/// own id matter.
 pub fn kept_by_session()
     ensures turns { KeptByLines }
     ensures last { KeptBySession }
@@ -136,22 +136,22 @@ pub fn kept_by_session()
     ensures others { LinesOfOthersSpare }
 {}
 
-/// A session's keyset is the first one after some edits: that before each line, and the last one.
+/// A session's keyset, before each line and at the end, is the first one after some edits.
 pub fn session_is_edits()
     ensures last { SessionIsEdits }
     ensures each { TurnIsEdits }
 {}
 
-/// A turn is that of the line of its place, as the input spells it, and a text goes on line by
-/// line.
+/// Each turn is the turn of the input's line at the same place, as spelled there, and a text
+/// continues line by line.
 pub fn turns_are_lines()
     ensures turns { TurnsAreLines }
     ensures spelled { TurnsAreSpelled }
     ensures lines { LinesGoOn }
 {}
 
-/// Accepted edits, first keysets and sessions keep what the types of a record hold it to: an id of
-/// 32 bits, a URL that is text, URL and value short enough to be written, and a value of bytes. The
+/// Accepted edits, first keysets and sessions keep the bounds of a record's types: an id of 32
+/// bits, a URL that is text, URL and value short enough to be written, and a value of bytes. The
 /// random bytes are bytes too.
 pub fn stored_kept()
     ensures edits { EditsKeepStored }
@@ -159,37 +159,37 @@ pub fn stored_kept()
     ensures sessions { SessionsKeepStored }
 {}
 
-/// A session over more lines is that over the first of them, and one over what it left.
+/// A session over more lines is a session over the first of them, then one over what it left.
 pub fn session_goes_on()
     ensures { SessionGoesOn }
 {}
 
-/// A refused line leaves the keyset.
+/// A refused line leaves the keyset unchanged.
 pub fn refusals_leave()
     ensures { RefusalsLeave }
 {}
 
-/// An accepted line `add` or `rotate` answers the id of the new record, which stands last.
+/// An accepted line `add` or `rotate` answers the id of the new record, which is the last one.
 pub fn new_ids_are_told()
     ensures add { TellsNewId Add }
     ensures rotate { TellsNewId Rotate }
 {}
 
-/// A line looks at no random byte behind those that it draws.
+/// A line depends on no random byte after those that it draws.
 pub fn lines_draw_fronts()
     ensures { LinesDrawFronts }
 {}
 
-/// Over a keyset a line that has 320 random bytes is answered, and draws no more; so is the first
-/// keyset of a template.
+/// With 320 random bytes a line over a keyset is answered, and draws no more; the same for a
+/// template's first keyset.
 pub fn lines_draw_few()
     ensures lines { LinesDrawFew }
     ensures firsts { FirstsDrawFew }
 {}
 
-/// What a line `seal` gave, a line `open` with the same associated data answers with its plaintext,
-/// after any edits, while the key that sealed is ENABLED in the keyset and alone under its prefix. The key
-/// isn't RAW.
+/// A line `open` with the same associated data answers what a line `seal` gave with its plaintext,
+/// after any edits, while the key that sealed is ENABLED in the keyset and alone under its prefix.
+/// The key isn't RAW.
 pub fn lines_open()
     ensures { LinesOpen }
 {
@@ -198,8 +198,8 @@ pub fn lines_open()
     kept_open();
 }
 
-/// What a line `seal` gave, a line `open` answers with some plaintext, after any edits, while the keyset has
-/// the key that sealed, ENABLED. The key may be of any output prefix type.
+/// A line `open` answers what a line `seal` gave with some plaintext, after any edits, while the
+/// keyset has the key that sealed, ENABLED. The key may be of any output prefix type.
 pub fn lines_open_present()
     ensures { LinesOpenPresent }
 {
@@ -208,21 +208,21 @@ pub fn lines_open_present()
     kept_open_present();
 }
 
-/// A word that spells bytes in lower case is read as these bytes.
+/// A word that spells bytes in lower case is read as those bytes.
 pub fn words_read_back()
     ensures { WordsReadBack }
 {}
 
-/// What a line `seal` gave, a later line `open` with the same associated data answers with its
-/// plaintext, while the key that sealed is ENABLED in the keyset and alone under its prefix. The key isn't
-/// RAW.
+/// A later line `open` with the same associated data answers what a line `seal` gave with its
+/// plaintext while the key that sealed is ENABLED in the keyset and alone under its prefix. The key
+/// isn't RAW.
 pub fn session_opens()
     ensures { SessionOpens }
 {
     lines_open();
 }
 
-/// The same of `dseal` and `dopen`.
+/// The same for `dseal` and `dopen`.
 pub fn session_dopens()
     ensures { SessionDopens }
 {
@@ -231,15 +231,15 @@ pub fn session_dopens()
     kept_dopen();
 }
 
-/// What a line `seal` gave, a later line `open` answers with some plaintext, while the keyset has the key
-/// that sealed, ENABLED. The key may be of any output prefix type.
+/// A later line `open` answers what a line `seal` gave with some plaintext while the keyset has the
+/// key that sealed, ENABLED. The key may be of any output prefix type.
 pub fn session_opens_present()
     ensures { SessionOpensPresent }
 {
     lines_open_present();
 }
 
-/// The same of `dseal` and `dopen`.
+/// The same for `dseal` and `dopen`.
 pub fn session_dopens_present()
     ensures { SessionDopensPresent }
 {
@@ -248,8 +248,8 @@ pub fn session_dopens_present()
     kept_dopen_present();
 }
 
-/// What a line `tag` gave, a later line `verify` accepts, while the keyset has the key that made
-/// it, ENABLED. The key may be of any output prefix type.
+/// A later line `verify` accepts what a line `tag` gave while the keyset has the key that made it,
+/// ENABLED. The key may be of any output prefix type.
 pub fn session_verifies()
     ensures { SessionVerifies }
 {
@@ -258,14 +258,14 @@ pub fn session_verifies()
     kept_tag();
 }
 
-/// A session over bytes is settled by the random bytes that it draws, and past a limit nothing that
+/// The random bytes that a session over bytes draws settle it, and past a limit nothing that
 /// follows matters.
 pub fn talks_are_steady()
     ensures { TalksAreSteady }
 {}
 
-/// The replies of a session over bytes are those of the turns of its lines. Each line is one of its
-/// turns, unless the random bytes run out or a limit is passed.
+/// The replies of a session over bytes are the replies of its lines' turns. Each line has a turn,
+/// unless the random bytes run out or a limit is passed.
 pub fn talk_is_turns()
     ensures { TalkIsTurns }
 {}

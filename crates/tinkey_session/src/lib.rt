@@ -1,4 +1,4 @@
-//! Sessions: lines over a keyset, what each answers, and what stays readable.
+//! Sessions: lines over a keyset, the answer to each, and what stays readable.
 #![tactic(auto)]
 
 mod answering;

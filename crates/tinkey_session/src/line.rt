@@ -11,7 +11,7 @@ use std::str::from_utf8;
 use tink_base::{Bytes, NoMemory, number_in};
 use tinkey_cmds::Command;
 
-/// What a line asks.
+/// What a line asks for.
 #[derive(Drop)]
 pub enum Line<'a> {
     /// Seal this plaintext with this associated data.
@@ -20,26 +20,26 @@ pub enum Line<'a> {
     Dseal(Bytes, Bytes),
     /// Open these bytes with this associated data.
     Open(Bytes, Bytes),
-    /// The same of bytes that were sealed without an IV.
+    /// The same for bytes sealed without an IV.
     Dopen(Bytes, Bytes),
     /// Open these bytes, and seal the plaintext, both with this associated data.
     Reseal(Bytes, Bytes),
-    /// The same of bytes that were sealed without an IV.
+    /// The same for bytes sealed without an IV.
     Dreseal(Bytes, Bytes),
     /// Tag these bytes.
     Tag(Bytes),
     /// Verify this tag of these bytes.
     Verify(Bytes, Bytes),
-    /// Derive so many bytes from this input.
+    /// Derive this many bytes from this input.
     Derive(u32, Bytes),
-    /// Edit the keyset, by the name of a template, whether or not there is one, or by a key id.
+    /// Edit the keyset, by the name of a template, known or not, or by a key id.
     Edit(Command<&'a str>),
-    /// None of these.
+    /// Not a line of the grammar.
     Bad,
 }
 
-/// What the line asks, whose bytes come without a newline. Memory is taken for the bytes that the
-/// line spells in hexadecimal, and for nothing else.
+/// Reads a line, without its newline. Memory is taken only for the bytes that the line spells in
+/// hexadecimal.
 #[tactic(auto, unfolding(crate::specs::Lines::line_of))]
 pub fn read_line(alloc: Global, line: &[u8]) -> Result<Line<'_>, NoMemory>
     ensures read { IfOk result (λ read. seen_line read ≡ line_of line.now) }
@@ -51,7 +51,7 @@ pub fn read_line(alloc: Global, line: &[u8]) -> Result<Line<'_>, NoMemory>
     }
 }
 
-/// What a line of text asks.
+/// What a line of text asks for.
 fn read_words(alloc: Global, text: &str) -> Result<Line<'_>, NoMemory>
     ensures { IfOk result (λ read. seen_line read ≡ line_of_words (words_of text.now)) }
 {
@@ -126,7 +126,7 @@ fn line_with_two<'a>(
     })
 }
 
-/// The line of a name and twice bytes.
+/// The line of a name and two lists of bytes.
 fn line_with_bytes<'a>(name: &str, a: Bytes, b: Bytes) -> Line<'a>
     ensures { seen_line result ≡ line_with_bytes name.now a b }
 {
@@ -159,7 +159,7 @@ fn bytes_in(alloc: Global, word: &str) -> Result<Option<Bytes>, NoMemory>
     }
 }
 
-/// The name, where it isn't empty.
+/// The name, if it isn't empty.
 fn name_in(word: &str) -> Option<&str>
     ensures { seen_name result ≡ name_in word.now }
 {

@@ -1,4 +1,4 @@
-//! What a line is answered, and its text.
+//! The answer to a line, and its text.
 
 ghost use Rattle.std.specs.Prelude.{◌≡◌, ◌+◌, ◌≤◌, ◌++◌, length, codes, decimal, IfOk};
 ghost use Rattle.tinkey_session.specs.Lines.{word_of};
@@ -22,19 +22,19 @@ pub enum Refusal {
     UnknownTemplate,
     /// A template of Tink's for asymmetric keys has the name.
     AsymmetricTemplate,
-    /// No manager of the primitive has the type URL of this record, the first one at fault.
+    /// No manager of the primitive has this record's type URL. It is the first record at fault.
     NoManager(usize),
-    /// Its manager refuses the value of this record, for this rule, the first one that it breaks.
+    /// The manager refuses this record's value, for the first rule that it breaks.
     BadKey(usize, Rule),
-    /// Bytes are to be derived, and this record isn't RAW.
+    /// Bytes were to be derived, and this record isn't RAW.
     NotRaw(usize),
-    /// So many bytes were asked for, and there are no more than so many.
+    /// The first number of bytes was asked for, and there are at most the second.
     OutputTooLong(usize, usize),
     /// The edit is refused.
     EditRefused(CmdFault),
     /// No key opens the bytes.
     OpenFailed,
-    /// The tag is none of the keyset's.
+    /// No key of the keyset made the tag.
     VerifyFailed,
 }
 
@@ -43,15 +43,15 @@ pub enum Refusal {
 pub enum Reply {
     /// It was done.
     Done,
-    /// It gives these bytes.
+    /// The bytes that it gives.
     Gives(Bytes),
-    /// It made a key, and this is its id.
+    /// The id of the key that it made.
     NewId(u32),
-    /// It is refused, and the keyset is as it was.
+    /// It is refused, and the keyset is unchanged.
     Refuses(Refusal),
 }
 
-/// The text of a refusal, as replies and diagnostic lines tell it.
+/// The text of a refusal, as in replies and diagnostic lines.
 #[tactic(auto, unfolding(crate::specs::Texts::refusal_text))]
 pub fn refusal_text(refusal: Refusal) -> ShortText
     ensures text { result ≡ refusal_text refusal }
@@ -110,7 +110,7 @@ fn bytes_text(alloc: Global, bytes: &[u8]) -> Result<Vec<u8>, NoMemory>
     Ok(text)
 }
 
-/// The line of a reply that tells a key id.
+/// The line of a reply that reports a key id.
 fn id_text(alloc: Global, id: u32) -> Result<Vec<u8>, NoMemory>
     ensures { IfOk result (λ text. text.items ≡ codes "ok " ++ (decimal id ++ codes "\n")) }
 {
@@ -118,7 +118,7 @@ fn id_text(alloc: Global, id: u32) -> Result<Vec<u8>, NoMemory>
     line_of(alloc, b"ok ", digits.format(id).as_bytes())
 }
 
-/// A text as it stands.
+/// This text.
 fn plain_text(says: &str) -> ShortText
     requires says_bound { length says.now ≤ 40 }
     ensures text { result ≡ says.now }
@@ -129,7 +129,7 @@ fn plain_text(says: &str) -> ShortText
     text
 }
 
-/// What is said of the key of this place.
+/// What is said of the key at this place.
 fn key_text(i: usize, says: &str) -> ShortText
     requires says_bound { length says.now ≤ 40 }
     ensures text { result ≡ codes "key " ++ (decimal i ++ says.now) }
@@ -141,7 +141,7 @@ fn key_text(i: usize, says: &str) -> ShortText
     text
 }
 
-/// That the key of this place breaks this rule.
+/// Says that the key at this place breaks this rule.
 #[tactic(auto, unfolding(crate::specs::Texts::refusal_text))]
 fn invalid_text(i: usize, rule: Rule) -> ShortText
     ensures text { result ≡ refusal_text (BadKey i rule) }
@@ -185,7 +185,7 @@ fn edit_text(fault: CmdFault) -> ShortText
     }
 }
 
-/// That a key breaks this rule.
+/// Says that a key breaks this rule.
 fn refused_text(rule: Rule) -> ShortText
     ensures text { result ≡ codes "key refused: " ++ rule_text rule }
     ensures short { length result ≤ 110 }

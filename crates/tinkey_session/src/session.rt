@@ -31,14 +31,14 @@ use wrapped_prims::{Handle, HandleFault};
 pub enum LineFault {
     /// The entropy failed.
     EntropyFault,
-    /// Memory was refused.
+    /// Memory couldn't be allocated.
     NoMemory,
 }
 
-/// A keyset, and the handle of its keys that a line needed last. An edit lets the handle go, and any
-/// other line leaves it.
+/// A keyset, and the handle of its keys that a line needed last. An edit drops the handle; any
+/// other line keeps it.
 ///
-/// A record's URL and value have together at most 256 bytes less than 2^31.
+/// A record's URL and value together have at most 2^31 - 256 bytes.
 #[derive(Drop)]
 pub struct Session<'m> {
     pub managers: &'m Managers,
@@ -48,8 +48,8 @@ pub struct Session<'m> {
 }
 
 impl<'m> Session<'m> {
-    /// A session over a keyset, whose keys these managers serve. A record's URL and value have
-    /// together at most 256 bytes less than 2^31. No memory is taken.
+    /// A session over a keyset, whose keys these managers serve. A record's URL and value together
+    /// have at most 2^31 - 256 bytes. No memory is taken.
     pub fn new(keyset: Keyset, managers: &'m Managers) -> Session<'m>
         requires short { AllByRecursion IsShort keyset.records }
         ensures keyset { result.keyset ≡ keyset }
@@ -64,13 +64,13 @@ impl<'m> Session<'m> {
         }
     }
 
-    /// Does what the line asks, and answers it.
+    /// Does what the line asks for, and answers it.
     ///
-    /// A line that needs keys makes a handle of them where none for its primitive is kept; while the
-    /// keyset stays, each later line of that primitive uses it. An accepted edit puts the new keyset
-    /// in place, and lets the handle go; any other line leaves the keyset, a refused one too. An edit
-    /// that isn't accepted, as one whose draw failed, leaves the handle too.
-    /// `EntropyFault` comes only where the entropy failed, and the line asks for more than was drawn.
+    /// A line that needs keys makes a handle of them if none for its primitive is kept; while the
+    /// keyset is unchanged, each later line for that primitive uses it. An accepted edit replaces
+    /// the keyset and drops the handle; any other line, even a refused one, keeps the keyset. An
+    /// edit that isn't accepted, for instance because its draw failed, also keeps the handle.
+    /// `EntropyFault` comes only if the entropy failed, and the line needs more than was drawn.
     pub fn serve<E: Entropy>(
         &mut self,
         alloc: Global,
@@ -148,8 +148,8 @@ impl<'m> Session<'m> {
         }
     }
 
-    /// Keeps a handle for this primitive, which isn't Stream: the kept one where it is for it, and
-    /// else a new one.
+    /// Keeps a handle for this primitive, which isn't Stream: the kept one if it is for it,
+    /// otherwise a new one.
     fn fit(&mut self, alloc: Global, primitive: Primitive) -> Result<(), HandleFault>
         requires no_stream { primitive ≢ Stream }
         requires kept { IfSome self.old.kept (λ h. IsKept
@@ -175,7 +175,7 @@ impl<'m> Session<'m> {
         Ok(())
     }
 
-    /// Whether the kept handle is one for this primitive.
+    /// Whether the kept handle is for this primitive.
     fn is_kept(&self, primitive: Primitive) -> bool
         ensures { IsTrue result ↔ IsSomeAnd self.now.kept (λ h. h.primitive ≡ primitive) }
     {
@@ -185,7 +185,8 @@ impl<'m> Session<'m> {
         }
     }
 
-    /// The keyset after an edit, with no handle kept; or why the edit is refused, with the handle as it was.
+    /// Edits the keyset and drops the handle; or says why the edit is refused, and keeps the
+    /// handle.
     fn edit<E: Entropy>(
         &mut self,
         alloc: Global,
@@ -230,7 +231,7 @@ fn template_of(name: &str) -> Result<Template, Refusal>
     }
 }
 
-/// The edit that the line asks for, or why it asks for none.
+/// The edit that the line asks for, or why there is none.
 #[tactic(auto, unfolding(crate::specs::Serving::serve))]
 fn command_of(line: &Line<'_>) -> Result<Command<Template>, Refusal>
     requires no_keys { needs (seen_line line.now) ≡ None }
@@ -270,7 +271,7 @@ fn edited_reply(command: &Command<Template>, keyset: &Keyset) -> Reply
     }
 }
 
-/// What came of an edit that gave no keyset.
+/// The outcome of an edit that gave no keyset.
 fn unedited(error: CmdError) -> Result<Reply, LineFault>
     ensures { result ≡ unedited error }
 {
@@ -281,7 +282,7 @@ fn unedited(error: CmdError) -> Result<Reply, LineFault>
     }
 }
 
-/// What came of a line whose keyset can't serve.
+/// The outcome of a line whose keyset can't serve.
 fn unserved(fault: HandleFault) -> Result<Reply, LineFault>
     ensures { result ≡ unserved fault }
 {

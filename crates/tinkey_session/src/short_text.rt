@@ -1,4 +1,4 @@
-//! A short text on the stack, for what is told without memory.
+//! A short text on the stack, for output without allocation.
 
 ghost use Rattle.std.specs.Prelude.{◌≡◌, ◌+◌, ◌≤◌, [], ◌++◌, length, decimal};
 
@@ -8,7 +8,7 @@ use std::marker::Model;
 /// The longest text, in bytes.
 const LONGEST: usize = 128;
 
-/// A text of at most 128 bytes, which contracts see as the list of them.
+/// A text of at most 128 bytes. Contracts see the list of its bytes.
 #[derive(Drop)]
 pub struct ShortText {
     bytes: [u8; LONGEST],

@@ -34,20 +34,20 @@ pub enum TalkFault {
     WriteFault,
     /// The entropy failed.
     EntropyFault,
-    /// Memory was refused.
+    /// Memory couldn't be allocated.
     NoMemory,
 }
 
-/// How many bytes a line may have.
+/// The most bytes that a line may have.
 const LINE_LIMIT: usize = 65_536;
 
-/// How many lines there may be.
+/// The most lines that there may be.
 const COUNT_LIMIT: usize = 100_000;
 
-/// How many bytes one read asks for at the most.
+/// The most bytes that one read asks for.
 const PIECE: usize = 4096;
 
-/// Replies of more bytes aren't held back.
+/// If the replies have more bytes in all, they aren't held back.
 const HELD_LIMIT: usize = 32_768;
 
 /// A session, the line so far, how many lines came before it, and the replies that are held back.
@@ -60,22 +60,22 @@ struct TalkState<'m> {
     ghost fits: { length line.items ≤ line_limit },
 }
 
-/// Answers each line of an input over a keyset, under these managers, and then gives the keyset that
-/// the last line left. A record's URL and value have together at most 256 bytes less than 2^31.
+/// Answers each line of an input over a keyset, under these managers, and returns the keyset that
+/// the last line left. A record's URL and value together have at most 2^31 - 256 bytes.
 ///
-/// A line ends with a newline, and a last one without it counts where it isn't empty. Before each
-/// read the replies to all lines that have ended were written. The session ends before its input
-/// where a byte is past a limit: `LineTooLong` at a byte too many of a line, `TooManyLines` at a
-/// byte behind the last line that there may be. The replies to the lines before it were written
-/// then. Every other fault comes only where the object failed in this call. After any fault the
-/// keyset is gone, with what lines changed of it. Nothing is read after the end was answered.
+/// A line ends with a newline; a last one without it counts if it isn't empty. Before each read the
+/// replies to all complete lines are written. The session ends early if a byte is past a limit:
+/// `LineTooLong` at the first byte too many of a line, `TooManyLines` at a byte after the last line
+/// allowed. Then the replies to the lines before it were written. Every other fault comes only if
+/// the object failed in this call. After any fault the keyset is gone, with the lines' changes to
+/// it. Nothing is read after the end was reported.
 ///
-/// Replies may be held back until the next read or the session's end, and are written together. Random bytes
-/// that the entropy doesn't hold are drawn only where no reply is held back.
+/// Replies may be held back until the next read or the session's end, and are then written
+/// together. Random bytes that the entropy doesn't hold are drawn only if no reply is held back.
 ///
-/// Memory is taken for one line, one reply, up to 32,768 bytes of replies before it and once more the bytes
-/// of that reply behind them, the keyset, and the keys that lines need of it. Where memory for the replies
-/// that are held back is wanting, they are written at once.
+/// Memory is taken for one line, one reply, up to 32,768 bytes of earlier replies followed by a
+/// copy of that reply, the keyset, and the keys that lines need of it. If memory to hold replies
+/// back can't be allocated, they are written at once.
 pub fn talk<S: Source, K: Sink, E: Lookahead>(
     alloc: Global,
     keyset: Keyset,
@@ -113,7 +113,7 @@ pub fn talk<S: Source, K: Sink, E: Lookahead>(
     }
 }
 
-/// Takes a piece of the input, and answers each line that ends in it. No reply is held back afterwards.
+/// Takes a piece of the input, and answers each line that ends in it. Then no reply is held back.
 fn take_piece<K: Sink, E: Lookahead>(
     alloc: Global,
     talk: &mut TalkState<'_>,
@@ -159,8 +159,8 @@ fn take_piece<K: Sink, E: Lookahead>(
     }
 }
 
-/// Takes the first bytes of some, and says how many: those in front of the first newline, or that newline,
-/// where it comes first.
+/// Takes the first of these bytes, and returns how many: those before the first newline, or that
+/// newline if it comes first.
 fn take_part<K: Sink, E: Lookahead>(
     alloc: Global,
     talk: &mut TalkState<'_>,
@@ -214,7 +214,7 @@ fn take_part<K: Sink, E: Lookahead>(
     }
 }
 
-/// How many bytes stand before the first newline, or where there is none, in all.
+/// How many bytes there are before the first newline, or in all if there is none.
 fn before_newline(bytes: &[u8]) -> usize
     ensures within { result ≤ length bytes.now }
     ensures none { IsInLine (take result bytes.now) }
@@ -223,7 +223,7 @@ fn before_newline(bytes: &[u8]) -> usize
     memchr(b'\n', bytes).unwrap_or(bytes.len())
 }
 
-/// Answers the line so far, which ends, and begins the next one.
+/// Answers the line so far, which is complete, and begins the next one.
 fn take_line<K: Sink, E: Lookahead>(
     alloc: Global,
     talk: &mut TalkState<'_>,
@@ -272,10 +272,10 @@ fn take_line<K: Sink, E: Lookahead>(
     }
 }
 
-/// The text of the reply to a line. Where the random bytes that are held suffice, they are used, and no
-/// object is called. Else the replies that are held back are written, and the line is answered anew. Where
-/// memory is refused, they are written too, and the answer is `NoMemory`, or `WriteFault` where a write
-/// fails.
+/// The text of the reply to a line. If the random bytes that are held suffice, they are used, and
+/// no object is called. Otherwise the replies held back are written, and the line is answered
+/// again. If memory can't be allocated, they are written too, and the error is `NoMemory`, or
+/// `WriteFault` if a write fails.
 fn reply_to<K: Sink, E: Lookahead>(
     alloc: Global,
     session: &mut Session<'_>,
@@ -322,8 +322,8 @@ fn reply_to<K: Sink, E: Lookahead>(
     }
 }
 
-/// The text of the reply to a line, by the random bytes that the entropy holds, which are used up then. They
-/// don't suffice where the answer is `EntropyFault`. With any fault none is used.
+/// The text of the reply to a line, with the random bytes that the entropy holds, which are then
+/// used up. `EntropyFault` means that they don't suffice. With any fault none is used.
 fn answer_held<E: Lookahead>(
     alloc: Global,
     session: &mut Session<'_>,
@@ -360,7 +360,7 @@ fn answer_held<E: Lookahead>(
     }
 }
 
-/// The text of the reply to a line, by random bytes of any entropy.
+/// The text of the reply to a line, with random bytes of any entropy.
 fn answer_line<E: Entropy>(
     alloc: Global,
     session: &mut Session<'_>,
@@ -400,8 +400,8 @@ fn answer_line<E: Entropy>(
     }
 }
 
-/// Holds a reply back behind those that are held, or writes it with them: where they are many, or where
-/// memory is refused.
+/// Holds a reply back after those held, or writes it with them if they are many or memory can't be
+/// allocated.
 fn tell<K: Sink>(replies: &mut Vec<u8>, sink: &mut K, reply: &[u8]) -> Result<(), Failed>
     ensures told { OnOk result
         (HoldsBack (K.state sink.old) (K.state sink.new) replies.old.items replies.new.items reply.now) }
@@ -420,7 +420,7 @@ fn tell<K: Sink>(replies: &mut Vec<u8>, sink: &mut K, reply: &[u8]) -> Result<()
     Ok(())
 }
 
-/// Writes the replies that are held back, and a reply behind them.
+/// Writes the replies held back, then a reply.
 fn write_both<K: Sink>(replies: &mut Vec<u8>, sink: &mut K, reply: &[u8]) -> Result<(), Failed>
     ensures all { OnOk result
         (Took (K.state sink.old) (K.state sink.new) (replies.old.items ++ reply.now)) }
@@ -440,7 +440,7 @@ fn write_both<K: Sink>(replies: &mut Vec<u8>, sink: &mut K, reply: &[u8]) -> Res
     }
 }
 
-/// Writes the replies that are held back. None is held back afterwards.
+/// Writes the replies held back. Then none is held back.
 fn flush<K: Sink>(replies: &mut Vec<u8>, sink: &mut K) -> Result<(), Failed>
     ensures all { OnOk result (Took (K.state sink.old) (K.state sink.new) replies.old.items) }
     ensures none { replies.new.items ≡ [] }
@@ -454,8 +454,8 @@ fn flush<K: Sink>(replies: &mut Vec<u8>, sink: &mut K) -> Result<(), Failed>
     written
 }
 
-/// Writes the replies that are held back, where this fault ends the session. The answer is the fault, or
-/// `WriteFault` where a write fails.
+/// Writes the replies held back, if this fault ends the session. Returns the fault, or `WriteFault`
+/// if a write fails.
 fn end<K: Sink>(fault: TalkFault, replies: &mut Vec<u8>, sink: &mut K) -> TalkFault
     ensures { Ended fault result (K.state sink.old) (K.state sink.new) replies.old.items }
 {
@@ -465,7 +465,7 @@ fn end<K: Sink>(fault: TalkFault, replies: &mut Vec<u8>, sink: &mut K) -> TalkFa
     }
 }
 
-/// Answers a last line that isn't empty, writes its reply, and answers the keyset.
+/// Answers a last line that isn't empty, writes its reply, and returns the keyset.
 fn finish<K: Sink, E: Lookahead>(
     alloc: Global,
     talk: TalkState<'_>,
