@@ -1,4 +1,4 @@
-//! What a self-test has counted, and its text.
+//! The counts of a self-test, and their text.
 
 ghost use Rattle.std.specs.Prelude.{◌≡◌, ℕ, List, ◌++◌, IfOk};
 ghost use Rattle.keyset_model.specs.Keyset.{Keys};
@@ -13,7 +13,7 @@ use std::alloc::Global;
 use tink_base::NoMemory;
 use tinkey_session::Reply;
 
-/// What became of the lines of a self-test. Each line counts in one of the first five.
+/// The outcomes of a self-test's lines. Each line counts in one of the first five.
 #[derive(Clone, Copy, Debug, PartialEq, Eq)]
 pub struct Counts {
     /// Seals that were accepted.
@@ -31,7 +31,7 @@ pub struct Counts {
 }
 
 impl Counts {
-    /// No line yet.
+    /// The counts of no lines.
     pub(crate) fn none_yet() -> Counts
         ensures { result ≡ none_yet }
     {
@@ -78,7 +78,7 @@ impl Counts {
         }
     }
 
-    /// The counts with a refused open; it is lost where the key that sealed is there.
+    /// The counts with a refused open; it counts as lost if the key that sealed is there.
     fn with_refused(self, is_there: bool) -> Counts
         requires room { HasRoom self }
         ensures { result ≡ one_refused is_there self }
@@ -110,7 +110,7 @@ impl Counts {
     }
 }
 
-/// The line that tells the counts of so many lines, with its newline.
+/// The line that reports the counts of `lines` lines, with its newline.
 #[tactic(auto, unfolding(crate::specs::Telling::counts_text))]
 pub fn counts_text(alloc: Global, lines: u32, counts: Counts) -> Result<Vec<u8>, NoMemory>
     ensures { IfOk result (λ text. text.items ≡ counts_text lines counts) }
@@ -127,7 +127,7 @@ pub fn counts_text(alloc: Global, lines: u32, counts: Counts) -> Result<Vec<u8>,
     Ok(text)
 }
 
-/// Adds a number behind its name.
+/// Appends a name and its number.
 fn push_part(text: &mut Vec<u8>, name: &str, number: u32) -> Result<(), NoMemory>
     ensures { IfOk result (λ done. text.new.items ≡ text.old.items ++ part name.now number) }
 {

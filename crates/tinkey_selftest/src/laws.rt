@@ -1,4 +1,4 @@
-//! Laws of the definitions. Each is the contract of a function that does nothing else.
+//! Laws of the definitions. Each is the contract of a function with no effect.
 
 ghost use Rattle.tinkey_selftest.specs.Laws.{CountsAddUp, EntropySuffices, KeysAreFound, NothingIsLost};
 
@@ -9,7 +9,7 @@ pub fn counts_add_up()
     ensures { CountsAddUp }
 {}
 
-/// Under the standard managers no open is refused whose key is in the keyset, ENABLED.
+/// Under the standard managers no open is refused while its key is in the keyset, ENABLED.
 pub fn nothing_is_lost()
     ensures { NothingIsLost }
 {
@@ -18,7 +18,7 @@ pub fn nothing_is_lost()
     sound_kept();
 }
 
-/// The random bytes suffice: the first keyset and each line is answered.
+/// The random bytes suffice: the first keyset is made and each line is answered.
 pub fn entropy_suffices()
     ensures { EntropySuffices }
 {
@@ -27,7 +27,7 @@ pub fn entropy_suffices()
     sound_kept();
 }
 
-/// A key is found in a keyset exactly where the keyset has that key, ENABLED.
+/// A key is found in a keyset if and only if the keyset has that key, ENABLED.
 pub fn keys_are_found()
     ensures { KeysAreFound }
 {}

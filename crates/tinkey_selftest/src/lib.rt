@@ -1,4 +1,4 @@
-//! The self-test: many session lines, made from one number, and what became of them.
+//! The self-test: many session lines, made from one number, and their outcomes.
 #![tactic(auto)]
 
 mod counts;

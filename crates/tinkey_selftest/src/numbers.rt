@@ -51,7 +51,7 @@ pub(crate) fn next_words(generator: &mut ChaCha20Rng) -> Words
     Words { a, b, c, d }
 }
 
-/// The first random bytes of a self-test, so many, from a generator of their own.
+/// The first `count` random bytes of a self-test, from a generator of their own.
 pub(crate) fn random_bytes(alloc: Global, seed: u32, count: usize) -> Result<Vec<u8>, NoMemory>
     ensures { IfOk result (λ bytes. bytes.items ≡ random_bytes seed count) }
 {

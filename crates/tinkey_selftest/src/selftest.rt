@@ -19,8 +19,8 @@ use tink_base::{MemEntropy, NoMemory};
 use tinkey_cmds::{CmdError, CmdFault, create};
 use tinkey_session::Session;
 
-/// As many random bytes as a line, or the first keyset, draws at the most: 64 ids of four bytes, and
-/// a key of 64 bytes.
+/// The most random bytes that a line or the first keyset draws: 64 ids of four bytes, and a key of
+/// 64 bytes.
 const MOST_DRAWN: usize = 320;
 
 /// Why there is no self-test.
@@ -28,7 +28,7 @@ const MOST_DRAWN: usize = 320;
 pub enum SelfTestFault {
     /// There is no first keyset.
     Refused(CmdFault),
-    /// Memory was refused.
+    /// Memory couldn't be allocated.
     NoMemory,
 }
 
@@ -60,12 +60,12 @@ fn first_keyset(alloc: Global, entropy: &mut MemEntropy) -> Result<Keyset, SelfT
     }
 }
 
-/// Makes so many session lines from a number, and counts what becomes of them.
+/// Makes `lines` session lines from a number, and counts their outcomes.
 ///
 /// The lines, and the random bytes that they draw, are the same each time. The keyset begins with
-/// one key of AES128_GCM. `Refused` comes exactly where there is no such keyset, and is
-/// `IdsExhausted`. Under the standard managers no open is lost (`laws`). Memory is taken for all random
-/// bytes at the start, 320 for each line, and for the seals that are accepted.
+/// one key of AES128_GCM. `Refused` comes if and only if there is no such keyset, and holds
+/// `IdsExhausted`. Under the standard managers no open is lost (`laws`). Memory is taken for all
+/// random bytes at the start, 320 for each line, and for the seals that are accepted.
 pub fn self_test(
     alloc: Global,
     managers: &Managers,

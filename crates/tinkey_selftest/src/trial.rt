@@ -16,7 +16,7 @@ use tink_base::{Bytes, ENABLED, MemEntropy, NoMemory};
 use tinkey_cmds::Command;
 use tinkey_session::{Line, LineFault, Reply, Session};
 
-/// With so many records no key is made.
+/// With at least this many records no key is made.
 const MANY_RECORDS: usize = 16;
 
 /// A seal that was accepted: its bytes, their associated data, and the record that sealed.
@@ -36,7 +36,7 @@ pub(crate) struct Trial<'m> {
     pub counts: Counts,
 }
 
-/// Whether the second record is ENABLED, with all that makes the key of the first.
+/// Whether the second record is ENABLED and has all that makes the first one's key.
 fn is_same_key(sealer: &Record, other: &Record) -> bool
     ensures { result ≡ is_same_key sealer.now other.now }
 {
@@ -60,14 +60,14 @@ fn has_key(sealer: &Record, keyset: &Keyset) -> bool
     false
 }
 
-/// The same of the session's keyset.
+/// The same for the session's keyset.
 fn session_has_key(sealer: &Record, session: &Session<'_>) -> bool
     ensures { result ≡ has_key sealer.now session.now.keyset }
 {
     has_key(sealer, &session.keyset)
 }
 
-/// Keeps what was sealed, if it was, with its associated data and the record that sealed.
+/// Keeps the sealed bytes, if any, with their associated data and the record that sealed.
 fn keep(
     sealings: &mut Vec<Sealing>,
     reply: Reply,
@@ -83,7 +83,7 @@ fn keep(
     Ok(())
 }
 
-/// The seal of this number, modulo their count; none where there is none.
+/// The seal with this number modulo their count; `None` if there are none.
 fn pick(sealings: &Vec<Sealing>, number: u32) -> Option<&Sealing>
     ensures { option_map (λ s. s.now) result
         ≡ slice_get sealings.now.items (number % length sealings.now.items) }
@@ -108,7 +108,7 @@ fn template_name(words: Words) -> &'static str
     }
 }
 
-/// The line that makes a key, or deletes one where there are many.
+/// The line that makes a key, or deletes one if there are many.
 fn grow_line(words: Words, keyset: &Keyset) -> Line<'static>
     ensures line { seen_line result ≡ grow_line words keyset.now }
     ensures within { IsWithin (2 ^ 20) (seen_line result) }
@@ -144,7 +144,7 @@ fn change_line(words: Words, keyset: &Keyset) -> Line<'static>
 }
 
 impl<'m> Trial<'m> {
-    /// What the session answers a line.
+    /// The session's answer to a line.
     fn serve(&mut self, alloc: Global, line: &Line<'_>) -> Result<Reply, NoMemory>
         requires kept { IfSome self.old.session.kept (λ h. IsKept
             (⟦<Managers as KeyTable>⟧.table self.old.session.managers.now)
@@ -179,7 +179,7 @@ impl<'m> Trial<'m> {
         }
     }
 
-    /// Seals, and keeps what was sealed.
+    /// Seals, and keeps the sealed bytes.
     fn seal(&mut self, alloc: Global, words: Words) -> Result<(), NoMemory>
         requires kept { IfSome self.old.session.kept (λ h. IsKept
             (⟦<Managers as KeyTable>⟧.table self.old.session.managers.now)
@@ -210,7 +210,7 @@ impl<'m> Trial<'m> {
         Ok(())
     }
 
-    /// Opens one of the seals, or seals where there is none.
+    /// Opens one of the seals, or seals if there is none.
     fn open(&mut self, alloc: Global, words: Words) -> Result<(), NoMemory>
         requires kept { IfSome self.old.session.kept (λ h. IsKept
             (⟦<Managers as KeyTable>⟧.table self.old.session.managers.now)
