@@ -1,5 +1,5 @@
-//! What stays readable, over the lines of a session and over runs that hand a keyset on; and where each
-//! family of commands is Done.
+//! What stays readable, over the lines of a session and over runs that pass a keyset on; and when
+//! each family of commands is Done.
 #![tactic(auto)]
 
 pub mod laws;
