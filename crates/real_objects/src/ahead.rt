@@ -1,4 +1,4 @@
-//! A device whose bytes are drawn ahead, so that many small draws cost one read of it.
+//! A device whose bytes are drawn ahead, so that many small draws take one read of it.
 
 ghost use Rattle.std.specs.Prelude.{◌≡◌, ◌<◌, ◌≤◌, None, [], ◌++◌, length, take, drop, min, true, false, IsOk, OnOk, OnErr};
 ghost use Rattle.std.specs.Io.KnownBytes.{Consumes, IsAtEnd, Keeps};
@@ -9,16 +9,16 @@ use std::fs::File;
 use std::io::{self, ErrorKind, Read};
 use std::marker::Model;
 
-/// How many bytes are drawn ahead at the most.
+/// The most bytes that are drawn ahead.
 const AHEAD: usize = 1 << 10;
 
-/// Where none are held, a read of more bytes than that goes to the device itself.
+/// If no bytes are held, a read of more bytes than this goes directly to the device.
 const SMALL: usize = 64;
 
-/// Bytes that were drawn and not handed out yet, in order; at most 1,024 of them.
+/// Bytes that were drawn and not yet handed out, in order; at most 1,024.
 ///
-/// Contracts see the list of them. What was handed out is overwritten with zeros here: of the array's front the
-/// invariant says so.
+/// Contracts see the list of them. Bytes handed out are overwritten with zeros here, as the
+/// invariant states for the array's front.
 #[derive(Drop)]
 struct Held {
     bytes: [u8; AHEAD],
@@ -49,7 +49,7 @@ impl Held {
         }
     }
 
-    /// Whether there are none.
+    /// Whether there are no bytes.
     fn is_empty(&self) -> bool
         ensures some { result ≡ false → 0 < length self.now }
         ensures none { result ≡ true → self.now ≡ [] }
@@ -57,7 +57,7 @@ impl Held {
         self.from == self.to
     }
 
-    /// Draws ahead by one read of the device. There are no bytes before it.
+    /// Draws ahead by one read of the device, when no bytes are held.
     fn refill<R: Read>(&mut self, device: &mut R) -> io::Result<()>
         requires empty { self.old ≡ [] }
         ensures drawn { OnOk result
@@ -73,7 +73,8 @@ impl Held {
         Ok(())
     }
 
-    /// Moves bytes from the front into the front of `out`, as many as both have, and answers how many.
+    /// Moves bytes from the front to the front of `out`, as many as both have, and returns how
+    /// many.
     fn hand_out(&mut self, out: &mut [u8]) -> usize
         ensures count { result ≡ min (length self.old) (length out.old) }
         ensures given { self.old ≡ take result out.new ++ self.new }
@@ -95,7 +96,7 @@ impl Held {
         &self.bytes[self.from..self.to]
     }
 
-    /// Lets so many bytes go from the front, which are overwritten with zeros.
+    /// Drops `count` bytes from the front, and overwrites them with zeros.
     fn skip(&mut self, count: usize)
         requires within { count ≤ length self.old }
         ensures { self.new ≡ drop count self.old }
@@ -108,7 +109,7 @@ impl Held {
 
 /// A device of bytes.
 pub trait Device: Read {
-    /// It tells its bytes at each moment, or at none.
+    /// It reports its bytes always or never.
     ghost untold: { (s t : Self) → Self.remaining s ≡ None → Self.remaining t ≡ None };
 }
 
@@ -116,7 +117,7 @@ impl Device for File {
     ghost untold = { λ s t none. none };
 }
 
-/// A device and the bytes that were drawn ahead of it.
+/// A device and the bytes drawn ahead from it.
 #[derive(Drop)]
 pub struct Ahead<R> {
     device: R,
@@ -124,7 +125,7 @@ pub struct Ahead<R> {
 }
 
 impl<R: Device> Ahead<R> {
-    /// The device, of which nothing is drawn ahead yet.
+    /// The device, with nothing drawn ahead yet.
     pub(crate) fn new(device: R) -> Ahead<R>
         ensures kept { Keeps (R.remaining device) (ahead_left R.remaining result) }
         ensures untold { R.remaining device ≡ None → ahead_left R.remaining result ≡ None }
@@ -135,8 +136,8 @@ impl<R: Device> Ahead<R> {
         }
     }
 
-    /// Fills `out` with the next bytes: those that are held, and then what reads give. Where it fails some of
-    /// these bytes may be gone.
+    /// Fills `out` with the next bytes: those that are held, then what reads give. If it fails,
+    /// some of these bytes may be lost.
     pub(crate) fn fill(&mut self, out: &mut [u8]) -> io::Result<()>
         ensures filled { OnOk result (Consumes (ahead_left R.remaining self.old)
             (ahead_left R.remaining self.new) out.new) }
@@ -150,14 +151,14 @@ impl<R: Device> Ahead<R> {
         fill_from(self, &mut out[n..])
     }
 
-    /// The bytes that were drawn ahead.
+    /// The bytes drawn ahead.
     pub(crate) fn held(&self) -> &[u8]
         ensures { result.now ≡ self.now.held }
     {
         self.held.bytes()
     }
 
-    /// Lets so many go of the bytes that were drawn ahead. The device isn't called.
+    /// Drops `count` of the bytes drawn ahead. The device isn't called.
     pub(crate) fn skip(&mut self, count: usize)
         requires within { count ≤ length self.old.held }
         ensures gone { Consumes (ahead_left R.remaining self.old)
@@ -172,8 +173,8 @@ impl<R: Device> Ahead<R> {
 impl<R: Read> Read for Ahead<R> {
     ghost remaining = { ahead_left R.remaining };
 
-    /// Gives what was drawn ahead, or, where that is used up, what one read of the device gives. A read of
-    /// at most 64 bytes has as many drawn ahead as the device gives at once, up to 1,024.
+    /// Returns bytes drawn ahead or, if these are used up, what one read of the device gives. A
+    /// read of at most 64 bytes draws ahead as many as the device gives at once, up to 1,024.
     fn read(&mut self, out: &mut [u8]) -> io::Result<usize> {
         if self.held.is_empty() {
             if out.len() > SMALL {
@@ -185,7 +186,7 @@ impl<R: Read> Read for Ahead<R> {
     }
 }
 
-/// Fills `out` with the next bytes of a device. Where it fails some of these bytes may be gone.
+/// Fills `out` with the next bytes of a device. If it fails, some of these bytes may be lost.
 fn fill_from<R: Read>(device: &mut R, out: &mut [u8]) -> io::Result<()>
     ensures filled { OnOk result
         (Consumes (R.remaining device.old) (R.remaining device.new) out.new) }

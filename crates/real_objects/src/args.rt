@@ -9,12 +9,12 @@ use std::env::FillError;
 use std::rt::Env;
 use tink_base::NoMemory;
 
-/// What has the words of a command line.
+/// A source of the words of a command line.
 pub trait Arguments {
-    /// The words, the program's name first, each as its bytes, where they are known.
+    /// The words, the program's name first, each as its bytes, if they are known.
     ghost told: { Self → Option (List (List ℕ)) };
 
-    /// Moves the word of this place into the front of `room`, and answers how many bytes it has.
+    /// Copies the word at this place to the front of `room`, and returns how many bytes it has.
     fn argument(&self, place: usize, room: &mut [u8]) -> Result<usize, FillError>
         ensures bound { IfOk result (λ n. n ≤ length room.new) }
         ensures word { IfOk result (λ n. IfSome (told self.now)
@@ -31,22 +31,23 @@ impl Arguments for HostRuntime {
     }
 }
 
-/// Why the words can't be told.
+/// Why the words can't be returned.
 #[derive(Clone, Copy, Debug, PartialEq, Eq)]
 pub enum NoWords {
-    /// The word of this place is the first that isn't UTF-8. Places count from 0, after the program's name.
+    /// The word at this place is the first that isn't UTF-8. Places count from 0, after the
+    /// program's name.
     NotText(usize),
-    /// Memory was refused.
+    /// Memory couldn't be allocated.
     NoMemory,
 }
 
-/// The bytes that are reserved for a word at first.
+/// The bytes initially reserved for a word.
 const ROOM: usize = 256;
 
 /// The words after the program's name, whatever bytes the name has.
 ///
-/// `NotText` comes only if one of them isn't UTF-8, and names the first such word. If memory is refused
-/// for a word before it, `NoMemory` comes.
+/// `NotText` comes only if one of them isn't UTF-8, and names the first such word. If memory for a
+/// word before it can't be allocated, `NoMemory` comes.
 pub fn words<A: Arguments>(from: &A, alloc: Global) -> Result<Vec<String>, NoWords>
     ensures all { IfOk result (λ words. IfSome (A.told from.now)
         (λ told. map string_bytes words.items ≡ drop 1 told)) }
@@ -70,7 +71,7 @@ pub fn words<A: Arguments>(from: &A, alloc: Global) -> Result<Vec<String>, NoWor
     Err(NoWords::NoMemory)
 }
 
-/// The word of this place, which is 1 or more, if there is one.
+/// The word at this place, which is 1 or more, if there is one.
 fn word<A: Arguments>(
     from: &A,
     alloc: Global,
@@ -93,8 +94,8 @@ fn word<A: Arguments>(
     }
 }
 
-/// Moves the word of this place into the front of `room`, which grows where it must, and answers how
-/// many bytes it has, where there is one.
+/// Copies the word at this place to the front of `room`, which grows if necessary, and returns how
+/// many bytes it has, if there is one.
 fn fetch<A: Arguments>(
     from: &A,
     place: usize,

@@ -1,5 +1,5 @@
-//! What lies beneath sources and sinks: streams that can be asked whether they are open, and that don't begin
-//! to tell their bytes once they have told none.
+//! The streams beneath sources and sinks: they can be asked whether they are open, and report their
+//! bytes always or never.
 
 ghost use Rattle.std.specs.Prelude.{◌≡◌, Bool, Option, Some, None, IfSome, is_ok};
 ghost use Rattle.std.specs.Io.KnownBytes.{Keeps};
@@ -11,47 +11,48 @@ use std::os::fd::{AsFd, BorrowedFd};
 /// The system's error for a descriptor that isn't open (Linux, errno(3)).
 const EBADF: i32 = 9;
 
-/// The path of what standard output is (Linux, proc(5)).
+/// The path of standard output's file (Linux, proc(5)).
 const OUTPUT: &str = "/proc/self/fd/1";
 
 /// A stream that is read.
 pub trait ReadStream: Read {
-    /// Whether the stream is open, where that is known.
+    /// Whether the stream is open, if that is known.
     ghost opened: { Self → Option Bool } = { λ _. None };
 
-    /// Whether the stream is open. No byte of it is moved.
+    /// Whether the stream is open. No byte is read.
     fn is_open(&self) -> bool
         ensures { IfSome (opened self.now) (λ is. result ≡ is) };
 
-    /// A stream tells its bytes at each moment, or at none.
+    /// A stream reports its bytes always or never.
     ghost untold: { (s t : Self) → Self.remaining s ≡ None → Self.remaining t ≡ None };
 }
 
 /// A stream that is written.
 pub trait WriteStream: Write {
-    /// Whether the stream is open, where that is known.
+    /// Whether the stream is open, if that is known.
     ghost opened: { Self → Option Bool } = { λ _. None };
 
-    /// Whether `settle` finds no fault, where that is known.
+    /// Whether `settle` finds no fault, if that is known.
     ghost settles: { Self → Option Bool } = { λ _. None };
 
     /// Whether the stream is open. Nothing is written.
     fn is_open(&self) -> bool
         ensures { IfSome (opened self.now) (λ is. result ≡ is) };
 
-    /// Has the stream tell a fault that it kept back when it took bytes, as a quota that a network file
-    /// system looks at later. A stream that keeps none back, as a pipe, has none to tell.
+    /// Asks the stream for a fault deferred from when it took bytes, such as a quota that a network
+    /// file system checks later. A stream that defers none, such as a pipe, reports none.
     fn settle(&mut self) -> io::Result<()>
         ensures kept { Keeps (Self.contents self.old) (Self.contents self.new) }
         ensures told { IfSome (settles self.old) (λ well. is_ok result ≡ well) }
         ensures tells_the_same { settles self.new ≡ settles self.old };
 
-    /// A stream tells its bytes at each moment, or at none.
+    /// A stream reports its bytes always or never.
     ghost untold: { (s t : Self) → Self.contents s ≡ None → Self.contents t ≡ None };
 }
 
-/// Whether a descriptor is open: all but a closed one can be doubled, where a descriptor is left for that. No
-/// read or write is tried, even of no bytes, which would stop a program behind a terminal, and end a datagram.
+/// Whether a descriptor is open: any but a closed one can be duplicated, if a descriptor is left
+/// for that. No read or write is tried, even of no bytes, which could stop a background program at
+/// a terminal, or end a datagram.
 fn is_open(descriptor: BorrowedFd<'_>) -> bool {
     match descriptor.try_clone_to_owned() {
         Ok(_) => true,
@@ -67,7 +68,7 @@ impl ReadStream for Stdin {
     }
 }
 
-/// Standard output. Where that is a file, it is opened once more to be synced: the toolchain's library has no
+/// Standard output. If it is a file, it is opened again to sync it: the toolchain's library has no
 /// call that syncs a standard stream.
 #[derive(Drop)]
 pub struct StandardOutput<'a> {
@@ -104,8 +105,8 @@ impl WriteStream for StandardOutput<'_> {
         is_open(self.output.as_fd())
     }
 
-    /// Waits until a file has what was written to it. What is no file, or can't be opened once more, isn't
-    /// asked.
+    /// Waits until a file has what was written to it. What isn't a file, or can't be opened again,
+    /// isn't asked.
     fn settle(&mut self) -> io::Result<()> {
         match fs::metadata(self.rt, OUTPUT) {
             Ok(found) if found.is_file() => sync_output(self.rt),
@@ -114,7 +115,7 @@ impl WriteStream for StandardOutput<'_> {
     }
 }
 
-/// Syncs the file that standard output is. A file system without that call (EINVAL) keeps no fault back.
+/// Syncs standard output's file. A file system without that call (EINVAL) defers no fault.
 fn sync_output(rt: &HostRuntime) -> io::Result<()> {
     let mut options = OpenOptions::new();
     options.append(true);
@@ -134,7 +135,7 @@ impl WriteStream for Stderr {
         is_open(self.as_fd())
     }
 
-    /// Nothing is asked: what is told there changes no status.
+    /// Nothing is asked, since a fault there changes no status.
     fn settle(&mut self) -> io::Result<()> {
         Ok(())
     }

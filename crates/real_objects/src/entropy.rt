@@ -1,8 +1,8 @@
-//! The random bytes of a device, which is opened at the first fill and kept. Small draws are served from
-//! bytes that were drawn ahead (`ahead`).
+//! The random bytes of a device, which is opened at the first fill and kept. Small draws are served
+//! from bytes drawn ahead (`ahead`).
 //!
-//! The entropy tells the bytes of the device, where it knows them: the system's tells none. It isn't steady,
-//! since a device may fail whatever is asked, and a fill that failed may have used bytes up.
+//! The entropy reports the device's bytes if it knows them; the system's device doesn't. It isn't
+//! steady, since a device may fail whatever is asked, and a failed fill may have used up bytes.
 
 ghost use Rattle.std.specs.Prelude.{◌≡◌, ◌≤◌, ℕ, List, [], Option, None, length, take, IfOk, IfSome, IsOk, OnOk, OnErr};
 ghost use Rattle.std.specs.Io.KnownBytes.{Consumes, Keeps};
@@ -22,15 +22,15 @@ const DEVICE: &str = "/dev/urandom";
 /// Its number, 1:9 (Linux, Documentation/admin-guide/devices.txt).
 const NUMBER: u64 = 0x109;
 
-/// What opens a device.
+/// Opens a device.
 pub trait Opens {
-    /// The device, once it is opened.
+    /// The opened device.
     type Device: Device + Drop;
 
-    /// The bytes that the device gives which is opened now, where they are known.
+    /// The bytes that a device opened now gives, if they are known.
     ghost given: { Self → Option (List ℕ) };
 
-    /// They are known at each moment, or at none.
+    /// They are known always or never.
     ghost untold: { (s t : Self) → given s ≡ None → given t ≡ None };
 
     /// Opens the device.
@@ -54,7 +54,7 @@ impl<'a> RandomDevice<'a> {
         RandomDevice { rt, path: DEVICE }
     }
 
-    /// The file of this path in the place of the device, so that a test can see it refused.
+    /// The file of this path instead of the device, so that a test can see it refused.
     pub fn at(rt: &'a HostRuntime, path: &'a str) -> RandomDevice<'a> {
         RandomDevice { rt, path }
     }
@@ -67,8 +67,8 @@ impl Opens for RandomDevice<'_> {
 
     ghost untold = { λ s t none. none };
 
-    /// Opens the device. A file of another kind or number is refused: it is looked at before it is opened, since
-    /// the opening of a pipe would wait for its other end, and once more when it is open.
+    /// Opens the device. A file of another kind or number is refused. It is checked before it is
+    /// opened, since opening a pipe would wait for its other end, and again when it is open.
     fn open(&self) -> io::Result<File> {
         if !is_random(&fs::metadata(self.rt, self.path)?) {
             return Err(io::Error::from(ErrorKind::InvalidInput));
@@ -87,12 +87,12 @@ fn is_random(found: &Metadata) -> bool {
     found.file_type().is_char_device() && found.rdev() == NUMBER
 }
 
-/// The random bytes of a device, each of which is drawn once and in order. Where at most 64 are wanted and none
-/// are held, one read of the device draws up to 1,024 ahead, which serve the next draws.
+/// The random bytes of a device, each drawn once and in order. If at most 64 are asked for and none
+/// are held, one read of the device draws up to 1,024 ahead, for the next draws.
 ///
-/// So bytes of IVs, key ids and keys that are still to be made lie in this value from one draw to the next.
-/// Those that a draw gave are overwritten here with zeros. Those that no draw took aren't, and are gone with
-/// the value.
+/// So this value holds bytes of future IVs, key ids and keys from one draw to the next. Bytes that
+/// a draw returned are overwritten here with zeros. Bytes that no draw took aren't overwritten, and
+/// are lost with the value.
 #[derive(Drop)]
 pub struct FileEntropy<O: Opens> {
     opener: O,
@@ -114,8 +114,8 @@ impl<O: Opens> FileEntropy<O> {
         }
     }
 
-    /// Fills `out` with the next bytes. The device is opened where it isn't yet, and kept, with what was drawn
-    /// ahead.
+    /// Fills `out` with the next bytes. The device is opened if it isn't open yet, and kept, with
+    /// the bytes drawn ahead.
     fn draw(&mut self, out: &mut [u8]) -> io::Result<()>
         ensures filled { OnOk result
             (Consumes (device_left O.given O.Device.remaining self.old)
@@ -147,7 +147,7 @@ impl<O: Opens> Entropy for FileEntropy<O> {
             (told_device O.given O.Device.remaining self.new) (length out.old)) }
         ensures once { OnErr result (RoseOnce self.old.faults self.new.faults) }
 
-        // What was drawn ahead is given, whatever becomes of the device.
+        // Bytes drawn ahead are returned, whatever happens to the device.
         ensures enough { IfSome (drawn_ahead self.old)
             (λ held. length out.old ≤ length held → IsOk result) }
     {
@@ -164,7 +164,7 @@ impl<O: Opens> Entropy for FileEntropy<O> {
 impl<O: Opens> Lookahead for FileEntropy<O> {
     ghost held = { λ s. held_ahead s };
 
-    /// The bytes that were drawn ahead. Before the first draw there are none.
+    /// The bytes drawn ahead. Before the first draw there are none.
     fn held(&self) -> &[u8]
         ensures bytes { result.now ≡ held_ahead self.now }
         ensures front { IfSome (device_left O.given O.Device.remaining self.now)
@@ -176,7 +176,7 @@ impl<O: Opens> Lookahead for FileEntropy<O> {
         }
     }
 
-    /// Uses up so many of them, which are overwritten with zeros. The device isn't called.
+    /// Uses up `count` of them, which are overwritten with zeros. The device isn't called.
     fn skip(&mut self, count: usize)
         requires within { count ≤ length (held_ahead self.old) }
         ensures drew { Drew (told_device O.given O.Device.remaining self.old)

@@ -1,6 +1,6 @@
-//! The files of the file system as a store, which tells no bytes of its own; the clauses of what reads
-//! and fills one file speak of the bytes of the file, where it knows them. How a new one gets its name is
-//! in `naming`, and what is read of a file at a place in `placed`.
+//! The files of the file system as a store, which doesn't report its files; the contracts of the
+//! functions that read and fill one file are about the file's bytes, if it reports them. How a new
+//! file gets its name is in `naming`, and reading at an offset in `placed`.
 
 ghost use Rattle.std.specs.Prelude.{◌≡◌, ◌≢◌, ◌^◌, ◌≤◌, Bool, Option, true, false, None, [], min, IfOk, IfErr, IsOk, IsErr, IsOkAnd, IsErrOf, IfSome, OnOk, option_map};
 ghost use Rattle.std.specs.Io.KnownBytes.{Appends, Keeps};
@@ -19,7 +19,7 @@ use std::io::{self, ErrorKind, Read, Write};
 use std::os::unix::fs::{MetadataExt, PermissionsExt};
 use tink_base::{Bytes, Created, Failed, Loaded, Store, StoreError};
 
-/// How many bytes a load reads at the most; files of more count as too long under any limit.
+/// The most bytes that a load returns; longer files count as too long under any limit.
 const MOST: usize = 1 << 30;
 
 /// The permissions of a new file: its owner may read and write it, and nobody else.
@@ -48,7 +48,7 @@ impl<'a> DirStore<'a> {
         }
     }
 
-    /// The path of the last file that was made under a name aside which couldn't be removed.
+    /// The path of the last file made under a temporary name that couldn't be removed.
     pub fn left(&self) -> Option<&str>
         ensures { option_map (λ path. path.now) result ≡ kept_path self.now }
     {
@@ -74,8 +74,8 @@ impl Store for DirStore<'_> {
         }
     }
 
-    /// A link that leads nowhere has the name, and so has a folder. `Failed` comes too where the folder of
-    /// the name isn't there.
+    /// A link that leads nowhere takes the name, and so does a folder. `Failed` comes also if the
+    /// name's folder doesn't exist.
     fn is_taken(&mut self, name: &str) -> Result<bool, Failed> {
         match taken_of(free_place(self.rt, name)) {
             Ok(taken) => Ok(taken),
@@ -128,7 +128,7 @@ impl Store for DirStore<'_> {
     }
 }
 
-/// Whether a name is taken whose place was to be found.
+/// Whether a name is taken, from looking up its place.
 fn taken_of(place: io::Result<()>) -> Result<bool, Failed>
     ensures free { IfOk result (λ taken. taken ≡ false → IsOk place) }
     ensures taken { IfErr place (λ error. error_kind error ≡ ErrorKind.AlreadyExists →
@@ -143,9 +143,9 @@ fn taken_of(place: io::Result<()>) -> Result<bool, Failed>
     }
 }
 
-/// What is found where this file was to be opened: all its bytes, where there are at most `limit`. A
-/// path that leads through a file, or through a folder that isn't there, has no file. How many bytes were
-/// read is added to `given`, which stands still at its type's end.
+/// What opening this file found: all its bytes, if there are at most `limit`. A path that leads
+/// through a file, or through a folder that doesn't exist, has no file. The number of bytes read is
+/// added to `given`, saturating at the type's maximum.
 pub fn load_opened<R: Read + Drop>(
     alloc: Global,
     opened: io::Result<R>,
@@ -174,8 +174,8 @@ pub fn load_opened<R: Read + Drop>(
     }
 }
 
-/// All bytes of a file, where there are at most `limit`. How many were read is added to `given`: never more
-/// than one above the limit.
+/// All bytes of a file, if there are at most `limit`. The number of bytes read is added to `given`:
+/// at most one more than the limit.
 fn read_file<R: Read + Drop>(
     alloc: Global,
     file: R,
@@ -195,8 +195,8 @@ fn read_file<R: Read + Drop>(
     loaded_of(read, bytes, limit)
 }
 
-/// What was found of a file of which these bytes were read, with one more than the limit at the most. A read
-/// that failed is told as want of memory exactly where its error says so.
+/// What was found of a file of which these bytes were read, at most one more than the limit. A
+/// failed read is reported as `NoMemory` if and only if its error says so.
 fn loaded_of(read: io::Result<usize>, bytes: Vec<u8>, limit: usize) -> Result<Loaded, StoreError>
     ensures loaded { IfOk result (λ found. IsLoaded bytes.items limit found) }
     ensures done { IsOk read → IsOk result }
@@ -213,7 +213,7 @@ fn loaded_of(read: io::Result<usize>, bytes: Vec<u8>, limit: usize) -> Result<Lo
     }
 }
 
-/// What a call is told as that failed: want of memory exactly where the system says that it is.
+/// What a failed call is reported as: `NoMemory` if and only if the system says so.
 fn fault_of(kind: ErrorKind) -> StoreError
     ensures memory { kind ≡ ErrorKind.OutOfMemory → result ≡ StoreError.NoMemory }
     ensures fault { kind ≢ ErrorKind.OutOfMemory → result ≡ StoreError.Failed }
@@ -226,14 +226,14 @@ fn fault_of(kind: ErrorKind) -> StoreError
 
 /// A new file.
 pub trait NewFile: Write {
-    /// Whether what was written lasts, where files tell that.
+    /// Whether what was written lasts, if that is known.
     ghost lasts: { Self → Option Bool };
 
-    /// Lets its owner read and write it, where the process's mask has taken that away.
+    /// Lets its owner read and write it, if the process's umask has removed that right.
     fn admit_owner(&mut self) -> io::Result<()>
         ensures kept { Keeps (Self.contents self.old) (Self.contents self.new) };
 
-    /// Waits until the system has put away what was written.
+    /// Waits until the system has stored what was written.
     fn put_away(&mut self) -> io::Result<()>
         ensures lasts { OnOk result (Lasts (lasts self.new)) }
         ensures kept { Keeps (Self.contents self.old) (Self.contents self.new) };
@@ -242,7 +242,7 @@ pub trait NewFile: Write {
 impl NewFile for File {
     ghost lasts = { λ _. None };
 
-    /// A file system that has no such rights gives its own, and is asked for none.
+    /// A file system without such rights reports its own, and isn't asked for any.
     fn admit_owner(&mut self) -> io::Result<()> {
         if self.metadata()?.mode() & OWNER_ALONE == OWNER_ALONE {
             return Ok(());
@@ -255,7 +255,7 @@ impl NewFile for File {
     }
 }
 
-/// Fills the new file that was to be opened with all the bytes, and waits until they last.
+/// Fills the opened new file with all the bytes, and waits until they last.
 pub fn fill_opened<F: NewFile>(
     opened: &mut io::Result<F>,
     bytes: &[u8],
@@ -283,7 +283,7 @@ pub fn fill_opened<F: NewFile>(
     }
 }
 
-/// What a file is told as that couldn't be made, by the kind of the error.
+/// What a file that couldn't be made is reported as, by the kind of the error.
 pub(crate) fn unmade(kind: ErrorKind) -> Result<Created, StoreError>
     ensures taken { kind ≡ ErrorKind.AlreadyExists → result ≡ Ok Created.Exists }
     ensures no_memory { kind ≡ ErrorKind.OutOfMemory → result ≡ Err StoreError.NoMemory }
@@ -296,7 +296,8 @@ pub(crate) fn unmade(kind: ErrorKind) -> Result<Created, StoreError>
     }
 }
 
-/// Lets the owner read and write the file, writes all the bytes, flushes them, and waits until they last.
+/// Lets the owner read and write the file, writes all the bytes, flushes them, and waits until they
+/// last.
 pub(crate) fn fill_file<F: NewFile>(file: &mut F, bytes: &[u8]) -> io::Result<()>
     ensures { OnOk result (Lasts (F.lasts file.new) ×
         Appends (F.contents file.old) (F.contents file.new) bytes.now) }

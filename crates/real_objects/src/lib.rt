@@ -1,8 +1,8 @@
 //! The real objects of the program: standard streams, files, random bytes and words.
 //!
-//! What the system gives and takes no clause can say. So the clauses speak of any stream, device, file
-//! or list of words that knows its bytes, in the place of the system's, and what is left to the system
-//! alone is one call each.
+//! No clause can say what the system gives and takes. So the clauses are about any stream, device,
+//! file or list of words that reports its bytes, instead of the system's, and only one call each is
+//! left to the system.
 #![tactic(auto)]
 
 mod ahead;

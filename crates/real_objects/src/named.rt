@@ -1,5 +1,5 @@
-//! The path of a new file, and the paths aside in its folder. Each call looks the path up anew: there are no
-//! calls here that go from an open folder.
+//! The path of a new file, and the temporary paths in its folder. Each call looks the path up
+//! again: there are no calls relative to an open folder.
 
 ghost use Rattle.std.specs.Prelude.{◌≡◌, ◌≢◌, Option, None, IfOk, IfErr, IsOk, OnOk, OnErr, option_map, string_bytes};
 ghost use Rattle.std.specs.IoError.{error_kind};
@@ -17,30 +17,30 @@ use std::mem;
 use std::os::unix::fs::{MetadataExt, OpenOptionsExt};
 use tink_base::ASIDE;
 
-/// A file that was made under a name aside, by its path.
+/// A file made under a temporary name, by its path.
 #[derive(Drop)]
 pub enum Aside {
-    /// There is none, or its name is gone.
+    /// There is none, or its name was removed.
     Gone,
-    /// It stands under its name.
+    /// It has its temporary name.
     There(String),
     /// Its name couldn't be removed.
     Left(String),
 }
 
-/// The path of a new file. The names aside are those of its folder.
+/// The path of a new file. Temporary names are in the same folder.
 #[derive(Drop)]
 pub struct DirName<'a> {
     rt: &'a HostRuntime,
     alloc: Global,
     name: &'a str,
-    // the folder, once the name was looked up, where it may be read
+    // the folder, after the name was looked up, if it may be read
     folder: Option<File>,
     aside: Aside,
 }
 
 impl<'a> DirName<'a> {
-    /// The path, before it is looked up. The memory is for the path of a name aside.
+    /// The path, before it is looked up. The allocator is for the path of a temporary name.
     pub fn new(alloc: Global, rt: &'a HostRuntime, name: &'a str) -> DirName<'a>
         ensures { place_of result.aside ≡ Gone }
     {
@@ -53,7 +53,7 @@ impl<'a> DirName<'a> {
         }
     }
 
-    /// The path of the file that couldn't be removed, where there is one.
+    /// The path of the file that couldn't be removed, if there is one.
     pub fn into_left(self) -> Option<String>
         ensures { option_map string_bytes result ≡ left_path self.entry.aside }
     {
@@ -64,8 +64,9 @@ impl<'a> DirName<'a> {
         }
     }
 
-    /// The path of a name aside: 16 hexadecimal digits of random bytes, so that no other run takes the same
-    /// one, and nobody can foresee it. The bytes are drawn here alone, and aren't those of the run.
+    /// The path of a temporary name: 16 hexadecimal digits of random bytes, so that no other run
+    /// takes the same one, and nobody can predict it. The bytes are drawn only for this, and aren't
+    /// the run's.
     fn draw_aside(&self) -> io::Result<String> {
         let mut bytes = [0; 8];
         RandomDevice::new(self.rt).open()?.read_exact(&mut bytes)?;
@@ -85,8 +86,8 @@ impl NewName for DirName<'_> {
 
     ghost aside = { λ s. place_of s.aside };
 
-    /// Looks whether anything has the path, a link that leads nowhere too, and opens the folder, where it may
-    /// be read. A path without a last part is refused.
+    /// Checks whether anything has the path, even a link that leads nowhere, and opens the folder
+    /// if it may be read. A path without a last component is refused.
     #[inline(never)]
     fn look_up(&mut self) -> io::Result<()> {
         free_place(self.rt, self.name)?;
@@ -118,14 +119,14 @@ impl NewName for DirName<'_> {
         }
     }
 
-    /// A name that somebody else removed is gone, too.
+    /// A name that somebody else removed counts as gone, too.
     fn clear(&mut self) -> io::Result<()>
         requires there { place_of self.old.aside ≡ There }
         ensures gone { OnOk result (place_of self.new.aside ≡ Gone) }
         ensures left { OnErr result (place_of self.new.aside ≡ Left) }
         ensures kept { ◌≡◌ {A = Option Stage} None None }
 
-        // What is left is the file that stood under the name aside.
+        // The file left is the one under the temporary name.
         ensures path { OnErr result (left_path self.new.aside ≡ there_path self.old.aside) }
     {
         let Aside::There(path) = mem::replace(&mut self.aside, Aside::Gone) else {
@@ -145,7 +146,7 @@ impl NewName for DirName<'_> {
         open_new(self.rt, self.name)
     }
 
-    /// Where the folder may not be read, its file system can be asked through the file alone.
+    /// If the folder may not be read, its file system can be asked only through the file.
     #[inline(never)]
     fn put_away(&mut self, file: &File) -> io::Result<()> {
         match &self.folder {
@@ -155,13 +156,14 @@ impl NewName for DirName<'_> {
     }
 }
 
-/// Whether two looks found one file.
+/// Whether two lookups found the same file.
 fn is_same(first: &Metadata, second: &Metadata) -> bool {
     first.dev() == second.dev() && first.ino() == second.ino()
 }
 
-/// Finds that nothing has a path, and that its folder is there. The error is `AlreadyExists` where something
-/// has the path, a link that leads nowhere too. A path without a last part is refused.
+/// Checks that nothing has a path, and that its folder exists. The error is `AlreadyExists` if
+/// something has the path, even a link that leads nowhere. A path without a last component is
+/// refused.
 #[inline(never)]
 pub(crate) fn free_place(rt: &HostRuntime, name: &str) -> io::Result<()> {
     if name.is_empty() || name.ends_with('/') {
@@ -177,7 +179,7 @@ pub(crate) fn free_place(rt: &HostRuntime, name: &str) -> io::Result<()> {
     }
 }
 
-/// A folder that was to be opened, where it may be read. One that may be written and not read has none.
+/// The opened folder, if it may be read; `None` for one that may be written but not read.
 fn readable<F: Drop>(opened: io::Result<F>) -> io::Result<Option<F>>
     ensures readable { IfOk opened (λ folder. result ≡ Ok (Some folder)) }
     ensures denied { IfErr opened (λ error. error_kind error ≡ ErrorKind.PermissionDenied →
@@ -192,8 +194,8 @@ fn readable<F: Drop>(opened: io::Result<F>) -> io::Result<Option<F>>
     }
 }
 
-/// Whether a folder counts as put away, by what the system answered. A file system that can't be asked for
-/// that at all (EINVAL) has nothing to put away; no other error is forgiven.
+/// Whether a folder counts as stored, by the system's answer. A file system without that call
+/// (EINVAL) has nothing to store; no other error is ignored.
 fn folder_kept(synced: io::Result<()>) -> io::Result<()>
     ensures kept { IsOk synced → IsOk result }
     ensures unasked { IfErr synced (λ error. error_kind error ≡ ErrorKind.InvalidInput → IsOk result) }
@@ -206,8 +208,8 @@ fn folder_kept(synced: io::Result<()>) -> io::Result<()>
     }
 }
 
-/// The path of the folder that a path leads into: what stands before its last slash. That of a path without
-/// one is the working folder, and that of a path with nothing before it is the root.
+/// The path of a path's folder: what precedes its last slash; for a path without a slash the
+/// working folder, and for one with nothing before it the root.
 pub fn folder_of(name: &str) -> &str
     ensures { IsFolder name.now result.now }
 {
@@ -218,7 +220,7 @@ pub fn folder_of(name: &str) -> &str
     }
 }
 
-/// Opens a new file of this path. One that is there is not replaced.
+/// Opens a new file of this path. An existing one isn't replaced.
 fn open_new(rt: &HostRuntime, name: &str) -> io::Result<File> {
     let mut options = OpenOptions::new();
     options.write(true).create_new(true).mode(OWNER_ALONE);

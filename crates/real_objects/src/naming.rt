@@ -1,6 +1,6 @@
-//! How a new file gets its name: it is filled under a name aside until it lasts, and then a link gives
-//! it the name, under which so is all of the file or nothing. Where there are no links, it is filled
-//! under the name itself.
+//! How a new file gets its name: it is filled under a temporary name until it lasts, and then a
+//! link gives it the name, which so has all of the file or nothing. If links aren't supported, it
+//! is filled under the name itself.
 
 ghost use Rattle.std.specs.Prelude.{◌≡◌, ◌≢◌, ℕ, List, Bool, Option, true, false, IfOk, IfErr, IfSome, OnOk, OnErr, option_map};
 ghost use Rattle.std.specs.Io.KnownBytes.{Keeps};
@@ -11,24 +11,24 @@ use crate::folder::{NewFile, fill_file, fill_opened, unmade};
 use std::io::{self, ErrorKind};
 use tink_base::{Created, StoreError};
 
-/// How many names aside are drawn at the most, where each one drawn before is taken.
+/// The most temporary names that are drawn, if each one before was taken.
 const DRAWS: u32 = 100;
 
-/// A name in a folder, under which a new file is to stand.
+/// A name in a folder for a new file.
 pub trait NewName {
     /// A new file.
     type File: NewFile + Drop;
 
-    /// What a file holds that was just made, where files tell that.
+    /// What a newly made file holds, if that is known.
     ghost fresh: { Option (List ℕ) };
 
-    /// How far the name has come, where that is told.
+    /// The name's stage, if that is known.
     ghost stage: { Self → Option Stage };
 
-    /// Where the file is that was made last under a name aside.
+    /// The state of the last file made under a temporary name.
     ghost aside: { Self → Place };
 
-    /// Looks whether the name is free. The error is `AlreadyExists` where something has it.
+    /// Checks whether the name is free. The error is `AlreadyExists` if something has it.
     fn look_up(&mut self) -> io::Result<()>
         ensures free { OnOk result (stage self.new ≡ stage self.old) }
         ensures taken { IfErr result (λ error. error_kind error ≡ ErrorKind.AlreadyExists →
@@ -39,8 +39,8 @@ pub trait NewName {
             error_kind error ≢ ErrorKind.OutOfMemory → stage self.new ≡ stage self.old) }
         ensures kept { aside self.new ≡ aside self.old };
 
-    /// Makes a new file under a name aside that no other call draws. The error is `AlreadyExists` where
-    /// something has that name nonetheless.
+    /// Makes a new file under a temporary name that no other call draws. The error is
+    /// `AlreadyExists` if something has that name anyway.
     fn open_aside(&mut self) -> io::Result<Self::File>
         requires free { IsAt (stage self.old) Free }
         ensures fresh { IfOk result (λ file. Keeps fresh (Self.File.contents file)) }
@@ -52,8 +52,8 @@ pub trait NewName {
         ensures kept { IfErr result (λ error. error_kind error ≢ ErrorKind.OutOfMemory →
             stage self.new ≡ stage self.old) };
 
-    /// Gives the name to the file that was opened last under a name aside. The error is
-    /// `AlreadyExists` where something has the name.
+    /// Gives the name to the last file opened under a temporary name. The error is `AlreadyExists`
+    /// if something has the name.
     fn link(&mut self, file: &Self::File) -> io::Result<()>
         requires begun { IsAt (stage self.old) Begun }
         requires there { aside self.old ≡ There }
@@ -67,21 +67,21 @@ pub trait NewName {
             ¬ (HasNoLinks (error_kind error)) → stage self.new ≡ stage self.old) }
         ensures kept { aside self.new ≡ aside self.old };
 
-    /// Whether the file has the name, though a link of it failed.
+    /// Whether the file has the name although linking failed.
     fn is_linked(&mut self, file: &Self::File) -> bool
         ensures linked { result ≡ true → IsAt (stage self.new)
             (Linked (Self.File.contents file.now) (Self.File.lasts file.now)) }
         ensures others { result ≡ false → stage self.new ≡ stage self.old }
         ensures kept { aside self.new ≡ aside self.old };
 
-    /// Removes the name aside under which a file was opened last. Where that fails it is left.
+    /// Removes the temporary name of the last file opened under one. If that fails, it is left.
     fn clear(&mut self) -> io::Result<()>
         requires there { aside self.old ≡ There }
         ensures gone { OnOk result (aside self.new ≡ Gone) }
         ensures left { OnErr result (aside self.new ≡ Left) }
         ensures kept { stage self.new ≡ stage self.old };
 
-    /// Makes a new file under the name itself. The error is `AlreadyExists` where something has it.
+    /// Makes a new file under the name itself. The error is `AlreadyExists` if something has it.
     fn open(&mut self) -> io::Result<Self::File>
         requires linkless { IsAt (stage self.old) Linkless }
         ensures fresh { IfOk result (λ file. Keeps fresh (Self.File.contents file)) }
@@ -92,7 +92,8 @@ pub trait NewName {
             IsAt (stage self.new) Begun) }
         ensures kept { aside self.new ≡ aside self.old };
 
-    /// Waits until the system has put away that the file has the name, as far as it lets one ask for that.
+    /// Waits until the system has stored that the file has the name, as far as it allows asking for
+    /// that.
     fn put_away(&mut self, file: &Self::File) -> io::Result<()>
         ensures lasts { OnOk result (stage self.new ≡ option_map
             (kept_as (Self.File.contents file.now) (Self.File.lasts file.now)) (stage self.old)) }
@@ -102,11 +103,12 @@ pub trait NewName {
 
 /// Makes a new file of this name with all the bytes.
 ///
-/// The answer is `Exists` exactly where a call on the name said that something else has it, and `Made`
-/// exactly where the file is whole and its name was put away. `NoMemory` comes exactly where a call said so
-/// before a file was made. A link gives the name to a file that is whole and lasts, or to none. Exactly where
-/// a link was refused, as there are none, a file is filled under the name itself, and may be there after
-/// `Failed` with the first of the bytes. Each name aside is asked to go.
+/// Returns `Exists` if and only if a call on the name said that something else has it, and `Made`
+/// if and only if the file is whole and its name was stored. `NoMemory` comes if and only if a call
+/// said so before a file was made. A link gives the name only to a file that is whole and lasts. If
+/// and only if linking was refused because links aren't supported, a file is filled under the name
+/// itself; then it may exist after `Failed` with a prefix of the bytes. Removal of each temporary
+/// name is tried.
 pub fn make_file<N: NewName>(name: &mut N, bytes: &[u8]) -> Result<Created, StoreError>
     requires free { IsAt (N.stage name.old) Free }
     ensures named { IfSome (N.stage name.new) (λ s. EndsAs N.fresh bytes.now result s) }
@@ -127,7 +129,7 @@ pub fn make_file<N: NewName>(name: &mut N, bytes: &[u8]) -> Result<Created, Stor
     }
 }
 
-/// Makes a new file under a name aside that is free.
+/// Makes a new file under a temporary name that is free.
 fn open_aside<N: NewName>(name: &mut N) -> io::Result<N::File>
     requires free { IsAt (N.stage name.old) Free }
     ensures fresh { IfOk result (λ file. Keeps N.fresh (N.File.contents file)) }
@@ -149,7 +151,7 @@ fn open_aside<N: NewName>(name: &mut N) -> io::Result<N::File>
     Err(io::Error::from(ErrorKind::ResourceBusy))
 }
 
-/// Gives the name to a file that is whole and lasts, and removes the name aside.
+/// Gives the name to a file that is whole and lasts, and removes the temporary name.
 fn give_name<N: NewName>(name: &mut N, file: &N::File, bytes: &[u8]) -> Result<Created, StoreError>
     requires begun { IsAt (N.stage name.old) Begun }
     requires there { N.aside name.old ≡ There }
@@ -171,8 +173,8 @@ fn give_name<N: NewName>(name: &mut N, file: &N::File, bytes: &[u8]) -> Result<C
     }
 }
 
-/// Gives the name to a file. Where the link fails and the file has the name nonetheless, as where a server
-/// got the call twice, it counts as linked.
+/// Gives the name to a file. If linking fails but the file has the name, for instance because a
+/// server got the call twice, it counts as linked.
 fn link_file<N: NewName>(name: &mut N, file: &N::File) -> io::Result<()>
     requires begun { IsAt (N.stage name.old) Begun }
     requires there { N.aside name.old ≡ There }
@@ -198,7 +200,7 @@ fn link_file<N: NewName>(name: &mut N, file: &N::File) -> io::Result<()>
     }
 }
 
-/// Fills a new file under the name itself, where there are no links.
+/// Fills a new file under the name itself, if links aren't supported.
 fn fill_named<N: NewName>(name: &mut N, bytes: &[u8]) -> Result<Created, StoreError>
     requires linkless { IsAt (N.stage name.old) Linkless }
     ensures named { IfSome (N.stage name.new) (λ s. EndsAs N.fresh bytes.now result s) }
@@ -214,7 +216,7 @@ fn fill_named<N: NewName>(name: &mut N, bytes: &[u8]) -> Result<Created, StoreEr
     }
 }
 
-/// Waits until the name that the file has is put away.
+/// Waits until the file's name is stored.
 fn keep_name<N: NewName>(name: &mut N, file: &N::File) -> Result<Created, StoreError>
     ensures made { IfOk result (λ made. (made ≡ Created.Made) × (N.stage name.new ≡ option_map
         (kept_as (N.File.contents file.now) (N.File.lasts file.now)) (N.stage name.old))) }

@@ -1,4 +1,4 @@
-//! The length of a file, and what is read of it at a place.
+//! The length of a file, and reading it at an offset.
 
 ghost use Rattle.std.specs.Prelude.{◌≡◌, ◌≢◌, ◌<◌, ◌≤◌, ◌^◌, ℕ, List, Option, None, length, take, drop, IfOk, IfErr, IfSome, IsErr, OnErr};
 ghost use Rattle.std.specs.Fs.{IsFile, file_type, metadata_len};
@@ -10,20 +10,20 @@ use std::io::{self, ErrorKind};
 use std::os::unix::fs::FileExt;
 use tink_base::Failed;
 
-/// How many bytes one read takes at the most. They are read here and copied, since the system may have
-/// written behind what it says that it read.
+/// The most bytes of one read. They are read into a buffer and copied, since the system may have
+/// written past what it says it read.
 const PIECE: usize = 8192;
 
 /// The greatest length of a file, in bytes: offsets have 63 bits.
 const GREATEST: u64 = (1 << 63) - 1;
 
-/// A file that is read at places.
+/// A file that is read at offsets.
 pub trait PlacedFile {
-    /// Its bytes, where it tells them.
+    /// Its bytes, if it reports them.
     ghost bytes: { Self → Option (List ℕ) };
 
-    /// Reads some bytes from the byte at `at` on, counted from 0, at most as many as `out` has. What of
-    /// `out` wasn't read stays as it was.
+    /// Reads bytes from offset `at` on, at most as many as `out` has. The rest of `out` is
+    /// unchanged.
     fn read_placed(&self, at: u64, out: &mut [u8]) -> io::Result<usize>
         ensures bound { IfOk result (λ n. n ≤ length out.new) }
         ensures reads { IfOk result (λ n. IfSome (bytes self.now) (λ all.
@@ -44,8 +44,8 @@ impl PlacedFile for File {
     }
 }
 
-/// The length of a file that was looked for. A path that leads through a file, or through a folder that
-/// isn't there, has no file. What isn't a file has no length.
+/// The length of a file, from looking it up. A path that leads through a file, or through a folder
+/// that doesn't exist, has no file. What isn't a file has no length.
 pub fn size_of(found: io::Result<Metadata>) -> Result<Option<u64>, Failed>
     ensures size { IfOk found (λ file. IfOk result (λ size. IsSize file size)) }
     ensures absent { IfErr found (λ error. IfOk result
@@ -65,9 +65,9 @@ pub fn size_of(found: io::Result<Metadata>) -> Result<Option<u64>, Failed>
     }
 }
 
-/// Reads some bytes of a file that was to be opened, from the byte at `at` on, counted from 0: at least
-/// one. What of `out` wasn't read stays as it was. A read that a signal interrupted is tried again. A file
-/// that has no byte there any more counts as failed.
+/// Reads bytes of the opened file from offset `at` on: at least one. The rest of `out` is
+/// unchanged. A read interrupted by a signal is tried again. A file that no longer has a byte there
+/// counts as failed.
 pub fn read_opened<F: PlacedFile + Drop>(
     opened: io::Result<F>,
     at: u64,
@@ -87,7 +87,7 @@ pub fn read_opened<F: PlacedFile + Drop>(
     }
 }
 
-/// One read at a place, tried again where a signal interrupted it.
+/// One read at an offset, tried again if a signal interrupted it.
 fn placed_through_signals<F: PlacedFile>(file: &F, at: u64, out: &mut [u8]) -> io::Result<usize>
     ensures bound { IfOk result (λ n. n ≤ length out.new) }
     ensures reads { IfOk result (λ n. IfSome (F.bytes file.now) (λ all.

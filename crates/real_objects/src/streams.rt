@@ -1,5 +1,5 @@
-//! Real streams, standard ones and files, as sources and sinks. They tell the bytes of the stream beneath, where it
-//! tells them. Each counts its errors, and one that was found closed fails from then on.
+//! Real streams, standard ones and files, as sources and sinks. They report the bytes of the stream
+//! beneath, if it does. Each counts its errors, and one that was found closed fails from then on.
 
 ghost use Rattle.std.specs.Prelude.{◌≡◌, ◌≢◌, ◌<◌, ◌≤◌, true, false, Some, [], length, take, drop, is_ok, IsOk, IfOk, IsErr, IfErr, IfSome, OnOk, OnErr};
 ghost use Rattle.std.specs.Io.KnownBytes.{Appends, Consumes, Keeps, IsAtEnd as IsNoneLeft};
@@ -13,18 +13,18 @@ use std::alloc::Global;
 use std::io::{self, ErrorKind, Read, Write};
 use tink_base::{Failed, NoMemory, Sink, Source};
 
-/// A stream that is read, as standard input.
+/// A stream that is read, such as standard input.
 ///
-/// It is read ahead of what is asked: up to 32,768 bytes may be taken of the stream that were not handed out
-/// yet. They are gone with this value, so what follows on the same standard input, once the program has
-/// ended, may lack them. A read is answered at once with what is held, and else with what one read of the
-/// stream gives; so a terminal or a pipe isn't waited for while bytes are there.
+/// It is read ahead: up to 32,768 bytes taken from the stream may not have been handed out yet.
+/// They are lost with this value, so a program that reads the same standard input afterwards may
+/// lack them. A read returns held bytes at once, otherwise what one read of the stream gives; so it
+/// doesn't wait for a terminal or a pipe while bytes are held.
 #[derive(Drop)]
 pub struct StdSource<R> {
     input: R,
     unread: Unread,
     faults: u64,
-    // whether an end was answered, and how many reads came after that
+    // whether an end was reported, and how many reads came after that
     ended: bool,
     late: u64,
     // whether the stream was found closed
@@ -32,8 +32,8 @@ pub struct StdSource<R> {
 }
 
 impl<R: ReadStream + Drop> StdSource<R> {
-    /// A stream before its first read, which isn't asked whether it is open. Memory is taken for what will be
-    /// read ahead.
+    /// A stream before its first read, which isn't asked whether it is open. Memory is taken for
+    /// reading ahead.
     pub fn new(alloc: Global, from: R) -> Result<StdSource<R>, NoMemory>
         ensures beneath { IfOk result (λ s. stream_read s ≡ from) }
         ensures not_ahead { IfOk result (λ s. read_ahead s ≡ []) }
@@ -53,9 +53,9 @@ impl<R: ReadStream + Drop> StdSource<R> {
         })
     }
 
-    /// A stream before its first read, which is asked whether it is open. One that is closed stays a fault:
-    /// each read of it fails, and it isn't read, so what is opened in its place later isn't either. Memory is
-    /// taken as by `new`.
+    /// A stream before its first read, which is asked whether it is open. A closed one stays a
+    /// fault: each read fails without reading it, so whatever is opened in its place later isn't
+    /// read either. Memory is taken as by `new`.
     pub fn probed(alloc: Global, from: R) -> Result<StdSource<R>, NoMemory>
         ensures beneath { IfOk result (λ s. stream_read s ≡ from) }
         ensures not_ahead { IfOk result (λ s. read_ahead s ≡ []) }
@@ -105,7 +105,7 @@ impl<R: ReadStream> Source for StdSource<R> {
             (RoseOnce (told_source R.remaining self.old).faults (told_source R.remaining self.new).faults) }
         ensures kept { OnErr result (Gave (told_source R.remaining self.old) (told_source R.remaining self.new) []) }
 
-        // What goes out of the bytes that were read ahead, and then of the stream beneath.
+        // What leaves the bytes read ahead, then the stream beneath.
         ensures read { IfOk result (λ n.
             Consumes (source_left R.remaining self.old) (source_left R.remaining self.new)
             (take n out.new)) }
@@ -120,7 +120,7 @@ impl<R: ReadStream> Source for StdSource<R> {
         ensures stays_closed { IsClosed self.old → IsClosed self.new }
         ensures stays_open { found_closed self.new ≡ found_closed self.old }
 
-        // What was read ahead is given, and the stream isn't asked before it is used up.
+        // Bytes read ahead are returned, and the stream isn't asked before they are used up.
         ensures enough { 0 < length (read_ahead self.old) → IsOk result }
         ensures unasked { 0 < length (read_ahead self.old) →
             stream_read self.new ≡ stream_read self.old }
@@ -146,7 +146,7 @@ impl<R: ReadStream> Source for StdSource<R> {
     }
 }
 
-/// A stream that is written, as standard output.
+/// A stream that is written, such as standard output.
 #[derive(Drop)]
 pub struct StdSink<W> {
     output: W,
@@ -174,8 +174,9 @@ impl<W: WriteStream> StdSink<W> {
         }
     }
 
-    /// A stream before its first write, which is asked whether it is open. One that is closed stays a fault:
-    /// each write to it fails, and it isn't written, so what is opened in its place later isn't either.
+    /// A stream before its first write, which is asked whether it is open. A closed one stays a
+    /// fault: each write fails without writing to it, so whatever is opened in its place later
+    /// isn't written either.
     pub fn probed(to: W) -> StdSink<W>
         ensures beneath { stream_written result ≡ to }
         ensures open { W.opened to ≡ Some true → closed_sink result ≡ false }
@@ -193,8 +194,8 @@ impl<W: WriteStream> StdSink<W> {
         }
     }
 
-    /// Asks the stream, once all was written, for a fault that it kept back when it took the bytes. Where no
-    /// byte was written it isn't asked.
+    /// Asks the stream, after everything was written, for a fault deferred from when it took the
+    /// bytes. If no byte was written, it isn't asked.
     pub fn settle(&mut self) -> Result<(), Failed>
         ensures same { OnOk result
             (told_sink W.contents self.new ≡ told_sink W.contents self.old) }
@@ -272,7 +273,7 @@ impl<W: WriteStream> Sink for StdSink<W> {
     }
 }
 
-/// One read, tried again where a signal interrupted it.
+/// One read, tried again if a signal interrupted it.
 pub(crate) fn read_through_signals<R: Read>(stream: &mut R, out: &mut [u8]) -> io::Result<usize>
     ensures bound { IfOk result (λ n. n ≤ length out.old) }
     ensures read { IfOk result (λ n.
@@ -292,7 +293,7 @@ pub(crate) fn read_through_signals<R: Read>(stream: &mut R, out: &mut [u8]) -> i
     Err(io::Error::from(ErrorKind::TimedOut))
 }
 
-/// One write, tried again where a signal interrupted it.
+/// One write, tried again if a signal interrupted it.
 fn write_through_signals<W: Write>(stream: &mut W, piece: &[u8]) -> io::Result<usize>
     ensures bound { IfOk result (λ n. n ≤ length piece.now) }
     ensures wrote { IfOk result (λ n.

@@ -1,4 +1,4 @@
-//! Bytes of a stream that are read ahead of what is asked, so that many small reads cost few reads of it.
+//! Bytes of a stream that are read ahead, so that many small reads take few reads of it.
 
 ghost use Rattle.std.specs.Prelude.{◌≡◌, ◌<◌, ◌≤◌, [], ◌++◌, length, take, drop, min, true, false, IsOk, IfOk, OnOk, OnErr};
 ghost use Rattle.std.specs.Io.KnownBytes.{Consumes, IsAtEnd, Keeps, prepend_known};
@@ -9,14 +9,14 @@ use std::io::{self, Read};
 use std::marker::Model;
 use tink_base::NoMemory;
 
-/// How many bytes are read ahead at the most.
+/// The most bytes that are read ahead.
 const AHEAD: usize = 1 << 15;
 
-/// Bytes that were read and not handed out yet, in order; at most 32,768 of them. They lie on the heap: a
+/// Bytes that were read and not yet handed out, in order; at most 32,768. They are on the heap: a
 /// program with a stack of 64 KiB has no room for them there.
 ///
-/// Contracts see the list of them. What was handed out stays here until it is read over: it was a stream's,
-/// and nothing is promised of it (`ahead` has the random bytes, which are overwritten).
+/// Contracts see the list of them. Bytes handed out stay here until new ones overwrite them: they
+/// are a stream's, and no erasure is promised (random bytes are in `ahead`, which overwrites them).
 #[derive(Drop)]
 pub(crate) struct Unread {
     bytes: Vec<u8>,
@@ -36,7 +36,7 @@ impl Model for Unread {
 }
 
 impl Unread {
-    /// No bytes, and the room for what will be read ahead.
+    /// No bytes, and room for reading ahead.
     pub(crate) fn new(alloc: Global) -> Result<Unread, NoMemory>
         ensures { IfOk result (λ unread. unread ≡ []) }
     {
@@ -47,7 +47,7 @@ impl Unread {
         })
     }
 
-    /// Whether there are none.
+    /// Whether there are no bytes.
     pub(crate) fn is_empty(&self) -> bool
         ensures some { result ≡ false → 0 < length self.now }
         ensures none { result ≡ true → self.now ≡ [] }
@@ -55,8 +55,8 @@ impl Unread {
         self.from == self.to
     }
 
-    /// Reads ahead by one read of the stream, which is tried again where a signal interrupted it. There are
-    /// no bytes before it.
+    /// Reads ahead by one read of the stream, which is tried again if a signal interrupted it, when
+    /// no bytes are held.
     pub(crate) fn refill<R: Read>(&mut self, stream: &mut R) -> io::Result<()>
         requires empty { self.old ≡ [] }
         ensures read { OnOk result
@@ -72,8 +72,8 @@ impl Unread {
         Ok(())
     }
 
-    /// Copies bytes from the front into the front of `out`, as many as both have, and answers how many. They
-    /// are gone from here.
+    /// Moves bytes from the front to the front of `out`, as many as both have, and returns how
+    /// many.
     pub(crate) fn hand_out(&mut self, out: &mut [u8]) -> usize
         ensures count { result ≡ min (length self.old) (length out.old) }
         ensures given { self.old ≡ take result out.new ++ self.new }
@@ -87,8 +87,8 @@ impl Unread {
         n
     }
 
-    /// Moves the next bytes into the front of `out`, as many as both have: those that are here, and where
-    /// there are none, those that one read of the stream gives.
+    /// Moves the next bytes to the front of `out`, as many as both have: those held or, if there
+    /// are none, those that one read of the stream gives.
     pub(crate) fn read<R: Read>(&mut self, stream: &mut R, out: &mut [u8]) -> io::Result<usize>
         ensures bound { IfOk result (λ n. n ≤ length out.old) }
         ensures read { IfOk result (λ n.
