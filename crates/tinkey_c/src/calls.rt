@@ -1,4 +1,4 @@
-//! What the exports share.
+//! Shared code of the exports.
 
 ghost use Rattle.std.specs.Prelude.{◌≡◌, ◌≢◌, pos, length, Some, None, IfOk, IfErr, IsErr};
 ghost use Rattle.key_msgs.specs.declared.primitive.Primitive.TheVariants.{Stream};
@@ -36,7 +36,7 @@ fn status(refusal: Refusal) -> i32
     }
 }
 
-/// Puts a keyset that is ready where C keeps it.
+/// Stores a ready keyset where C keeps it.
 fn keep(alloc: Global, ready: ReadyKeyset, keys: &mut SharedKeys) -> Result<(), Refusal>
     requires closed { keys.old.held ≡ None }
     ensures kept { IfOk result (λ _. keys.new.held ≡ Some ready) }
@@ -51,7 +51,7 @@ fn keep(alloc: Global, ready: ReadyKeyset, keys: &mut SharedKeys) -> Result<(), 
     }
 }
 
-/// Makes the keyset ready that a text in JSON is, where C keeps it.
+/// Makes the keyset in a JSON text ready, and stores it where C keeps it.
 pub(crate) fn json_keys(
     alloc: Global,
     text: &[u8],
@@ -74,7 +74,7 @@ pub(crate) fn json_keys(
     }
 }
 
-/// Makes the keyset ready whose binary form this is, where C keeps it.
+/// Makes the keyset with this binary form ready, and stores it where C keeps it.
 pub(crate) fn binary_keys(
     alloc: Global,
     bytes: &[u8],
@@ -97,7 +97,8 @@ pub(crate) fn binary_keys(
     }
 }
 
-/// Makes the keyset ready that is sealed in an encrypted text under a master, where C keeps it.
+/// Makes the keyset sealed in an encrypted text under a master ready, and stores it where C keeps
+/// it.
 pub(crate) fn wrapped_keys(
     alloc: Global,
     encrypted: &[u8],
@@ -132,7 +133,7 @@ pub(crate) fn wrapped_keys(
     }
 }
 
-/// Tells an outcome: its status, and the size where there is an answer.
+/// Reports an outcome: its status, and the size if there is an answer.
 fn tell(done: Result<usize, Refusal>, size: &mut usize) -> i32
     ensures told { Tells done result size.old size.new }
     ensures refused { result ≢ pos 0 → IsErr done }

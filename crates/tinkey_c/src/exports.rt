@@ -16,7 +16,7 @@ use ready_keysets::Work;
 use std::alloc::Global;
 use std::mem::replace;
 
-/// Makes the keys ready of a keyset in JSON, for AEADs.
+/// Makes the keys of a keyset in JSON ready, for AEADs.
 #[unsafe(no_mangle)]
 pub extern "C" fn tinkey_core_aead_of_json(alloc: Global, text: &[u8], keys: &mut SharedKeys) -> i32
     requires closed { keys.old.held ≡ None }
@@ -28,7 +28,7 @@ pub extern "C" fn tinkey_core_aead_of_json(alloc: Global, text: &[u8], keys: &mu
     json_keys(alloc, text, Primitive::Aead, keys)
 }
 
-/// Makes the keys ready of a keyset in its binary form, for AEADs.
+/// Makes the keys of a keyset in its binary form ready, for AEADs.
 #[unsafe(no_mangle)]
 pub extern "C" fn tinkey_core_aead_of_binary(
     alloc: Global,
@@ -44,7 +44,7 @@ pub extern "C" fn tinkey_core_aead_of_binary(
     binary_keys(alloc, bytes, Primitive::Aead, keys)
 }
 
-/// Makes the keys ready of a keyset in JSON, for deterministic AEADs.
+/// Makes the keys of a keyset in JSON ready, for deterministic AEADs.
 #[unsafe(no_mangle)]
 pub extern "C" fn tinkey_core_daead_of_json(
     alloc: Global,
@@ -60,7 +60,7 @@ pub extern "C" fn tinkey_core_daead_of_json(
     json_keys(alloc, text, Primitive::Daead, keys)
 }
 
-/// Makes the keys ready of a keyset in its binary form, for deterministic AEADs.
+/// Makes the keys of a keyset in its binary form ready, for deterministic AEADs.
 #[unsafe(no_mangle)]
 pub extern "C" fn tinkey_core_daead_of_binary(
     alloc: Global,
@@ -76,7 +76,7 @@ pub extern "C" fn tinkey_core_daead_of_binary(
     binary_keys(alloc, bytes, Primitive::Daead, keys)
 }
 
-/// Makes the keys ready of a keyset in JSON, for MACs.
+/// Makes the keys of a keyset in JSON ready, for MACs.
 #[unsafe(no_mangle)]
 pub extern "C" fn tinkey_core_mac_of_json(alloc: Global, text: &[u8], keys: &mut SharedKeys) -> i32
     requires closed { keys.old.held ≡ None }
@@ -88,7 +88,7 @@ pub extern "C" fn tinkey_core_mac_of_json(alloc: Global, text: &[u8], keys: &mut
     json_keys(alloc, text, Primitive::Mac, keys)
 }
 
-/// Makes the keys ready of a keyset in its binary form, for MACs.
+/// Makes the keys of a keyset in its binary form ready, for MACs.
 #[unsafe(no_mangle)]
 pub extern "C" fn tinkey_core_mac_of_binary(
     alloc: Global,
@@ -104,7 +104,7 @@ pub extern "C" fn tinkey_core_mac_of_binary(
     binary_keys(alloc, bytes, Primitive::Mac, keys)
 }
 
-/// Makes the keys ready of a keyset in JSON, for pseudo-random functions.
+/// Makes the keys of a keyset in JSON ready, for pseudo-random functions.
 #[unsafe(no_mangle)]
 pub extern "C" fn tinkey_core_prf_of_json(alloc: Global, text: &[u8], keys: &mut SharedKeys) -> i32
     requires closed { keys.old.held ≡ None }
@@ -116,7 +116,7 @@ pub extern "C" fn tinkey_core_prf_of_json(alloc: Global, text: &[u8], keys: &mut
     json_keys(alloc, text, Primitive::Prf, keys)
 }
 
-/// Makes the keys ready of a keyset in its binary form, for pseudo-random functions.
+/// Makes the keys of a keyset in its binary form ready, for pseudo-random functions.
 #[unsafe(no_mangle)]
 pub extern "C" fn tinkey_core_prf_of_binary(
     alloc: Global,
@@ -132,8 +132,8 @@ pub extern "C" fn tinkey_core_prf_of_binary(
     binary_keys(alloc, bytes, Primitive::Prf, keys)
 }
 
-/// Makes the keys ready of an encrypted keyset under its master, for AEADs.
-/// Each text is in JSON or else in the binary form.
+/// Makes the keys of an encrypted keyset under its master ready, for AEADs. Each text is in JSON or
+/// in the binary form.
 #[unsafe(no_mangle)]
 pub extern "C" fn tinkey_core_aead_of_wrapped(
     alloc: Global,
@@ -162,8 +162,8 @@ pub extern "C" fn tinkey_core_aead_of_wrapped(
     )
 }
 
-/// Makes the keys ready of an encrypted keyset under its master, for deterministic AEADs.
-/// Each text is in JSON or else in the binary form.
+/// Makes the keys of an encrypted keyset under its master ready, for deterministic AEADs. Each text
+/// is in JSON or in the binary form.
 #[unsafe(no_mangle)]
 pub extern "C" fn tinkey_core_daead_of_wrapped(
     alloc: Global,
@@ -192,8 +192,8 @@ pub extern "C" fn tinkey_core_daead_of_wrapped(
     )
 }
 
-/// Makes the keys ready of an encrypted keyset under its master, for MACs.
-/// Each text is in JSON or else in the binary form.
+/// Makes the keys of an encrypted keyset under its master ready, for MACs. Each text is in JSON or
+/// in the binary form.
 #[unsafe(no_mangle)]
 pub extern "C" fn tinkey_core_mac_of_wrapped(
     alloc: Global,
@@ -222,8 +222,8 @@ pub extern "C" fn tinkey_core_mac_of_wrapped(
     )
 }
 
-/// Makes the keys ready of an encrypted keyset under its master, for pseudo-random functions.
-/// Each text is in JSON or else in the binary form.
+/// Makes the keys of an encrypted keyset under its master ready, for pseudo-random functions. Each
+/// text is in JSON or in the binary form.
 #[unsafe(no_mangle)]
 pub extern "C" fn tinkey_core_prf_of_wrapped(
     alloc: Global,
@@ -252,7 +252,7 @@ pub extern "C" fn tinkey_core_prf_of_wrapped(
     )
 }
 
-/// Seals the plaintext with the first of these random bytes as IV, at the front of `out`.
+/// Seals the plaintext with the first of these random bytes as IV, to the front of `out`.
 #[unsafe(no_mangle)]
 pub extern "C" fn tinkey_core_seal(
     alloc: Global,
@@ -274,7 +274,7 @@ pub extern "C" fn tinkey_core_seal(
     perform(alloc, keys, Work::Seal(plain, ad, random), out, size)
 }
 
-/// Opens sealed bytes at the front of `out`.
+/// Opens sealed bytes, and writes the plaintext to the front of `out`.
 #[unsafe(no_mangle)]
 pub extern "C" fn tinkey_core_open(
     alloc: Global,
@@ -295,7 +295,7 @@ pub extern "C" fn tinkey_core_open(
     perform(alloc, keys, Work::Open(sealed, ad), out, size)
 }
 
-/// Seals the plaintext without an IV, at the front of `out`.
+/// Seals the plaintext without an IV, to the front of `out`.
 #[unsafe(no_mangle)]
 pub extern "C" fn tinkey_core_dseal(
     alloc: Global,
@@ -316,7 +316,7 @@ pub extern "C" fn tinkey_core_dseal(
     perform(alloc, keys, Work::Dseal(plain, ad), out, size)
 }
 
-/// Opens what was sealed without an IV, at the front of `out`.
+/// Opens what was sealed without an IV, and writes the plaintext to the front of `out`.
 #[unsafe(no_mangle)]
 pub extern "C" fn tinkey_core_dopen(
     alloc: Global,
@@ -337,7 +337,7 @@ pub extern "C" fn tinkey_core_dopen(
     perform(alloc, keys, Work::Dopen(sealed, ad), out, size)
 }
 
-/// Writes the tag of the body at the front of `out`.
+/// Writes the tag of the body to the front of `out`.
 #[unsafe(no_mangle)]
 pub extern "C" fn tinkey_core_tag(
     alloc: Global,
@@ -357,7 +357,7 @@ pub extern "C" fn tinkey_core_tag(
     perform(alloc, keys, Work::Tag(body), out, size)
 }
 
-/// Derives so many bytes from the input, at the front of `out`.
+/// Derives `count` bytes from the input, to the front of `out`.
 #[unsafe(no_mangle)]
 pub extern "C" fn tinkey_core_derive(
     alloc: Global,
@@ -378,7 +378,7 @@ pub extern "C" fn tinkey_core_derive(
     perform(alloc, keys, Work::Derive(input, count), out, size)
 }
 
-/// Whether the tag is one of the body: 0 where it is.
+/// Verifies the tag of the body: 0 if it is right.
 #[unsafe(no_mangle)]
 pub extern "C" fn tinkey_core_verify(
     alloc: Global,
@@ -395,7 +395,7 @@ pub extern "C" fn tinkey_core_verify(
     perform(alloc, keys, Work::Verify(tag, body), &mut [], &mut size)
 }
 
-/// Lets the keys go.
+/// Frees the keys.
 #[unsafe(no_mangle)]
 pub extern "C" fn tinkey_core_free(alloc: Global, keys: &mut SharedKeys)
     requires live { IsOpen keys.old.held }

@@ -1,6 +1,7 @@
-//! The keys of keysets for programs in C: what they seal, open, tag, verify and derive.
+//! The keys of keysets for programs in C: sealing, opening, tagging, verifying and deriving.
 //!
-//! What these functions ask of their caller is tested or kept by `c/tinkey.c`, which programs call.
+//! The conditions that these functions put on their caller are tested or kept by `c/tinkey.c`,
+//! which programs call.
 #![tactic(auto)]
 
 mod calls;

@@ -12,7 +12,7 @@ use ready_keysets::ReadyKeyset;
 use std::alloc::Global;
 use std::marker::Model;
 
-/// Where a program's keys lie. All zeros, it has none.
+/// The place of a program's keys. All zeros means no keys.
 #[repr(C)]
 #[derive(Drop)]
 pub struct SharedKeys {
@@ -25,12 +25,12 @@ impl Model for SharedKeys {
         (ghosts.dealloc_token (record { memory = record { seal = tt } })) the_row keys.at keys.held };
 }
 
-// Keys are plain data, of which no thread has a part.
+// Keys are plain data, tied to no thread.
 unsafe impl Send for SharedKeys {}
 
 fn needs_send<T: Send>(_value: &T) {}
 
-/// Keys may go from thread to thread: their type is `Send`.
+/// Keys may move between threads: their type is `Send`.
 pub fn keys_are_send(keys: &SharedKeys) {
     needs_send(keys)
 }
@@ -44,7 +44,7 @@ pub(crate) fn no_keys() -> SharedKeys
     }
 }
 
-/// The keys of a box, whose memory C keeps from now on.
+/// The keys of a box, whose memory C owns from now on.
 pub(crate) fn kept(parts: RawBox<ReadyKeyset, Global>) -> SharedKeys
     ensures { result.held ≡ Some parts.value }
 {

@@ -1,4 +1,4 @@
-//! What is told of a file that a run couldn't remove.
+//! The report of a file that a run couldn't remove.
 
 ghost use Rattle.std.specs.Prelude.{◌≡◌, ◌++◌, None, IfSome, codes};
 ghost use Rattle.tinkey_plans.specs.Status.{Wrote};
@@ -6,11 +6,12 @@ ghost use Rattle.tinkey_host.specs.Left.{left_line};
 
 use tink_base::{Sink, write_all};
 
-/// What stands before the path.
+/// The text before the path.
 const LEFT: &str = "tinkey: a temporary file is left: ";
 
-/// Tells on `diag` the path of a file that was left under a name aside, where one was: a line behind that of
-/// the status, which stays as it is. A fault of `diag` is told nowhere. No memory is taken.
+/// Reports on `diag` the path of a file that was left under a temporary name, if any: a line after
+/// the line of the status, which is unchanged. A fault of `diag` isn't reported. No memory is
+/// taken.
 pub fn tell_left<G: Sink>(diag: &mut G, left: Option<&str>)
     ensures none { left.entry ≡ None → diag.new ≡ diag.old }
     ensures line { IfSome left.entry (λ path.

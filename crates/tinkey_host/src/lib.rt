@@ -1,5 +1,5 @@
-//! What the `main` of the program `tinkey` does: the managers of its keys, and runs over the real objects
-//! or over any others.
+//! What `main` of the program `tinkey` does: it makes the managers of its keys, and runs over the
+//! real objects or any others.
 #![tactic(auto)]
 
 mod left;

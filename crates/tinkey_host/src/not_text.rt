@@ -1,4 +1,4 @@
-//! What is reported of a word that isn't text.
+//! The report of a word that isn't text.
 
 ghost use Rattle.std.specs.Prelude.{◌≡◌};
 ghost use Rattle.tinkey_plans.specs.Status.{Wrote};
@@ -7,8 +7,9 @@ ghost use Rattle.tinkey_host.specs.NotText.{not_text_lines};
 use tink_base::{Sink, write_all};
 use tinkey_session::ShortText;
 
-/// Reports on `diag` that the word of this place isn't UTF-8, in two lines, as a word at fault is reported.
-/// Places count from 0, after the program's name. A fault of `diag` is reported nowhere. No memory is taken.
+/// Reports on `diag`, in two lines as for any word at fault, that the word at this place isn't
+/// UTF-8. Places count from 0, after the program's name. A fault of `diag` isn't reported. No
+/// memory is taken.
 pub(crate) fn report_not_text<G: Sink>(diag: &mut G, place: usize)
     ensures { Wrote (not_text_lines place) (G.state diag.old) (G.state diag.new) }
 {
@@ -25,7 +26,7 @@ fn write_lines<G: Sink>(diag: &mut G, lines: &[u8])
     }
 }
 
-/// The lines on the word of this place.
+/// The lines on the word at this place.
 fn not_text_lines(place: usize) -> ShortText
     ensures { result ≡ not_text_lines place }
 {

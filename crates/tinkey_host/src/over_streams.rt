@@ -1,4 +1,4 @@
-//! Runs over real streams and a device of random bytes that tell their bytes.
+//! Runs over real streams and a device of random bytes that report their bytes.
 
 ghost use Rattle.std.specs.Prelude.{◌≡◌, ℕ, List, Some, map, string_bytes};
 ghost use Rattle.real_objects.specs.Device.{device_left};
@@ -12,12 +12,13 @@ use std::alloc::Global;
 use tink_base::{Sink, Store};
 use tinkey_run::Status;
 
-/// Runs the words as `start` does, over a stream that is read ahead, one that is written, and a device of
-/// random bytes of which some are drawn ahead.
+/// Runs the words as `start` does, over a stream that is read ahead, one that is written, and a
+/// device of random bytes that are drawn ahead.
 ///
-/// Where the streams beneath, the device and the store tell their bytes, the stated answer is one over these:
-/// the bytes read ahead and those that the stream has left are the input, the output is appended to what the
-/// written stream has got, and the random bytes are those drawn ahead and those that the device has left.
+/// If the streams beneath, the device and the store report their bytes, the stated answer is over
+/// these: the input is the bytes read ahead and those left in the stream, the output is appended to
+/// what the written stream holds, and the random bytes are those drawn ahead and those left in the
+/// device.
 pub fn start_over_streams<R: ReadStream, W: WriteStream, G: Sink, O: Opens, D: Store>(
     alloc: Global,
     words: &[String],

@@ -24,8 +24,8 @@ use tinkey_run::{Status, run, starve};
 /// Runs the words over these objects, as `tinkey_run::run` does over a manager for each kind of key
 /// that isn't for streams, under the type URL of that kind.
 ///
-/// The promises are those of `run` over the table of these managers, but that `NoMemory` may come
-/// before any other step too; `line` and `readable` are those of `run`.
+/// The promises are `run`'s over the table of these managers, except that `NoMemory` may also come
+/// before any other step; `line` and `readable` are as for `run`.
 pub fn start<S: Source, K: Sink, G: Sink, E: Lookahead, D: Store>(
     alloc: Global,
     words: &[String],
@@ -50,7 +50,7 @@ pub fn start<S: Source, K: Sink, G: Sink, E: Lookahead, D: Store>(
     }
 }
 
-/// Makes the managers of AEADs and of MACs, and goes on.
+/// Makes the managers of AEADs and of MACs, and continues.
 fn run_standard<S: Source, K: Sink, G: Sink, E: Lookahead, D: Store>(
     alloc: Global,
     words: &[String],

@@ -24,12 +24,12 @@ use tinkey_run::{Status, starve};
 const NOT_TEXT: u8 = 8;
 
 /// Obeys the words after the program's name, over standard input, output and error, the system's
-/// random bytes and the files. A file that couldn't be removed is told on standard error behind that.
+/// random bytes and the files. Then a file that couldn't be removed is reported on standard error.
 ///
-/// Before a file is opened each of the three streams is asked whether it is open. Of what the system then
-/// gives and takes no contract can speak: what holds of the answer is what `obey_to_the_end` says of any
-/// words and objects, these among them. Where memory for what is read ahead of standard input is refused,
-/// that is told as a run's want of memory is, before the words are looked at.
+/// Before a file is opened, each of the three streams is asked whether it is open. No contract can
+/// say what the system then gives and takes: what holds for the exit code is what `obey_to_the_end`
+/// says for any words and objects, these included. If memory for reading standard input ahead can't
+/// be allocated, that is reported as for a run, before the words are read.
 pub fn program(rt: &HostRuntime) -> ExitCode {
     let source = StdSource::probed(rt.alloc(), rt.stdin());
     let mut sink = StdSink::probed(StandardOutput::new(rt));
@@ -51,8 +51,8 @@ pub fn program(rt: &HostRuntime) -> ExitCode {
     code
 }
 
-/// Obeys the words of a command line as `obey_listed` does. Where that ended well and bytes were written to
-/// `sink`, it is asked for a fault that it kept back: such a fault is a write fault.
+/// Obeys the words of a command line as `obey_listed` does. If that ended well and bytes were
+/// written to `sink`, it is asked for a deferred fault: such a fault is a write fault.
 pub fn obey_to_the_end<A, S, W, G, E, D>(
     from: &A,
     alloc: Global,
@@ -89,11 +89,11 @@ where
     }
 }
 
-/// Obeys the words of a command line but the first, the program's name, over these objects.
+/// Obeys the words of a command line after the first, the program's name, over these objects.
 ///
-/// If one of these words isn't UTF-8, `diag` reports the place of the first, and the answer is 8. If memory
-/// for them is refused, `diag` reports that as a run does, and the answer is 7. Nothing else is done then. In
-/// all other cases the answer is the exit code of the run.
+/// If one of these words isn't UTF-8, the place of the first is reported on `diag`, and the exit
+/// code is 8. If memory for them can't be allocated, that is reported on `diag` as for a run, and
+/// the exit code is 7. Then nothing else is done. Otherwise the exit code is the run's.
 pub fn obey_listed<A: Arguments, S: Source, K: Sink, G: Sink, E: Lookahead, D: Store>(
     from: &A,
     alloc: Global,
@@ -118,9 +118,9 @@ pub fn obey_listed<A: Arguments, S: Source, K: Sink, G: Sink, E: Lookahead, D: S
     }
 }
 
-/// Runs the words over these objects: what is read comes from `source`, the output goes to `sink`
-/// and the diagnostic line to `diag`, random bytes come from `entropy`, and files are those of `store`.
-/// The answer is the exit code of the run's status.
+/// Runs the words over these objects: input comes from `source`, the output goes to `sink` and the
+/// diagnostic line to `diag`, random bytes come from `entropy`, and files are in `store`. Returns
+/// the exit code of the run's status.
 pub fn obey<S: Source, K: Sink, G: Sink, E: Lookahead, D: Store>(
     alloc: Global,
     words: &[String],
