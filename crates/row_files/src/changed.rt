@@ -1,4 +1,4 @@
-//! Sealed bytes and tags that are changed: the tag where the words have one, and else the input.
+//! Changed sealed bytes and tags: the tag if the words have one, otherwise the input.
 
 use crate::cells::bytes_of;
 use crate::compare::compare;
@@ -10,8 +10,8 @@ use crate::running::outcome_of;
 use std::alloc::Global;
 use std::test::Fail;
 
-/// Runs over each front, a changed bit of each byte, and one byte more, which end as the row's cell tells,
-/// without any output.
+/// Runs over each proper prefix, over a changed bit in each byte, and over one more byte; each run
+/// ends as the row's cell says, without any output.
 pub(crate) fn run_changed<R: Runner>(
     alloc: Global,
     runner: &R,
@@ -49,7 +49,7 @@ fn taken_of(alloc: Global, names: &Names, row: &Row<'_>) -> Result<Vec<u8>, Fail
     }
 }
 
-/// Runs with one bit of the byte at this place turned, another one at the next place.
+/// Runs with one bit of the byte at this place flipped, a different bit at the next place.
 fn run_turned<R: Runner>(
     alloc: Global,
     runner: &R,

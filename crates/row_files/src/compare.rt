@@ -1,4 +1,4 @@
-//! Whether a run ended as its row tells.
+//! Whether a run ended as its row says.
 
 use crate::cells::{bytes_of, file_of};
 use crate::differences::Differences;
@@ -8,7 +8,7 @@ use crate::runner::Outcome;
 use std::alloc::Global;
 use std::test::Fail;
 
-/// Compares how a run ended with what its row tells, and takes in what differs.
+/// Compares how a run ended with what its row says, and records what differs.
 pub(crate) fn compare(
     alloc: Global,
     names: &Names,
@@ -31,7 +31,7 @@ pub(crate) fn compare(
     }
 }
 
-/// The status is as its cell tells, or begins so where the cell ends with `*`.
+/// The status is as its cell says, or begins so if the cell ends with `*`.
 fn hold_status(
     alloc: Global,
     cell: &str,
@@ -45,7 +45,7 @@ fn hold_status(
     }
 }
 
-/// The lines are as their cell tells, or begin so where the cell ends with `*`.
+/// The lines are as their cell says, or begin so if the cell ends with `*`.
 fn hold_line(
     alloc: Global,
     names: &Names,
@@ -63,7 +63,7 @@ fn hold_line(
     differences.hold_bytes(alloc, "line", &line, told)
 }
 
-/// The output is as its cell tells.
+/// The output is as its cell says.
 fn hold_output(
     alloc: Global,
     names: &Names,
@@ -80,7 +80,7 @@ fn hold_output(
     }
 }
 
-/// The output has these first bytes, and as many and such last ones as the rest of its cell tells.
+/// The output has these first bytes, and the length and last bytes that the rest of its cell says.
 fn hold_ends(
     alloc: Global,
     names: &Names,
@@ -103,7 +103,7 @@ fn hold_ends(
     differences.hold_bytes(alloc, "output's end", &last, end)
 }
 
-/// The output isn't the one of this cell, where there is one.
+/// The output isn't the bytes of this cell, if it gives any.
 fn hold_unlike(
     alloc: Global,
     names: &Names,
@@ -119,7 +119,7 @@ fn hold_unlike(
     }
 }
 
-/// There is a new file exactly where its cell tells one, and it has those bytes.
+/// There is a new file if and only if its cell gives one, and it has those bytes.
 fn hold_made(
     alloc: Global,
     names: &Names,
@@ -135,7 +135,7 @@ fn hold_made(
     }
 }
 
-/// No more bytes of files were given than the cell tells, where it tells any.
+/// At most as many bytes of files were given as the cell says, if it gives a number.
 fn hold_given(
     alloc: Global,
     cell: &str,
@@ -153,7 +153,7 @@ fn hold_given(
     differences.differs(alloc, "given", &most, &format!(in alloc; "{given}")?)
 }
 
-/// The bytes of the lines that a cell tells.
+/// The bytes of the lines that a cell gives.
 fn line_of(alloc: Global, names: &Names, cell: &str) -> Result<Vec<u8>, Fail> {
     if let Some(items) = cell.strip_prefix('=') {
         return bytes_of(alloc, names, items);

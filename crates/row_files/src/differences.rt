@@ -6,10 +6,10 @@ use std::alloc::Global;
 use std::str::from_utf8;
 use std::test::Fail;
 
-/// How many bytes are shown of a list.
+/// How many bytes of a list are shown.
 const SHOWN: usize = 24;
 
-/// The differences of a row, a line each, with how the run ended behind those of each run.
+/// The differences of a row, a line each; those of each run are followed by how it ended.
 #[derive(Drop)]
 pub(crate) struct Differences {
     lines: String,
@@ -17,7 +17,7 @@ pub(crate) struct Differences {
 }
 
 impl Differences {
-    /// No difference.
+    /// No differences.
     pub(crate) fn new(alloc: Global) -> Differences {
         Differences {
             lines: String::new(alloc),
@@ -25,7 +25,7 @@ impl Differences {
         }
     }
 
-    /// How many there are.
+    /// How many differences there are.
     pub(crate) fn count(&self) -> usize {
         self.count
     }
@@ -35,7 +35,7 @@ impl Differences {
         self.lines.as_str()
     }
 
-    /// Takes a difference in: of this column, with both sides.
+    /// Records a difference in this column, with both sides.
     pub(crate) fn differs(
         &mut self,
         alloc: Global,
@@ -49,7 +49,7 @@ impl Differences {
         Ok(())
     }
 
-    /// Takes a difference in where these texts aren't the same.
+    /// Records a difference if these texts aren't the same.
     pub(crate) fn hold_text(
         &mut self,
         alloc: Global,
@@ -63,7 +63,7 @@ impl Differences {
         self.differs(alloc, column, expected, came)
     }
 
-    /// Takes a difference in where this number isn't the one that is told.
+    /// Records a difference if this number isn't the expected one.
     pub(crate) fn hold_count(
         &mut self,
         alloc: Global,
@@ -74,8 +74,8 @@ impl Differences {
         self.hold_text(alloc, column, expected, &format!(in alloc; "{came}")?)
     }
 
-    /// Takes a difference in where these bytes aren't the same: how many there are on both sides, and a few
-    /// from the first on that differs.
+    /// Records a difference if these bytes aren't the same: how many there are on both sides, and a
+    /// few from the first difference on.
     pub(crate) fn hold_bytes(
         &mut self,
         alloc: Global,
@@ -92,8 +92,8 @@ impl Differences {
         self.differs(alloc, column, &expected, &came)
     }
 
-    /// Takes in which run of a row differed, and how it ended: its status, its line, and the output, of which
-    /// the first bytes.
+    /// Records which run of a row differed, and how it ended: its status, its line, and the first
+    /// bytes of the output.
     pub(crate) fn tell_run(
         &mut self,
         alloc: Global,
@@ -123,7 +123,7 @@ fn first_unlike(expected: &[u8], came: &[u8]) -> usize {
     expected.len().min(came.len())
 }
 
-/// How many bytes there are, and a few of them from this place on: as a text where they are one.
+/// How many bytes there are, and a few of them from this place on: as text if they are text.
 fn from_there(alloc: Global, bytes: &[u8], at: usize) -> Result<String, Fail> {
     let size = bytes.len();
     let rest = bytes.get(at..).unwrap_or(b"");

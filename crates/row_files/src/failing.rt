@@ -1,5 +1,5 @@
-//! Each call outside fails in turn: rows that run with the first read failing, with the second, and so
-//! on, until a run meets no fault, and then the same with the calls of each other name.
+//! Each outside call fails in turn: rows run with the first read failing, with the second, and so
+//! on, until a run meets no fault, then the same with the calls of each other name.
 
 use crate::compare::compare;
 use crate::differences::Differences;
@@ -11,8 +11,8 @@ use std::alloc::Global;
 use std::str::from_utf8;
 use std::test::Fail;
 
-/// The names of the calls that can fail, in the order of the column of counts, each with the status and
-/// the line of a run in which it failed. Where the line itself fails, both stay.
+/// The names of the calls that can fail, in the order of the column of counts, each with the status
+/// and the line of a run in which it failed. If the line itself fails, both are unchanged.
 const ENDS: [(&str, &str, &str); 5] = [
     ("read", "5 ReadFault", "tinkey: read fault"),
     ("write", "5 WriteFault", "tinkey: write fault"),
@@ -24,7 +24,8 @@ const ENDS: [(&str, &str, &str); 5] = [
 /// The commands that write before they have their whole output.
 const LASTING: [&str; 4] = ["session", "sseal", "sopen", "list-key-templates"];
 
-/// Runs a row, whose whole run ended so, with each call failing in turn, and counts the calls of each name.
+/// Runs a row, whose run without faults ended as `whole`, with each call failing in turn, and
+/// counts the calls of each name.
 pub(crate) fn run_each_failing<R: Runner>(
     alloc: Global,
     runner: &R,
@@ -41,8 +42,8 @@ pub(crate) fn run_each_failing<R: Runner>(
     differences.hold_text(alloc, "calls", row.cell(Column::Calls), counts.trim())
 }
 
-/// Runs a row with the first call of this name failing, then the second, and so on, until a run meets no
-/// fault, which ends as the row tells. The answer is how many met one.
+/// Runs a row with the first call of this name failing, then the second, and so on, until a run
+/// meets no fault, which ends as the row says. Returns how many met one.
 fn run_until_whole<R: Runner>(
     alloc: Global,
     runner: &R,
@@ -65,8 +66,8 @@ fn run_until_whole<R: Runner>(
     Err("a run that meets no fault".into())
 }
 
-/// The size of the front of these lines that so many calls write, which move a piece each: no call moves
-/// bytes of two lines.
+/// How many bytes of these lines `calls` calls write, which move a piece each: no call moves bytes
+/// of two lines.
 fn front_size(lines: &str, piece: usize, calls: usize) -> usize {
     if piece == 0 {
         return 0;
@@ -82,9 +83,9 @@ fn front_size(lines: &str, piece: usize, calls: usize) -> usize {
     size
 }
 
-/// Compares how a run ended in which one call failed, behind so many of its name, with what may stand
-/// then: the status is that of what failed, there is no new file, and no more was written or drawn than in
-/// the whole run. Where the line failed, its front alone is there.
+/// Compares how a run ended in which one call failed, after `before` calls of its name, with what
+/// is then allowed: the status is for what failed, there is no new file, and no more was written or
+/// drawn than in the run without faults. If the line failed, only its first bytes are there.
 fn compare_fault(
     alloc: Global,
     names: &Names,
@@ -123,8 +124,8 @@ fn compare_fault(
     compare(alloc, names, &failed, came, differences)
 }
 
-/// How many bytes of the output are kept where a call of this name failed: those of the writes before, or
-/// none. Of a lasting command it is some front.
+/// How many bytes of the output are kept if a call of this name failed: those of the writes before,
+/// or none; for a command in `LASTING`, as many as came.
 fn kept_size(row: &Row<'_>, name: &str, moved: usize, came: &Outcome) -> usize {
     let word = row.cell(Column::Words).split(' ').next().unwrap_or("");
     if LASTING.contains(&word) {

@@ -1,10 +1,10 @@
 //! The reader of files of rows.
 //!
-//! A file is blocks of lines, with an empty line between them. A line that begins with `#` is a remark. A
-//! block of lines `let NAME = CELL` gives bytes names, for this file and those behind it. A block that begins
-//! with `table NAME` is a table: lines as `piece: 64` follow, each a cell that all rows have, then a line with
-//! the names of the columns, of which `shows` is the first, and then a line for each row. Cells stand between
-//! `|`. What a table doesn't tell is as in `PLAIN`.
+//! A file is blocks of lines, with an empty line between them. A line that begins with `#` is a
+//! comment. A block of lines `let NAME = CELL` gives bytes names, for this file and later ones. A
+//! block that begins with `table NAME` is a table: lines as `piece: 64` follow, each a cell that
+//! all rows have, then a line with the names of the columns, the first of them `shows`, then a line
+//! for each row. Cells are separated by `|`. Columns that a table doesn't have are as in `PLAIN`.
 
 use crate::cells::bytes_of;
 use crate::differences::Differences;
@@ -40,7 +40,7 @@ impl Tally {
         NONE
     }
 
-    /// Those and these.
+    /// The sums of both.
     pub fn and(self, more: Tally) -> Tally {
         Tally {
             differ: self.differ.saturating_add(more.differ),
@@ -49,18 +49,19 @@ impl Tally {
     }
 }
 
-/// What stands above the rows of a table.
+/// What is above the rows of a table.
 #[derive(Clone, Copy)]
 struct Head<'a> {
     title: &'a str,
     /// The cells that all rows have.
     shared: Row<'a>,
-    /// The line of the columns behind the first of them.
+    /// The names of the columns after the first.
     columns: &'a str,
 }
 
-/// Runs the rows of a file of this name and this text. Standard output gets a line for each table, which counts
-/// its rows, and standard error tells each row that differs and each line that is malformed.
+/// Runs the rows of a file of this name and this text. Writes a line for each table with its number
+/// of rows to standard output, and reports each row that differs and each malformed line on
+/// standard error.
 pub fn run_text<R: Runner>(
     rt: &HostRuntime,
     runner: &R,
@@ -79,7 +80,7 @@ pub fn run_text<R: Runner>(
     Ok(tally)
 }
 
-/// Runs the rows of a block, or takes in its names. Its first line has this number.
+/// Runs the rows of a block, or defines its names. Its first line has this number.
 fn run_block<R: Runner>(
     rt: &HostRuntime,
     runner: &R,
@@ -99,7 +100,7 @@ fn run_block<R: Runner>(
     }
 }
 
-/// Takes in the names that a block tells, each on its line.
+/// Defines the names of a block, each on its line.
 fn define_all(rt: &HostRuntime, names: &mut Names, file: &str, first: usize, block: &str) -> Tally {
     let mut tally = NONE;
     let mut at = first;
@@ -112,7 +113,7 @@ fn define_all(rt: &HostRuntime, names: &mut Names, file: &str, first: usize, blo
     tally
 }
 
-/// Gives bytes the name that a line tells.
+/// Defines the name of a line.
 fn define(rt: &HostRuntime, names: &mut Names, line: &str) -> Result<(), Fail> {
     if is_remark(line) {
         return Ok(());
@@ -125,12 +126,12 @@ fn define(rt: &HostRuntime, names: &mut Names, line: &str) -> Result<(), Fail> {
     names.set(rt.alloc(), name, bytes)
 }
 
-/// Whether a line is for the reader of the file alone.
+/// Whether a line is empty or a comment.
 fn is_remark(line: &str) -> bool {
     line.is_empty() || line.starts_with('#')
 }
 
-/// What stands above the rows of a table.
+/// What is above the rows of a table.
 fn head_of<'a>(above: &'a str, columns: &'a str) -> Result<Head<'a>, Fail> {
     hold_columns(columns)?;
     Ok(Head {
@@ -162,7 +163,7 @@ fn shared_of(above: &str) -> Result<Row<'_>, Fail> {
     Ok(shared)
 }
 
-/// No column stands twice, and each has a name that is known.
+/// Each column occurs once, and has a known name.
 fn hold_columns(columns: &str) -> Result<(), Fail> {
     for (place, name) in columns.split('|').enumerate() {
         let _named = PLAIN.with_named(name.trim(), "")?;
@@ -175,8 +176,8 @@ fn hold_columns(columns: &str) -> Result<(), Fail> {
     Ok(())
 }
 
-/// Runs the rows of a table, each on its line, and prints how many there are. The line of the columns has this
-/// number.
+/// Runs the rows of a table, each on its line, and prints how many there are. The line of the
+/// columns has the number `columns_at`.
 fn run_lines<R: Runner>(
     rt: &HostRuntime,
     runner: &R,
@@ -204,7 +205,7 @@ fn run_lines<R: Runner>(
     Ok(tally)
 }
 
-/// Runs the row of the line of this number, and tells where it differs or is malformed.
+/// Runs the row on the line with this number, and reports whether it differs or is malformed.
 fn run_one<R: Runner>(
     rt: &HostRuntime,
     runner: &R,
@@ -221,8 +222,8 @@ fn run_one<R: Runner>(
     }
 }
 
-/// Tells what differs from the row of a line on standard error. Where that can't be written, it counts all the
-/// same.
+/// Reports what differs from the row of a line on standard error. If that can't be written, it
+/// still counts.
 fn tell_differences(
     rt: &HostRuntime,
     file: &str,
@@ -240,8 +241,8 @@ fn tell_differences(
     }
 }
 
-/// Tells what the line of this number lacks on standard error. Where that can't be written, it counts all the
-/// same.
+/// Reports what the line with this number lacks on standard error. If that can't be written, it
+/// still counts.
 fn tell_malformed(rt: &HostRuntime, file: &str, at: usize, fail: Fail) -> Tally {
     let _ = eprint!(rt; "{file}:{at}: malformed: ");
     let told: Result<(), Fail> = Err(fail);

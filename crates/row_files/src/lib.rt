@@ -1,6 +1,6 @@
-//! Rows in text files, each of which tells what is run and how the run has to end: what reads them, has
-//! them run, and tells what differs. What runs them is handed in (`Runner`). No program that a user gets
-//! has this library. The format is told in docs/ROWS.md.
+//! Rows in text files, each saying what is run and how the run must end. This library reads them,
+//! has them run by a `Runner` that the caller supplies, and reports what differs. No program for
+//! users contains it. The format is described in docs/ROWS.md.
 #![tactic(auto)]
 
 mod cells;

@@ -1,4 +1,5 @@
-//! The rows of tables: a cell for each column, and what stands where a table tells nothing.
+//! The rows of tables: a cell for each column, and the defaults of columns that a table doesn't
+//! have.
 
 use std::test::Fail;
 
@@ -7,48 +8,49 @@ use std::test::Fail;
 pub(crate) enum Column {
     /// What the row shows.
     Shows,
-    /// The words behind the program's name, with spaces between them. `''` is the empty word, and a word ends
-    /// with nine digits 0 for `*9`.
+    /// The words after the program's name, separated by spaces. `''` is the empty word, and `*9` at
+    /// a word's end stands for nine digits 0.
     Words,
-    /// The bytes of the file `k`, or `none` where there is none.
+    /// The bytes of the file `k`, or `none` if there is none.
     File,
-    /// The bytes of the input, which the file `s` has too.
+    /// The bytes of the input, and of the file `s`.
     Input,
     /// The random bytes.
     Random,
     /// How many bytes the objects move at a time: a run for each of these numbers.
     Piece,
-    /// The call that fails, counted from 1: `read 1` of the input, `write 1` of the output, `line 1`
-    /// of the diagnostic line, `store 1` of the files, `fill 1` of the random bytes; `torn 10`, where
-    /// the store fails at each new file and keeps its first 10 bytes; or `none 0`.
+    /// The call that fails, counted from 1: `read 1` of the input, `write 1` of the output, `line
+    /// 1` of the diagnostic line, `store 1` of the files, `fill 1` of the random bytes; `torn 10`
+    /// if the store fails at each new file and keeps its first 10 bytes; or `none 0`.
     Fails,
     /// The exit code and the status, as `2 Usage(0)`.
     Status,
-    /// The first line of standard error without its newline, and behind ` / ` the second one; with `..` at the
-    /// end, the front of it that is there; or the bytes behind a `=`.
+    /// The first line of standard error without its newline, and after ` / ` the second one; with
+    /// `..` at the end, only their beginning; or the bytes after a `=`.
     Line,
-    /// The bytes of the output; of a long one the first, behind `~` how many there are, and the last. A `*` is
-    /// any count.
+    /// The bytes of the output; for a long one the first ones, after `~` how many there are, and
+    /// the last ones. A `*` is any count.
     Output,
-    /// The bytes of the new file `n`, or `none` where there is none.
+    /// The bytes of the new file `n`, or `none` if there is none.
     Made,
     /// How many random bytes were drawn.
     Drawn,
     /// The managers of keys, by a name that the runner knows.
     Managers,
-    /// How many calls of each name the run makes, as `failing.rt` counts them; each of them fails in turn.
+    /// How many calls of each name the run makes, as `failing.rt` counts them; each of them fails
+    /// in turn.
     Calls,
-    /// A run for each of these texts, which stands in the place of `$` in all other cells.
+    /// A run for each of these texts, which replaces `$` in all other cells.
     Each,
-    /// Status and line, with `: ` between them, of each run over bytes that are changed as in `changed.rt`.
+    /// Status and line, separated by `: `, of each run over bytes changed as in `changed.rt`.
     Changed,
-    /// The name that the output has in the rows behind this one.
+    /// The name of the output in later rows.
     Keep,
-    /// Bytes that the output must not be, or `none`.
+    /// Bytes that the output must differ from, or `none`.
     Unlike,
     /// The most bytes of files that the run may be given; without any, they aren't counted.
     Given,
-    /// The bytes of the file `l`, or `none` where there is none.
+    /// The bytes of the file `l`, or `none` if there is none.
     Other,
 }
 
@@ -58,7 +60,7 @@ const NAMES: [&str; 20] = [
     "made", "drawn", "managers", "calls", "each", "changed", "keep", "unlike", "given", "other",
 ];
 
-/// What a row runs, and how the run has to end: a cell for each column.
+/// What a row runs, and how the run must end: a cell for each column.
 #[derive(Clone, Copy)]
 pub(crate) struct Row<'a> {
     cells: [&'a str; 20],
@@ -102,7 +104,7 @@ impl<'a> Row<'a> {
     }
 }
 
-/// The place of the column of this name.
+/// The index of the column of this name.
 pub(crate) fn place_of(name: &str) -> Result<usize, Fail> {
     for (place, known) in NAMES.iter().enumerate() {
         if *known == name {

@@ -1,5 +1,5 @@
-//! The runs of a row: one for each value, each count of bytes and, where the row asks for it, each call that
-//! fails and each changed byte.
+//! The runs of a row: one for each value, each count of bytes and, if the row asks for it, each
+//! call that fails and each changed byte.
 
 use crate::cells::{bytes_of, file_of};
 use crate::changed::run_changed;
@@ -12,8 +12,8 @@ use crate::runner::{CALLS, Objects, Outcome, Runner};
 use std::alloc::Global;
 use std::test::Fail;
 
-/// Runs the row of a line, whose cells are what it shows and those of the columns behind that. The answer is
-/// what differs.
+/// Runs the row of a line, whose cells are `shows` and those of the columns after it. Returns what
+/// differs.
 pub(crate) fn run_line<R: Runner>(
     alloc: Global,
     runner: &R,
@@ -53,8 +53,8 @@ fn cells_of(
     Ok(texts)
 }
 
-/// Puts a cell into the column of this name: in the place of each `?` of the cell that all rows share, or alone
-/// where that has none.
+/// Puts a cell into the column of this name: in the place of each `?` of the cell that all rows
+/// share, or alone if that has no `?`.
 fn put(alloc: Global, texts: &mut Vec<String>, name: &str, cell: &str) -> Result<(), Fail> {
     let text = texts.get_mut(place_of(name)?).ok_or("a column")?;
     *text = if text.as_str().contains('?') {
@@ -65,7 +65,7 @@ fn put(alloc: Global, texts: &mut Vec<String>, name: &str, cell: &str) -> Result
     Ok(())
 }
 
-/// Runs the row of these cells, for each text that is to stand in the place of `$`.
+/// Runs the row of these cells, once for each text that replaces `$`.
 fn run_texts<R: Runner>(
     alloc: Global,
     runner: &R,
@@ -107,7 +107,7 @@ fn run_value<R: Runner>(
     )
 }
 
-/// Runs a row, and keeps its output where that is to have a name.
+/// Runs a row, and keeps its output if the row gives it a name.
 fn run_kept<R: Runner>(
     alloc: Global,
     runner: &R,
@@ -124,7 +124,8 @@ fn run_kept<R: Runner>(
     }
 }
 
-/// Runs a row for each of its pieces, and compares how each run ended. The answer is the last one's output.
+/// Runs a row for each of its pieces, and compares how each run ended. Returns the last one's
+/// output.
 fn run_row<R: Runner>(
     alloc: Global,
     runner: &R,
@@ -140,8 +141,8 @@ fn run_row<R: Runner>(
     Ok(output.ok_or("how many bytes move at a time")?)
 }
 
-/// Runs a row, and where it asks for that with each call failing in turn and with its bytes changed. The answer
-/// is the output of the run in which all is as it stands.
+/// Runs a row and, if it asks for that, runs it with each call failing in turn and with its bytes
+/// changed. Returns the output of the run without faults or changes.
 fn run_piece<R: Runner>(
     alloc: Global,
     runner: &R,
@@ -182,7 +183,7 @@ pub(crate) fn outcome_of<R: Runner>(
     runner.run(alloc, &words, objects)
 }
 
-/// The words that a cell tells.
+/// The words that a cell gives.
 fn words_of(alloc: Global, cell: &str) -> Result<Vec<String>, Fail> {
     let mut words = Vec::new(alloc);
     for word in cell.split_whitespace() {
@@ -191,7 +192,7 @@ fn words_of(alloc: Global, cell: &str) -> Result<Vec<String>, Fail> {
     Ok(words)
 }
 
-/// The word that is written so.
+/// The word that is written like this.
 fn word_of(alloc: Global, written: &str) -> Result<String, Fail> {
     if written == "''" {
         return Ok(String::new(alloc));
@@ -202,7 +203,7 @@ fn word_of(alloc: Global, written: &str) -> Result<String, Fail> {
     Ok(word)
 }
 
-/// The name of the call that fails, and which of them it is.
+/// The name of the call that fails, and its number.
 fn failing(cell: &str) -> Result<(&str, u64), Fail> {
     let (name, number) = cell.split_once(' ').ok_or("a call and its number")?;
     if CALLS.contains(&name) {

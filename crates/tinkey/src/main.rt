@@ -1,4 +1,4 @@
-//! The program `tinkey`: what `tinkey_host` does, over the real objects.
+//! The program `tinkey`: `tinkey_host` over the real objects.
 #![tactic(auto)]
 
 use std::process::ExitCode;
