@@ -1,10 +1,10 @@
-//! Runs the rows of text files through the program's top call, over objects in memory: what a user gets, what
-//! hostile bytes get, and what failing objects get.
+//! Runs the rows of text files through the program's top call, over objects in memory: what users
+//! get, what hostile bytes get, and what failing objects get.
 //!
-//! `tinkey_rows FILE FILE ..` reads the files in this order, since names of the first ones are known in those
-//! behind them. It prints a line for each table, and tells each row that differs and each line that is
-//! malformed on standard error. It ends with 0 where each row is as it tells, with 1 where any differs, and with
-//! 2 where a line is malformed or a file can't be read.
+//! `tinkey_rows FILE FILE ..` reads the files in this order, since later files can use the names of
+//! earlier ones. It prints a line for each table, and reports each row that differs and each
+//! malformed line on standard error. Its exit code is 0 if each run ends as its row says, 1 if any
+//! differs, and 2 if a line is malformed or a file can't be read.
 #![tactic(auto)]
 
 mod handed;
@@ -37,7 +37,7 @@ fn main(rt: HostRuntime) -> ExitCode {
     }
 }
 
-/// The exit code of files of which so many rows differ and so many lines are malformed.
+/// The exit code for these numbers of differing rows and malformed lines.
 fn code_of(tally: Tally) -> ExitCode {
     if tally.malformed > 0 {
         ExitCode::from(2)
