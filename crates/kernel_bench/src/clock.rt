@@ -13,7 +13,7 @@ pub struct Stopwatch {
 }
 
 impl Stopwatch {
-    /// Starts, and goes for so many milliseconds.
+    /// Starts, to run for so many milliseconds.
     pub fn start(rt: &HostRuntime, milliseconds: u32) -> io::Result<Stopwatch> {
         Ok(Stopwatch {
             before: rt.process_cpu_time()?,
@@ -23,14 +23,14 @@ impl Stopwatch {
         })
     }
 
-    /// Counts some turns, and says whether the time is over.
+    /// Counts some turns, and returns whether the time is over.
     pub fn is_over(&mut self, rt: &HostRuntime, turns: u64) -> io::Result<bool> {
         self.turns = self.turns.saturating_add(turns);
         self.spent = rt.process_cpu_time()?.saturating_sub(self.before);
         Ok(self.spent >= self.least)
     }
 
-    /// Prints the turns, the nanoseconds that they took, and what the last one gave.
+    /// Prints the turns, the nanoseconds that they took, and the last one's result.
     pub fn print(&self, rt: &HostRuntime, last: u64) -> io::Result<()> {
         println!(rt; "{} {} {last}", self.turns, self.spent.as_nanos())?;
         Ok(())

@@ -1,4 +1,4 @@
-//! What the handle of a keyset takes: to make it, and to open bytes under one of its keys.
+//! The time that a keyset's handle takes: to make it, and to open bytes under one of its keys.
 
 ghost use Rattle.std.specs.Prelude.{◌≤◌, length, IfOk};
 ghost use Rattle.key_msgs.specs.declared.primitive.Primitive.TheVariants.{Aead};
@@ -22,14 +22,14 @@ pub const TASKS: [(&str, Task); 4] = [
     ("handle-open-last", Task::OpenLast),
 ];
 
-/// How many keys a keyset has at the most.
+/// The most keys that a keyset has.
 pub const MOST_KEYS: usize = 100_000;
 
 /// The least key id, from which on ids have four bytes as varints.
 const LEAST_ID: u32 = 1 << 21;
 
-/// What comes before the key id in a record of an AES-GCM key of 16 zero bytes with the URL `g`, and
-/// behind it: ENABLED, and TINK.
+/// The bytes before the key id in a record of an AES-GCM key of 16 zero bytes with the URL `g`,
+/// ENABLED; TINK follows the id.
 const BEFORE: &[u8] =
     b"\x12\x24\x0a\x19\x0a\x01g\x12\x12\x1a\x10\0\0\0\0\0\0\0\0\0\0\0\0\0\0\0\0\x18\x01\x10\x01\x18";
 
@@ -39,16 +39,16 @@ const BEHIND: &[u8] = b"\x20\x01";
 const SEALED: &[u8] =
     b"\0\0\0\0\0\0\0\0\0\0\0\0\x58\xe2\xfc\xce\xfa\x7e\x30\x61\x36\x7f\x1d\x57\xa4\xe7\x45\x5a";
 
-/// What is done to a keyset of so many keys, each with a prefix of its own.
+/// A task over a keyset of many keys, each with a prefix of its own.
 #[derive(Clone, Copy)]
 pub enum Task {
-    /// Its handle is made.
+    /// Make its handle.
     Make,
-    /// What the first key sealed is opened.
+    /// Open what the first key sealed.
     OpenFirst,
-    /// What the key in the middle sealed is opened.
+    /// Open what the key in the middle sealed.
     OpenMiddle,
-    /// What the last key sealed is opened.
+    /// Open what the last key sealed.
     OpenLast,
 }
 
@@ -63,7 +63,7 @@ impl Task {
         None
     }
 
-    // The place of the key that sealed what is opened.
+    // The place of the key that sealed the bytes.
     fn place(self, keys: usize) -> usize {
         match self {
             Task::Make | Task::OpenFirst => 0,
@@ -73,7 +73,7 @@ impl Task {
     }
 }
 
-// The key id of a place.
+// The key id at a place.
 fn id_at(place: usize) -> u32 {
     LEAST_ID + (place % MOST_KEYS) as u32
 }
@@ -87,7 +87,7 @@ fn push_id(out: &mut Vec<u8>, id: u32) -> io::Result<()> {
     Ok(())
 }
 
-// The keyset of so many keys, the first of which is primary.
+// The keyset of `keys` keys, the first of them primary.
 fn keyset_of(alloc: Global, keys: usize) -> io::Result<Keyset> {
     let mut out = Vec::new(alloc);
     out.push(0x08)?;
@@ -106,7 +106,7 @@ fn keyset_of(alloc: Global, keys: usize) -> io::Result<Keyset> {
     }
 }
 
-// What the key of this place seals no text to.
+// The empty text, sealed by the key at this place.
 fn sealed_by(alloc: Global, place: usize) -> io::Result<Vec<u8>>
     ensures few { IfOk result (λ out. length out.items ≤ 1000) }
 {
@@ -139,7 +139,7 @@ fn time_making(
     watch.print(rt, 0)
 }
 
-// How many keys are tried to open these bytes.
+// How many keys are tried for opening these bytes.
 fn tried(alloc: Global, handle: &Handle<'_>, sealed: &[u8]) -> u64
     requires over { (keys : Keys)
         × IsOver (⟦<Managers as KeyTable>⟧.table handle.now.managers.now) Aead keys handle.now.held }
@@ -174,8 +174,8 @@ fn time_opening(
     watch.print(rt, last)
 }
 
-/// Does the task over and over for so long, and prints how often in how many nanoseconds, and how many
-/// keys were tried in the last opening.
+/// Repeats the task for so long, and prints how often it ran, in how many nanoseconds, and how many
+/// keys the last opening tried.
 pub fn time(rt: &HostRuntime, task: Task, keys: usize, milliseconds: u32) -> io::Result<()> {
     let alloc = rt.alloc();
     let keyset = keyset_of(alloc, keys)?;

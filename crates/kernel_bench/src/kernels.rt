@@ -24,10 +24,10 @@ pub const NAMES: [&str; 7] = [
 /// A subkey of GHASH: the cipher of the block of zeros under the key of zeros.
 const SUBKEY: u128 = 0x66e9_4bd4_ef8a_2c3b_884c_fa59_ca34_2b2e;
 
-/// How many bytes a text that AES-GCM seals has at the most.
+/// The most bytes of a text that AES-GCM seals.
 const LONGEST_GCM: usize = 1 << 31;
 
-/// How many bytes a text that AES-GCM-SIV seals has at the most.
+/// The most bytes of a text that AES-GCM-SIV seals.
 const LONGEST_GCM_SIV: usize = 1 << 30;
 
 /// A kernel that is ready to run.
@@ -35,13 +35,13 @@ const LONGEST_GCM_SIV: usize = 1 << 30;
 pub enum Kernel {
     /// AES in counter mode.
     Counter(Aes),
-    /// Blocks that are XORed with the last result and enciphered.
+    /// Blocks that are XORed with the previous result and enciphered.
     Chain(Aes),
     /// GHASH under one subkey.
     Ghash(Ghash),
     /// Sealing by AES-GCM, under one key.
     Gcm(Gcm),
-    /// Sealing by AES-GCM-SIV of a text that stays, under one key, of which each message has its own.
+    /// Sealing a constant text by AES-GCM-SIV under one key, from which each message has its own.
     GcmSiv(Global, Aes),
     /// HMAC with SHA-256, the key included.
     Hmac,
@@ -62,7 +62,7 @@ impl Kernel {
         }
     }
 
-    /// Runs once over the text, and answers a byte of the result.
+    /// Runs once over the text, and returns a byte of the result.
     pub fn turn(&mut self, text: &mut [u8]) -> u8 {
         match self {
             Kernel::Counter(aes) => count(aes, text),
@@ -75,7 +75,7 @@ impl Kernel {
     }
 }
 
-// Each kernel is a function of its own in the machine code, which `tools/kernel_code` reads.
+// Each kernel is a separate function in the machine code, which `tools/kernel_code` reads.
 
 #[inline(never)]
 fn new_aes(key: &[u8]) -> Aes
@@ -108,7 +108,7 @@ fn count(aes: &Aes, text: &mut [u8]) -> u8 {
     text.first().copied().unwrap_or(0)
 }
 
-// Each whole block of the text is XORed with the result before it and enciphered.
+// Each whole block of the text is XORed with the previous result and enciphered.
 #[inline(never)]
 fn chain(aes: &Aes, text: &[u8]) -> u8 {
     let whole = text.len() / 16 * 16;
@@ -127,7 +127,7 @@ fn seal(gcm: &mut Gcm, text: &mut [u8]) -> u8 {
     gcm.seal_in_place(&[0; 12], &[], &mut text[..size])[0]
 }
 
-// What is sealed is a new list each time; its last byte is answered, or 0 where memory is refused.
+// Seals into a new list each time; returns its last byte, or 0 if memory can't be allocated.
 #[inline(never)]
 fn seal_anew(alloc: Global, aes: &Aes, text: &[u8]) -> u8 {
     let size = text.len().min(LONGEST_GCM_SIV);
@@ -137,7 +137,7 @@ fn seal_anew(alloc: Global, aes: &Aes, text: &[u8]) -> u8 {
     }
 }
 
-// A copy of the text is sealed, behind room for the IV and with a place for the tag.
+// Seals a copy of the text, after room for the IV and with capacity for the tag.
 fn sealed_copy(alloc: Global, aes: &Aes, text: &[u8]) -> Result<Vec<u8>, NoMemory>
     requires { length text.now ≤ 2 ^ 30 }
 {

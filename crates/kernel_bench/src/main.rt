@@ -1,8 +1,8 @@
 //! Times one kernel: `kernel_bench KERNEL BYTES MILLISECONDS` runs it over a text of so many bytes
-//! until so much of the processor's time has passed, and prints how many times it ran, how many
-//! nanoseconds that took, and a byte of the last result. `tools/bench` asks for all of them, beside
-//! OpenSSL. `kernel_bench TASK KEYS MILLISECONDS` so times a handle of so many keys, and prints how many
-//! keys the last opening tried. Without words the names of both are printed.
+//! until so much processor time has passed, and prints how many times it ran, how many nanoseconds
+//! that took, and a byte of the last result. `tools/bench` runs all of them, and OpenSSL.
+//! `kernel_bench TASK KEYS MILLISECONDS` times a handle of so many keys in the same way, and prints
+//! how many keys the last opening tried. Without arguments the names of both are printed.
 #![tactic(auto)]
 
 mod clock;
@@ -15,7 +15,7 @@ use kernels::{Kernel, NAMES};
 use std::env;
 use std::io::{self, ErrorKind};
 
-/// How many bytes a text has at the most.
+/// The most bytes of a text.
 const MOST_BYTES: usize = 1 << 24;
 
 fn main(rt: HostRuntime) -> io::Result<()> {
@@ -43,7 +43,7 @@ fn main(rt: HostRuntime) -> io::Result<()> {
     }
 }
 
-/// Times what has this name, over so many bytes or keys.
+/// Times the kernel or task of this name, over so many bytes or keys.
 fn time_named(rt: &HostRuntime, name: &str, count: usize, milliseconds: u32) -> io::Result<()> {
     match (Kernel::named(rt.alloc(), name), Task::named(name)) {
         (Some(kernel), _) if count <= MOST_BYTES => time(rt, kernel, count, milliseconds),
@@ -52,7 +52,7 @@ fn time_named(rt: &HostRuntime, name: &str, count: usize, milliseconds: u32) -> 
     }
 }
 
-/// Runs the kernel for so long, and prints how often it ran in how many nanoseconds.
+/// Runs the kernel for so long, and prints how often it ran, in how many nanoseconds.
 fn time(rt: &HostRuntime, mut kernel: Kernel, bytes: usize, milliseconds: u32) -> io::Result<()> {
     let mut text = vec![in rt.alloc(); 0u8; bytes]?;
     let mut watch = Stopwatch::start(rt, milliseconds)?;
