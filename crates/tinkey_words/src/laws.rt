@@ -1,25 +1,25 @@
-//! Laws of the words. These functions do nothing: their contracts are the laws.
+//! Laws of the words. Each is the contract of a function with no effect.
 
 ghost use Rattle.tinkey_words.specs.Grammar.{DashesAreLeftOut, MisusesAreTrue, PlacesAreDecided, WordsAreSpelled};
 
-/// A word at fault, and why it is so, depends on the words up to it alone.
+/// A word at fault, and the reason, depend only on the words up to it.
 pub fn places_are_decided()
     ensures { PlacesAreDecided }
 {}
 
-/// Words are accepted as what they ask exactly where they are a command's word, and then options
-/// that fit its row, each as `--name value` or `--name=value`, in any order; or where they ask for help
-/// or for the version.
+/// Words are accepted as a request if and only if they spell it: a command's word, then options
+/// that fit its row, each as `--name value` or `--name=value`, in any order; or words that ask for
+/// help or for the version.
 pub fn words_are_spelled()
     ensures { WordsAreSpelled }
 {}
 
-/// `--in -` and `--out -` ask what the words ask without them: standard input and standard output.
+/// `--in -` and `--out -` mean the same as leaving them out: standard input and standard output.
 pub fn dashes_are_left_out()
     ensures { DashesAreLeftOut }
 {}
 
-/// What is told of words that are refused is so: of the word at fault, and of those in front of it.
+/// The reason reported for refused words is true of the word at fault and the words before it.
 pub fn misuses_are_true()
     ensures { MisusesAreTrue }
 {}

@@ -1,7 +1,7 @@
-//! The words of a command: what they ask, or the first one at fault and why it is so.
+//! The words of a command: what they ask for, or the first one at fault and why.
 //!
-//! What they mean is defined word by word, as the parser goes (`specs/Words.antt`, over the rows of
-//! `specs/Names.antt`), and said again as a whole (`specs/Grammar.antt`).
+//! Their meaning is defined word by word, as the parser goes (`specs/Words.antt`, over the rows of
+//! `specs/Names.antt`), and again as a whole (`specs/Grammar.antt`).
 #![tactic(auto)]
 
 pub mod laws;

@@ -29,7 +29,7 @@ use rows::{
 use tink_base::number_in;
 use tinkey_cmds::Command as Edit;
 
-/// How many lines a self-test has, where the words don't say it.
+/// How many lines a self-test has by default.
 const KNOWN_LINES: u32 = 1000;
 
 /// What the words ask for.
@@ -62,7 +62,7 @@ pub enum Request<'a> {
         /// Where the keyset is taken from.
         input: Place<'a>,
     },
-    /// Tell the keys of a keyset under which the input stands.
+    /// List the keys of a keyset with the input's output prefix.
     KeyOf {
         /// The master of the keyset, if it lies under one.
         lock: Option<Master<'a>>,
@@ -77,7 +77,7 @@ pub enum Request<'a> {
     ConvertKeyset {
         /// The master of the keyset that is taken, if it lies under one.
         lock: Option<Master<'a>>,
-        /// Under which one it is put.
+        /// The master under which it is put.
         new: NewLock<'a>,
         /// Where the keyset is taken from.
         input: Place<'a>,
@@ -155,10 +155,10 @@ pub enum Request<'a> {
         keyset: &'a str,
         /// The form of the keyset.
         form: Format,
-        /// Where the last keyset is put; where no file is named, nowhere.
+        /// Where the last keyset is put; nowhere if no file is named.
         output: Place<'a>,
     },
-    /// Answer lines that are made from a number, and tell what became of them.
+    /// Answer lines made from a number, and report their outcomes.
     SelfTest {
         /// The number.
         seed: u32,
@@ -180,12 +180,12 @@ pub enum Request<'a> {
         /// The file that it is put into, or none for standard output.
         output: Option<&'a str>,
     },
-    /// Tell what a topic has to say.
+    /// Print the help on a topic.
     Help {
         /// The topic.
         topic: Topic,
     },
-    /// Tell the version.
+    /// Print the version.
     Version,
 }
 
@@ -213,17 +213,17 @@ pub enum Work<'a> {
     Dopen(Datum<'a>),
     /// Open it, and seal the plaintext, both with this associated data.
     Reseal(Datum<'a>),
-    /// The same of what was sealed without an IV.
+    /// The same for bytes sealed without an IV.
     Dreseal(Datum<'a>),
     /// Tag it.
     Tag,
     /// Compare its tag with this one.
     Verify(Datum<'a>),
-    /// Derive so many bytes from it.
+    /// Derive this many bytes from it.
     Derive(u32),
 }
 
-/// Bytes that stand in a word.
+/// Bytes given in a word.
 #[derive(Clone, Copy)]
 pub enum Datum<'a> {
     /// As they are.
@@ -241,7 +241,7 @@ pub struct Place<'a> {
     pub form: Format,
 }
 
-/// Where the bytes that work by keys gives are put.
+/// Where the output of work by keys is put.
 #[derive(Clone, Copy)]
 pub struct Output<'a> {
     /// The file, or none for standard output.
@@ -259,7 +259,7 @@ pub struct Options<'a> {
     pub waiting: Option<OptionName>,
 }
 
-/// The command that the words ask for, or the first word at fault, as `Status::Usage` tells it.
+/// The command that the words ask for, or the first word at fault, as in `Status::Usage`.
 #[tactic(auto, unfolding(crate::specs::Words::words_of))]
 pub fn parse(words: &[String]) -> Result<Request<'_>, Misuse>
     ensures { Reads seen_command result (words_of (map string_bytes words.now)) }
@@ -284,7 +284,7 @@ pub fn parse(words: &[String]) -> Result<Request<'_>, Misuse>
     }
 }
 
-/// What is asked, where no word stands behind; the first of them would have this place.
+/// The request, if no word follows; a following word would be at this place.
 fn by_itself<'a>(place: usize, asked: Request<'a>, words: &[String]) -> Result<Request<'a>, Misuse>
     ensures { Reads seen_command result
         (by_itself place (seen_command asked.entry) (map string_bytes words.now)) }
@@ -296,7 +296,7 @@ fn by_itself<'a>(place: usize, asked: Request<'a>, words: &[String]) -> Result<R
     }
 }
 
-/// What the words behind `help` ask for.
+/// What the words after `help` ask for.
 fn help_words(words: &[String]) -> Result<Request<'_>, Misuse>
     ensures { Reads seen_command result (help_words (map string_bytes words.now)) }
 {
@@ -311,8 +311,8 @@ fn help_words(words: &[String]) -> Result<Request<'_>, Misuse>
     }
 }
 
-/// What a command's word and those behind it ask for: help on the command, or what it does with its
-/// options.
+/// What a command's word and the words after it ask for: help on the command, or the command with
+/// its options.
 fn command_words(command: CommandName, words: &[String]) -> Result<Request<'_>, Misuse>
     ensures { Reads seen_command result (command_words command (map string_bytes words.now)) }
 {
@@ -334,7 +334,7 @@ fn command_words(command: CommandName, words: &[String]) -> Result<Request<'_>, 
     }
 }
 
-/// What a command asks with the options of these words, which stand behind its own.
+/// What a command asks for with the options of these words, which follow its own.
 fn with_options(command: CommandName, words: &[String]) -> Result<Request<'_>, Misuse>
     ensures { Reads seen_command result (with_options command (map string_bytes words.now)) }
 {
@@ -344,7 +344,7 @@ fn with_options(command: CommandName, words: &[String]) -> Result<Request<'_>, M
     }
 }
 
-/// The command with its options, among so many words.
+/// The command with its options, of `count` words.
 fn complete(command: CommandName, count: usize, given: Options<'_>) -> Result<Request<'_>, Misuse>
     ensures { Reads seen_command result (complete command count (seen_options given.entry)) }
 {
@@ -354,7 +354,7 @@ fn complete(command: CommandName, count: usize, given: Options<'_>) -> Result<Re
     }
 }
 
-/// The command with its options, where each that needs another has it.
+/// The command with its options, if each that needs another one has it.
 fn unmet_none<'a>(
     command: CommandName,
     count: usize,
@@ -400,7 +400,7 @@ fn meant<'a>(given: &Options<'a>) -> Options<'a>
     meant
 }
 
-/// Leaves an option out whose value is `-`.
+/// Leaves out an option whose value is `-`.
 fn leave_dash_out(name: OptionName, given: &mut Options<'_>)
     ensures { (seen_options given.new).values ≡ without_dash name (seen_options given.old).values }
 {
@@ -419,7 +419,7 @@ fn holds_dash(value: Option<&str>) -> bool
     }
 }
 
-/// What the command asks with these options.
+/// What the command asks for with these options.
 fn command_with<'a>(command: CommandName, given: &Options<'a>) -> Request<'a>
     ensures { seen_command result ≡ asked_with command (seen_options given.now).values }
 {
@@ -580,7 +580,7 @@ impl<'a> Options<'a> {
         self.number(OptionName::KeyId)
     }
 
-    /// The form of a keyset, JSON where none is given.
+    /// The form of a keyset, JSON if none is given.
     fn form(&self, name: OptionName) -> Format
         ensures { result ≡ form_in ((seen_options self.now).values name) }
     {
@@ -590,7 +590,7 @@ impl<'a> Options<'a> {
         }
     }
 
-    /// What key-of is given, a text where it isn't said.
+    /// The form of key-of's input, a text by default.
     fn kind(&self) -> SealedForm
         ensures { result ≡ sealed_in ((seen_options self.now).values As) }
     {
@@ -620,7 +620,7 @@ impl<'a> Options<'a> {
         }
     }
 
-    /// The master in the file of one option, where it is given, in the form of another.
+    /// The master in the file of one option, if given, in the form of another.
     fn lock_of(&self, file: OptionName, form: OptionName) -> Option<Master<'a>>
         ensures { seen_lock result ≡ lock_of ((seen_options self.now).values file)
             ((seen_options self.now).values form) }
@@ -697,7 +697,7 @@ impl<'a> Options<'a> {
         }
     }
 
-    /// The option was given before, or one that excludes it.
+    /// Whether the option, or one that excludes it, was given before.
     fn is_barred(&self, name: OptionName) -> bool
         ensures { result ≡ is_barred name (seen_options self.now) }
     {
@@ -710,7 +710,7 @@ impl<'a> Options<'a> {
         }
     }
 
-    /// Why an option that has this rival is barred.
+    /// Why an option with this rival is barred.
     fn bar(&self, command: CommandName, name: OptionName, rival: Option<OptionName>) -> Misfit
         ensures { result ≡ bar command name rival (seen_options self.now) }
     {
@@ -720,7 +720,7 @@ impl<'a> Options<'a> {
         }
     }
 
-    /// A keyset that is put elsewhere, taken and put so.
+    /// The request to convert a keyset, with these locks.
     fn converted(&self, lock: Option<Master<'a>>, new: NewLock<'a>) -> Request<'a>
         ensures { seen_command result ≡ convert_keyset (seen_lock lock.entry) (seen_new_lock new.entry)
             (taken_from (seen_options self.now).values) (put_to (seen_options self.now).values) }
@@ -733,7 +733,7 @@ impl<'a> Options<'a> {
         }
     }
 
-    /// A keyset that is changed so.
+    /// The request to edit a keyset in this way.
     fn edited(&self, edit: Edit<&'a str>) -> Request<'a>
         ensures { seen_command result
             ≡ edited (seen_edit edit.entry) (seen_options self.now).values }
@@ -747,7 +747,7 @@ impl<'a> Options<'a> {
     }
 }
 
-/// Under this master, or where there is none, as it was taken.
+/// Under this master; without one, as it was taken.
 fn relocked(lock: Option<Master<'_>>) -> NewLock<'_>
     ensures { seen_new_lock result ≡ relocked (seen_lock lock.entry) }
 {
@@ -757,7 +757,7 @@ fn relocked(lock: Option<Master<'_>>) -> NewLock<'_>
     }
 }
 
-/// A length of a range, or none where it is too long.
+/// A length of a range, or 0 if it is too long.
 fn range_length(length: u32) -> u32
     ensures length { result ≡ range_length length }
     ensures bound { result ≤ 16777216 }
@@ -765,7 +765,7 @@ fn range_length(length: u32) -> u32
     if length <= MOST_RANGE { length } else { 0 }
 }
 
-/// The options of these words, which stand behind the command.
+/// The options of these words, which follow the command.
 #[tactic(auto, unfolding(crate::specs::Words::given_in))]
 fn given_options(command: CommandName, words: &[String]) -> Result<Options<'_>, Misuse>
     ensures { Reads seen_options result (given_in command (map string_bytes words.now)) }
@@ -792,7 +792,7 @@ fn no_options<'a>() -> Options<'a>
     }
 }
 
-/// One more word, of this place.
+/// Takes one more word, at this place.
 fn next_word<'a>(
     command: CommandName,
     word: &'a str,
@@ -808,7 +808,7 @@ fn next_word<'a>(
     }
 }
 
-/// An option's word: its value is its own, or is the next word.
+/// Takes an option's word: its value is in the word, or is the next word.
 fn option_word<'a>(
     command: CommandName,
     word: &'a str,
@@ -833,7 +833,7 @@ fn option_word<'a>(
     }
 }
 
-/// An option whose word has no value of its own: a flag is given by it, and any other option waits for
+/// An option whose word holds no value: a flag is given by the word, and any other option waits for
 /// its value.
 fn alone<'a>(name: OptionName, so_far: &mut Options<'a>)
     ensures { seen_options so_far.new
@@ -855,7 +855,8 @@ fn own_value(word: &str) -> Option<(&str, &str)>
     word.split_once('=')
 }
 
-/// The option of this name, one of the command's that isn't given yet, and none that excludes it.
+/// The option of this name, if the command has it and neither it nor one that excludes it was
+/// given.
 fn new_option(
     command: CommandName,
     name: &str,
@@ -870,7 +871,7 @@ fn new_option(
     }
 }
 
-/// The option, where it isn't given yet, and none that excludes it.
+/// The option, if neither it nor one that excludes it was given.
 fn unbarred(
     command: CommandName,
     name: OptionName,
@@ -886,7 +887,7 @@ fn unbarred(
     }
 }
 
-/// The option with its value, which stands in the word of this place.
+/// Takes the option with its value, which is in the word at this place.
 fn with_value<'a>(
     command: CommandName,
     name: OptionName,

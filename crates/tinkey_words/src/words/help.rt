@@ -6,7 +6,7 @@ ghost use Rattle.tinkey_words.specs.Words.{first_of, is_help_flag, is_version_wo
 use super::names::CommandName;
 use super::rows::command_named;
 
-/// What help is asked for.
+/// The topic of help that is asked for.
 #[derive(Clone, Copy)]
 pub enum Topic {
     /// The list of the commands.
@@ -17,7 +17,7 @@ pub enum Topic {
     Command(CommandName),
 }
 
-/// What the first word stands for.
+/// What the first word means.
 #[derive(Clone, Copy)]
 pub enum First {
     /// `help`
@@ -30,7 +30,7 @@ pub enum First {
     Command(CommandName),
 }
 
-/// What the first word stands for, where it is known.
+/// What the first word means, if it is known.
 #[tactic(auto, unfolding(crate::specs::Words::first_of))]
 pub fn first_named(name: &str) -> Option<First>
     ensures { result ≡ first_of name.now }
@@ -64,14 +64,14 @@ pub fn topic_named(name: &str) -> Option<Topic>
     }
 }
 
-/// The word is `--help` or `-h`.
+/// Whether the word is `--help` or `-h`.
 pub fn is_help_flag(word: &str) -> bool
     ensures { result ≡ is_help_flag word.now }
 {
     word == "--help" || word == "-h"
 }
 
-/// The word is `version` or `--version`.
+/// Whether the word is `version` or `--version`.
 fn is_version_word(word: &str) -> bool
     ensures { result ≡ is_version_word word.now }
 {

@@ -1,4 +1,4 @@
-//! Masters: keysets under which others lie sealed.
+//! Masters: keysets under which other keysets are sealed.
 
 use super::Format;
 
@@ -11,7 +11,7 @@ pub struct Master<'a> {
     pub form: Format,
 }
 
-/// How a keyset is put.
+/// How a keyset is written.
 #[derive(Clone, Copy)]
 pub enum NewLock<'a> {
     /// As it was taken: under the same master, or in clear.

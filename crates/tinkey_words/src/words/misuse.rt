@@ -8,20 +8,20 @@ use super::names::{CommandName, OptionName};
 /// The first word at fault, and why it is so.
 #[derive(Clone, Copy, Debug, PartialEq, Eq)]
 pub struct Misuse {
-    /// The word's place, counted from 0; where a word is missing at the end, the number of words.
+    /// The word's place, counted from 0; if a word is missing at the end, the number of words.
     pub place: usize,
     /// Why it is at fault.
     pub why: Misfit,
 }
 
-/// Why a word is at fault, with the command that it stands behind.
+/// Why a word is at fault, with the command that it follows.
 #[derive(Clone, Copy, Debug, PartialEq, Eq)]
 pub enum Misfit {
     /// The first word is no command, or there is no word.
     NoCommand,
     /// Help has no topic of this name.
     NoTopic,
-    /// The word stands behind words that ask for help or for the version.
+    /// The word follows words that ask for help or for the version.
     TooMany,
     /// The word is no option of the command.
     NoOption(CommandName),
@@ -31,21 +31,22 @@ pub enum Misfit {
     Beside(CommandName, OptionName, OptionName),
     /// The value isn't of the option's form, and none of the next three says why.
     BadValue(CommandName, OptionName),
-    /// The value is a name aside, and the option's a new file.
+    /// The value is a temporary name, but the option takes a new file's name.
     Aside(CommandName, OptionName),
-    /// The value is `-`, and the option's the own name of a file.
+    /// The value is `-`, but the option takes a file's own name.
     Dash(CommandName, OptionName),
-    /// The value is an odd number of hexadecimal digits, and the option's has two for each byte.
+    /// The value has an odd number of hexadecimal digits, but the option takes two for each byte.
     OddHex(CommandName, OptionName),
-    /// The words end where the option's value is to stand.
+    /// The words end before the option's value.
     NoValue(CommandName, OptionName),
-    /// The words end without this option, the first one that the command requires and that isn't given.
+    /// The words end without this option, the first required one that isn't given.
     Lacks(CommandName, OptionName),
-    /// The words end without the second option, which the first one needs; none before it among them all lacks its own.
+    /// The words end without the second option, which the first one needs; it is the first such
+    /// pair.
     Without(CommandName, OptionName, OptionName),
 }
 
-/// The word of this place is at fault, for this reason.
+/// The word at this place is at fault, for this reason.
 pub fn misuse_at(place: usize, why: Misfit) -> Misuse
     ensures { result ≡ misuse_at place why }
 {

@@ -1,4 +1,4 @@
-//! What the rows of `names.rt` are asked, and the forms of values, by `specs/Rows.antt`.
+//! Queries on the rows of `names.rt`, and the forms of values, by `specs/Rows.antt`.
 
 ghost use Rattle.std.specs.Prelude.{◌≡◌};
 ghost use Rattle.std.specs.List.{list_all};
@@ -9,19 +9,19 @@ use super::names::{COMMANDS, CommandName, OPTIONS, OptionName};
 use std::path::Path;
 use tink_base::{ASIDE, number_in};
 
-/// How many lines a self-test may have.
+/// The most lines of a self-test.
 const MOST_LINES: u32 = 100_000;
 
-/// How many bytes a range may have.
+/// The most bytes of a range.
 pub const MOST_RANGE: u32 = 16_777_216;
 
-/// How many digits an offset may have.
+/// The most digits of an offset.
 const MOST_OFFSET_DIGITS: usize = 19;
 
 /// The greatest offset.
 const MOST_OFFSET: u64 = 9_223_372_036_854_775_807;
 
-/// How many bytes a datum may have that stands in a word.
+/// The most bytes of a datum given in a word.
 pub const DATUM_LIMIT: usize = 1_048_576;
 
 /// The form of a keyset.
@@ -33,7 +33,7 @@ pub enum Format {
     Binary,
 }
 
-/// The form of what key-of is given.
+/// The form of key-of's input.
 #[derive(Clone, Copy)]
 pub enum SealedForm {
     /// A sealed text, or a tag.
@@ -51,7 +51,7 @@ pub enum Form {
     FileName,
     /// The same, or `-` for standard input.
     Input,
-    /// The name of a new file: it isn't a name aside either, under which such a file is filled.
+    /// The name of a new file: also not a temporary name, under which such files are filled.
     NewFile,
     /// The same, or `-` for standard output.
     Output,
@@ -67,11 +67,11 @@ pub enum Form {
     Format,
     /// The form of what key-of is given: `text` or `envelope`, in letters of either case.
     SealedForm,
-    /// A text of at most 1,048,576 bytes, which are meant.
+    /// A text of at most 1,048,576 bytes, which are the value.
     Datum,
     /// An even number of hexadecimal digits of either case, at most 2,097,152.
     Hex,
-    /// None: the option's word stands alone.
+    /// No value: the option's word stands alone.
     Flag,
 }
 
@@ -95,7 +95,7 @@ pub fn option_named(name: &str) -> Option<OptionName>
         .find(|option| option.row().word == name)
 }
 
-/// The option is one of these.
+/// Whether the option is one of these.
 fn is_one_of(name: OptionName, names: &[OptionName]) -> bool
     ensures { result ≡ is_one_of name names.now }
 {
@@ -133,14 +133,14 @@ pub fn is_value(form: Form, text: &str) -> bool
     }
 }
 
-/// A flag is a word without a value.
+/// Whether the form is a flag's: a word without a value.
 pub fn is_flag(form: Form) -> bool
     ensures { result ≡ is_flag form }
 {
     matches!(form, Form::Flag)
 }
 
-/// Whether the path is a name aside, under which a new file is filled: its last part begins as those do.
+/// Whether the path is a temporary name, under which new files are filled, by its last component.
 pub fn is_aside(path: &str) -> bool
     ensures { result ≡ is_aside path.now }
 {
@@ -167,7 +167,7 @@ fn is_line_count(number: Option<u32>) -> bool
     }
 }
 
-/// The number is there, and may be the length of a range.
+/// Whether a number is there, and may be the length of a range.
 fn is_range_length(number: Option<u32>) -> bool
     ensures { result ≡ is_range_length number }
 {
@@ -177,7 +177,7 @@ fn is_range_length(number: Option<u32>) -> bool
     }
 }
 
-/// The offset that the text is.
+/// The offset in the text.
 pub fn offset_in(text: &str) -> Option<u64>
     ensures { result ≡ offset_in text.now }
 {
@@ -190,28 +190,28 @@ pub fn offset_in(text: &str) -> Option<u64>
     }
 }
 
-/// An even number of hexadecimal digits, two for each byte of a datum.
+/// Whether the text is an even number of hexadecimal digits, two for each byte of a datum.
 fn is_hex(text: &str) -> bool
     ensures { result ≡ is_hex text.now }
 {
     text.len() <= 2 * DATUM_LIMIT && text.len().is_multiple_of(2) && has_hex_digits(text)
 }
 
-/// An odd number of hexadecimal digits, which isn't too great.
+/// Whether the text is an odd number of hexadecimal digits, not too many.
 pub fn is_odd_hex(text: &str) -> bool
     ensures { result ≡ is_odd_hex text.now }
 {
     text.len() <= 2 * DATUM_LIMIT && text.len() % 2 == 1 && has_hex_digits(text)
 }
 
-/// Hexadecimal digits of either case, and nothing else.
+/// Whether the text is hexadecimal digits of either case, and nothing else.
 fn has_hex_digits(text: &str) -> bool
     ensures { result ≡ list_all is_hex_digit text.now }
 {
     text.bytes().all(|b| is_hex_digit(b))
 }
 
-/// A hexadecimal digit of either case.
+/// Whether the byte is a hexadecimal digit of either case.
 fn is_hex_digit(b: u8) -> bool
     ensures { result ≡ is_hex_digit b }
 {
@@ -232,7 +232,7 @@ pub fn format_named(text: &str) -> Option<Format>
     }
 }
 
-/// The form of what key-of is given, of this name.
+/// The form of key-of's input, by this name.
 #[tactic(auto, unfolding(crate::specs::Rows::sealed_form_of))]
 pub fn sealed_form_named(text: &str) -> Option<SealedForm>
     ensures { result ≡ sealed_form_of text.now }
