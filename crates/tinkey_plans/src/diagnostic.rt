@@ -1,4 +1,4 @@
-//! The diagnostic line of a status, told without memory.
+//! The diagnostic line of a status, written without memory.
 
 ghost use Rattle.std.specs.Prelude.{◌≡◌, ◌+◌, ◌≤◌, ◌++◌, length, codes, decimal};
 ghost use Rattle.keyset_json.specs.Members.{name_of};
@@ -18,9 +18,9 @@ use tinkey_cmds::CmdFault;
 use tinkey_session::{Refusal, ShortText, refusal_text};
 use tinkey_words::Topic;
 
-/// Writes the line of a status, and what stands behind it: the list of the commands where there was no
-/// word, why the word is at fault where one is, under which key a text was sealed that doesn't open, and that a
-/// keyset is in clear or encrypted where it should be the other. A fault of `diag` changes no status.
+/// Writes the line of a status, and what follows it: the list of the commands if there was no word,
+/// why a word is at fault, under which key a text that doesn't open was sealed, or that a keyset is
+/// in clear or encrypted but should be the other. A fault of `diag` changes no status.
 pub fn report<G: Sink>(diag: &mut G, status: Status)
     ensures { Reports status (G.state diag.old) (G.state diag.new) }
 {
@@ -30,7 +30,7 @@ pub fn report<G: Sink>(diag: &mut G, status: Status)
     }
 }
 
-/// Writes what stands behind the line of a status.
+/// Writes what follows the line of a status.
 #[tactic(auto, unfolding(crate::specs::Status::behind_line))]
 fn write_behind<G: Sink>(diag: &mut G, status: Status)
     ensures { Wrote (behind_line status) (G.state diag.old) (G.state diag.new) }
@@ -79,7 +79,7 @@ fn write_text<G: Sink>(diag: &mut G, text: &[u8])
     }
 }
 
-/// Tells on `diag` that memory was refused, where it was before a run. The answer is that status.
+/// Reports on `diag` that memory couldn't be allocated before a run. Returns that status.
 pub fn starve<G: Sink>(diag: &mut G) -> Status
     ensures status { result ≡ Status.NoMemory }
     ensures line { Reports result (G.state diag.old) (G.state diag.new) }
@@ -163,7 +163,7 @@ fn push_segment(line: &mut ShortText, number: u64)
     line.push_number(number as usize);
 }
 
-/// Adds that a field of this place can't be cut or read, for which there is room.
+/// Adds that a field at this place can't be cut or read, for which there is room.
 fn push_place(line: &mut ShortText, at: usize)
     requires room { length line.old ≤ 16 }
     ensures text { line.new ≡ line.old ++ (codes "bad protobuf at byte " ++ decimal at) }
@@ -236,7 +236,7 @@ fn push_data_key(line: &mut ShortText, rule: Rule)
     line.push_bytes(refusal_text(Refusal::EditRefused(CmdFault::KeyRefused(rule))).as_slice());
 }
 
-/// Adds what is said of the key of this place.
+/// Adds what is said of the key at this place.
 fn push_key(line: &mut ShortText, i: usize, says: &str)
     requires room { length line.old ≤ 16 }
     requires says_bound { length says.now ≤ 40 }
@@ -248,7 +248,7 @@ fn push_key(line: &mut ShortText, i: usize, says: &str)
     line.push(says);
 }
 
-/// Adds that the keys of these places are both the primary.
+/// Adds that the keys at these places are both the primary.
 fn push_keys(line: &mut ShortText, i: usize, j: usize)
     requires room { length line.old ≤ 16 }
     ensures text { line.new ≡ line.old ++

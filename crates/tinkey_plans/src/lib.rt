@@ -1,10 +1,10 @@
-//! What each command answers: plans, how a run may end, and the promises that follow for every plan.
+//! What each command answers: plans, how a run may end, and the promises that hold for every plan.
 //!
 //! A command has a plan, the list of its steps in the order of refusals (`specs/Plan.antt`,
-//! `specs/Commands.antt`). Two meanings of a plan are defined once: the stated answer, and how a run
+//! `specs/Commands.antt`). A plan's two meanings are defined once: the stated answer, and how a run
 //! may end whatever fails (`specs/Ends.antt`). Steps that commands share are one word of plans each
-//! (`specs/Steps.antt`, `specs/Using.antt`), and what a keyset answers is said apart from plans, in
-//! `wrapped_prims`. Each promise of a run follows for every plan (`specs/Promises.antt`,
+//! (`specs/Steps.antt`, `specs/Using.antt`), and what a keyset answers is defined apart from plans,
+//! in `wrapped_prims`. Each promise of a run follows for every plan (`specs/Promises.antt`,
 //! `proofs/PromiseLemmas.antt`).
 #![tactic(auto)]
 

@@ -1,4 +1,4 @@
-//! The second line of words that are refused, told without memory.
+//! The second line for refused words, written without memory.
 
 ghost use Rattle.std.specs.Prelude.{◌≡◌, ◌+◌, ◌≤◌, ◌++◌, length};
 ghost use Rattle.tinkey_words.specs.Names.{form_for, option_row, row_of};
@@ -8,7 +8,7 @@ use tink_base::ASIDE;
 use tinkey_session::ShortText;
 use tinkey_words::{CommandName, Form, Misfit, OptionName};
 
-/// The line that tells why a word is at fault.
+/// The line that says why a word is at fault.
 #[tactic(auto, unfolding(crate::specs::Misfits::misfit_line))]
 pub fn misfit_line(why: Misfit) -> ShortText
     ensures { result ≡ misfit_line why }
@@ -98,7 +98,7 @@ fn push_form(line: &mut ShortText, name: OptionName, says: &str, command: Comman
     push_told(line, option_word(name), says, form, command);
 }
 
-/// Adds three pieces of text, and the command whose help tells more.
+/// Adds three pieces of text, and the command whose help says more.
 fn push_told(line: &mut ShortText, a: &str, b: &str, c: &str, command: CommandName)
     requires room { length line.old ≤ 8 }
     requires told_bound { length a.now + length b.now + length c.now ≤ 80 }
@@ -128,7 +128,7 @@ fn option_word(name: OptionName) -> &'static str
     name.word()
 }
 
-/// Why a dash is none, and what to name in its place.
+/// Why a dash names no file, and what to name instead.
 #[tactic(auto, unfolding(crate::specs::Misfits::dash_text))]
 fn dash_text(form: Form) -> &'static str
     ensures text { result.now ≡ dash_text form }

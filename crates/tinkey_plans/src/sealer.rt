@@ -1,4 +1,4 @@
-//! Under which key some bytes were sealed that no key opens, and the second line that tells it.
+//! The key under which bytes that no key opens were sealed, and the second line that reports it.
 
 ghost use Rattle.std.specs.Prelude.{◌≡◌, ◌+◌, ◌≤◌, ◌++◌, codes, length};
 ghost use Rattle.std.specs.Fmt.{decimal};
@@ -19,8 +19,8 @@ pub enum Unopened {
     Keyset,
 }
 
-/// Under which key of a keyset bytes were sealed, as the output prefix in front of them tells. Of several records
-/// with that prefix the first ENABLED one is told, or else the first.
+/// The key of a keyset under which bytes were sealed, by the output prefix at their front. Of
+/// several records with that prefix it is the first ENABLED one, otherwise the first.
 #[derive(Clone, Copy, Debug, PartialEq, Eq)]
 pub enum Sealer {
     /// No record has the output prefix, and each has one.
@@ -35,7 +35,7 @@ pub enum Sealer {
     Destroyed(u32),
 }
 
-/// The second line of what no key opens.
+/// The second line for what no key opens.
 #[tactic(auto, unfolding(crate::specs::Sealers::sealer_line))]
 pub(crate) fn sealer_line(what: Unopened, sealer: Sealer) -> ShortText
     ensures { result ≡ sealer_line what sealer }
@@ -95,7 +95,7 @@ fn push_id(line: &mut ShortText, id: u32)
     line.push_number(id as usize);
 }
 
-/// That no key is named.
+/// Says that no key is named.
 #[tactic(auto, unfolding(crate::specs::Sealers::none_text))]
 fn none_text(what: Unopened) -> &'static str
     ensures text { result.now ≡ none_text what }

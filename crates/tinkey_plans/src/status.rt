@@ -12,13 +12,13 @@ use tinkey_words::Misuse;
 
 /// How a run ends, with the place where it was refused.
 ///
-/// Places of words and bytes count from 0. The texts and the exit codes stand in
-/// `specs/Status.antt` and in docs/SPECIFICATION.md.
+/// Places of words and bytes count from 0. The texts and the exit codes are in `specs/Status.antt`
+/// and in docs/SPECIFICATION.md.
 #[derive(Clone, Copy, Debug, PartialEq, Eq)]
 pub enum Status {
     /// The command was done.
     Done,
-    /// No key of the keyset opens this, and so much is told of the key that sealed it.
+    /// No key of the keyset opens this; with what is known of the key that sealed it.
     OpenFailed(Unopened, Sealer),
     /// The master opens no keyset in the text, which is a keyset in clear.
     KeysetInClear,
@@ -26,15 +26,15 @@ pub enum Status {
     VerifyFailed,
     /// No key of the keyset has the output prefix in front of the input, and each has one.
     NoKeyOf,
-    /// This segment of the stream, counted from 0, is the first that doesn't authenticate in its place.
+    /// The first segment of the stream, counted from 0, that doesn't authenticate in its place.
     StreamFailed(u64),
     /// There is no word.
     NoWords,
-    /// A word is at fault, or missing where its place is the number of words.
+    /// A word is at fault, or missing if its place is the number of words.
     Usage(Misuse),
-    /// The field whose tag has this place can't be cut or read.
+    /// The field whose tag is at this place can't be cut or read.
     BadProto(usize),
-    /// The same of a keyset, whose bytes are an encrypted keyset.
+    /// The same for a keyset whose bytes are an encrypted keyset.
     ProtoLocked(usize),
     /// The keyset isn't JSON.
     NotJson,
@@ -72,7 +72,7 @@ pub enum Status {
     DekTemplate,
     /// No manager has the type URL of the data keys.
     NoDekManager,
-    /// The data key that was made breaks this rule of its manager, the first one.
+    /// The first rule of its manager that the new data key breaks.
     DekRefused(Rule),
     /// So many bytes were asked for, and the primary key gives at most so many.
     OutputTooLong(usize, usize),
@@ -90,14 +90,14 @@ pub enum Status {
     EntropyFault,
     /// The store failed.
     StoreFault,
-    /// Memory was refused.
+    /// Memory couldn't be allocated.
     NoMemory,
 }
 
 impl Status {
     ghost use Rattle.tinkey_plans.specs.Status.{code_of};
 
-    /// The exit code, which tells the kind of the status.
+    /// The exit code, by the kind of the status.
     pub fn code(&self) -> u8
         ensures { result ≡ code_of self.now }
     {
