@@ -1,5 +1,5 @@
-//! convert-keyset, wrap-keyset and unwrap-keyset: a keyset in another form, under another master, or in
-//! clear.
+//! convert-keyset, wrap-keyset and unwrap-keyset: a keyset in another form, under another master,
+//! or in clear.
 
 ghost use Rattle.std.specs.Prelude.{◌≡◌, Option, option_map};
 ghost use Rattle.keyset_model.specs.Keyset.{Keys};

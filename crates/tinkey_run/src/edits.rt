@@ -23,7 +23,8 @@ use tinkey_cmds::{CmdError, Command, apply, create};
 use tinkey_plans::Status;
 use tinkey_words::{Master, Place};
 
-/// create-keyset: the keyset of one new key of the template of this name, put in clear or under the lock.
+/// create-keyset: the keyset of one new key of the template of this name, put in clear or under the
+/// lock.
 #[inline(never)]
 pub(crate) fn create_keyset<K: Sink, E: Entropy, D: Store>(
     alloc: Global,

@@ -31,8 +31,8 @@ use tinkey_plans::{Sealer, Status, Unopened};
 use tinkey_words::{Datum, Envelope, Format, Master};
 use wrapped_prims::{Handle, SealFault};
 
-/// Work on the whole input, by data keys of a template under the keys of the keyset in the file of this
-/// name: what is put out.
+/// Works on the whole input, by data keys of a template under the keys of the keyset in this file,
+/// and returns the output.
 #[inline(never)]
 pub(crate) fn use_envelope<S: Source, E: Entropy, D: Store>(
     alloc: Global,
@@ -118,8 +118,7 @@ fn find_manager<'m>(
     }
 }
 
-/// eseal, in place: the envelope of what stands behind the room of one, under a data key that is made for
-/// it.
+/// eseal, in place: seals what follows the room for an envelope, under a data key made for it.
 fn seal_envelope<E: Entropy>(
     alloc: Global,
     handle: &Handle<'_>,
@@ -186,7 +185,7 @@ fn open_envelope(
     }
 }
 
-/// What is told of the envelope that stands behind the room of one.
+/// What is reported of the envelope after the room for one.
 fn sealer_behind_room(keyset: &Keyset, input: &[u8]) -> Sealer
     requires room { ENVELOPE_ROOM ≤ length input.now }
     ensures { result ≡ envelope_sealer_of keyset.now (drop ENVELOPE_ROOM input.now) }
@@ -194,7 +193,7 @@ fn sealer_behind_room(keyset: &Keyset, input: &[u8]) -> Sealer
     envelope_sealer_of(keyset, &input[ENVELOPE_ROOM..])
 }
 
-/// ereseal, in place: the envelope that stands behind the room of one, with its data key sealed anew.
+/// ereseal, in place: the envelope after the room for one, with its data key sealed again.
 fn reseal_envelope<E: Entropy>(
     alloc: Global,
     handle: &Handle<'_>,
@@ -225,7 +224,7 @@ fn reseal_envelope<E: Entropy>(
     }
 }
 
-/// How many bytes go before what is read, where the work seals.
+/// How many bytes precede what is read, if the work seals.
 fn envelope_room(work: Envelope<'_>) -> usize
     ensures room { result ≡ envelope_room (seen_envelope work.entry) }
     ensures bound { result ≤ ENVELOPE_ROOM }
@@ -236,7 +235,7 @@ fn envelope_room(work: Envelope<'_>) -> usize
     }
 }
 
-/// How many bytes the input of the work may have.
+/// The most bytes of the work's input.
 fn envelope_limit(work: Envelope<'_>) -> usize
     ensures limit { result ≡ envelope_limit (seen_envelope work.entry) }
     ensures bound { result ≤ 16778240 }

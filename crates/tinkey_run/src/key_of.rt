@@ -46,7 +46,7 @@ pub(crate) fn tell_keys<S: Source, D: Store>(
     tell_under(alloc, &keyset, kind, source)
 }
 
-/// The lines of the keys of a keyset under which the input stands.
+/// The lines of the keys of a keyset with the input's output prefix.
 fn tell_under<S: Source>(
     alloc: Global,
     keyset: &Keyset,
@@ -71,8 +71,8 @@ fn tell_under<S: Source>(
     }
 }
 
-/// Reads the first bytes of the source into `front`, and answers how many these are: as many as it has
-/// room for, or all of them where there are fewer. No byte behind them is taken.
+/// Reads the first bytes of the source into `front`, and returns how many: as many as it has room
+/// for, or all if there are fewer. No byte after them is taken.
 fn read_front<S: Source>(source: &mut S, front: &mut [u8]) -> Result<usize, Status>
     ensures passes { (w : World) → PassesAs (λ n. take n front.new) (reads_front (length front.old))
         (record w { source = S.state source.old }) result
@@ -93,7 +93,7 @@ fn read_front<S: Source>(source: &mut S, front: &mut [u8]) -> Result<usize, Stat
     Ok(at)
 }
 
-/// Reads the next bytes into `front` from `at` on, and answers how many; 0 at the end.
+/// Reads the next bytes into `front` from `at` on, and returns how many; 0 at the end.
 fn read_on<S: Source>(source: &mut S, front: &mut [u8], at: usize) -> Result<usize, Failed>
     requires some { at + 1 ≤ length front.old }
     ensures bound { IfOk result (λ n. at + n ≤ length front.old) }
@@ -108,7 +108,7 @@ fn read_on<S: Source>(source: &mut S, front: &mut [u8], at: usize) -> Result<usi
     source.read(&mut front[at..])
 }
 
-/// What stands behind the four bytes of a length; nothing where there are fewer.
+/// What follows the four bytes of a length; nothing if there are fewer.
 pub(crate) fn behind_length(bytes: &[u8]) -> &[u8]
     ensures { result.now ≡ drop 4 bytes.now }
 {
@@ -119,7 +119,7 @@ pub(crate) fn behind_length(bytes: &[u8]) -> &[u8]
     }
 }
 
-/// What is told of bytes with this front.
+/// What is reported of bytes with this front.
 fn lines_of(alloc: Global, keyset: &Keyset, front: &[u8]) -> Result<Bytes, Status>
     ensures { (w : World) → Passes (with_lines (key_of_answer keyset.now front.now)) w result w }
 {
@@ -198,21 +198,21 @@ fn raw_one(key: &Record) -> usize
     if is_raw(key) { 1 } else { 0 }
 }
 
-/// The record may have made bytes with this front.
+/// Whether the record may have made bytes with this front.
 fn may_have_made(key: &Record, front: &[u8]) -> bool
     ensures { result ≡ may_have_made front.now key.now }
 {
     is_raw(key) || stands_under(key, front)
 }
 
-/// The record has no output prefix.
+/// Whether the record has no output prefix.
 fn is_raw(key: &Record) -> bool
     ensures { result ≡ is_raw key.now }
 {
     key.prefix == RAW
 }
 
-/// The record's output prefix is this front.
+/// Whether the record's output prefix is this front.
 pub(crate) fn stands_under(key: &Record, front: &[u8]) -> bool
     ensures { result ≡ stands_under front.now key.now }
 {
@@ -222,7 +222,7 @@ pub(crate) fn stands_under(key: &Record, front: &[u8]) -> bool
     }
 }
 
-/// The record's output prefix, where it has one.
+/// The record's output prefix, if it has one.
 fn prefix_of(key: &Record) -> Option<[u8; 5]>
     ensures { result ≡ prefix_of key.now }
 {
@@ -231,7 +231,7 @@ fn prefix_of(key: &Record) -> Option<[u8; 5]>
     if key.prefix == RAW { None } else { Some(five) }
 }
 
-/// A first byte, and the id as four bytes, the highest first.
+/// A first byte, and the id as four bytes, big-endian.
 fn five_bytes(first: u8, id: u32) -> [u8; 5]
     ensures { result ≡ first ∷ to_be_bytes w32 id }
 {
@@ -257,7 +257,7 @@ fn push_key(out: &mut Vec<u8>, key: &Record) -> Result<(), NoMemory>
     Ok(())
 }
 
-/// Adds a text as a listing has it between quotes.
+/// Adds a text, escaped as between a listing's quotes.
 fn push_escaped(out: &mut Vec<u8>, text: &[u8]) -> Result<(), NoMemory>
     ensures { OnOk result (out.new.items ≡ out.old.items ++ escaped text.now) }
 {
@@ -267,7 +267,7 @@ fn push_escaped(out: &mut Vec<u8>, text: &[u8]) -> Result<(), NoMemory>
     Ok(())
 }
 
-/// Adds a byte as a listing has it between quotes.
+/// Adds a byte, escaped as between a listing's quotes.
 fn push_escaped_byte(out: &mut Vec<u8>, byte: u8) -> Result<(), NoMemory>
     ensures { OnOk result (out.new.items ≡ out.old.items ++ escaped_byte byte) }
 {

@@ -1,6 +1,6 @@
-//! The laws that the program's promises rest on, and those of the ciphers and forms below them. Each is
-//! the contract of a function that does nothing, in the crate whose definitions it is of; docs/LAWS.md
-//! has each in a sentence.
+//! The laws that the program's promises rest on, and those of the ciphers and forms below them.
+//! Each is the contract of a function with no effect, in the crate with its definitions;
+//! docs/LAWS.md states each in a sentence.
 
 pub use aead_kinds::laws::opens_sealings as schemes_open_sealings;
 pub use aes_core::laws::xored_blocks_give_bytes;

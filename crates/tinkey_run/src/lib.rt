@@ -1,8 +1,8 @@
 //! The commands, each proved against its plan, and the top call `run`, which carries the headline.
 //!
-//! Steps that commands share are one function each (`src/steps.rt`, `src/locks.rt`, `src/output.rt`), and each of their
-//! clauses says for any rest of a plan what becomes of it. What is promised of `run` follows for every
-//! plan, in `tinkey_plans`.
+//! Steps that commands share are one function each (`src/steps.rt`, `src/locks.rt`,
+//! `src/output.rt`), and each of their clauses says, for any rest of a plan, how it goes on. What
+//! `run` promises follows for every plan, in `tinkey_plans`.
 #![tactic(auto)]
 
 mod converting;

@@ -13,7 +13,7 @@ use tink_base::{Bytes, Source, Store};
 use tinkey_plans::Status;
 use tinkey_words::{Master, Place};
 
-/// list-keyset: the listing of the keyset in a file, or of the one that the whole input is.
+/// list-keyset: the listing of the keyset in a file, or of the keyset in the whole input.
 #[inline(never)]
 pub(crate) fn list_keyset<S: Source, D: Store>(
     alloc: Global,

@@ -65,7 +65,7 @@ pub(crate) fn open_lock<'m, D: Store>(
     }
 }
 
-/// This master, each ENABLED key of which can serve as an AEAD.
+/// This master, whose ENABLED keys can all serve as an AEAD.
 pub(crate) fn open_master<'m, D: Store>(
     alloc: Global,
     managers: &'m Managers,
@@ -93,7 +93,7 @@ pub(crate) fn open_master<'m, D: Store>(
     Ok(OpenMaster { keyset, handle })
 }
 
-/// How many bytes may be read as a keyset, or as one that is sealed under a master.
+/// The most bytes of a keyset, or of one sealed under a master.
 fn limit_under(lock: Option<&OpenMaster<'_>>) -> usize
     ensures limit { (table : Table) (master : Option Keys) → IsLock
         (option_map (λ h. (
@@ -110,7 +110,7 @@ fn limit_under(lock: Option<&OpenMaster<'_>>) -> usize
     }
 }
 
-/// The keyset that these bytes are, or that they give under the lock's master.
+/// The keyset in these bytes, or that they give under the lock's master.
 fn keyset_under(
     alloc: Global,
     lock: Option<&OpenMaster<'_>>,
@@ -245,7 +245,7 @@ pub(crate) fn load_locked<D: Store>(
     load_under(alloc, lock.as_ref(), name, form, store)
 }
 
-/// The keyset as it is put: in this form, in clear or under the lock.
+/// The keyset as written: in this form, in clear or under the lock.
 pub(crate) fn written_under<E: Entropy>(
     alloc: Global,
     lock: Option<&OpenMaster<'_>>,
@@ -278,7 +278,7 @@ pub(crate) fn written_under<E: Entropy>(
     }
 }
 
-/// Puts a keyset, in clear or under the lock, into a new file, or if none is named, to the sink.
+/// Puts a keyset, in clear or under the lock, into a new file or, if none is named, to the sink.
 #[inline(never)]
 pub(crate) fn put_under<K: Sink, E: Entropy, D: Store>(
     alloc: Global,

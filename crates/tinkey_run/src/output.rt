@@ -19,8 +19,8 @@ use tink_base::{Bytes, Created, NoMemory, Sink, Store, StoreError, write_all};
 use tinkey_plans::Status;
 use tinkey_words::Format;
 
-/// Puts out the bytes that a command gives, as its last step: into a new file, or where none is named,
-/// to the sink. Or hands on why there are none.
+/// Puts out a command's bytes, as its last step: into a new file or, if none is named, to the sink.
+/// Or passes on why there are none.
 #[inline(never)]
 pub(crate) fn finish_output<K: Sink, D: Store>(
     alloc: Global,
@@ -41,7 +41,7 @@ pub(crate) fn finish_output<K: Sink, D: Store>(
     }
 }
 
-/// What work by keys gives, as it is or in hexadecimal. Or hands on why it gives nothing.
+/// The output of work by keys, plain or in hexadecimal. Or passes on why there is none.
 #[inline(never)]
 pub(crate) fn shown(alloc: Global, hex: bool, made: Result<Bytes, Status>) -> Result<Bytes, Status>
     ensures { (step : (List ℕ → Plan) → Plan) (first w : World) → Passes step first made w →
@@ -78,7 +78,7 @@ pub(crate) fn write_output<K: Sink>(sink: &mut K, output: &[u8]) -> Result<(), S
     }
 }
 
-/// The written form of a keyset, where it is no longer than what is read as one.
+/// The written form of a keyset, if it is no longer than what is read as one.
 pub(crate) fn written(alloc: Global, form: Format, keyset: &Keyset) -> Result<Bytes, Status>
     requires short { AllByRecursion IsShort keyset.now.records }
     ensures passes { (w : World) → Passes (writes_keyset form keyset.now) w result w }
@@ -101,7 +101,7 @@ fn write_as(alloc: Global, form: Format, keyset: &Keyset) -> Result<Vec<u8>, NoM
     }
 }
 
-/// Bytes of which there are at most `limit`, that of a keyset.
+/// Bytes, at most `limit`, which is the limit of a keyset.
 pub(crate) fn within(bytes: Vec<u8>, limit: usize) -> Result<Bytes, Status>
     ensures passes { (w : World) → Passes (λ next. within_limit limit next bytes.items) w result w }
     ensures within { IfOk result (λ kept. length bytes.items ≤ limit) }
@@ -113,7 +113,7 @@ pub(crate) fn within(bytes: Vec<u8>, limit: usize) -> Result<Bytes, Status>
     }
 }
 
-/// Puts bytes into a new file of this name, or where none is named, to the sink.
+/// Puts bytes into a new file of this name or, if none is named, to the sink.
 pub(crate) fn put<K: Sink, D: Store>(
     alloc: Global,
     out: Option<&str>,

@@ -22,7 +22,7 @@ use tink_base::{Bytes, Store};
 use tinkey_plans::Status;
 use tinkey_words::{Datum, Format, Master, Range};
 
-/// The plaintext of a range of the stream in a file, by the keys of the keyset in another one.
+/// The plaintext of a range of the stream in a file, by the keys of the keyset in another file.
 #[inline(never)]
 pub(crate) fn open_stretch<D: Store>(
     alloc: Global,
@@ -95,7 +95,7 @@ fn open_file<D: Store>(
     open_range(alloc, keys, ad, &mut device, from, to)
 }
 
-/// The range that was opened, or the status where it wasn't.
+/// The range that was opened, or the status if it wasn't.
 fn opened(range: Result<Vec<u8>, RangeFault>) -> Result<Bytes, Status>
     ensures { result ≡ opened_or range }
 {

@@ -1,4 +1,4 @@
-//! Under which key some bytes were sealed that no key opens, as the output prefix in front of them tells.
+//! The key under which bytes that no key opens were sealed, by the output prefix at their front.
 
 ghost use Rattle.std.specs.Prelude.{◌≡◌, Some, find, option_map, take};
 ghost use Rattle.tinkey_plans.specs.Sealers.{envelope_sealer_of, sealer_of, sealer_under, stands_under, told_none, told_or, told_record};
@@ -9,22 +9,22 @@ use keyset_model::{Keyset, Record};
 use tink_base::{DESTROYED, ENABLED};
 use tinkey_plans::Sealer;
 
-/// What is told of sealed bytes, by the first five.
+/// What is reported of sealed bytes, by the first five.
 pub(crate) fn sealer_of(keyset: &Keyset, bytes: &[u8]) -> Sealer
     ensures { result ≡ sealer_of keyset.now bytes.now }
 {
     sealer_under(keyset, front(bytes))
 }
 
-/// What is told of an envelope, by the first five bytes of its sealed data key.
+/// What is reported of an envelope, by the first five bytes of its sealed data key.
 pub(crate) fn envelope_sealer_of(keyset: &Keyset, bytes: &[u8]) -> Sealer
     ensures { result ≡ envelope_sealer_of keyset.now bytes.now }
 {
     sealer_of(keyset, behind_length(bytes))
 }
 
-/// What is told of bytes with this front: the first ENABLED record with this output prefix, or else the first of any
-/// status.
+/// What is reported of bytes with this front: the first ENABLED record with this output prefix,
+/// otherwise the first of any status.
 pub(crate) fn sealer_under(keyset: &Keyset, front: &[u8]) -> Sealer
     ensures { result ≡ sealer_under keyset.now front.now }
 {
@@ -34,7 +34,7 @@ pub(crate) fn sealer_under(keyset: &Keyset, front: &[u8]) -> Sealer
     }
 }
 
-/// The same where no ENABLED record has this output prefix.
+/// The same if no ENABLED record has this output prefix.
 fn of_any_status(keyset: &Keyset, front: &[u8]) -> Sealer
     ensures { result ≡ told_or (find (stands_under front.now) keyset.now.records)
         (told_none keyset.now) }
@@ -45,7 +45,7 @@ fn of_any_status(keyset: &Keyset, front: &[u8]) -> Sealer
     }
 }
 
-/// The first five bytes, or all of fewer.
+/// The first five bytes, or all if there are fewer.
 fn front(bytes: &[u8]) -> &[u8]
     ensures { result.now ≡ take 5 bytes.now }
 {
@@ -99,7 +99,7 @@ fn told_record(key: &Record) -> Sealer
     }
 }
 
-/// That no record is named, and whether some have no output prefix.
+/// Says that no record is named, and whether some have no output prefix.
 fn told_none(keyset: &Keyset) -> Sealer
     ensures { result ≡ told_none keyset.now }
 {

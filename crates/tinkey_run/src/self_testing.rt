@@ -1,4 +1,4 @@
-//! selftest: what becomes of session lines that are made from a number.
+//! selftest: the outcomes of session lines made from a number.
 
 ghost use Rattle.std.specs.Prelude.{◌≡◌, IfOk, IfErr};
 ghost use Rattle.tinkey_selftest.specs.Telling.{counts_text};

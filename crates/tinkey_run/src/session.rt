@@ -24,8 +24,8 @@ use tinkey_session::TalkFault;
 use tinkey_session::talk::talk;
 use tinkey_words::{Format, Master, Place};
 
-/// session: answers the lines of the input over the keyset in the file of this name, and puts the last
-/// keyset into a new file, if one is named. Both lie in clear, or under the lock.
+/// session: answers the lines of the input over the keyset in the file of this name, and puts the
+/// last keyset into a new file, if one is named. Both are in clear or under the lock.
 #[inline(never)]
 pub(crate) fn answer_lines<S: Source, K: Sink, E: Lookahead, D: Store>(
     alloc: Global,
@@ -61,7 +61,7 @@ pub(crate) fn answer_lines<S: Source, K: Sink, E: Lookahead, D: Store>(
     )
 }
 
-/// The same under the lock. The name of the new file has to be free.
+/// The same under the lock. The name of the new file must be free.
 fn answer_under<S: Source, K: Sink, E: Lookahead, D: Store>(
     alloc: Global,
     managers: &Managers,
@@ -101,7 +101,7 @@ fn answer_under<S: Source, K: Sink, E: Lookahead, D: Store>(
     )
 }
 
-/// Looks up the name of a new file, where one is named: it has to be free.
+/// Looks up the name of a new file, if one is named: it must be free.
 fn find_free<D: Store>(file: Option<&str>, store: &mut D) -> Result<(), Status>
     ensures { (w : World) → Passes (finds_free (seen_name file.entry))
         (record w { store = D.state store.old }) result (record w { store = D.state store.new }) }

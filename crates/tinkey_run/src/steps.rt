@@ -1,5 +1,5 @@
-//! The steps that commands share: a keyset, or the bytes of one, loaded or read, the whole input, and
-//! a template by its name.
+//! The steps that commands share: loading or reading a keyset or its bytes, reading the whole
+//! input, and finding a template by name.
 
 ghost use Rattle.std.specs.Prelude.{false, true, ◌&&◌, ◌+◌, ◌≤◌, ◌^◌, drop, length, IfOk};
 ghost use Rattle.std.specs.List.{AllByRecursion};
@@ -21,7 +21,7 @@ use tink_base::{
 use tinkey_plans::Status;
 use tinkey_words::Format;
 
-/// How many bytes a keyset may have.
+/// The most bytes of a keyset.
 pub(crate) const KEYSET_LIMIT: usize = 1_048_576;
 
 /// The keyset in the file of this name.
@@ -64,7 +64,7 @@ pub(crate) fn load_bytes<D: Store>(
     }
 }
 
-/// The bytes of a keyset in a file, or if none is named, those of the whole input: at most `limit`.
+/// The bytes of a keyset in a file or, if none is named, of the whole input: at most `limit`.
 pub(crate) fn take_bytes<S: Source, D: Store>(
     alloc: Global,
     file: Option<&str>,
@@ -84,7 +84,7 @@ pub(crate) fn take_bytes<S: Source, D: Store>(
     }
 }
 
-/// The bytes of the whole input, of which there are at most `limit`, that of a keyset.
+/// The bytes of the whole input, at most `limit`, which is the limit of a keyset.
 fn read_bytes<S: Source>(alloc: Global, limit: usize, source: &mut S) -> Result<Bytes, Status>
     requires limit_bound { limit ≤ 2 ^ 30 }
     ensures passes { (w : World) → Passes (reads_bytes limit)
@@ -132,8 +132,8 @@ fn json_refusal(alloc: Global, bytes: &[u8], e: JsonError) -> Status
     }
 }
 
-/// The status of a keyset with this fault, read from these bytes as JSON: one that has no key because it is
-/// encrypted is told as that.
+/// The status of a keyset with this fault, read from these bytes as JSON: one that has no key
+/// because it is encrypted is reported as encrypted.
 fn json_fault(alloc: Global, bytes: &[u8], fault: KeysetFault) -> Status
     ensures { OrStarved (fault_status (is_wrapped_json bytes.now && has_no_key fault) fault) result }
 {
@@ -147,8 +147,8 @@ fn json_fault(alloc: Global, bytes: &[u8], fault: KeysetFault) -> Status
     }
 }
 
-/// The status of a keyset that can't be read from these bytes in the binary form: one that is encrypted is told
-/// as that.
+/// The status of a keyset that can't be read from these bytes in the binary form: an encrypted one
+/// is reported as encrypted.
 fn refusal(alloc: Global, bytes: &[u8], e: ReadError) -> Status
     ensures { OrStarved (refusal_of (is_wrapped_binary bytes.now) e) result }
 {
@@ -159,7 +159,7 @@ fn refusal(alloc: Global, bytes: &[u8], e: ReadError) -> Status
     }
 }
 
-/// The status of these bytes, in which the field of this place can't be cut or read.
+/// The status of these bytes, in which the field at this place can't be cut or read.
 fn wire_status(alloc: Global, bytes: &[u8], at: usize) -> Status
     ensures { OrStarved (wire_status (is_wrapped_binary bytes.now false) at) result }
 {
@@ -170,8 +170,8 @@ fn wire_status(alloc: Global, bytes: &[u8], at: usize) -> Status
     }
 }
 
-/// The status of a keyset with this fault, all keys of which were read from these bytes: it takes an info to
-/// tell it from a keyset in clear.
+/// The status of a keyset with this fault, all of whose keys were read from these bytes: it counts
+/// as encrypted only with an info.
 fn fault_status(alloc: Global, bytes: &[u8], fault: KeysetFault) -> Status
     ensures { OrStarved (fault_status (is_wrapped_binary bytes.now true) fault) result }
 {
@@ -182,7 +182,7 @@ fn fault_status(alloc: Global, bytes: &[u8], fault: KeysetFault) -> Status
     }
 }
 
-/// The whole input, of at most `limit` bytes, behind `room` bytes for the caller to fill.
+/// The whole input, of at most `limit` bytes, after `room` bytes for the caller to fill.
 pub(crate) fn read_input_behind<S: Source>(
     alloc: Global,
     room: usize,

@@ -30,19 +30,20 @@ use tinkey_plans::{Status, help_text, report, version_text};
 use tinkey_readable::laws::sessions_are_readable;
 use tinkey_words::{Misuse, Request, parse};
 
-/// Does what the words after the program's name ask for, and tells on `diag` what went wrong. Keys
-/// are used through the managers handed in.
+/// Does what the words after the program's name ask for, and reports on `diag` what went wrong.
+/// Keys are used through the managers supplied.
 ///
-/// `promised` is over the plan of the words under the table of these managers, in its parts: `answer` is the stated answer, over
-/// objects that tell; `cause`, `shown` and `leaves` say when a fault comes, that none is hidden, and
-/// what was taken and written; `stands` says what the sink holds after any status; `complete` says
-/// that the status is a stated one where nothing fails and memory suffices; `ends`, from which they
-/// follow, has each way in which a run may end. `line` is the diagnostic line. `readable` is of sessions
-/// over a keyset, in clear or behind a lock, over objects that tell: what was written are the replies to the
-/// first lines of the input, to all of them at `Done`, and at a write fault the first bytes of these. Over the table of
-/// the program, what a line sealed under a key with an output prefix, a later one opens to its plaintext,
-/// with its associated data, while that key is ENABLED and alone under its prefix; while it is there,
-/// ENABLED, to some plaintext, whatever its prefix type, and a tag verifies.
+/// `promised` is over the plan of the words under the table of these managers, in its parts:
+/// `answer` is the stated answer, over objects that report their contents; `cause`, `shown` and
+/// `leaves` say when a fault comes, that none is hidden, and what was taken and written; `stands`
+/// says what the sink holds after any status; `complete` says that the status is a stated one if
+/// nothing fails and memory suffices; `ends`, from which they follow, lists each way in which a run
+/// may end. `line` is the diagnostic line. `readable` is about sessions over a keyset, in clear or
+/// under a lock, over such objects: the replies to the first lines of the input were written, to
+/// all of them at `Done`, and at a write fault the first bytes of these. Under the program's
+/// managers a later line opens what a line sealed under a key with an output prefix to its
+/// plaintext, with its associated data, while that key is ENABLED and alone under its prefix; while
+/// it is there, ENABLED, to some plaintext, whatever its prefix type, and a tag verifies.
 pub fn run<S: Source, K: Sink, G: Sink, E: Lookahead, D: Store>(
     alloc: Global,
     words: &[String],

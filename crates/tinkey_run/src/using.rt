@@ -26,17 +26,17 @@ use tinkey_plans::{Sealer, Status, Unopened};
 use tinkey_words::{DATUM_LIMIT, Datum, Format, Master, Work};
 use wrapped_prims::{DeriveFault, Handle, HandleFault, SealFault};
 
-/// How many bytes a whole input may have.
+/// The most bytes of a whole input.
 pub(crate) const INPUT_LIMIT: usize = 16_777_216;
 
-/// How many bytes it may have where it is to be opened: 1,024 more, as no sealing is longer than its
-/// plaintext by more.
+/// The most bytes of an input to open: 1,024 more, since no sealing is longer than its plaintext by
+/// more.
 pub(crate) const SEALED_LIMIT: usize = INPUT_LIMIT + 1024;
 
-/// The bytes of the longest tag, which is a digest of SHA-512.
+/// The size of the longest tag, a digest of SHA-512, in bytes.
 const LONGEST_TAG: usize = 64;
 
-/// Work on the whole input, by the keys of the keyset in the file of this name: what is put out.
+/// Works on the whole input, by the keys of the keyset in this file, and returns the output.
 #[inline(never)]
 pub(crate) fn use_keyset<S: Source, E: Entropy, D: Store>(
     alloc: Global,
@@ -82,7 +82,7 @@ fn primitive_for(work: Work<'_>) -> Primitive
     }
 }
 
-/// How many bytes the input of the work may have.
+/// The most bytes of the work's input.
 fn limit_for(work: Work<'_>) -> usize
     ensures limit { result ≡ limit_for (seen_work work.entry) }
     ensures bound { result ≤ 2 ^ 25 }
@@ -126,7 +126,7 @@ fn refusal(fault: HandleFault) -> Status
     }
 }
 
-/// How many bytes go before the ciphertext, where the work seals its input.
+/// How many bytes precede the ciphertext, if the work seals its input.
 fn room_for(handle: &Handle<'_>, work: Work<'_>) -> usize
     requires serving { IsServing (⟦<Managers as KeyTable>⟧.table handle.now.managers.now)
         (primitive_for (seen_work work)) handle.now.held }
@@ -140,7 +140,7 @@ fn room_for(handle: &Handle<'_>, work: Work<'_>) -> usize
     }
 }
 
-/// What is put out for the input, which stands behind room for what goes before a ciphertext.
+/// The output for the input, which follows room for what precedes a ciphertext.
 fn do_work<E: Entropy>(
     alloc: Global,
     keyset: &Keyset,
@@ -194,7 +194,7 @@ fn seal<E: Entropy>(
     seal_plain(alloc, handle, ad.as_slice(), input, entropy)
 }
 
-/// A plaintext, sealed in place; it stands behind room for prefix and IV.
+/// A plaintext, sealed in place; it follows room for prefix and IV.
 fn seal_plain<E: Entropy>(
     alloc: Global,
     handle: &Handle<'_>,
@@ -255,7 +255,7 @@ fn dseal(alloc: Global, handle: &Handle<'_>, ad: Datum<'_>, input: Vec<u8>) -> R
     dseal_plain(handle, ad.as_slice(), input)
 }
 
-/// A plaintext, sealed in place without an IV; it stands behind room for prefix and tag.
+/// A plaintext, sealed in place without an IV; it follows room for prefix and tag.
 fn dseal_plain(handle: &Handle<'_>, ad: &[u8], plain: Vec<u8>) -> Result<Bytes, Status>
     requires serving { IsServing (⟦<Managers as KeyTable>⟧.table handle.now.managers.now) Daead
         handle.now.held }
@@ -340,7 +340,7 @@ fn dreseal(
     dseal_plain(handle, ad.as_slice(), plain)
 }
 
-/// The bytes of the list behind so many bytes of room, in the same list.
+/// The bytes of the list after `room` bytes of room, in the same list.
 fn behind_room(room: usize, mut plain: Vec<u8>) -> Result<Vec<u8>, NoMemory>
     requires room_bound { room ≤ 2 ^ 10 }
     requires plain_bound { length plain.items ≤ 2 ^ 25 }
@@ -369,7 +369,7 @@ fn tag(alloc: Global, handle: &Handle<'_>, body: &[u8]) -> Result<Bytes, Status>
     }
 }
 
-/// verify: nothing, where some candidate's tag of the body is this one.
+/// verify: no output, if this is some candidate's tag of the body.
 fn verify(alloc: Global, handle: &Handle<'_>, tag: Datum<'_>, body: &[u8]) -> Result<Bytes, Status>
     requires serving { IsServing (⟦<Managers as KeyTable>⟧.table handle.now.managers.now) Mac
         handle.now.held }
@@ -386,7 +386,7 @@ fn verify(alloc: Global, handle: &Handle<'_>, tag: Datum<'_>, body: &[u8]) -> Re
     }
 }
 
-/// derive: so many bytes, where the primary key gives them.
+/// derive: this many bytes, if the primary key gives them.
 fn derive(alloc: Global, handle: &Handle<'_>, size: u32, input: &[u8]) -> Result<Bytes, Status>
     requires serving { IsServing (⟦<Managers as KeyTable>⟧.table handle.now.managers.now) Prf
         handle.now.held }
@@ -404,7 +404,7 @@ fn derive(alloc: Global, handle: &Handle<'_>, size: u32, input: &[u8]) -> Result
     }
 }
 
-/// The plaintext, or the status where nothing opened, of which so much is told.
+/// The plaintext, or the status if no key opened it, with what is reported of its sealer.
 pub(crate) fn or_failed(
     opened: Option<Vec<u8>>,
     what: Unopened,
@@ -419,7 +419,7 @@ pub(crate) fn or_failed(
     }
 }
 
-/// The bytes of a datum, of which there are at most 2^20.
+/// The bytes of a datum, at most 2^20.
 pub(crate) fn datum(alloc: Global, from: Datum<'_>) -> Result<Bytes, NoMemory>
     ensures bytes { IfOk result (λ bytes. bytes ≡ seen_datum from.entry) }
     ensures within { IfOk result (λ bytes. length bytes ≤ 2 ^ 20) }
@@ -430,7 +430,7 @@ pub(crate) fn datum(alloc: Global, from: Datum<'_>) -> Result<Bytes, NoMemory>
     }
 }
 
-/// The bytes of a datum as it stands.
+/// The bytes of a plain datum.
 fn plain_datum(alloc: Global, text: &str) -> Result<Bytes, NoMemory>
     ensures bytes { IfOk result (λ bytes. bytes ≡ datum_as text.now) }
     ensures within { IfOk result (λ bytes. length bytes ≤ 2 ^ 20) }

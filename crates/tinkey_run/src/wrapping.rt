@@ -24,7 +24,7 @@ use tinkey_plans::{Status, Unopened};
 use tinkey_words::Format;
 use wrapped_prims::Handle;
 
-/// How many bytes a wrapped keyset may have.
+/// The most bytes of a wrapped keyset.
 pub(crate) const WRAPPED_LIMIT: usize = 4_194_304;
 
 /// The text of the keyset, sealed under the handle's keyset.
@@ -88,7 +88,7 @@ fn refusal(alloc: Global, master: &Keyset, text: &[u8], form: Format, fault: Unw
     }
 }
 
-/// The status of a text that the master doesn't open: a keyset in clear is told as one.
+/// The status of a text that the master doesn't open: a keyset in clear is reported as one.
 fn unopened(alloc: Global, master: &Keyset, text: &[u8], form: Format) -> Status
     requires bound { length text.now ≤ 4194304 }
     ensures { OrStarved (unopened_status (is_keyset form text.now)
@@ -130,7 +130,7 @@ fn is_keyset(alloc: Global, bytes: &[u8], form: Format) -> Result<bool, NoMemory
     }
 }
 
-/// Whether the form is JSON, and not the binary one.
+/// Whether the form is JSON rather than binary.
 fn is_json(form: Format) -> bool
     ensures { result ≡ is_json form }
 {
