@@ -55,7 +55,7 @@ pub fn gcm_siv_seal(
 ///
 /// `bytes` have at most 2^30 + 96, and `ad` at most 2^30. Returns `None` if and only if `bytes` are
 /// shorter than IV and tag, or the tag isn't the one of the plaintext. All bytes of the two are
-/// compared; then `bytes` are unchanged. No memory is taken.
+/// compared. On `None` `bytes` are unchanged. No memory is taken.
 pub fn gcm_siv_open(key: &Aes, bytes: &mut [u8], ad: &[u8]) -> Option<Range<usize>>
     requires bytes_bound { length bytes.old ≤ 2 ^ 30 + 96 }
     requires ad_bound { length ad.now ≤ 2 ^ 30 }

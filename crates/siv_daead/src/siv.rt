@@ -72,7 +72,7 @@ pub fn siv_seal(key: &SivKey, at: usize, mut bytes: Vec<u8>, ad: &[u8]) -> Vec<u
 ///
 /// `bytes` have at most 2^30 + 96, and `ad` at most 2^30. Returns `None` if and only if there are
 /// fewer than 16 bytes, or the SIV at the front isn't the one of the plaintext. All bytes of the
-/// two are compared; then `bytes` are unchanged. No memory is taken.
+/// two are compared. On `None` `bytes` are unchanged. No memory is taken.
 pub fn siv_open(key: &SivKey, bytes: &mut [u8], ad: &[u8]) -> Option<Range<usize>>
     requires bytes_bound { length bytes.old ≤ 2 ^ 30 + 96 }
     requires ad_bound { length ad.now ≤ 2 ^ 30 }
