@@ -41,7 +41,7 @@ pub fn ctr_hmac_seal_in_place(
 ///
 /// `tag` has at most as many bytes as a digest of `hash`. Returns `false` if and only if `tag`
 /// isn't the tag of `start` and the ciphertext, of as many bytes; all of them are compared before
-/// anything is decrypted, and then `body` is unchanged. No memory is taken.
+/// anything is decrypted. On `false` `body` is unchanged. No memory is taken.
 pub fn ctr_hmac_open_in_place(
     aes: &Aes,
     hash: Hash,
