@@ -31,7 +31,7 @@ pub(crate) fn first_broken(key_type: KeyType, message: &Message<'_>) -> Option<R
     }
 }
 
-/// The key type takes the hash functions.
+/// Whether the key type takes the hash functions.
 fn hash_fits(key_type: KeyType, message: &Message<'_>) -> bool
     ensures { result ≡ hash_fits key_type message.now }
 {
@@ -57,14 +57,14 @@ fn is_hash(number: u32) -> bool
     Hash::from_number(number).is_some()
 }
 
-/// SHA-1, SHA-256 or SHA-512 has this number.
+/// Whether SHA-1, SHA-256 or SHA-512 has this number.
 fn is_hkdf_hash(number: u32) -> bool
     ensures { result ≡ is_hkdf_hash number }
 {
     number == 1 || number == 3 || number == 4
 }
 
-/// The keys have sizes that the key type takes.
+/// Whether the keys have sizes that the key type takes.
 fn key_fits(key_type: KeyType, message: &Message<'_>) -> bool
     ensures { result ≡ key_fits key_type message.now }
 {
@@ -80,7 +80,7 @@ fn key_fits(key_type: KeyType, message: &Message<'_>) -> bool
     }
 }
 
-/// The IV has a size that the key type takes.
+/// Whether the IV has a size that the key type takes.
 fn iv_fits(key_type: KeyType, message: &Message<'_>) -> bool
     ensures { result ≡ iv_fits key_type message.now }
 {
@@ -91,7 +91,7 @@ fn iv_fits(key_type: KeyType, message: &Message<'_>) -> bool
     }
 }
 
-/// The tag has a size that the key type takes.
+/// Whether the tag has a size that the key type takes.
 fn tag_fits(key_type: KeyType, message: &Message<'_>) -> bool
     ensures { result ≡ tag_fits key_type message.now }
 {
@@ -105,7 +105,8 @@ fn tag_fits(key_type: KeyType, message: &Message<'_>) -> bool
     }
 }
 
-/// A tag of HMAC has at least 10 bytes, and at most as many as the digest if the hash is known.
+/// Whether a tag of HMAC has at least 10 bytes, and at most as many as the digest if the hash is
+/// known.
 fn is_tag_of(hash: u32, size: u32) -> bool
     ensures { result ≡ is_tag_of (hash_of_number hash) size }
 {
@@ -115,7 +116,7 @@ fn is_tag_of(hash: u32, size: u32) -> bool
     }
 }
 
-/// The derived key has a size that the key type takes.
+/// Whether the derived key has a size that the key type takes.
 fn derived_fits(key_type: KeyType, message: &Message<'_>) -> bool
     ensures { result ≡ derived_fits key_type message.now }
 {
@@ -125,8 +126,7 @@ fn derived_fits(key_type: KeyType, message: &Message<'_>) -> bool
     }
 }
 
-/// A segment has a size that the key type takes: beside the stream's header and a tag there is
-/// room.
+/// Whether a segment has a size that the key type takes: more than the stream's header and a tag.
 fn segment_fits(key_type: KeyType, message: &Message<'_>) -> bool
     ensures { result ≡ segment_fits key_type message.now }
 {

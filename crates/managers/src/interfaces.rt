@@ -148,7 +148,7 @@ pub trait MacManager: KeyManager {
         requires body_bound { length body.now ≤ 2 ^ 30 }
         ensures { IfOk result (λ tag. tag.items ≡ tag_of key.now (tagged zero body.now)) };
 
-    /// Whether `tag` is the whole tag of `body`, as `tag` computes it. Counts one trial. No memory
+    /// Whether `tag` is the whole tag that `Self::tag` makes of `body`. Counts one trial. No memory
     /// is taken.
     fn verify(
         &self,
