@@ -70,8 +70,8 @@ impl Held {
         Ok(())
     }
 
-    /// The places of the keys with this prefix, in the order of the keyset; none if `prefix` hasn't
-    /// five bytes.
+    /// The places of the keys with this prefix, in the order of the keyset; none if `prefix`
+    /// doesn't have five bytes.
     pub(crate) fn places(&self, prefix: &[u8]) -> &[usize]
         ensures { result.now ≡ places_at prefix.now self.now.index.entries }
     {

@@ -170,8 +170,8 @@ impl Handle<'_> {
         )
     }
 
-    /// Whether `tag`, less a candidate's prefix, is that candidate's whole tag of the body. The
-    /// body has at most 2^30 bytes.
+    /// Whether `tag` is some candidate's prefix followed by its whole tag of the body, which has at
+    /// most 2^30 bytes.
     ///
     /// Candidates are tried in order up to the one whose tag it is, and each trial is counted: at
     /// most one for each. No memory is taken.
