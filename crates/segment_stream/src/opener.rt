@@ -85,11 +85,11 @@ impl<'k> Opener<'k> {
     /// With any other answer no segment sealed as its stream's last one was written, except perhaps
     /// a prefix of it if the sink failed there. `TooManySegments` comes if and only if the
     /// plaintext has too many segments for the sealer, or the bytes taken decide it; and
-    /// `StreamFailed` if and only if the bytes taken decide that, and the plaintext before has not
-    /// too many. `ReadFault` comes only if the source failed before anything was decided, and
-    /// `WriteFault` only if the sink failed: then a prefix of what the bytes taken reseal to was
-    /// written, with any other answer exactly that. Nothing is read after the end was seen, and no
-    /// failed call is tried again. No memory is taken.
+    /// `StreamFailed` if and only if the bytes taken decide that, and the plaintext before that
+    /// doesn't have too many segments. `ReadFault` comes only if the source failed before anything
+    /// was decided, and `WriteFault` only if the sink failed: then a prefix of what the bytes taken
+    /// reseal to was written, with any other answer exactly that. Nothing is read after the end was
+    /// seen, and no failed call is tried again. No memory is taken.
     pub fn reseal<S: Source, K: Sink>(
         self,
         sealer: Sealer,

@@ -100,8 +100,8 @@ impl Stream {
     /// Opens a segment in place, and returns how many bytes its plaintext has, which are then at
     /// its front. `number` counts from 0 and is below 2^32, and `last` says whether the stream ends
     /// with this segment; the first segment is passed without the header. `None` comes if and only
-    /// if the segment doesn't authenticate at that number; then it is unchanged. The stream opens
-    /// as before. No memory is taken.
+    /// if the segment doesn't authenticate with this number and `last`; then it is unchanged. The
+    /// stream opens as before. No memory is taken.
     pub fn open(&mut self, number: u64, last: bool, segment: &mut [u8]) -> Option<usize>
         requires number { number < 2 ^ 32 }
         requires bound { length segment.old ≤ 2 ^ 31 }
