@@ -55,8 +55,8 @@ pub fn edited_kept()
     sound_kept();
 }
 
-/// What a keyset sealed opens, with the same associated data, to the plaintext under another one,
-/// as after any edits, accepted or refused, while the key that sealed is ENABLED there and alone
+/// What a keyset sealed opens, with the same associated data, to the plaintext under any keyset,
+/// also one after edits, accepted or refused, in which the key that sealed is ENABLED and alone
 /// under its prefix. The key isn't RAW.
 pub fn kept_open()
     ensures { KeptOpen }

@@ -66,9 +66,9 @@ struct TalkState<'m> {
 /// A line ends with a newline; a last one without it counts if it isn't empty. Before each read the
 /// replies to all complete lines are written. The session ends early if a byte is past a limit:
 /// `LineTooLong` at the first byte too many of a line, `TooManyLines` at a byte after the last line
-/// allowed. Then the replies to the lines before it were written. Every other fault comes only if
-/// the object failed in this call. After any fault the keyset is gone, with the lines' changes to
-/// it. Nothing is read after the end was reported.
+/// allowed. Then the replies to the lines before it were written. `ReadFault`, `WriteFault` and
+/// `EntropyFault` come only if the object failed in this call. After any fault the keyset is gone,
+/// with the lines' changes to it. Nothing is read after the end was reported.
 ///
 /// Replies may be held back until the next read or the session's end, and are then written
 /// together. Random bytes that the entropy doesn't hold are drawn only if no reply is held back.
