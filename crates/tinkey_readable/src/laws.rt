@@ -312,10 +312,10 @@ pub fn resealed_streams_open()
     read_keysets_fit();
 }
 
-/// What was made under a key that is ENABLED and alone under its prefix after such runs still opens
-/// to what it was made from, or verifies for it, if the first keyset serves the primitive and the
-/// runs spare the key: what was sealed, with an IV or without, tagged, sealed as a stream or in an
-/// envelope, and a wrapped keyset. If ids are distinct, only disable-key, destroy-key and
+/// After such runs, what was made under a key that is ENABLED and alone under its prefix still
+/// opens to what it was made from, or verifies for it, if the first keyset serves the primitive and
+/// the runs spare the key: what was sealed, with an IV or without, tagged, sealed as a stream or in
+/// an envelope, and a wrapped keyset. If ids are distinct, only disable-key, destroy-key and
 /// delete-key of its own id make a key's texts unreadable.
 pub fn texts_stay_readable()
     ensures commands { ReadsAfterCommands }
