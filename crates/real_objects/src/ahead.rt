@@ -73,7 +73,7 @@ impl Held {
         Ok(())
     }
 
-    /// Moves bytes from the front to the front of `out`, as many as both have, and returns how
+    /// Moves bytes from its front to the front of `out`, as many as both have, and returns how
     /// many.
     fn hand_out(&mut self, out: &mut [u8]) -> usize
         ensures count { result ≡ min (length self.old) (length out.old) }

@@ -1,5 +1,5 @@
 //! How a new file gets its name: it is filled under a temporary name until it lasts, and then a
-//! link gives it the name, which so has all of the file or nothing. If links aren't supported, it
+//! link gives it the name, so the name has all of the file or none. If links aren't supported, it
 //! is filled under the name itself.
 
 ghost use Rattle.std.specs.Prelude.{◌≡◌, ◌≢◌, ℕ, List, Bool, Option, true, false, IfOk, IfErr, IfSome, OnOk, OnErr, option_map};
