@@ -1,4 +1,4 @@
-//! The two ways in which a call over the outside ends badly.
+//! The two ways in which an outside call fails.
 
 ghost use Rattle.std.specs.Prelude.{◌≡◌};
 ghost use Rattle.tink_base.specs.declared.faults.NoMemory.{NoMemory};

@@ -1,5 +1,5 @@
-//! The outside of the program as traits, with objects in memory that meet them, and the small
-//! types that every crate above uses.
+//! The program's outside as traits, with objects in memory that implement them, and the small types
+//! that every crate above uses.
 //!
 //! A trait's ghost `state` says what an object holds and how often it has failed.
 #![tactic(auto)]
