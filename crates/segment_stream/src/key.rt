@@ -47,8 +47,7 @@ impl StreamKey {
         self.derived as usize + BESIDE_SALT
     }
 
-    /// The size of a full segment, in bytes. The header counts into the first one. No memory is
-    /// taken.
+    /// The size of a full segment, in bytes. The first one includes the header. No memory is taken.
     pub fn segment_size(&self) -> usize
         ensures { result ≡ self.now.segment }
     {
