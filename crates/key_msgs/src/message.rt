@@ -1,4 +1,4 @@
-//! What the messages of key types hold.
+//! The contents of key types' messages.
 
 use std::marker::Model;
 
