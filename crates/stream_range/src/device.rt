@@ -10,7 +10,7 @@ use tink_base::Failed;
 /// A fixed number of bytes that can be read at any offset.
 pub trait Device {
     /// How many bytes there are, which they are, if the device reports them, the files of the store
-    /// that it belongs to, how many bytes it has returned, and how often it has failed.
+    /// that it belongs to, how many bytes it has read, and how often it has failed.
     ghost state: { Self → DeviceState };
 
     /// The borrow that the device holds, if any, so that the lender can be recognized.
@@ -25,7 +25,7 @@ pub trait Device {
     /// Reads bytes, starting at offset `at`, to the front of `out`: at least one, and at most as
     /// many as `out` has. The rest of `out` is unchanged. `out` isn't empty, and ends within the
     /// device's size. The count of faults has risen after `Failed`; any other answer leaves it
-    /// unchanged. The count of bytes given rises by the bytes read.
+    /// unchanged. The count of bytes read rises by the bytes read in this call.
     fn read_at(&mut self, at: u64, out: &mut [u8]) -> Result<usize, Failed>
         requires some { 0 < length out.old }
         requires within { at + length out.old ≤ (state self.old).size }

@@ -63,7 +63,7 @@ impl MemDevice {
         self.faults
     }
 
-    /// How many bytes it has returned.
+    /// How many bytes it has read.
     pub fn given(&self) -> u64
         ensures { result ≡ self.now.given }
     {

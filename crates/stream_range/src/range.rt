@@ -176,7 +176,7 @@ fn open_into<V: Device>(
 /// Segments that aren't read needn't authenticate. `StreamFailed` and `PastEnd` come if and only if
 /// one of these doesn't open, or the range ends past the plaintext. A segment with a number of 2^32
 /// or more doesn't open. `ReadFault` comes only if the device failed; then it isn't asked again.
-/// The device returns at most the bytes of as many segments of the largest size as cover the range,
+/// The device reads at most the bytes of as many segments of the largest size as cover the range,
 /// plus two; only two if no key is chosen, or at `PastEnd`.
 ///
 /// All memory is taken before the first read: the result's, and a buffer for the largest segment,

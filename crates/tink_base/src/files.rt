@@ -87,7 +87,7 @@ impl MemStore {
         self.faults
     }
 
-    /// How many bytes of files it has returned.
+    /// How many bytes of files it has read.
     pub fn given(&self) -> u64
         ensures { result ≡ self.now.given }
     {

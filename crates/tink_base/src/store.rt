@@ -39,15 +39,15 @@ pub enum StoreError {
 
 /// A store of files by their names.
 pub trait Store {
-    /// The files, if the store reports them, how often it has failed, and how many bytes it has
-    /// returned.
+    /// The files, if the store reports them, how often it has failed, and how many bytes of files
+    /// it has read.
     ghost state: { Self → StoreState };
 
     /// Loads the file of this name if it has at most `limit` bytes. No file changes. The count of
     /// faults has risen after `Failed`; any other answer leaves it unchanged. The count of bytes
-    /// given rises by the bytes read: by the file's length after `Bytes`; by one more than the
-    /// limit, or than 2^30 if the limit is greater, after `TooLong`; by at most that after an
-    /// error; and by 0 after `Absent`.
+    /// read rises by the bytes read in this call: by the file's length after `Bytes`; by one more
+    /// than the limit, or than 2^30 if the limit is greater, after `TooLong`; by at most that after
+    /// an error; and by 0 after `Absent`.
     fn load(&mut self, alloc: Global, name: &str, limit: usize) -> Result<Loaded, StoreError>
         ensures loads { IfOk result (λ found. Loads (state self.old) name.now limit found) }
         ensures kept { KeptFiles (state self.old) (state self.new) }
@@ -85,7 +85,8 @@ pub trait Store {
     /// Reads bytes of the file of this name, starting at offset `at`: at least one, and at most as
     /// many as `out` holds. The rest of `out` is unchanged. `Failed` comes also if there is no
     /// longer a byte at that offset. No file changes. The count of faults has risen after `Failed`;
-    /// any other answer leaves it unchanged. The count of bytes given rises by the bytes read.
+    /// any other answer leaves it unchanged. The count of bytes read rises by the bytes read in
+    /// this call.
     fn read_at(&mut self, name: &str, at: u64, out: &mut [u8]) -> Result<usize, Failed>
         requires some { 0 < length out.old }
         requires within { HoldsLonger (state self.old) name.now at }
