@@ -44,6 +44,10 @@ use Rattle.tinkey_plans.specs.Streaming.{loads_stream_keys, opens_stream, seals_
 use Rattle.tinkey_plans.specs.Handles.{handles, unless_unfit}
 use Rattle.tinkey_plans.specs.Using.{limit_for}
 use Rattle.tinkey_plans.specs.Wrapping.{is_json, unwraps}
+use Rattle.ready_keysets.specs.Working.{answer as call_answer}
+use Rattle.ready_keysets.specs.declared.ready.ReadyKeyset.{ReadyKeyset}
+use Rattle.ready_keysets.specs.declared.work.Work.{Work}
+use Rattle.tinkey_readable.proofs.CallLemmas.{call_dseals, call_seals, call_tags, called_answer, calls_give}
 use Rattle.tinkey_readable.proofs.EnvelopeRunLemmas.{aead_scheme, gives_key_for, sealed_by as enveloped_by, used_done, used_reached}
 use Rattle.tinkey_readable.proofs.LineRunLemmas.{Answers, MakesSeal, computed_gave, dopen_answers, gave, open_answers, same_bytes, verify_answers}
 use Rattle.tinkey_readable.proofs.LockLemmas.{finished_under, given_is_keyset as sealed_is_keyset, started_under}
@@ -57,7 +61,8 @@ use Rattle.tinkey_readable.proofs.RunLemmas.{Started, done_within, dsealed_by, d
 use Rattle.tinkey_readable.proofs.StreamKeyLemmas.{first_under, fit_sound, opens_under, primary_gives, primary_key_there, sound_key}
 use Rattle.tinkey_readable.proofs.StreamRunLemmas.{chosen_so, keys_loaded, keys_reached, opened_so, opens_alone, sealed_by as stream_by, with_primary}
 use Rattle.tinkey_readable.proofs.WrappedRunLemmas.{behind_files, form_within, given_keyset, opens_plan, put_reached, text_reached, unwrapped, wraps_done}
-use Rattle.tinkey_readable.specs.Anywhere.{DopensAnywhere, DopensSomehowAnywhere, IsReadAnywhere, IsReadSomehowAnywhere, IsTaken, OpensAnywhere, OpensEnvelopeAnywhere, OpensFirstAnywhere, OpensRangeAnywhere, OpensSomehowAnywhere, OpensStreamAnywhere, ServesStreams, UnwrapsAnywhere, VerifiesAnywhere, WasMadeBy, by_line, by_locked, by_locked_line, by_run, ServesEnvelopes}
+use Rattle.tinkey_readable.specs.Anywhere.{DopensAnywhere, DopensSomehowAnywhere, IsReadAnywhere, IsReadSomehowAnywhere, IsTaken, OpensAnywhere, OpensEnvelopeAnywhere, OpensFirstAnywhere, OpensRangeAnywhere, OpensSomehowAnywhere, OpensStreamAnywhere, ServesStreams, UnwrapsAnywhere, VerifiesAnywhere, WasMadeBy, by_call, by_line, by_locked, by_locked_line, by_run, ServesEnvelopes}
+use Rattle.tinkey_readable.specs.Calls.{CallsGive, IsHandle, asked_by, input_of}
 use Rattle.tinkey_readable.specs.EnvelopeRuns.{IsEnveloped, MakeOneType, WasEnveloped}
 use Rattle.tinkey_readable.specs.LineRuns.{asks, done_reply}
 use Rattle.tinkey_readable.specs.LockedRuns.{IsDoneUnder}
@@ -91,12 +96,13 @@ line_maker work input output r Makes of_line keys told place t there short line 
 unfoldable pub maker : ReadKeysFit → (work : AskedWork) (input output : List ℕ) (r : Record) (Makes : Keys → Type 0)
     → ((old : Keys) (told : Told) → IsKeyset old → Started work old told output → told.input ≡ input → Makes old)
     → ((keys : Keys) (random : List ℕ) (x : Served) → serve standard_table keys (asks work input) random ≡ Some x → x.reply ≡ Gives output → Makes keys)
+    → ((keys : Keys) (call : Work) → asked_by call ≡ work → input_of call ≡ input → call_answer keys call ≡ Some output → Makes keys)
     → WasMadeBy work input output r → Maker input (limit_for work) Makes r
-maker fit work input output r Makes of_run of_line (by_run before old read told was same primary) =
+maker fit work input output r Makes of_run of_line of_call (by_run before old read told was same primary) =
     let k = read_keyset fit before.form before.bytes old (done_within work before told output was) read in
     let b = started work before old told output read was in
     record { old = old; primary = primary; short = subst (λ i. length i ≤ limit_for work) same b.fits; makes = of_run old told k b same }
-maker fit work input output r Makes of_run of_line (by_locked master text over old read gives told was same primary) =
+maker fit work input output r Makes of_run of_line of_call (by_locked master text over old read gives told was same primary) =
     let b = started_under work master text over old told output read gives was in
     record {
       old = old;
@@ -104,10 +110,20 @@ maker fit work input output r Makes of_run of_line (by_locked master text over o
       short = subst (λ i. length i ≤ limit_for work) same b.fits;
       makes = of_run old told (sealed_is_keyset over text old gives) b same;
     }
-maker fit work input output r Makes of_run of_line (by_line before told t has short line reply primary) = line_maker work input output r Makes of_line has.keys told has.place t has.there short line reply primary
-maker fit work input output r Makes of_run of_line (by_locked_line master text told t has short line reply primary) = line_maker work input output r Makes of_line has.keys told has.place t has.there short line reply primary
+maker fit work input output r Makes of_run of_line of_call (by_line before told t has short line reply primary) = line_maker work input output r Makes of_line has.keys told has.place t has.there short line reply primary
+maker fit work input output r Makes of_run of_line of_call (by_locked_line master text told t has short line reply primary) = line_maker work input output r Makes of_line has.keys told has.place t has.there short line reply primary
+maker fit work input output r Makes of_run of_line of_call (by_call was short) = record {
+  old = was.keys;
+  primary = was.primary;
+  short = short;
+  makes = of_call was.keys was.call was.asks was.takes (called_answer work input output r was);
+}
 
 -- ---- where it is read
+
+-- by each call of a handle of some keyset
+call_reads : (work : AskedWork) (input : List ℕ) (P : List ℕ → Type 0) (keys : Keys) (ready : ReadyKeyset) → IsHandle (primitive_for work) keys ready → (a : Answers work input P keys) → CallsGive work ready input a.other
+call_reads work input P keys ready handle a = calls_give work keys ready input a.other handle a.of_call
 
 -- by a line over some keyset
 line_reads : (work : AskedWork) (input : List ℕ) (P : List ℕ → Type 0) (keys : Keys) (told : Told) (place : ℕ) (t : Turn) → slice_get (turns standard_table keys (asked_in told.input) told.random) place ≡ Some t → t.line ≡ asks work input → unfit t.before (primitive_for work) standard_table ≡ None
@@ -130,6 +146,9 @@ read_over work input output r fits answers = record {
   by_locked_line = λ master text told t has line fit while'.
       let a = answers t.before while' in
       line_reads work input (λ other. other ≡ output) has.keys told has.place t has.there line fit a ∙ ap (done_reply work) a.is;
+  by_call = λ keys ready handle while'.
+      let a = answers keys while' in
+      subst (λ o. CallsGive work ready input o) a.is (call_reads work input (λ other. other ≡ output) keys ready handle a);
 }
 
 read_somehow_over : (work : AskedWork) (input : List ℕ) (r : Record) → length input ≤ limit_for work → ((keys : Keys) → HasKey r keys → Answers work input (λ other. Unit {0}) keys) → IsReadSomehowAnywhere work input r
@@ -146,9 +165,18 @@ read_somehow_over work input r fits answers = record {
   by_locked_line = λ master text told t turn line fit has.
       let a = answers t.before has in
       (a.other, line_reads work input (λ other. Unit {0}) turn.keys told turn.place t turn.there line fit a);
+  by_call = λ keys ready handle has.
+      let a = answers keys has in
+      (a.other, call_reads work input (λ other. Unit {0}) keys ready handle a);
 }
 
 -- ---- seals
+
+-- what a call sealed, a keyset sealed with some random bytes
+pub call_makes_seal : (keys : Keys) (ad plain sealed : List ℕ) (call : Work) → asked_by call ≡ to_seal ad → input_of call ≡ plain → call_answer keys call ≡ Some sealed → MakesSeal plain ad sealed keys
+call_makes_seal keys ad plain sealed call how takes is =
+    let s = call_seals keys ad plain sealed call how takes is in
+    record { random = s.0; made = s.1; is = s.2; bytes = s.3 }
 
 pub seal_maker : ReadKeysFit → (ad plain sealed : List ℕ) (r : Record) → WasMadeBy (to_seal ad) plain sealed r → Maker plain input_limit (MakesSeal plain ad sealed) r
 unfolding serve
@@ -158,6 +186,7 @@ seal_maker fit ad plain sealed r was = maker fit (to_seal ad) plain sealed r (Ma
     let g = gave Aead keys random (option_map (sealed_reply keys) (seal_answer keys standard_table plain ad random)) x sealed e is in
     let there = map_some (sealed_reply keys) (seal_answer keys standard_table plain ad random) x g.1 in
     record { random = random; made = there.0; is = there.1; bytes = same_bytes _ _ (ap (λ y. y.reply) there.2 ∙ is) })
+    (λ keys call how takes is. call_makes_seal keys ad plain sealed call how takes is)
     was
 
 pub opens_anywhere : SealingsFit → ReadKeysFit → KeptOpen → OpensAnywhere
@@ -182,6 +211,7 @@ unfolding serve
 dseal_maker fits fit ad plain sealed r was = maker fit (to_dseal ad) plain sealed r (λ keys. dseal_answer keys standard_table plain ad ≡ Some sealed)
     (λ old told k b same. ap (λ i. dseal_answer old standard_table i ad) (sym same) ∙ dsealed_by fits old ad told sealed k b)
     (λ keys random x e is. (computed_gave Daead keys random (dseal_answer keys standard_table plain ad) sealed x e is).1)
+    (λ keys call how takes is. call_dseals keys ad plain sealed call how takes is)
     was
 
 pub dopens_anywhere : DsealingsFit → FitKeysetsAnswer → ReadKeysFit → KeptDopen → DopensAnywhere
@@ -204,6 +234,7 @@ unfolding serve
 tag_maker fits fit tag body r was = maker fit to_tag body tag r (λ keys. tag_answer keys standard_table body ≡ Some tag)
     (λ old told k b same. ap (λ i. tag_answer old standard_table i) (sym same) ∙ tagged_by fits old told tag k b)
     (λ keys random x e is. (computed_gave Mac keys random (tag_answer keys standard_table body) tag x e is).1)
+    (λ keys call how takes is. call_tags keys body tag call how takes is)
     was
 
 pub verifies_anywhere : FitKeysetsAnswer → ReadKeysFit → KeptTag → VerifiesAnywhere

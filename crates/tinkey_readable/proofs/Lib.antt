@@ -1,4 +1,5 @@
 pub mod AnywhereLemmas
+pub mod CallLemmas
 pub mod CaseLemmas
 pub mod DoneEnvelopeLemmas
 pub mod DoneRangeLemmas
@@ -12,6 +13,7 @@ pub mod FileLemmas
 pub mod HidingLemmas
 pub mod KeptRunLemmas
 pub mod KeptTextLemmas
+pub mod LibraryTextLemmas
 pub mod LineCaseLemmas
 pub mod LineRunLemmas
 pub mod LockLemmas

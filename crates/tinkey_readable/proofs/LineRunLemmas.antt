@@ -30,6 +30,10 @@ use Rattle.tinkey_plans.specs.Session.{holds_session, saves}
 use Rattle.tinkey_plans.specs.Using.{limit_for, works}
 use Rattle.tinkey_words.specs.declared.words.rows.Format.{Format}
 use Rattle.tinkey_words.specs.Words.{Asked, AskedWork, Lock, Place, create_keyset, edit_keyset, list_keyset, key_of, convert_keyset, list_key_templates, use_keyset, use_envelope, seal_stream, open_stream, reseal_stream, open_range, self_test, session, help, version, to_seal, to_open, to_dseal, to_dopen, to_reseal, to_dreseal, to_tag, to_verify, to_derive, primitive_for}
+use Rattle.ready_keysets.specs.Working.{answer as call_answer}
+use Rattle.ready_keysets.specs.declared.work.Work.{Work}
+use Rattle.tinkey_readable.proofs.CallLemmas.{call_dopens, call_opens, call_verifies}
+use Rattle.tinkey_readable.specs.Calls.{asked_by, input_of}
 use Rattle.tinkey_readable.specs.LineRuns.{asks, done_reply}
 use Rattle.tinkey_readable.specs.Runs.{Does, Handing, HandsOn, Run, Written, bytes_at, hands_on, keyset_of, read_in, session_handing}
 use Rattle.tinkey_readable.proofs.ReachLemmas.{IsDoneAnswer, load_done}
@@ -167,12 +171,13 @@ input_fits (to_derive size) input is = omega (arith, is)
 
 -- ---- where it is read
 
--- what a run and a line answer over a keyset
+-- what a run, a line and a call answer over a keyset
 pub record Answers (work : AskedWork) (input : List ℕ) (Is : List ℕ → Type 0) (new : Keys) : Type 0 where
   pub other : List ℕ
   pub is : Is other
   pub of_run : (told : Told) → (IsDoneAnswer (answer (works standard_table new work input writes) told)) × ((answer (works standard_table new work input writes) told).output ≡ other)
   pub of_line : (random : List ℕ) (x : Served) → unfit new (primitive_for work) standard_table ≡ None → serve standard_table new (asks work input) random ≡ Some x → x.reply ≡ done_reply work other
+  pub of_call : (call : Work) → asked_by call ≡ work → input_of call ≡ input → call_answer new call ≡ Some other
 
 -- ---- seals
 
@@ -189,6 +194,7 @@ open_answers Is new sealed ad plain is e = record {
   is = is;
   of_run = λ told. opens_so unopened.Text (sealer_of new sealed) (open_answer new standard_table sealed ad) plain told e;
   of_line = λ random x fit served. answer_is Aead new random _ x fit served ∙ ap opened_reply e;
+  of_call = call_opens new ad sealed plain e;
 }
 
 -- ---- seals without an IV
@@ -200,6 +206,7 @@ dopen_answers Is new sealed ad plain is e = record {
   is = is;
   of_run = λ told. opens_so unopened.Text (sealer_of new sealed) (dopen_answer new standard_table sealed ad) plain told e;
   of_line = λ random x fit served. answer_is Daead new random _ x fit served ∙ ap opened_reply e;
+  of_call = call_dopens new ad sealed plain e;
 }
 
 -- ---- tags
@@ -211,4 +218,5 @@ verify_answers new tag body e = record {
   is = refl;
   of_run = λ told. verifies_so (verify_answer new standard_table tag body) told e;
   of_line = λ random x fit served. answer_is Mac new random _ x fit served ∙ ap verified_reply e;
+  of_call = call_verifies new tag body e;
 }

@@ -24,10 +24,14 @@ use Rattle.tinkey_plans.specs.Sealers.{sealer_of}
 use Rattle.tinkey_plans.specs.declared.sealer.Unopened.TheVariants as unopened
 use Rattle.tinkey_plans.specs.Using.{as_drawn, dseals_plain, made_bytes, seals_plain, with_opened}
 use Rattle.tinkey_readable.proofs.AnywhereLemmas.{Maker, dseal_maker, line_maker, maker, read_over, seal_maker}
+use Rattle.ready_keysets.specs.Working.{answer as call_answer}
+use Rattle.ready_keysets.specs.declared.work.Work.{Work}
+use Rattle.tinkey_readable.proofs.CallLemmas.{no_dreseal, no_reseal}
 use Rattle.tinkey_readable.proofs.LineRunLemmas.{MakesSeal, dopen_answers, gave, open_answers, same_bytes}
 use Rattle.tinkey_readable.proofs.ReachLemmas.{IsDoneAnswer}
 use Rattle.tinkey_readable.proofs.RunLemmas.{Started, dsealed_fits, sealed_fits}
-use Rattle.tinkey_readable.specs.Anywhere.{WasMadeBy, by_line, by_locked, by_locked_line, by_run}
+use Rattle.tinkey_readable.specs.Anywhere.{WasMadeBy, by_call, by_line, by_locked, by_locked_line, by_run}
+use Rattle.tinkey_readable.specs.Calls.{asked_by, input_of}
 use Rattle.tinkey_readable.specs.LineRuns.{asks}
 use Rattle.tinkey_readable.specs.Resealing.{AreResealed, IsResealed, ResealedDopens, ResealedOpens, SealedText, made_over}
 use Rattle.tinkey_words.specs.Words.{AskedWork, to_dopen, to_dreseal, to_open, to_reseal}
@@ -37,12 +41,14 @@ use Rattle.tinkey_words.specs.Words.{AskedWork, to_dopen, to_dreseal, to_open, t
 maker_over : (fit : ReadKeysFit) (work : AskedWork) (input output : List ℕ) (r : Record) (Makes : Keys → Type 0)
     → (of_run : (old : Keys) (told : Told) → IsKeyset old → Started work old told output → told.input ≡ input → Makes old)
     → (of_line : (keys : Keys) (random : List ℕ) (x : Served) → serve standard_table keys (asks work input) random ≡ Some x → x.reply ≡ Gives output → Makes keys)
-    → (was : WasMadeBy work input output r) → (maker fit work input output r Makes of_run of_line was).old ≡ made_over was
+    → (of_call : (keys : Keys) (call : Work) → asked_by call ≡ work → input_of call ≡ input → call_answer keys call ≡ Some output → Makes keys)
+    → (was : WasMadeBy work input output r) → (maker fit work input output r Makes of_run of_line of_call was).old ≡ made_over was
 unfolding maker line_maker
-maker_over fit work input output r Makes of_run of_line (by_run before old read told was same primary) = refl
-maker_over fit work input output r Makes of_run of_line (by_locked master text over old read gives told was same primary) = refl
-maker_over fit work input output r Makes of_run of_line (by_line before told t has short line reply primary) = refl
-maker_over fit work input output r Makes of_run of_line (by_locked_line master text told t has short line reply primary) = refl
+maker_over fit work input output r Makes of_run of_line of_call (by_run before old read told was same primary) = refl
+maker_over fit work input output r Makes of_run of_line of_call (by_locked master text over old read gives told was same primary) = refl
+maker_over fit work input output r Makes of_run of_line of_call (by_line before told t has short line reply primary) = refl
+maker_over fit work input output r Makes of_run of_line of_call (by_locked_line master text told t has short line reply primary) = refl
+maker_over fit work input output r Makes of_run of_line of_call (by_call was short) = refl
 
 -- ---- what a keyset reseals
 
@@ -89,8 +95,8 @@ reseal_line keys ad sealed resealed random x e reply = by (open_answer keys stan
 
 reseal_maker : ReadKeysFit → (ad : List ℕ) (old new : SealedText) → IsResealed (to_reseal ad) old new → (m : Maker old.bytes sealed_limit (MakesReseal old.bytes ad new.bytes) new.under') × HasSameKey old.under' m.old
 reseal_maker fit ad old new is = (
-  maker fit (to_reseal ad) old.bytes new.bytes new.under' (MakesReseal old.bytes ad new.bytes) (λ keys told k b same. resealed_by keys ad old.bytes new.bytes told b same) (λ keys random x e reply. reseal_line keys ad old.bytes new.bytes random x e reply) is.made,
-  subst (HasSameKey old.under') (sym (maker_over fit (to_reseal ad) old.bytes new.bytes new.under' (MakesReseal old.bytes ad new.bytes) (λ keys told k b same. resealed_by keys ad old.bytes new.bytes told b same) (λ keys random x e reply. reseal_line keys ad old.bytes new.bytes random x e reply) is.made)) is.there,
+  maker fit (to_reseal ad) old.bytes new.bytes new.under' (MakesReseal old.bytes ad new.bytes) (λ keys told k b same. resealed_by keys ad old.bytes new.bytes told b same) (λ keys random x e reply. reseal_line keys ad old.bytes new.bytes random x e reply) (λ keys call how takes is. no_reseal ad call how) is.made,
+  subst (HasSameKey old.under') (sym (maker_over fit (to_reseal ad) old.bytes new.bytes new.under' (MakesReseal old.bytes ad new.bytes) (λ keys told k b same. resealed_by keys ad old.bytes new.bytes told b same) (λ keys random x e reply. reseal_line keys ad old.bytes new.bytes random x e reply) (λ keys call how takes is. no_reseal ad call how) is.made)) is.there,
 )
 
 -- ---- one text, and all of them
@@ -164,8 +170,8 @@ HasDsealed ad plain text = Maker plain input_limit (λ keys. dseal_answer keys s
 
 dreseal_next : FitKeysetsAnswer → ReadKeysFit → KeptDopen → (ad plain : List ℕ) (old new : SealedText) → HasDsealed ad plain old → IsResealed (to_dreseal ad) old new → HasDsealed ad plain new
 dreseal_next fits fit kept ad plain old new o is =
-    let p = maker fit (to_dreseal ad) old.bytes new.bytes new.under' (MakesDreseal old.bytes ad new.bytes) (λ keys told k b same. dresealed_by fits keys ad old.bytes new.bytes told k b same) (λ keys random x e reply. dreseal_line keys ad old.bytes new.bytes random x e reply) is.made in
-    let has = subst (HasSameKey old.under') (sym (maker_over fit (to_dreseal ad) old.bytes new.bytes new.under' (MakesDreseal old.bytes ad new.bytes) (λ keys told k b same. dresealed_by fits keys ad old.bytes new.bytes told k b same) (λ keys random x e reply. dreseal_line keys ad old.bytes new.bytes random x e reply) is.made)) is.there in
+    let p = maker fit (to_dreseal ad) old.bytes new.bytes new.under' (MakesDreseal old.bytes ad new.bytes) (λ keys told k b same. dresealed_by fits keys ad old.bytes new.bytes told k b same) (λ keys random x e reply. dreseal_line keys ad old.bytes new.bytes random x e reply) (λ keys call how takes is. no_dreseal ad call how) is.made in
+    let has = subst (HasSameKey old.under') (sym (maker_over fit (to_dreseal ad) old.bytes new.bytes new.under' (MakesDreseal old.bytes ad new.bytes) (λ keys told k b same. dresealed_by fits keys ad old.bytes new.bytes told k b same) (λ keys random x e reply. dreseal_line keys ad old.bytes new.bytes random x e reply) (λ keys call how takes is. no_dreseal ad call how) is.made)) is.there in
     let opened = kept o.old p.old old.under' is.prefix plain ad old.bytes has o.primary is.has o.makes in
     let same : p.makes.plain ≡ plain = same_Some _ _ (sym p.makes.opens ∙ opened) in
     record { old = p.old; primary = p.primary; short = o.short; makes = subst (λ t. dseal_answer p.old standard_table t ad ≡ Some new.bytes) same p.makes.makes }

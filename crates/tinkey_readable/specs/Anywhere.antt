@@ -3,7 +3,7 @@
 --
 --   Serves               a keyset that the command for this primitive accepts
 --   ServesUnder          one that lies under a master, and is accepted so
---   WasMadeBy            what a run or a line of a session made under a key
+--   WasMadeBy            what a run, a line of a session or a call of the library made under a key
 --   IsReadAnywhere       what opens or verifies it, over any keyset that has the key
 --   OpensAnywhere ..     the laws
 use Rattle.std.specs.Prelude.{◌≡◌, ℕ, ◌≤◌, List, [], length, Option, Some, None, slice_get}
@@ -25,6 +25,8 @@ use Rattle.tinkey_plans.specs.Plan.{Told}
 use Rattle.tinkey_plans.specs.Steps.{keyset_limit}
 use Rattle.tinkey_plans.specs.Using.{limit_for}
 use Rattle.tinkey_plans.specs.Wrapping.{wrapped_limit}
+use Rattle.ready_keysets.specs.declared.ready.ReadyKeyset.{ReadyKeyset}
+use Rattle.tinkey_readable.specs.Calls.{CallsGive, IsCalled, IsHandle, WasCalled}
 use Rattle.tinkey_readable.specs.EnvelopeRuns.{IsEnveloped, MakeOneType, WasEnveloped}
 use Rattle.tinkey_readable.specs.LineRuns.{HasTurn, asks, done_reply}
 use Rattle.tinkey_readable.specs.LockedRuns.{GivesUnder, IsDoneUnder, WasDoneUnder}
@@ -131,9 +133,10 @@ pub record HasTurnUnder (told : Told) (master text : Written) (t : Turn) : Type 
   pub there : slice_get (turns standard_table keys (asked_in told.input) told.random) place ≡ Some t
 
 -- By this work this output was made of this input, by the key of this primary record: by a run of the
--- command that was Done, over a keyset in clear or under a master, or by a line of a session, with or without
--- a file for its keyset, and however it ended behind that line. The line's input is within the limit of the
--- command, as those of all lines that are answered.
+-- command that was Done, over a keyset in clear or under a master; by a line of a session, with or without
+-- a file for its keyset, and however it ended behind that line; or by a call of the library. The line's input is
+-- within the limit of the command, as those of all lines that are answered. So is the call's, which could be
+-- longer.
 pub data WasMadeBy (work : AskedWork) (input output : List ℕ) (r : Record) : Type 0 where
   by_run : (before : Written) (old : Keys) → keyset_of before ≡ Some old → (told : Told) →
       WasDone work before told output → told.input ≡ input → primary_of old ≡ Some r →
@@ -147,10 +150,12 @@ pub data WasMadeBy (work : AskedWork) (input output : List ℕ) (r : Record) : T
   by_locked_line : (master text : Written) (told : Told) (t : Turn) → HasTurnUnder told master text t →
       length input ≤ limit_for work → t.line ≡ asks work input → t.reply ≡ Gives output →
       primary_of t.before ≡ Some r → WasMadeBy work input output r
+  by_call : WasCalled work input output r → length input ≤ limit_for work →
+      WasMadeBy work input output r
 
 -- This work on this input is done with this output over each keyset that serves it, while that has the
 -- record's key as it is said here: by a run of the command, in whichever file the keyset lies, in clear or
--- under a master, and by each line of a session over any keyset.
+-- under a master; by each line of a session over any keyset; and by each call of a handle of one.
 pub record IsReadAnywhere (While : Record → Keys → Type 0) (work : AskedWork)
     (input output : List ℕ) (r : Record) : Type 0 where
   pub by_run : (written : Written) (keys : Keys) → Serves (primitive_for work) written keys
@@ -164,6 +169,7 @@ pub record IsReadAnywhere (While : Record → Keys → Type 0) (work : AskedWork
   pub by_locked_line : (master text : Written) (told : Told) (t : Turn) → HasTurnUnder told master text t
       → t.line ≡ asks work input → unfit t.before (primitive_for work) standard_table ≡ None
       → While r t.before → t.reply ≡ done_reply work output
+  pub by_call : IsCalled While work input output r
 
 -- the same with some output, while the key is there, ENABLED
 pub record IsReadSomehowAnywhere (work : AskedWork) (input : List ℕ) (r : Record) : Type 0 where
@@ -178,6 +184,8 @@ pub record IsReadSomehowAnywhere (work : AskedWork) (input : List ℕ) (r : Reco
   pub by_locked_line : (master text : Written) (told : Told) (t : Turn) → HasTurnUnder told master text t
       → t.line ≡ asks work input → unfit t.before (primitive_for work) standard_table ≡ None
       → HasKey r t.before → (other : List ℕ) × (t.reply ≡ done_reply work other)
+  pub by_call : (keys : Keys) (ready : ReadyKeyset) → IsHandle (primitive_for work) keys ready
+      → HasKey r keys → (other : List ℕ) × CallsGive work ready input other
 
 -- What was sealed under a key with a prefix opens to its plaintext, with its associated data, under each
 -- keyset that serves AEADs and in which that key is ENABLED and alone under its prefix.

@@ -1,9 +1,11 @@
 pub mod Anywhere
+pub mod Calls
 pub mod DoneWhere
 pub mod EnvelopeRuns
 pub mod Hiding
 pub mod KeptRuns
 pub mod KeptTexts
+pub mod LibraryTexts
 pub mod LineRuns
 pub mod LockedHiding
 pub mod LockedRuns

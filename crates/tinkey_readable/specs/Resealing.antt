@@ -12,7 +12,7 @@ use Rattle.keyset_model.specs.declared.record.Record.{Record}
 use Rattle.wrapped_prims.specs.Candidates.{prefix_of}
 use Rattle.wrapped_prims.specs.Laws.{HasSameKey}
 use Rattle.tinkey_plans.specs.Plan.{Told}
-use Rattle.tinkey_readable.specs.Anywhere.{IsReadAnywhere, ServesEnvelopes, WasMadeBy, by_line, by_locked, by_locked_line, by_run}
+use Rattle.tinkey_readable.specs.Anywhere.{IsReadAnywhere, ServesEnvelopes, WasMadeBy, by_call, by_line, by_locked, by_locked_line, by_run}
 use Rattle.tinkey_readable.specs.EnvelopeRuns.{IsEnveloped, MakeOneType, WasEnveloped}
 use Rattle.tinkey_readable.specs.Lying.{Lies, Lying}
 use Rattle.tinkey_words.specs.Words.{AskedWork, to_eopen, to_ereseal, to_eseal, to_dopen, to_dreseal, to_dseal, to_open, to_reseal, to_seal}
@@ -24,6 +24,7 @@ made_over (by_run before old read told was same primary) = old
 made_over (by_locked master text over old read gives told was same primary) = old
 made_over (by_line before told t has short line reply primary) = t.before
 made_over (by_locked_line master text told t has short line reply primary) = t.before
+made_over (by_call was short) = was.keys
 
 -- a text, and the primary record under whose key it was sealed
 pub record SealedText : Type 0 where

@@ -9,6 +9,7 @@ ghost use Rattle.tinkey_readable.specs.EnvelopeRuns.{RunsOpenEnvelope};
 ghost use Rattle.tinkey_readable.specs.Hiding.{ListedAlike, ListingHidesKeys, ReportsGoByStatus};
 ghost use Rattle.tinkey_readable.specs.KeptRuns.{CommandIdsStayDistinct, CreatedIdsAreDistinct, DataStaysByCommands, FilesStay, GivenBackByEnable, KeptByCommands, KeptByItsIdAlone};
 ghost use Rattle.tinkey_readable.specs.KeptTexts.{ReadsAfterCommands, ReadsByItsIdAlone};
+ghost use Rattle.tinkey_readable.specs.LibraryTexts.{HandlesAreMade, HandlesServe, LibraryTagsVerify, LibraryTextsDopen, LibraryTextsOpen, WrappedHandlesAreMade};
 ghost use Rattle.tinkey_readable.specs.LineRuns.{MadeDopens, MadeDopensPresent, MadeOpens, MadeOpensPresent, MadeVerifies};
 ghost use Rattle.tinkey_readable.specs.LockedHiding.{LockedRunsPut, LockedSessionsSave, SealedAlike};
 ghost use Rattle.tinkey_readable.specs.NamedRuns.{KeysAreNamed};
@@ -227,16 +228,21 @@ pub fn ids_stay_distinct()
     wrap_back_bytes();
 }
 
-/// What a run or a line of a session made under a key opens or verifies over every keyset that is
-/// accepted for the primitive and in which that key is ENABLED and alone under its prefix: a
-/// backup, a branch, another tool's copy. Nothing is required of the runs in between. The run or
-/// line that sealed, with an IV or without, or tagged, and the one that opens or verifies may each
-/// have its keyset in clear or under the lock of a master. While the key is there, ENABLED, alone
-/// or not and of whatever prefix type, what was sealed opens to some plaintext, and a tag verifies.
-/// For a stream, no other key before it may open the first segment, since nothing in a stream
-/// identifies its key.
+/// What a run, a line of a session or a call of the library made under a key opens or verifies over
+/// every keyset that is accepted for the primitive and in which that key is ENABLED and alone under
+/// its prefix: a backup, a branch, another tool's copy. Nothing is required of the runs in between.
+/// The run, line or call that sealed, with an IV or without, or tagged, and the one that opens or
+/// verifies may each have its keyset in clear or under the lock of a master. While the key is
+/// there, ENABLED, alone or not and of whatever prefix type, what was sealed opens to some
+/// plaintext, and a tag verifies. For a stream, no other key before it may open the first segment,
+/// since nothing in a stream identifies its key.
 ///
-/// The session of such a line may save its keyset or not, and may end in any way after the line.
+/// The session of such a line may save its keyset or not, and may end in any way after the line. A
+/// call of the library uses a handle that was made from a keyset's text in either form, or from an
+/// encrypted text and its master's text; what it sealed or tagged is within the limit of a run's
+/// input. A call that opens or verifies gives the plaintext, or reports that an input is longer
+/// than it takes, that the caller's bytes are fewer than the answer, or that memory couldn't be
+/// allocated.
 pub fn kept_anywhere()
     ensures opens { OpensAnywhere }
     ensures dopens { DopensAnywhere }
@@ -266,6 +272,29 @@ pub fn kept_anywhere()
     faultless_keysets();
     forms_back();
     wrap_back_bytes();
+}
+
+/// What a call of the library sealed under a key with a prefix opens to its plaintext, with its
+/// associated data, by calls over every keyset of which there is a handle for AEADs and in which
+/// that key is ENABLED and alone under its prefix, however long it is; and within the limit of a
+/// run's input by runs and lines too, as `kept_anywhere` says. The same without an IV; and a tag
+/// verifies so, while the key is there, ENABLED.
+///
+/// A handle is made of every keyset that a command for the primitive accepts, in clear or under a
+/// master, unless memory can't be allocated; and each ENABLED record of a handle's keyset serves
+/// the primitive.
+pub fn library_texts_open()
+    ensures opens { LibraryTextsOpen }
+    ensures dopens { LibraryTextsDopen }
+    ensures verifies { LibraryTagsVerify }
+    ensures made { HandlesAreMade }
+    ensures made_wrapped { WrappedHandlesAreMade }
+    ensures serve { HandlesServe }
+{
+    kept_open();
+    kept_dopen();
+    kept_tag();
+    kept_anywhere();
 }
 
 /// What was sealed, and then resealed any number of times, opens to its plaintext with its
