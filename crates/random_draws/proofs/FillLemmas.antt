@@ -22,7 +22,7 @@ use Rattle.tinkey_session.proofs.Options.{clash, map_some, then_some}
 use Rattle.tinkey_session.specs.Lines.{Line, Seal, Dseal, Open, Dopen, Reseal, Dreseal, Tag, Verify, Derive, Edit as AsksEdit, Bad}
 use Rattle.tinkey_session.specs.Serving.{Served, answered, cannot_serve, computed, derived_reply, edit_line, if_opened, sealed_reply, serve, stepped, template_of, unless_unfit, with_template}
 use Rattle.tinkey_session.specs.declared.reply.Refusal.{Refusal}
-use Rattle.tinkey_session.specs.declared.reply.Refusal.TheVariants.{OpenFailed}
+use Rattle.tinkey_session.specs.declared.reply.LineRefusal.TheVariants.{OpenFailed, Refused}
 use Rattle.tinkey_session.specs.declared.reply.Reply.{Reply}
 use Rattle.tinkey_session.specs.declared.reply.Reply.TheVariants.{Gives, Refuses}
 use Rattle.wrapped_prims.specs.Answers.{Sealed, derive_answer, dopen_answer, dseal_answer, open_answer, primary_key, seal_answer, seal_behind, seal_under, tag_answer}
@@ -132,12 +132,12 @@ took-computed keys random reply None x e = clash e
 
 took-unless : (u : Option (ℕ × Unfit)) (keys : Keys) (random : List ℕ) (served : Option Served) (x : Served) → (served ≡ Some x → Took 0 random x.left) → unless_unfit u keys random served ≡ Some x → Took 0 random x.left
 took-unless None keys random served x took e = took e
-took-unless (Some found) keys random served x took e = took-answered keys random (Refuses (cannot_serve found.0 found.1)) x e
+took-unless (Some found) keys random served x took e = took-answered keys random (Refuses (Refused (cannot_serve found.0 found.1))) x e
 
 template_took : (keys : Keys) (random : List ℕ) (edit : Row → Edit) (found : Result Row Refusal) (x : Served) → with_template keys random found (λ row. edit_line keys random (edit row)) ≡ Some x
     → Took (total (template_fills found (λ row. edit_fills keys random (edit row)))) random x.left
 template_took keys random edit (Ok row) x e = edit_took keys (edit row) random x e
-template_took keys random edit (Err why) x e = took-answered keys random (Refuses why) x e
+template_took keys random edit (Err why) x e = took-answered keys random (Refuses (Refused why)) x e
 
 asked_took : (table : Table) (keys : Keys) (asked : EditOf (List ℕ)) (random : List ℕ) (x : Served) → serve table keys (AsksEdit asked) random ≡ Some x → Took (total (fills table keys (AsksEdit asked) random)) random x.left
 unfolding serve fills
@@ -193,7 +193,7 @@ seal_fills table keys plain ad random r key fit primary is =
 
 seal_took : (table : Table) (keys : Keys) (plain ad random : List ℕ) (x : Served) (u : Option (ℕ × Unfit)) → unless_unfit u keys random (option_map (sealed_reply keys) (seal_answer keys table plain ad random)) ≡ Some x
     → Took (total (unless_there u (iv_fills (primary_key keys table Aead)))) random x.left
-seal_took table keys plain ad random x (Some found) e = took-answered keys random (Refuses (cannot_serve found.0 found.1)) x e
+seal_took table keys plain ad random x (Some found) e = took-answered keys random (Refuses (Refused (cannot_serve found.0 found.1))) x e
 seal_took table keys plain ad random x None e =
     let there = map_some (sealed_reply keys) (seal_answer keys table plain ad random) x e in
     let s = is_sealing table keys plain ad random there.0 there.1 in
@@ -203,7 +203,7 @@ seal_took table keys plain ad random x None e =
 
 reseal_took : (table : Table) (keys : Keys) (ad random : List ℕ) (x : Served) (u : Option (ℕ × Unfit)) (o : Option (List ℕ)) → unless_unfit u keys random (if_opened keys random o (λ plain. option_map (sealed_reply keys) (seal_answer keys table plain ad random))) ≡ Some x
     → Took (total (unless_there u (opened_fills o (iv_fills (primary_key keys table Aead))))) random x.left
-reseal_took table keys ad random x (Some found) o e = took-answered keys random (Refuses (cannot_serve found.0 found.1)) x e
+reseal_took table keys ad random x (Some found) o e = took-answered keys random (Refuses (Refused (cannot_serve found.0 found.1))) x e
 reseal_took table keys ad random x None (Some plain) e = seal_took table keys plain ad random x None e
 reseal_took table keys ad random x None None e = took-answered keys random (Refuses OpenFailed) x e
 

@@ -23,7 +23,8 @@ use Rattle.tinkey_session.proofs.ResealLemmas.{reseal_seals}
 use Rattle.tinkey_session.proofs.TurnLemmas.{handle_cases}
 use Rattle.tinkey_session.specs.Lines.{Line, Reseal, Seal}
 use Rattle.tinkey_session.specs.Serving.{Served, cannot_serve, sealed_reply, serve}
-use Rattle.tinkey_session.specs.declared.reply.Refusal.{Refusal}
+use Rattle.tinkey_session.specs.declared.reply.LineRefusal.{LineRefusal}
+use Rattle.tinkey_session.specs.declared.reply.LineRefusal.TheVariants.{Refused}
 use Rattle.tinkey_session.specs.declared.reply.Reply.TheVariants.{Gives, Refuses}
 use Rattle.wrapped_prims.specs.Answers.{Sealed, primary_key, seal_answer}
 use Rattle.wrapped_prims.specs.Candidates.{prefix_bytes, prefix_of}
@@ -32,7 +33,7 @@ use Rattle.wrapped_prims.specs.Fitness.{key_of_record, unfit}
 same_bytes : (a b : List ℕ) → Gives a ≡ Gives b → a ≡ b
 same_bytes a b e = cc
 
-refuses_not_gives : {P : Type 0} (why : Refusal) (bytes : List ℕ) → Refuses why ≡ Gives bytes → P
+refuses_not_gives : {P : Type 0} (why : LineRefusal) (bytes : List ℕ) → Refuses why ≡ Gives bytes → P
 refuses_not_gives why bytes e = absurd cc
 
 -- a line `seal` that gave these bytes
@@ -54,7 +55,7 @@ seal_gave table keys plain ad random sealed x e reply =
             is = is_sealing table keys plain ad random there.0 there.1;
             bytes = same_bytes _ _ (ap (λ y. y.reply) there.2 ∙ reply);
           }
-      | inr other ↦ refuses_not_gives (cannot_serve other.0.0 other.0.1) sealed (ap (λ y. y.reply) other.1 ∙ reply)
+      | inr other ↦ refuses_not_gives (Refused (cannot_serve other.0.0 other.0.1)) sealed (ap (λ y. y.reply) other.1 ∙ reply)
     ]
 
 -- a line that seals this plaintext is answered, and draws, as the line `seal` of it

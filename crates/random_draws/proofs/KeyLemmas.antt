@@ -21,7 +21,8 @@ use Rattle.tinkey_session.proofs.Options.{clash, map_some}
 use Rattle.tinkey_session.specs.Lines.{Edit as AsksEdit}
 use Rattle.tinkey_session.specs.Serving.{Served, edit_line, edit_served, edited_reply, last_id, serve, stepped, template_of, with_template}
 use Rattle.tinkey_session.specs.declared.reply.Refusal.{Refusal}
-use Rattle.tinkey_session.specs.declared.reply.Refusal.TheVariants.{EditRefused}
+use Rattle.tinkey_session.specs.declared.reply.Refusal.TheVariants.{Command}
+use Rattle.tinkey_session.specs.declared.reply.LineRefusal.TheVariants.{Refused}
 use Rattle.tinkey_session.specs.declared.reply.Reply.TheVariants.{NewId, Refuses}
 
 no_result : {A E P : Type 0} (fault : E) (x : A) → ◌≡◌ {A = Result A E} (Err fault) (Ok x) → P
@@ -158,11 +159,11 @@ record LineMade (keys : Keys) (random : List ℕ) (found : Result Row Refusal) (
 
 -- a refusal, or that
 abbrev IsTold : Keys → List ℕ → Result Row Refusal → List Fill → Served → Type 0
-IsTold keys random found filled x = ((why : Refusal) × (x.reply ≡ Refuses why)) ⊎ LineMade keys random found filled x
+IsTold keys random found filled x = ((why : Refusal) × (x.reply ≡ Refuses (Refused why))) ⊎ LineMade keys random found filled x
 
 told_refused : (edit : Edit) (keys : Keys) (random : List ℕ) (found : Result Row Refusal) (filled : List Fill) (s : Drawn Keys) (fault : CmdFault) → s.answer ≡ Err fault
     → IsTold keys random found filled (stepped edit keys s)
-told_refused edit keys random found filled s fault is = inl (EditRefused fault, ap (λ answer. (edit_served edit keys answer s.left).reply) is)
+told_refused edit keys random found filled s fault is = inl (Command fault, ap (λ answer. (edit_served edit keys answer s.left).reply) is)
 
 told_made : (edit : Row → Edit) (keys_with : Keys → Record → Keys) (makes : MakesKeys edit keys_with) (keys : Keys) (random : List ℕ) (row : Row) (s : Drawn Keys)
     → IsGrown (keys_with keys) row keys.records random s.answer → IsTold keys random (Ok row) (effect_fills keys (edit row) random) (stepped (edit row) keys s)

@@ -13,6 +13,7 @@ use Rattle.tinkey_cmds.specs.Edits.{EditOf, id_of, record_of}
 use Rattle.tinkey_session.specs.Lines.{Edit, Line, Reseal, Seal}
 use Rattle.tinkey_session.specs.Serving.{Served, serve, template_of}
 use Rattle.tinkey_session.specs.Session.{Remains, Turn, remains, turns}
+use Rattle.tinkey_session.specs.declared.reply.LineRefusal.TheVariants.{Refused}
 use Rattle.tinkey_session.specs.declared.reply.Refusal.{Refusal}
 use Rattle.tinkey_session.specs.declared.reply.Reply.TheVariants.{Gives, NewId, Refuses}
 use Rattle.wrapped_prims.specs.Answers.{open_answer}
@@ -156,13 +157,13 @@ pub record IsMadeWith (all : List Slice) (random : List ℕ) (i : ℕ) (row : Ro
   pub key_purpose : key.purpose ≡ Key
   pub made : r ≡ record_of row (id_of (bytes_of id random)) (bytes_of key random)
 
--- A line `add` or `rotate` is refused, or it makes such a record, which stands last, and answers its id.
+-- A line `add` or `rotate` is refused as a command is, or it makes such a record, which stands last, and answers its id.
 abbrev pub NewKeysAreDrawn : (List ℕ → EditOf (List ℕ)) → Type 0
 NewKeysAreDrawn asks = (table : Table) (keys : Keys) (lines : List Line) (random name : List ℕ)
     (i : ℕ) (t : Turn)
     → slice_get (turns table keys lines random) i ≡ Some t → t.line ≡ Edit (asks name)
     → (h : HasSlices table keys lines random i t)
-    × (((why : Refusal) × (t.reply ≡ Refuses why))
+    × (((why : Refusal) × (t.reply ≡ Refuses (Refused why)))
     ⊎ ((row : Row) × (r : Record) × (id : Slice) × (key : Slice) × (template_of name ≡ Ok row)
     × IsMadeWith (slices table keys lines random) random i row r id key
     × (t.reply ≡ NewId r.id) × (h.served.keys.records ≡ t.before.records ++ r ∷ [])))

@@ -13,6 +13,7 @@ use Rattle.tinkey_cmds.specs.Edits.{Stepped, alone, first, id_of, is_taken, new_
 use Rattle.tinkey_cmds.specs.declared.command.CmdFault.{CmdFault}
 use Rattle.tinkey_cmds.specs.declared.command.CmdFault.TheVariants.{IdsExhausted}
 use Rattle.tinkey_session.proofs.Options.{no_truth}
+use Rattle.tinkey_session.specs.declared.reply.Refusal.TheVariants.{Command}
 use Rattle.tinkey_selftest.specs.Laws.{CountsAddUp, EntropySuffices, NothingIsLost}
 use Rattle.tinkey_selftest.specs.Numbers.{random_bytes}
 use Rattle.tinkey_selftest.specs.Telling.{counts_text}
@@ -180,7 +181,7 @@ self_tests_tell adds lost suffices table seed lines told = by (trial.self_test t
   where
     by : (r : Result Counts CmdFault) → trial.self_test table seed lines ≡ r → IsExhausted r → IsRefusedWhere (HasNoId seed lines) r → TellsOrRefuses table seed lines (answer (tells_counts lines r writes) told)
     by (Ok n) is only some = inl (some, refl, tells adds lost table seed lines n is)
-    by (Err fault) is only none = inr (none, ap (λ (f : CmdFault). status.Command f) only, refl)
+    by (Err fault) is only none = inr (none, ap (λ (f : CmdFault). status.Refused (Command f)) only, refl)
 
 pub self_test_runs : CountsAddUp → NothingIsLost → EntropySuffices → SelfTestRuns
 self_test_runs adds lost suffices table words seed lines old s new is run = by (trial.self_test table seed lines) refl (only_exhausted table seed lines) (refused_where suffices table seed lines) (subst (λ p. Ends p old s new) (ap (λ r. asked_plan table r words) is) run)
@@ -189,4 +190,4 @@ self_test_runs adds lost suffices table words seed lines old s new is run = by (
     by r is only at (inr (e, same)) = starved e same
     by (Ok n) is only some (inl (wrote e keep stood took)) = tested (counts_text lines n) e (tells adds lost table seed lines n is) took
     by (Ok n) is only some (inl (write_failed e keep rose front)) = cut_short (counts_text lines n) e (tells adds lost table seed lines n is) front
-    by (Err fault) is only none (inl (e, same)) = refused none (e ∙ ap (λ (f : CmdFault). status.Command f) only) same
+    by (Err fault) is only none (inl (e, same)) = refused none (e ∙ ap (λ (f : CmdFault). status.Refused (Command f)) only) same

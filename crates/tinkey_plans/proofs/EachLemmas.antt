@@ -1,7 +1,7 @@
 -- What holds of a plan where it holds of its ends: the parts of which the commands' plans are made.
 use Rattle.std.proofs.Common.{ℕ, Bool, true, false, List, [], Option, Some, None, Result, Ok, Err}
 use Rattle.std.specs.Prelude.{if◌then◌else◌, ◌&&◌, length, nat_le}
-use Rattle.key_msgs.specs.Templates.{Row, row_named, is_asymmetric, type_made}
+use Rattle.key_msgs.specs.Templates.{Row, row_named, type_made}
 use Rattle.keyset_json.specs.Reading as Json
 use Rattle.keyset_json.specs.Reading.{reads_json}
 use Rattle.keyset_model.specs.Keyset.{Keys}
@@ -11,7 +11,7 @@ use Rattle.tinkey_cmds.specs.Draws.{Draw}
 use Rattle.tinkey_cmds.specs.Edits.{Edit, Add, Rotate, Promote, Enable, Disable, Destroy, Delete}
 use Rattle.tinkey_cmds.specs.declared.command.CmdFault.{CmdFault}
 use Rattle.wrapped_prims.specs.Answers.{open_answer, dopen_answer, verify_answer, derive_answer}
-use Rattle.wrapped_prims.specs.Fitness.{Unfit, NoManager, BadKey, NotRaw, unfit}
+use Rattle.wrapped_prims.specs.Fitness.{Unfit, unfit}
 use Rattle.tinkey_plans.specs.declared.status.Status.TheVariants as status
 use Rattle.tinkey_words.specs.declared.words.rows.Format.{Format}
 use Rattle.tinkey_words.specs.declared.words.rows.Format.TheVariants as formats
@@ -74,10 +74,6 @@ pub keyset_each : (P : Plan → Type 0) → IsClosed P → (form : Format) (byte
 keyset_each P c formats.Json bytes next all = c.allocated _ (with_json_each P c (is_wrapped_json bytes) (reads_json bytes) next all)
 keyset_each P c formats.Binary bytes next all = c.allocated _ (with_keyset_each P c (is_wrapped_binary bytes) (reads_binary bytes) next all)
 
-pub no_row_each : (P : Plan → Type 0) → IsClosed P → (b : Bool) → P (if b then ends status.AsymmetricTemplate tt else ends status.UnknownTemplate tt)
-no_row_each P c true = c.ended _ _
-no_row_each P c false = c.ended _ _
-
 pub within_each : (P : Plan → Type 0) → IsClosed P → (b : Bool) (next : Plan) → P next → P (if b then next else ends status.KeysetTooLong tt)
 within_each P c true next is = is
 within_each P c false next is = c.ended _ _
@@ -87,7 +83,7 @@ written_each P c form keys next all = c.allocated _ (within_each P c (nat_le (le
 
 pub row_each : (P : Plan → Type 0) → IsClosed P → (found : Option Row) (name : List ℕ) (next : Row → Plan) → AreAll P next → P (with_row found name next)
 row_each P c (Some row) name next all = all row
-row_each P c None name next all = no_row_each P c (is_asymmetric name)
+row_each P c None name next all = c.ended _ _
 
 pub edit_each : (P : Plan → Type 0) → IsClosed P → (asked : AskedEdit) (next : Edit → Plan) → AreAll P next → P (finds_edit asked next)
 edit_each P c (Add name) next all = row_each P c (row_named name) name (λ row. next (Add row)) (λ row. all (Add row))
@@ -104,9 +100,7 @@ made_each P c (Err fault) next all = c.ended _ _
 
 pub fit_each : (P : Plan → Type 0) → IsClosed P → (found : Option (ℕ × Unfit)) (next : Plan) → P next → P (unless_unfit found next)
 fit_each P c None next all = all
-fit_each P c (Some (i, NoManager)) next all = c.ended _ _
-fit_each P c (Some (i, BadKey rule)) next all = c.ended _ _
-fit_each P c (Some (i, NotRaw)) next all = c.ended _ _
+fit_each P c (Some found) next all = c.ended _ _
 
 pub opened_each : (P : Plan → Type 0) → IsClosed P → (what : Unopened) (sealer : Sealer) (found : Option (List ℕ)) (next : List ℕ → Plan) → AreAll P next → P (with_opened what sealer found next)
 opened_each P c what sealer None next all = c.ended _ _

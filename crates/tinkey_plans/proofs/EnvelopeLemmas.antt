@@ -25,8 +25,10 @@ use Rattle.seal_wrap.specs.Unwrapped as unwrapped
 use Rattle.seal_wrap.specs.Unwrapped.{is_wrapped_binary, is_wrapped_json, unwrap_of}
 use Rattle.tinkey_cmds.specs.Draws.{Drawn}
 use Rattle.tinkey_cmds.specs.declared.command.CmdFault.{CmdFault}
+use Rattle.tinkey_session.specs.Serving.{cannot_serve, no_template}
+use Rattle.tinkey_session.specs.declared.reply.Refusal.TheVariants.{Command}
 use Rattle.wrapped_prims.specs.Answers.{Sealed, seal_answer, seal_behind}
-use Rattle.wrapped_prims.specs.Fitness.{Unfit, NoManager, BadKey, NotRaw, unfit}
+use Rattle.wrapped_prims.specs.Fitness.{Unfit, unfit}
 use Rattle.tinkey_plans.specs.declared.status.Status.{Status}
 use Rattle.tinkey_plans.specs.declared.status.Status.TheVariants as status
 use Rattle.tinkey_words.specs.declared.words.rows.Format.{Format}
@@ -93,7 +95,7 @@ clear_opened what sealer (Some plain) out = clear_puts out plain
 
 clear_sealing : (given : Result (List ℕ) CmdFault) (payload : List ℕ) (out : Option (List ℕ)) → Clears (with_made given (λ sealed. puts out (envelope sealed payload)))
 clear_sealing (Ok sealed) payload out = clear_puts out (envelope sealed payload)
-clear_sealing (Err fault) payload out = clear_end (status.Command fault) tt (λ d. d)
+clear_sealing (Err fault) payload out = clear_end (status.Refused (Command fault)) tt (λ d. d)
 
 -- a data key that is sealed anew
 clear_resealed : (keys : Keys) (parts : Parts) (out : Option (List ℕ)) → Clears (reseals_key standard_table keys parts (puts out))
@@ -113,7 +115,7 @@ clear_enveloped (Err rule) out never = absurd (never rule refl)
 
 clear_made : (given : Result (Result (List ℕ) Rule) CmdFault) (out : Option (List ℕ)) → ((rule : Rule) → given ≡ Ok (Err rule) → ⊥) → Clears (with_made given (λ e. with_enveloped e (puts out)))
 clear_made (Ok r) out never = clear_enveloped r out (λ rule e. never rule (ap Ok e))
-clear_made (Err fault) out never = clear_end (status.Command fault) tt (λ d. d)
+clear_made (Err fault) out never = clear_end (status.Refused (Command fault)) tt (λ d. d)
 
 -- what is sealed under a valid data key is no refusal
 payload_never : (sealed : List ℕ) (o : Option Sealed) (e : Enveloped) (rule : Rule) → option_map (λ (payload : Sealed). record { answer = Ok (envelope sealed payload.bytes); left = payload.left }) o ≡ Some e → e.answer ≡ Err rule → ⊥
@@ -168,9 +170,7 @@ clear_scheme found scheme next is clear old s new run d = clear old s new (subst
 
 clear_unfit : (u : Option (ℕ × Unfit)) (next : Plan) → Clears next → Clears (unless_unfit u next)
 clear_unfit None next clear = clear
-clear_unfit (Some (i, NoManager)) next clear = clear_end (status.NoManager i) tt (λ d. d)
-clear_unfit (Some (i, BadKey rule)) next clear = clear_end (status.BadKey i rule) tt (λ d. d)
-clear_unfit (Some (i, NotRaw)) next clear = clear_end (status.NotRaw i) tt (λ d. d)
+clear_unfit (Some found) next clear = clear_end (status.Refused (cannot_serve found.0 found.1)) tt (λ d. d)
 
 clear_either : (b : Bool) (s t : Status) (a : IsStated s) (other : IsStated t) → (IsDekStatus s → ⊥) → (IsDekStatus t → ⊥) → Clears (if b then ends s a else ends t other)
 clear_either true s t a other first second = clear_end s a first
@@ -225,13 +225,9 @@ clear_aead Mac next clear = clear_end status.DekTemplate tt (λ d. d)
 clear_aead Prf next clear = clear_end status.DekTemplate tt (λ d. d)
 clear_aead Stream next clear = clear_end status.DekTemplate tt (λ d. d)
 
-clear_asymmetric : (b : Bool) → Clears (if b then ends status.AsymmetricTemplate tt else ends status.UnknownTemplate tt)
-clear_asymmetric true = clear_end status.AsymmetricTemplate tt (λ d. d)
-clear_asymmetric false = clear_end status.UnknownTemplate tt (λ d. d)
-
 clear_row : (found : Option Row) (name : List ℕ) (next : Row → Plan) → ((row : Row) → found ≡ Some row → Clears (next row)) → Clears (with_row found name next)
 clear_row (Some row) name next clear = clear row refl
-clear_row None name next clear = clear_asymmetric (is_asymmetric name)
+clear_row None name next clear = clear_end (status.Refused (no_template (is_asymmetric name))) tt (λ d. d)
 
 clear_envelope : DataKeysAreServed → DataKeysAreValid → (lock : Lock) (name : List ℕ) (form : Format) (template : List ℕ) (work : AskedEnvelope) (out : Option (List ℕ)) → Clears (envelope_output standard_table lock name form template work (puts out))
 clear_envelope served valid lock name form template work out =

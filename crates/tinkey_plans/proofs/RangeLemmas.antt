@@ -15,7 +15,7 @@ use Rattle.segment_stream.specs.KeysModel.{KeysForStreams}
 use Rattle.segment_stream.specs.Range.{stream_failed, past_end}
 use Rattle.segment_stream.specs.StreamKeys.{StreamUnfit, largest_of, not_stream, bad_key, stream_unfit}
 use Rattle.tink_spec.specs.Files.{Files, Holds, StoreState}
-use Rattle.wrapped_prims.specs.Fitness.{Unfit, NoManager, BadKey, NotRaw, unfit}
+use Rattle.wrapped_prims.specs.Fitness.{Unfit, unfit}
 use Rattle.tinkey_plans.specs.declared.status.Status.{Status}
 use Rattle.tinkey_plans.specs.declared.status.Status.TheVariants as status
 use Rattle.tinkey_words.specs.declared.words.rows.Format.{Format}
@@ -137,9 +137,7 @@ under_ends table (Some master) form bytes next old s new (inr (is, same)) = inl 
 -- a master that can serve
 serves_ends : (found : Option (ℕ × Unfit)) (next : Plan) (old : World) (s : Status) (new : World) → Ends (handling.unless_unfit found next) old s new → (old ≡ new) ⊎ Ends next old s new
 serves_ends None next old s new run = inr run
-serves_ends (Some (i, NoManager)) next old s new (is, same) = inl same
-serves_ends (Some (i, BadKey rule)) next old s new (is, same) = inl same
-serves_ends (Some (i, NotRaw)) next old s new (is, same) = inl same
+serves_ends (Some found) next old s new (is, same) = inl same
 
 handles_ends : (table : Table) (master : Keys) (next : Unit {0} → Plan) (old : World) (s : Status) (new : World) → Ends (handles table Aead master next) old s new → (old ≡ new) ⊎ Ends (next tt) old s new
 handles_ends table master next old s new (inl run) = serves_ends (unfit master Aead table) (next tt) old s new run

@@ -12,7 +12,7 @@ use Rattle.tinkey_plans.specs.declared.status.Status.{Status}
 use Rattle.tinkey_plans.specs.declared.status.Status.TheVariants as status
 use Rattle.tinkey_plans.specs.Ends.{World, Ends, settled, draw_failed}
 use Rattle.tinkey_plans.specs.Plan.{Plan}
-use Rattle.tinkey_plans.specs.Steps.{works_out, makes_keyset, edit_refusal, Passes}
+use Rattle.tinkey_plans.specs.Steps.{works_out, makes_keyset, edit_refusal, Passes, PassesAs}
 
 -- a step that gave a value, and then another
 pub passes_then : {A B : Type 0} (first : (A → Plan) → Plan) (second : A → (B → Plan) → Plan) (old mid new : World) (value : A) (r : Result B Status) → Passes first old (Ok value) mid → Passes (second value) mid r new → Passes (λ next. first (λ x. second x next)) old r new
@@ -23,6 +23,11 @@ passes_then first second old mid new value (Err s) one two = λ next. one (λ x.
 pub ends_there : {A B : Type 0} (first : (A → Plan) → Plan) (second : A → (B → Plan) → Plan) (old new : World) (r : Result B Status) (s : Status) → IsErrAnd r (λ e. e ≡ s) → Passes {A = A} first old (Err s) new → Passes (λ next. first (λ x. second x next)) old r new
 ends_there first second old new (Ok given) s is one = absurd is
 ends_there first second old new (Err e) s is one = λ next. rw is (one (λ x. second x next))
+
+-- a status that a `?` hands on, of what ends the whole
+pub handed_on : {A B : Type 0} (view : A → B) (step : (B → Plan) → Plan) (old new : World) (r : Result A Status) (s : Status) → IsErrAnd r (λ e. e ≡ s) → ((next : B → Plan) → Ends (step next) old s new) → PassesAs view step old r new
+handed_on view step old new (Ok given) s is ended = absurd is
+handed_on view step old new (Err e) s is ended = λ next. rw is (ended next)
 
 -- a value that was worked out, or want of memory
 pub worked_out : {A : Type 0} (value : A) (w : World) → Passes (works_out value) w (Ok value) w

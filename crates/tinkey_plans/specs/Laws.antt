@@ -15,6 +15,7 @@ use Rattle.tink_spec.specs.Files.{Holds, StoreState}
 use Rattle.tink_spec.specs.Outside.{Took, TookPrefix}
 use Rattle.tinkey_cmds.specs.Edits.{id_of}
 use Rattle.tinkey_cmds.specs.declared.command.CmdFault.TheVariants.{IdsExhausted}
+use Rattle.tinkey_session.specs.declared.reply.Refusal.TheVariants.{Command}
 use Rattle.tinkey_selftest.specs.Numbers.{random_bytes}
 use Rattle.tinkey_selftest.specs.Telling.{counts_text}
 use Rattle.tinkey_selftest.specs.Trial.{random_size}
@@ -162,7 +163,7 @@ HasNoId seed lines = (i : ℕ) → i < 64
 abbrev pub TellsOrRefuses : Table → (seed lines : ℕ) → Answer → Type 0
 TellsOrRefuses table seed lines a =
     ((HasNoId seed lines → ⊥) × (a.status ≡ status.Done) × TellsLines table lines a.output)
-    ⊎ (HasNoId seed lines × (a.status ≡ status.Command IdsExhausted) × (a.output ≡ []))
+    ⊎ (HasNoId seed lines × (a.status ≡ status.Refused (Command IdsExhausted)) × (a.output ≡ []))
 
 -- The stated answer of a self-test is Done and tells its counts, but exactly where there is no id.
 abbrev pub SelfTestsTell : Type 0
@@ -177,7 +178,7 @@ pub data HasTested (table : Table) (seed lines : ℕ) (old : World) (s : Status)
       Took old.sink new.sink output → HasTested table seed lines old s new
   cut_short : (output : List ℕ) → s ≡ status.WriteFault → TellsLines table lines output →
       TookPrefix old.sink new.sink output → HasTested table seed lines old s new
-  refused : HasNoId seed lines → s ≡ status.Command IdsExhausted → old ≡ new →
+  refused : HasNoId seed lines → s ≡ status.Refused (Command IdsExhausted) → old ≡ new →
       HasTested table seed lines old s new
   starved : s ≡ status.NoMemory → old ≡ new → HasTested table seed lines old s new
 

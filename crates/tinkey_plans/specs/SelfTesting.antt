@@ -3,6 +3,7 @@
 use Rattle.std.specs.Prelude.{ℕ, List, Result}
 use Rattle.managers.specs.Table.{Table}
 use Rattle.tinkey_cmds.specs.declared.command.CmdFault.{CmdFault}
+use Rattle.tinkey_session.specs.declared.reply.Refusal.TheVariants as refused
 use Rattle.tinkey_selftest.specs.Telling.{counts_text}
 use Rattle.tinkey_selftest.specs.Trial as trial
 use Rattle.tinkey_selftest.specs.declared.counts.Counts.{Counts}
@@ -23,5 +24,5 @@ self_test_output table seed lines next = tells_counts lines (trial.self_test tab
 
 -- the status of a self-test that counts nothing
 abbrev pub self_test_refusal : SelfTestFault → Status
-self_test_refusal (faults.Refused fault) = status.Command fault
+self_test_refusal (faults.Refused fault) = status.Refused (refused.Command fault)
 self_test_refusal faults.NoMemory = status.NoMemory

@@ -6,8 +6,9 @@ use Rattle.keyset_model.specs.declared.keyset.KeysetFault.{KeysetFault}
 use Rattle.keyset_model.specs.declared.keyset.KeysetFault.TheVariants as faults
 use Rattle.tink_spec.specs.Outside.{SinkState, Rose, Took, TookPrefix}
 use Rattle.tinkey_cmds.specs.declared.command.CmdFault.TheVariants as edits
+use Rattle.tinkey_session.specs.declared.reply.LineRefusal.TheVariants as lines
 use Rattle.tinkey_session.specs.declared.reply.Refusal.TheVariants as refused
-use Rattle.tinkey_session.specs.Texts.{refusal_text}
+use Rattle.tinkey_session.specs.Texts.{line_refusal_text, refusal_text}
 use Rattle.tinkey_plans.specs.Help.{help_text}
 use Rattle.tinkey_plans.specs.Misfits.{misfit_line}
 use Rattle.tinkey_plans.specs.Sealers.{sealer_line}
@@ -20,15 +21,15 @@ abbrev pub code_of : Status → ℕ
 code_of status.Done = 0
 code_of (status.OpenFailed what sealer) = 1
 code_of status.KeysetInClear = 1
-code_of status.VerifyFailed = 1
+code_of (status.Refused refused.VerifyFailed) = 1
 code_of status.NoKeyOf = 1
 code_of (status.StreamFailed number) = 1
 code_of status.NoWords = 2
 code_of (status.Usage misuse) = 2
-code_of status.UnknownTemplate = 2
-code_of status.AsymmetricTemplate = 2
+code_of (status.Refused refused.UnknownTemplate) = 2
+code_of (status.Refused refused.AsymmetricTemplate) = 2
 code_of status.DekTemplate = 2
-code_of (status.OutputTooLong asked greatest) = 2
+code_of (status.Refused (refused.OutputTooLong asked greatest)) = 2
 code_of status.PastEnd = 2
 code_of (status.BadProto at) = 3
 code_of (status.ProtoLocked at) = 3
@@ -37,13 +38,13 @@ code_of (status.Shape path) = 3
 code_of status.WrappedMember = 3
 code_of (status.Keyset fault) = 3
 code_of (status.KeysetLocked fault) = 3
-code_of (status.NoManager i) = 3
-code_of (status.BadKey i rule) = 3
-code_of (status.NotRaw i) = 3
+code_of (status.Refused (refused.NoManager i)) = 3
+code_of (status.Refused (refused.BadKey i rule)) = 3
+code_of (status.Refused (refused.NotRaw i)) = 3
 code_of status.NoDekManager = 3
 code_of (status.DekRefused rule) = 3
 code_of status.InMissing = 4
-code_of (status.Command fault) = 4
+code_of (status.Refused (refused.Command fault)) = 4
 code_of status.OutExists = 4
 code_of status.ReadFault = 5
 code_of status.WriteFault = 5
@@ -80,9 +81,9 @@ key_text (Some i) = codes " of key " ++ decimal i
 -- told by the same texts.
 unfoldable pub text_of : Status → List ℕ
 text_of status.Done = []
-text_of (status.OpenFailed what sealer) = refusal_text refused.OpenFailed
-text_of status.KeysetInClear = refusal_text refused.OpenFailed
-text_of status.VerifyFailed = refusal_text refused.VerifyFailed
+text_of (status.OpenFailed what sealer) = line_refusal_text lines.OpenFailed
+text_of status.KeysetInClear = line_refusal_text lines.OpenFailed
+text_of (status.Refused why) = refusal_text why
 text_of status.NoKeyOf = codes "no key of the keyset"
 text_of (status.StreamFailed number) = codes "stream failed at segment " ++ decimal number
 text_of status.NoWords = codes "usage: word 0"
@@ -95,24 +96,16 @@ text_of status.WrappedMember = codes "bad JSON member encryptedKeyset"
 text_of (status.Keyset fault) = fault_text fault
 text_of (status.KeysetLocked fault) = fault_text fault
 text_of status.KeysetTooLong = codes "keyset too long"
-text_of (status.NoManager i) = refusal_text (refused.NoManager i)
-text_of (status.BadKey i rule) = refusal_text (refused.BadKey i rule)
-text_of (status.NotRaw i) = refusal_text (refused.NotRaw i)
 text_of status.InMissing = codes "input file missing"
 text_of status.InputTooLong = codes "input too long"
 text_of status.TooManySegments = codes "too many segments"
 text_of status.LineTooLong = codes "line too long"
 text_of status.TooManyLines = codes "too many lines"
-text_of status.UnknownTemplate = refusal_text refused.UnknownTemplate
-text_of status.AsymmetricTemplate = refusal_text refused.AsymmetricTemplate
 text_of status.DekTemplate = codes "template is not an AEAD"
 text_of status.NoDekManager = codes "no manager for the data key"
 text_of (status.DekRefused rule) =
-    codes "data " ++ refusal_text (refused.EditRefused (edits.KeyRefused rule))
-text_of (status.OutputTooLong asked greatest) =
-    refusal_text (refused.OutputTooLong asked greatest)
+    codes "data " ++ refusal_text (refused.Command (edits.KeyRefused rule))
 text_of status.PastEnd = codes "range past the end"
-text_of (status.Command fault) = refusal_text (refused.EditRefused fault)
 text_of status.OutExists = codes "output file exists"
 text_of status.EntropyFault = codes "entropy fault"
 text_of status.ReadFault = codes "read fault"

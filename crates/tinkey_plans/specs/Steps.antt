@@ -20,6 +20,8 @@ use Rattle.tinkey_cmds.specs.Edits.{Edit, edit_then}
 use Rattle.tinkey_cmds.specs.declared.command.CmdError.{CmdError}
 use Rattle.tinkey_cmds.specs.declared.command.CmdError.TheVariants as given
 use Rattle.tinkey_cmds.specs.declared.command.CmdFault.{CmdFault}
+use Rattle.tinkey_session.specs.Serving.{no_template}
+use Rattle.tinkey_session.specs.declared.reply.Refusal.TheVariants as refused
 use Rattle.tinkey_plans.specs.declared.status.Status.{Status}
 use Rattle.tinkey_plans.specs.declared.status.Status.TheVariants as status
 use Rattle.tinkey_plans.specs.Ends.{World, Ends}
@@ -146,9 +148,7 @@ works_out value next = allocates (next value)
 -- the row goes on, or the name is refused
 abbrev pub with_row : Option Row → List ℕ → (Row → Plan) → Plan
 with_row (Some row) name next = next row
-with_row None name next =
-    if is_asymmetric name then ends status.AsymmetricTemplate tt
-    else ends status.UnknownTemplate tt
+with_row None name next = ends (status.Refused (no_template (is_asymmetric name))) tt
 
 -- the template of this name
 abbrev pub finds_template : List ℕ → (Row → Plan) → Plan
@@ -160,14 +160,14 @@ finds_edit asked next = edit_then finds_template asked next
 
 -- the status of an edit that gives no keyset
 abbrev pub edit_refusal : CmdError → Status
-edit_refusal (given.Refused fault) = status.Command fault
+edit_refusal (given.Refused fault) = status.Refused (refused.Command fault)
 edit_refusal given.EntropyFault = status.EntropyFault
 edit_refusal given.NoMemory = status.NoMemory
 
 -- what was made goes on, or the refusal of the edit is the answer
 abbrev pub with_made : {A : Type 0} → Result A CmdFault → (A → Plan) → Plan
 with_made (Ok value) next = next value
-with_made (Err fault) next = ends (status.Command fault) tt
+with_made (Err fault) next = ends (status.Refused (refused.Command fault)) tt
 
 -- the keyset that random bytes give
 abbrev pub makes_keyset : Draw Keys → (Keys → Plan) → Plan

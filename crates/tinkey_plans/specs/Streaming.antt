@@ -13,6 +13,7 @@ use Rattle.segment_stream.specs.StreamKeys.{StreamUnfit, not_stream, bad_key, st
 use Rattle.segment_stream.specs.declared.keys.StreamKeysFault.{StreamKeysFault}
 use Rattle.segment_stream.specs.declared.keys.StreamKeysFault.TheVariants as key_faults
 use Rattle.tinkey_cmds.specs.Draws.{fill}
+use Rattle.tinkey_session.specs.declared.reply.Refusal.TheVariants as refused
 use Rattle.tinkey_plans.specs.declared.status.Status.{Status}
 use Rattle.tinkey_plans.specs.declared.status.Status.TheVariants as status
 use Rattle.tinkey_words.specs.declared.words.rows.Format.{Format}
@@ -24,8 +25,8 @@ use Rattle.tinkey_words.specs.Words.{Lock}
 -- the rest goes on, or the record that gives no key for streams is refused
 abbrev pub unless_unfit : Option (ℕ × StreamUnfit) → Plan → Plan
 unless_unfit None next = next
-unless_unfit (Some (i, not_stream)) next = ends (status.NoManager i) tt
-unless_unfit (Some (i, bad_key rule)) next = ends (status.BadKey i rule) tt
+unless_unfit (Some (i, not_stream)) next = ends (status.Refused (refused.NoManager i)) tt
+unless_unfit (Some (i, bad_key rule)) next = ends (status.Refused (refused.BadKey i rule)) tt
 
 -- the keys for streams of a keyset
 abbrev pub keys_for : Keys → Option KeysForStreams
@@ -66,6 +67,6 @@ reseals_stream keys ad =
 
 -- the status of a keyset that gives no keys for streams, and of want of memory
 abbrev pub stream_keys_refusal : StreamKeysFault → Status
-stream_keys_refusal (key_faults.NotStream i) = status.NoManager i
-stream_keys_refusal (key_faults.BadKey i rule) = status.BadKey i rule
+stream_keys_refusal (key_faults.NotStream i) = status.Refused (refused.NoManager i)
+stream_keys_refusal (key_faults.BadKey i rule) = status.Refused (refused.BadKey i rule)
 stream_keys_refusal key_faults.NoMemory = status.NoMemory

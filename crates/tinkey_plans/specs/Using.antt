@@ -7,6 +7,7 @@ use Rattle.key_msgs.specs.declared.primitive.Primitive.{Primitive}
 use Rattle.keyset_model.specs.Keyset.{Keys}
 use Rattle.managers.specs.Table.{Table}
 use Rattle.tinkey_cmds.specs.Draws.{Draw, Drawn}
+use Rattle.tinkey_session.specs.declared.reply.Refusal.TheVariants as refused
 use Rattle.wrapped_prims.specs.Answers.{Sealed, seal_answer, open_answer, dseal_answer, dopen_answer, tag_answer, verify_answer, derive_answer}
 use Rattle.wrapped_prims.specs.Making.{IsOver}
 use Rattle.wrapped_prims.specs.declared.held.Held.{Held}
@@ -40,7 +41,7 @@ with_opened what sealer (Some plain) next = next plain
 -- the tag is one of the keyset's, and nothing is put out; or it isn't
 abbrev pub with_verified : Bool → (List ℕ → Plan) → Plan
 with_verified true next = next []
-with_verified false next = ends status.VerifyFailed tt
+with_verified false next = ends (status.Refused refused.VerifyFailed) tt
 
 -- what the primary key makes; each keyset whose records can serve has one (laws::fit_keysets_answer)
 abbrev pub made_bytes : Option (List ℕ) → List ℕ
@@ -51,7 +52,7 @@ made_bytes (Some bytes) = bytes
 abbrev pub with_derived : ℕ → Option (Result (List ℕ) ℕ) → (List ℕ → Plan) → Plan
 with_derived asked None next = next []
 with_derived asked (Some (Ok bytes)) next = next bytes
-with_derived asked (Some (Err greatest)) next = ends (status.OutputTooLong asked greatest) tt
+with_derived asked (Some (Err greatest)) next = ends (status.Refused (refused.OutputTooLong asked greatest)) tt
 
 -- a plaintext, sealed under the primary key
 abbrev pub seals_plain : Table → Keys → (plain ad : List ℕ) → (List ℕ → Plan) → Plan

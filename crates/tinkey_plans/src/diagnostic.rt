@@ -2,7 +2,7 @@
 
 ghost use Rattle.std.specs.Prelude.{◌≡◌, ◌+◌, ◌≤◌, ◌++◌, length, codes, decimal};
 ghost use Rattle.keyset_json.specs.Members.{name_of};
-ghost use Rattle.tinkey_session.specs.Texts.{refusal_text};
+ghost use Rattle.tinkey_session.specs.Texts.{line_refusal_text, refusal_text};
 ghost use Rattle.tinkey_plans.specs.Status.{key_text, line_of, behind_line, locked_line, in_clear_line, text_of, fault_text, Reports, Wrote};
 ghost use Rattle.tinkey_cmds.specs.declared.command.CmdFault.TheVariants as edits;
 ghost use Rattle.tinkey_session.specs.declared.reply.Refusal.TheVariants as refused;
@@ -15,7 +15,7 @@ use keyset_json::{Member, Path};
 use keyset_model::KeysetFault;
 use tink_base::{Sink, write_all};
 use tinkey_cmds::CmdFault;
-use tinkey_session::{Refusal, ShortText, refusal_text};
+use tinkey_session::{LineRefusal, Refusal, ShortText, line_refusal_text, refusal_text};
 use tinkey_words::Topic;
 
 /// Writes the line of a status, and what follows it: the list of the commands if there was no word,
@@ -111,8 +111,10 @@ fn push_text(line: &mut ShortText, status: Status)
 {
     match status {
         Status::Done => {}
-        Status::OpenFailed(_, _) | Status::KeysetInClear => push_refusal(line, Refusal::OpenFailed),
-        Status::VerifyFailed => push_refusal(line, Refusal::VerifyFailed),
+        Status::OpenFailed(_, _) | Status::KeysetInClear => {
+            push_refusal(line, LineRefusal::OpenFailed);
+        }
+        Status::Refused(why) => push_refusal(line, LineRefusal::Refused(why)),
         Status::NoKeyOf => line.push("no key of the keyset"),
         Status::StreamFailed(number) => push_segment(line, number),
         Status::NoWords => line.push("usage: word 0"),
@@ -127,23 +129,14 @@ fn push_text(line: &mut ShortText, status: Status)
         Status::Keyset(fault) | Status::KeysetLocked(fault) => push_fault(line, fault),
         Status::KeysetTooLong => line.push("keyset too long"),
         Status::InMissing => line.push("input file missing"),
-        Status::NoManager(i) => push_refusal(line, Refusal::NoManager(i)),
-        Status::BadKey(i, rule) => push_refusal(line, Refusal::BadKey(i, rule)),
-        Status::NotRaw(i) => push_refusal(line, Refusal::NotRaw(i)),
         Status::InputTooLong => line.push("input too long"),
         Status::TooManySegments => line.push("too many segments"),
         Status::LineTooLong => line.push("line too long"),
         Status::TooManyLines => line.push("too many lines"),
-        Status::UnknownTemplate => push_refusal(line, Refusal::UnknownTemplate),
-        Status::AsymmetricTemplate => push_refusal(line, Refusal::AsymmetricTemplate),
         Status::DekTemplate => line.push("template is not an AEAD"),
         Status::NoDekManager => line.push("no manager for the data key"),
         Status::DekRefused(rule) => push_data_key(line, rule),
-        Status::OutputTooLong(asked, greatest) => {
-            push_refusal(line, Refusal::OutputTooLong(asked, greatest));
-        }
         Status::PastEnd => line.push("range past the end"),
-        Status::Command(fault) => push_refusal(line, Refusal::EditRefused(fault)),
         Status::OutExists => line.push("output file exists"),
         Status::EntropyFault => line.push("entropy fault"),
         Status::StoreFault => line.push("store fault"),
@@ -217,23 +210,23 @@ fn push_fault(line: &mut ShortText, fault: KeysetFault)
 }
 
 /// Adds the text of a refusal, as a line of a session is told it too, for which there is room.
-fn push_refusal(line: &mut ShortText, refusal: Refusal)
+fn push_refusal(line: &mut ShortText, refusal: LineRefusal)
     requires room { length line.old ≤ 16 }
-    ensures text { line.new ≡ line.old ++ refusal_text refusal }
+    ensures text { line.new ≡ line.old ++ line_refusal_text refusal }
     ensures short { length line.new ≤ 127 }
 {
-    line.push_bytes(refusal_text(refusal).as_slice());
+    line.push_bytes(line_refusal_text(refusal).as_slice());
 }
 
 /// Adds that a data key breaks a rule, for which there is room.
 fn push_data_key(line: &mut ShortText, rule: Rule)
     requires room { length line.old ≤ 8 }
     ensures text { line.new ≡ line.old ++
-        (codes "data " ++ refusal_text (refused.EditRefused (edits.KeyRefused rule))) }
+        (codes "data " ++ refusal_text (refused.Command (edits.KeyRefused rule))) }
     ensures short { length line.new ≤ 127 }
 {
     line.push("data ");
-    line.push_bytes(refusal_text(Refusal::EditRefused(CmdFault::KeyRefused(rule))).as_slice());
+    line.push_bytes(refusal_text(Refusal::Command(CmdFault::KeyRefused(rule))).as_slice());
 }
 
 /// Adds what is said of the key at this place.

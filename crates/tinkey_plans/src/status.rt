@@ -6,9 +6,14 @@ use crate::{Sealer, Unopened};
 use key_msgs::Rule;
 use keyset_json::Path;
 use keyset_model::KeysetFault;
+use segment_stream::StreamKeysFault;
+use stream_range::RangeFault;
 use tink_base::NoMemory;
-use tinkey_cmds::CmdFault;
+use tinkey_cmds::CmdError;
+use tinkey_selftest::SelfTestFault;
+use tinkey_session::{Refusal, refusal_in};
 use tinkey_words::Misuse;
+use wrapped_prims::HandleFault;
 
 /// How a run ends, with the place where it was refused.
 ///
@@ -22,8 +27,9 @@ pub enum Status {
     OpenFailed(Unopened, Sealer),
     /// The master opens no keyset in the text, which is a keyset in clear.
     KeysetInClear,
-    /// The tag is none of the keyset's keys.
-    VerifyFailed,
+    /// It is refused as a line of a session is: for the name of a template, for the first record that can't
+    /// serve, for the length or the edit that is asked for, or because the tag is none of the keyset's keys.
+    Refused(Refusal),
     /// No key of the keyset has the output prefix in front of the input, and each has one.
     NoKeyOf,
     /// The first segment of the stream, counted from 0, that doesn't authenticate in its place.
@@ -50,12 +56,6 @@ pub enum Status {
     KeysetTooLong,
     /// The file of the keyset, or of the stream, is missing.
     InMissing,
-    /// The record of this place has a type URL that no manager of the command has.
-    NoManager(usize),
-    /// The record of this place breaks this rule of its key message, the first one.
-    BadKey(usize, Rule),
-    /// The record of this place has an output prefix, where the command has no place for one.
-    NotRaw(usize),
     /// The input has more than 16,777,216 bytes, or 16,778,240 where it is to be opened.
     InputTooLong,
     /// A byte follows 2^32 segments of the stream.
@@ -64,22 +64,14 @@ pub enum Status {
     LineTooLong,
     /// The session has more than 100,000 lines.
     TooManyLines,
-    /// No template is known by the name.
-    UnknownTemplate,
-    /// The template is one of Tink for asymmetric keys.
-    AsymmetricTemplate,
     /// The template of data keys is none of an AEAD.
     DekTemplate,
     /// No manager has the type URL of the data keys.
     NoDekManager,
     /// The first rule of its manager that the new data key breaks.
     DekRefused(Rule),
-    /// So many bytes were asked for, and the primary key gives at most so many.
-    OutputTooLong(usize, usize),
     /// The range ends behind the plaintext.
     PastEnd,
-    /// The edit is refused so.
-    Command(CmdFault),
     /// A file of the output's name is there.
     OutExists,
     /// The source failed.
@@ -105,15 +97,17 @@ impl Status {
             Status::Done => 0,
             Status::OpenFailed(_, _)
             | Status::KeysetInClear
-            | Status::VerifyFailed
+            | Status::Refused(Refusal::VerifyFailed)
             | Status::NoKeyOf
             | Status::StreamFailed(_) => 1,
             Status::NoWords
             | Status::Usage(_)
-            | Status::UnknownTemplate
-            | Status::AsymmetricTemplate
+            | Status::Refused(
+                Refusal::UnknownTemplate
+                | Refusal::AsymmetricTemplate
+                | Refusal::OutputTooLong(_, _),
+            )
             | Status::DekTemplate
-            | Status::OutputTooLong(_, _)
             | Status::PastEnd => 2,
             Status::BadProto(_)
             | Status::ProtoLocked(_)
@@ -122,12 +116,10 @@ impl Status {
             | Status::WrappedMember
             | Status::Keyset(_)
             | Status::KeysetLocked(_)
-            | Status::NoManager(_)
-            | Status::BadKey(_, _)
-            | Status::NotRaw(_)
+            | Status::Refused(Refusal::NoManager(_) | Refusal::BadKey(_, _) | Refusal::NotRaw(_))
             | Status::NoDekManager
             | Status::DekRefused(_) => 3,
-            Status::InMissing | Status::Command(_) | Status::OutExists => 4,
+            Status::InMissing | Status::Refused(Refusal::Command(_)) | Status::OutExists => 4,
             Status::ReadFault | Status::WriteFault | Status::EntropyFault | Status::StoreFault => 5,
             Status::KeysetTooLong
             | Status::InputTooLong
@@ -146,5 +138,84 @@ impl From<NoMemory> for Status {
 
     fn from(_error: NoMemory) -> Status {
         Status::NoMemory
+    }
+}
+
+impl From<Refusal> for Status {
+    ghost use Rattle.tinkey_plans.specs.declared.status.Status.TheVariants as status;
+
+    ghost from_gives = { λ why s. s ≡ status.Refused why };
+
+    fn from(why: Refusal) -> Status {
+        Status::Refused(why)
+    }
+}
+
+impl From<HandleFault> for Status {
+    ghost use Rattle.tinkey_plans.specs.Handles.{handle_refusal};
+
+    ghost from_gives = { λ fault s. s ≡ handle_refusal fault };
+
+    fn from(fault: HandleFault) -> Status {
+        match refusal_in(fault) {
+            Some(why) => Status::Refused(why),
+            None => Status::NoMemory,
+        }
+    }
+}
+
+impl From<StreamKeysFault> for Status {
+    ghost use Rattle.tinkey_plans.specs.Streaming.{stream_keys_refusal};
+
+    ghost from_gives = { λ fault s. s ≡ stream_keys_refusal fault };
+
+    fn from(fault: StreamKeysFault) -> Status {
+        match fault {
+            StreamKeysFault::NotStream(i) => Status::Refused(Refusal::NoManager(i)),
+            StreamKeysFault::BadKey(i, rule) => Status::Refused(Refusal::BadKey(i, rule)),
+            StreamKeysFault::NoMemory => Status::NoMemory,
+        }
+    }
+}
+
+impl From<CmdError> for Status {
+    ghost use Rattle.tinkey_plans.specs.Steps.{edit_refusal};
+
+    ghost from_gives = { λ error s. s ≡ edit_refusal error };
+
+    fn from(error: CmdError) -> Status {
+        match error {
+            CmdError::Refused(fault) => Status::Refused(Refusal::Command(fault)),
+            CmdError::EntropyFault => Status::EntropyFault,
+            CmdError::NoMemory => Status::NoMemory,
+        }
+    }
+}
+
+impl From<RangeFault> for Status {
+    ghost use Rattle.tinkey_plans.specs.Ranging.{range_status};
+
+    ghost from_gives = { λ fault s. s ≡ range_status fault };
+
+    fn from(fault: RangeFault) -> Status {
+        match fault {
+            RangeFault::StreamFailed(number) => Status::StreamFailed(number),
+            RangeFault::PastEnd => Status::PastEnd,
+            RangeFault::ReadFault => Status::StoreFault,
+            RangeFault::NoMemory => Status::NoMemory,
+        }
+    }
+}
+
+impl From<SelfTestFault> for Status {
+    ghost use Rattle.tinkey_plans.specs.SelfTesting.{self_test_refusal};
+
+    ghost from_gives = { λ fault s. s ≡ self_test_refusal fault };
+
+    fn from(fault: SelfTestFault) -> Status {
+        match fault {
+            SelfTestFault::Refused(fault) => Status::Refused(Refusal::Command(fault)),
+            SelfTestFault::NoMemory => Status::NoMemory,
+        }
     }
 }

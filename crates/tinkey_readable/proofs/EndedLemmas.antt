@@ -30,7 +30,7 @@ use Rattle.tinkey_session.specs.Texts.{reply_text}
 use Rattle.tinkey_session.specs.declared.talk.TalkFault.{TalkFault}
 use Rattle.tinkey_session.specs.declared.talk.TalkFault.TheVariants as talk_faults
 use Rattle.tinkey_cmds.specs.declared.command.CmdFault.{CmdFault}
-use Rattle.wrapped_prims.specs.Fitness.{Unfit, NoManager, BadKey, NotRaw, unfit}
+use Rattle.wrapped_prims.specs.Fitness.{Unfit, unfit}
 use Rattle.wrapped_prims.specs.Laws.{IsKeyset}
 use Rattle.tinkey_plans.specs.declared.status.Status.{Status}
 use Rattle.seal_wrap.specs.Unwrapped.{is_wrapped_binary, is_wrapped_json}
@@ -432,9 +432,7 @@ lock_ends readable law fit table lock of_lock over name bytes form out keys told
     by_fit None run =
         let r = text_ends readable law fit table (Some over) name bytes form out keys told mid s new mid_tells there gives run in
         record { answered = r.answered; later = r.later; cut = r.cut; all = r.all; whole = r.whole; took = r.took; front = r.front; readable = r.readable }
-    by_fit (Some (i, NoManager)) (is, same) = none_written table keys told old s new (λ h. absurd (cc)) (λ h. absurd (cc)) (ap (λ (w : World). w.sink) same)
-    by_fit (Some (i, BadKey rule)) (is, same) = none_written table keys told old s new (λ h. absurd (cc)) (λ h. absurd (cc)) (ap (λ (w : World). w.sink) same)
-    by_fit (Some (i, NotRaw)) (is, same) = none_written table keys told old s new (λ h. absurd (cc)) (λ h. absurd (cc)) (ap (λ (w : World). w.sink) same)
+    by_fit (Some found) (is, same) = none_written table keys told old s new (λ h. absurd (cc)) (λ h. absurd (cc)) (ap (λ (w : World). w.sink) same)
 
     by_handles : Ends (fits over) mid s new → HasReplies table keys told old s new
     by_handles (inl run) = by_fit (unfit over Aead table) run

@@ -1,9 +1,9 @@
 -- Envelopes that were sealed before runs, and opened after them.
-use Rattle.std.proofs.Common.{◌≡◌, ◌∙◌, sym, refl, ap, subst, ℕ, ◌≤◌, Bool, true, false, List, [], length, Option, Some, None, Result, Ok, Err}
-use Rattle.std.specs.Prelude.{if◌then◌else◌, option_map}
+use Rattle.std.proofs.Common.{◌≡◌, ◌∙◌, sym, refl, ap, subst, ℕ, ◌≤◌, List, [], length, Option, Some, None, Result, Ok, Err}
+use Rattle.std.specs.Prelude.{option_map}
 use Rattle.std.proofs.lemmas.Option.{same_Some}
 use Rattle.key_msgs.specs.KeyTypes.{primitive_of_type}
-use Rattle.key_msgs.specs.Templates.{Row, is_asymmetric, row_named, type_made}
+use Rattle.key_msgs.specs.Templates.{Row, row_named, type_made}
 use Rattle.key_msgs.specs.declared.primitive.Primitive.{Primitive}
 use Rattle.key_msgs.specs.declared.primitive.Primitive.TheVariants.{Aead, Daead, Mac, Prf, Stream}
 use Rattle.key_msgs.specs.declared.rule.Rule.{Rule}
@@ -25,7 +25,7 @@ use Rattle.tinkey_words.specs.declared.words.rows.Format.{Format}
 use Rattle.tinkey_words.specs.Words.{AskedEnvelope, Lock, to_eseal}
 use Rattle.tinkey_plans.specs.Locks.{loads_locked}
 use Rattle.tinkey_plans.specs.Envelopes.{as_enveloped, envelope_limit, envelope_output, envelopes, finds_dek, finds_scheme, with_aead, with_enveloped, with_scheme}
-use Rattle.tinkey_plans.specs.Plan.{Answer, Plan, Told, answer, draw_answer, ends, refused, writes}
+use Rattle.tinkey_plans.specs.Plan.{Answer, Plan, Told, answer, draw_answer, refused, writes}
 use Rattle.tinkey_plans.specs.Steps.{reads_input, with_made, with_row}
 use Rattle.tinkey_plans.specs.Handles.{handles, unless_unfit}
 use Rattle.tinkey_readable.specs.Lying.{LiesBehind}
@@ -56,13 +56,9 @@ dek_done name next told done = by (row_named name) refl done
     by_aead row Prf is aead done = absurd (cc)
     by_aead row Stream is aead done = absurd (cc)
 
-    by_asymmetric : (b : Bool) → IsDoneAnswer (answer (if b then ends status.AsymmetricTemplate tt else ends status.UnknownTemplate tt) told) → FoundDek name next told
-    by_asymmetric true done = absurd (cc)
-    by_asymmetric false done = absurd (cc)
-
     by : (found : Option Row) → row_named name ≡ found → IsDoneAnswer (answer (with_row found name (λ r. with_aead (primitive_of_type (type_made r)) (next r))) told) → FoundDek name next told
     by (Some row) is done = by_aead row (primitive_of_type (type_made row)) is refl done
-    by None is done = by_asymmetric (is_asymmetric name) done
+    by None is done = absurd (cc)
 
 -- ---- its scheme
 

@@ -20,6 +20,7 @@ use Rattle.tinkey_session.specs.Session.{Remains, Turn, asked_in, lines_of, rema
 use Rattle.tinkey_session.specs.TalkLaws.{TalkIsTurns}
 use Rattle.tinkey_session.specs.Talking.{line_limit, talk}
 use Rattle.tinkey_session.specs.declared.reply.Reply.{Reply}
+use Rattle.tinkey_session.specs.declared.reply.LineRefusal.TheVariants.{Refused}
 use Rattle.tinkey_session.specs.declared.reply.Reply.TheVariants.{Gives, Refuses}
 use Rattle.wrapped_prims.specs.Answers.{Sealed, dopen_answer, open_answer, seal_answer, verify_answer}
 use Rattle.wrapped_prims.specs.Fitness.{unfit}
@@ -48,7 +49,7 @@ pub gave : (p : Primitive) (keys : Keys) (random : List ℕ) (served : Option Se
     → (unfit keys p standard_table ≡ None) × (served ≡ Some x)
 gave p keys random served x bytes e reply = elim (handle_cases (unfit keys p standard_table) keys random served x e) [
   | inl is ↦ is
-  | inr other ↦ let h : Refuses (cannot_serve other.0.0 other.0.1) ≡ Gives bytes = ap (λ y. y.reply) other.1 ∙ reply in absurd (cc)
+  | inr other ↦ let h : Refuses (Refused (cannot_serve other.0.0 other.0.1)) ≡ Gives bytes = ap (λ y. y.reply) other.1 ∙ reply in absurd (cc)
 ]
 
 pub same_bytes : (a b : List ℕ) → Gives a ≡ Gives b → a ≡ b

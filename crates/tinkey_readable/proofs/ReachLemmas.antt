@@ -7,7 +7,7 @@ use Rattle.std.specs.Result.{result_ok}
 use Rattle.std.proofs.lemmas.Bool.{leb-true}
 use Rattle.std.proofs.lemmas.Bool.Decides.{nat_tests}
 use Rattle.std.proofs.lemmas.Cmp.{eq_by_cmp_equiv, nat_list_cmp_total}
-use Rattle.key_msgs.specs.Templates.{Row, is_asymmetric, row_named}
+use Rattle.key_msgs.specs.Templates.{Row, row_named}
 use Rattle.keyset_json.specs.Reading.{reads_json}
 use Rattle.keyset_model.specs.Keyset.{Keys}
 use Rattle.keyset_model.specs.Reading.{reads_binary}
@@ -17,7 +17,7 @@ use Rattle.tinkey_cmds.specs.Edits.{Edit}
 use Rattle.tinkey_cmds.specs.Edits as edits
 use Rattle.tinkey_cmds.specs.declared.command.CmdFault.{CmdFault}
 use Rattle.tinkey_session.proofs.Options.{clash}
-use Rattle.wrapped_prims.specs.Fitness.{Unfit, NoManager, BadKey, NotRaw, unfit}
+use Rattle.wrapped_prims.specs.Fitness.{Unfit, unfit}
 use Rattle.seal_wrap.specs.Unwrapped.{is_wrapped_binary, is_wrapped_json}
 use Rattle.tinkey_plans.specs.declared.status.Status.TheVariants as status
 use Rattle.tinkey_words.specs.declared.words.rows.Format.{Format}
@@ -126,11 +126,7 @@ pub record FoundEdit (asked : AskedEdit) (next : Edit → Plan) (told : Told) : 
 
 pub found_row : (row : Option Row) (name : List ℕ) (next : Row → Plan) (told : Told) → IsDoneAnswer (answer (with_row row name next) told) → (r : Row) × (row ≡ Some r) × (answer (with_row row name next) told ≡ answer (next r) told)
 found_row (Some r) name next told done = (r, refl, refl)
-found_row None name next told done = by_test (is_asymmetric name) done
-  where
-    by_test : (b : Bool) → IsDoneAnswer (answer (if b then ends status.AsymmetricTemplate tt else ends status.UnknownTemplate tt) told) → (r : Row) × (None ≡ Some r) × (answer (if b then ends status.AsymmetricTemplate tt else ends status.UnknownTemplate tt) told ≡ answer (next r) told)
-    by_test true done = absurd (cc)
-    by_test false done = absurd (cc)
+found_row None name next told done = absurd (cc)
 
 pub found_edit : (asked : AskedEdit) (next : Edit → Plan) (told : Told) → IsDoneAnswer (answer (finds_edit asked next) told) → FoundEdit asked next told
 found_edit (edits.Add name) next told done = let f = found_row (row_named name) name (λ row. next (edits.Add row)) told done in record { edit = edits.Add f.0; is = ap (option_and_then (λ row. Some (edits.Add row))) f.1; goes_on = f.2 }
@@ -209,9 +205,7 @@ put_done out keys told done = by (nat_le (length bytes) keyset_limit) refl done
 
 pub unfit_done : (u : Option (ℕ × Unfit)) (next : Plan) (told : Told) → IsDoneAnswer (answer (unless_unfit u next) told) → u ≡ None
 unfit_done None next told done = refl
-unfit_done (Some (i, NoManager)) next told done = absurd (cc)
-unfit_done (Some (i, BadKey rule)) next told done = absurd (cc)
-unfit_done (Some (i, NotRaw)) next told done = absurd (cc)
+unfit_done (Some found) next told done = absurd (cc)
 
 -- the whole input, within a limit
 pub input_done : (limit : ℕ) (next : List ℕ → Plan) (told : Told) → IsDoneAnswer (answer (reads_input limit next) told) → answer (reads_input limit next) told ≡ answer (next told.input) (record told { input = [] })

@@ -12,11 +12,12 @@ use Rattle.seal_wrap.specs.Wrapped.{Wrapped, wrap_of}
 use Rattle.tink_spec.specs.Outside.{Took}
 use Rattle.tinkey_cmds.specs.Draws.{Drawn}
 use Rattle.tinkey_session.specs.Lines.{Line, line_of}
+use Rattle.tinkey_session.specs.Serving.{cannot_serve}
 use Rattle.tinkey_session.specs.Session.{Turn, lines_of, turns}
 use Rattle.tinkey_session.specs.SessionLaws.{HasTurns, SessionDopens, SessionDopensPresent, SessionOpens, SessionOpensPresent, SessionVerifies}
 use Rattle.tinkey_session.specs.TalkLaws.{TalkIsTurns}
 use Rattle.tinkey_session.specs.Talking.{Stop, goes, wants, passes, long_line, many_lines, Talk, talk}
-use Rattle.wrapped_prims.specs.Fitness.{Unfit, NoManager, BadKey, NotRaw, unfit}
+use Rattle.wrapped_prims.specs.Fitness.{Unfit, unfit}
 use Rattle.wrapped_prims.specs.Laws.{IsKeyset}
 use Rattle.tinkey_plans.specs.declared.status.Status.{Status}
 use Rattle.tinkey_plans.specs.declared.status.Status.TheVariants as status
@@ -193,9 +194,7 @@ lock_replied table lock bytes over next keys told old s new there read stated a 
 
     by_fit : (u : Option (ℕ × Unfit)) → IsAnswer (answer (unless_unfit u (next (Some over))) told) old s new → HasReplies table keys told old s new
     by_fit None a = later a
-    by_fit (Some (i, NoManager)) a = none (status.NoManager i) (λ h. absurd (cc)) a.status a.output
-    by_fit (Some (i, BadKey rule)) a = none (status.BadKey i rule) (λ h. absurd (cc)) a.status a.output
-    by_fit (Some (i, NotRaw)) a = none (status.NotRaw i) (λ h. absurd (cc)) a.status a.output
+    by_fit (Some found) a = none (status.Refused (cannot_serve found.0 found.1)) (λ h. absurd (cc)) a.status a.output
 
     by : (t : Bool) → IsAnswer (if t then answer (keyset_in lock.form bytes fits) told else refused told status.KeysetTooLong) old s new → HasReplies table keys told old s new
     by true a = by_fit (unfit over Aead table) (subst (λ x. IsAnswer x old s new) (keyset_reached lock.form bytes over fits told read) a)

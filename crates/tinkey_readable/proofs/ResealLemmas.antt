@@ -12,7 +12,7 @@ use Rattle.tinkey_session.proofs.Options.{map_some, no_truth}
 use Rattle.tinkey_session.specs.Laws.{KeptDopen, KeptOpen}
 use Rattle.tinkey_session.specs.Lines.{Dreseal, Reseal}
 use Rattle.tinkey_session.specs.Serving.{Served, answered, computed, if_opened, sealed_reply, serve}
-use Rattle.tinkey_session.specs.declared.reply.Refusal.TheVariants.{OpenFailed}
+use Rattle.tinkey_session.specs.declared.reply.LineRefusal.TheVariants.{OpenFailed}
 use Rattle.tinkey_session.specs.declared.reply.Reply.TheVariants.{Gives, Refuses}
 use Rattle.wrapped_prims.specs.Answers.{Sealed, dopen_answer, dseal_answer, open_answer, seal_answer}
 use Rattle.wrapped_prims.specs.Laws.{HasSameKey, IsKeyset}

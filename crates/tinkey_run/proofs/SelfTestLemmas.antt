@@ -1,6 +1,7 @@
 -- The step of a self-test.
 use Rattle.std.proofs.Common.{◌≡◌, refl, sym, subst, inl, inr, ℕ, List, Result, Ok, Err}
 use Rattle.tinkey_cmds.specs.declared.command.CmdFault.{CmdFault}
+use Rattle.tinkey_session.specs.declared.reply.Refusal.TheVariants.{Command}
 use Rattle.tinkey_selftest.specs.Telling.{counts_text}
 use Rattle.tinkey_selftest.specs.declared.counts.Counts.{Counts}
 use Rattle.tinkey_plans.specs.declared.status.Status.{Status}
@@ -21,5 +22,5 @@ counted_passes lines stated n (Err e) w is told none = λ next. inr (none, refl)
 
 -- there is no first keyset, or memory was refused
 pub uncounted_passes : (lines : ℕ) (stated : Result Counts CmdFault) (fault : SelfTestFault) (w : World) → Tests stated (Err fault) → (next : List ℕ → Plan) → Ends (tells_counts lines stated next) w (self_test_refusal fault) w
-uncounted_passes lines stated (faults.Refused fault) w is next = inl (subst (λ x. Ends (with_made x (λ m. next (counts_text lines m))) w (status.Command fault) w) (sym is) (refl, refl))
+uncounted_passes lines stated (faults.Refused fault) w is next = inl (subst (λ x. Ends (with_made x (λ m. next (counts_text lines m))) w (status.Refused (Command fault)) w) (sym is) (refl, refl))
 uncounted_passes lines stated faults.NoMemory w is next = inr (refl, refl)

@@ -18,8 +18,10 @@ use Rattle.managers.specs.Uses.{iv_size, seal_of}
 use Rattle.tink_spec.specs.Outside.{EntropyState, Drew, Stood}
 use Rattle.wrapped_prims.specs.Answers.{Sealed, dopen_answer, open_answer, primary_key, seal_behind, seal_under, seal_answer}
 use Rattle.wrapped_prims.specs.Candidates.{prefix_of, prefix_bytes}
-use Rattle.wrapped_prims.specs.Fitness.{key_of_record}
-use Rattle.wrapped_prims.specs.Making.{IsOver}
+use Rattle.wrapped_prims.specs.Fitness.{key_of_record, unfit}
+use Rattle.wrapped_prims.specs.Making.{IsFaultOf, IsOver}
+use Rattle.wrapped_prims.specs.declared.handle.HandleFault.{HandleFault}
+use Rattle.wrapped_prims.specs.declared.handle.HandleFault.TheVariants as faults
 use Rattle.wrapped_prims.specs.declared.held.Held.{Held}
 use Rattle.wrapped_prims.specs.Sealing.{IsSealing, IsSealFault}
 use Rattle.wrapped_prims.specs.declared.sealing.SealFault.TheVariants as seal_faults
@@ -33,7 +35,7 @@ use Rattle.tinkey_plans.specs.Steps.{reads_input, Passes}
 use Rattle.tinkey_words.specs.declared.words.rows.Format.{Format}
 use Rattle.tinkey_plans.proofs.StepLemmas.{passes_then, ends_there}
 use Rattle.std.specs.Result.{IsErrAnd}
-use Rattle.tinkey_plans.specs.Handles.{handles}
+use Rattle.tinkey_plans.specs.Handles.{handles, handle_refusal}
 use Rattle.tinkey_plans.specs.Locks.{loads_locked}
 use Rattle.tinkey_plans.specs.Sealers.{sealer_of}
 use Rattle.tinkey_plans.specs.declared.sealer.Sealer.{Sealer}
@@ -41,6 +43,13 @@ use Rattle.tinkey_plans.specs.declared.sealer.Unopened.{Unopened}
 use Rattle.tinkey_plans.specs.declared.sealer.Unopened.TheVariants as unopened
 use Rattle.tinkey_plans.specs.Using.{as_drawn, dseals_plain, limit_for, seals_plain, with_opened, works, use_output}
 use Rattle.tinkey_words.specs.Words.{AskedWork, Lock, to_seal, to_reseal, to_dreseal, primitive_for}
+
+-- a keyset that can't serve, or want of memory
+pub unfit_ends : (table : Table) (primitive : Primitive) (keys : Keys) (fault : HandleFault) (w : World) → IsFaultOf (unfit keys primitive table) fault → (next : Unit {0} → Plan) → Ends (handles table primitive keys next) w (handle_refusal fault) w
+unfit_ends table primitive keys (faults.NoManager i) w is next = rw is (inl (refl, refl))
+unfit_ends table primitive keys (faults.BadKey i rule) w is next = rw is (inl (refl, refl))
+unfit_ends table primitive keys (faults.NotRaw i) w is next = rw is (inl (refl, refl))
+unfit_ends table primitive keys faults.NoMemory w is next = inr (refl, refl)
 
 -- a step behind which memory isn't wanting
 pub behind_memory : {A : Type 0} (step : (A → Plan) → Plan) (old new : World) (r : Result A Status) → Passes step old r new → Passes (λ next. allocates (step next)) old r new

@@ -1,6 +1,6 @@
 //! create-keyset, and the commands that edit a keyset.
 
-ghost use Rattle.std.specs.Prelude.{◌≡◌, IfOk, Option, option_map};
+ghost use Rattle.std.specs.Prelude.{IfOk, Option, option_map};
 ghost use Rattle.std.specs.List.{AllByRecursion};
 ghost use Rattle.key_msgs.specs.Templates.{seen};
 ghost use Rattle.keyset_model.specs.Keyset.{Keys, IsShort};
@@ -8,7 +8,7 @@ ghost use Rattle.managers.specs.Table.{Table};
 ghost use Rattle.tinkey_cmds.specs.Edits.{first, step, seen_edit as seen_command};
 ghost use Rattle.tinkey_plans.specs.Ends.{World, world};
 ghost use Rattle.tinkey_plans.specs.Locks.{puts_under, takes_under, IsLock, IsSomeLock};
-ghost use Rattle.tinkey_plans.specs.Steps.{edit_refusal, finds_edit, makes_keyset, Finishes, Passes, PassesAs};
+ghost use Rattle.tinkey_plans.specs.Steps.{finds_edit, makes_keyset, Finishes, Passes, PassesAs};
 ghost use Rattle.tinkey_plans.specs.Commands.{command_plan};
 ghost use Rattle.tinkey_words.specs.Words.{create_keyset, edit_keyset, seen_edit, seen_lock, seen_place};
 
@@ -19,7 +19,7 @@ use keyset_model::Keyset;
 use managers::{KeyTable, Managers};
 use std::alloc::Global;
 use tink_base::{Entropy, Sink, Source, Store};
-use tinkey_cmds::{CmdError, Command, apply, create};
+use tinkey_cmds::{Command, apply, create};
 use tinkey_plans::Status;
 use tinkey_words::{Master, Place};
 
@@ -206,10 +206,8 @@ fn create_of<E: Entropy>(
         (record w { entropy = E.state entropy.new }) }
     ensures short { IfOk result (λ keyset. AllByRecursion IsShort keyset.records) }
 {
-    match create(alloc, template, entropy) {
-        Ok(keyset) => Ok(keyset),
-        Err(e) => Err(refusal(e)),
-    }
+    let keyset = create(alloc, template, entropy)?;
+    Ok(keyset)
 }
 
 /// The keyset after an edit.
@@ -225,19 +223,6 @@ fn edit_of<E: Entropy>(
         (record w { entropy = E.state entropy.new }) }
     ensures short { IfOk result (λ keyset. AllByRecursion IsShort keyset.records) }
 {
-    match apply(alloc, keyset, command, entropy) {
-        Ok(keyset) => Ok(keyset),
-        Err(e) => Err(refusal(e)),
-    }
-}
-
-/// The status of an edit that gives no keyset.
-fn refusal(e: CmdError) -> Status
-    ensures { result ≡ edit_refusal e }
-{
-    match e {
-        CmdError::Refused(fault) => Status::Command(fault),
-        CmdError::EntropyFault => Status::EntropyFault,
-        CmdError::NoMemory => Status::NoMemory,
-    }
+    let edited = apply(alloc, keyset, command, entropy)?;
+    Ok(edited)
 }

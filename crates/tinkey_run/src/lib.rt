@@ -28,4 +28,5 @@ pub use key_msgs::Rule;
 pub use keyset_model::KeysetFault;
 pub use tinkey_cmds::CmdFault;
 pub use tinkey_plans::{Sealer, Status, Unopened, starve};
+pub use tinkey_session::Refusal;
 pub use top::run;

@@ -7,7 +7,7 @@ ghost use Rattle.stream_range.specs.Stored.{bytes_in};
 ghost use Rattle.tink_spec.specs.Files.{HoldsSize, KeptFiles};
 ghost use Rattle.tink_spec.specs.Outside.{Rose, Stood};
 ghost use Rattle.tinkey_plans.specs.Ends.{World, GaveWithin};
-ghost use Rattle.tinkey_plans.specs.Ranging.{opened_or, opens_stretch, range_output, range_status, stretch_for};
+ghost use Rattle.tinkey_plans.specs.Ranging.{opened_or, opens_stretch, range_output, stretch_for};
 ghost use Rattle.tinkey_plans.specs.Steps.{Passes};
 ghost use Rattle.tinkey_plans.specs.Stretch.{GivesAtMost, stretch_in};
 ghost use Rattle.tinkey_words.specs.Words.{seen_datum, seen_lock, seen_range};
@@ -101,18 +101,6 @@ fn opened(range: Result<Vec<u8>, RangeFault>) -> Result<Bytes, Status>
 {
     match range {
         Ok(plain) => Ok(Bytes::own(plain)),
-        Err(fault) => Err(refusal(fault)),
-    }
-}
-
-/// The status of a range that isn't opened.
-fn refusal(fault: RangeFault) -> Status
-    ensures { result ≡ range_status fault }
-{
-    match fault {
-        RangeFault::StreamFailed(number) => Status::StreamFailed(number),
-        RangeFault::PastEnd => Status::PastEnd,
-        RangeFault::ReadFault => Status::StoreFault,
-        RangeFault::NoMemory => Status::NoMemory,
+        Err(fault) => Err(Status::from(fault)),
     }
 }

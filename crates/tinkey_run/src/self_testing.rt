@@ -3,7 +3,7 @@
 ghost use Rattle.std.specs.Prelude.{◌≡◌, IfOk, IfErr};
 ghost use Rattle.tinkey_selftest.specs.Telling.{counts_text};
 ghost use Rattle.tinkey_plans.specs.Ends.{World};
-ghost use Rattle.tinkey_plans.specs.SelfTesting.{self_test_output, self_test_refusal};
+ghost use Rattle.tinkey_plans.specs.SelfTesting.{self_test_output};
 ghost use Rattle.tinkey_plans.specs.Steps.{Passes};
 ghost use Rattle.tinkey_plans.specs.declared.status.Status.TheVariants as status;
 
@@ -11,7 +11,7 @@ use managers::{KeyTable, Managers};
 use std::alloc::Global;
 use tink_base::Bytes;
 use tinkey_plans::Status;
-use tinkey_selftest::{Counts, SelfTestFault, counts_text, self_test};
+use tinkey_selftest::{Counts, counts_text, self_test};
 
 /// selftest: the line of its counts.
 #[inline(never)]
@@ -24,20 +24,8 @@ pub(crate) fn tell_self_test(
     ensures { (w : World) → Passes
         (self_test_output (⟦<Managers as KeyTable>⟧.table managers.now) seed lines) w result w }
 {
-    match self_test(alloc, managers, seed, lines) {
-        Ok(counts) => tell_counts(alloc, lines, counts),
-        Err(fault) => Err(refusal(fault)),
-    }
-}
-
-/// The status of a self-test that counts nothing.
-fn refusal(fault: SelfTestFault) -> Status
-    ensures { result ≡ self_test_refusal fault }
-{
-    match fault {
-        SelfTestFault::Refused(fault) => Status::Command(fault),
-        SelfTestFault::NoMemory => Status::NoMemory,
-    }
+    let counts = self_test(alloc, managers, seed, lines)?;
+    tell_counts(alloc, lines, counts)
 }
 
 /// The line of the counts.

@@ -19,6 +19,7 @@ use tink_base::{
     Bytes, Loaded, NoMemory, ReadAllFault, Source, Store, StoreError, read_all, read_behind,
 };
 use tinkey_plans::Status;
+use tinkey_session::Refusal;
 use tinkey_words::Format;
 
 /// The most bytes of a keyset.
@@ -214,8 +215,8 @@ pub(crate) fn find_template(name: &str) -> Result<Template, Status>
     match template_named(name) {
         Ok(template) => Ok(template),
         Err(e) => match e {
-            TemplateFault::Asymmetric => Err(Status::AsymmetricTemplate),
-            TemplateFault::Unknown => Err(Status::UnknownTemplate),
+            TemplateFault::Asymmetric => Err(Status::Refused(Refusal::AsymmetricTemplate)),
+            TemplateFault::Unknown => Err(Status::Refused(Refusal::UnknownTemplate)),
         },
     }
 }

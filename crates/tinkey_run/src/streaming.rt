@@ -6,15 +6,13 @@ ghost use Rattle.segment_stream.specs.PumpModels.{pump_result};
 ghost use Rattle.tinkey_plans.specs.Ends.{World, pump_status};
 ghost use Rattle.tinkey_plans.specs.Plan.{Plan};
 ghost use Rattle.tinkey_plans.specs.Steps.{Finishes, Passes, status_of};
-ghost use Rattle.tinkey_plans.specs.Streaming.{loads_stream_keys, seals_stream, opens_stream, reseals_stream, stream_keys_refusal};
+ghost use Rattle.tinkey_plans.specs.Streaming.{loads_stream_keys, seals_stream, opens_stream, reseals_stream};
 ghost use Rattle.tinkey_words.specs.Words.{seen_datum, seen_lock};
 
 use crate::locks::load_locked;
 use crate::using::datum;
 use managers::{KeyTable, Managers};
-use segment_stream::{
-    OpenPumpFault, Opener, SealPumpFault, Sealer, SealerFault, StreamKeys, StreamKeysFault,
-};
+use segment_stream::{OpenPumpFault, Opener, SealPumpFault, Sealer, SealerFault, StreamKeys};
 use std::alloc::Global;
 use tink_base::{Entropy, Sink, Source, Store};
 use tinkey_plans::Status;
@@ -37,21 +35,8 @@ pub(crate) fn load_stream_keys<D: Store>(
     ensures sound { IfOk result AreSound }
 {
     let keyset = load_locked(alloc, managers, lock, name, form, store)?;
-    match StreamKeys::new(alloc, &keyset) {
-        Ok(keys) => Ok(keys),
-        Err(fault) => Err(refusal(fault)),
-    }
-}
-
-/// The status of a keyset that gives no keys for streams.
-fn refusal(fault: StreamKeysFault) -> Status
-    ensures { result ≡ stream_keys_refusal fault }
-{
-    match fault {
-        StreamKeysFault::NotStream(i) => Status::NoManager(i),
-        StreamKeysFault::BadKey(i, rule) => Status::BadKey(i, rule),
-        StreamKeysFault::NoMemory => Status::NoMemory,
-    }
+    let keys = StreamKeys::new(alloc, &keyset)?;
+    Ok(keys)
 }
 
 /// sseal: seals the input as a stream under the primary key.

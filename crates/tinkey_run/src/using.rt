@@ -7,7 +7,7 @@ ghost use Rattle.wrapped_prims.specs.Rooms.{dseal_room, seal_room};
 ghost use Rattle.tinkey_run.specs.Rooms.{room_for};
 ghost use Rattle.tinkey_plans.specs.Ends.{World};
 ghost use Rattle.tinkey_plans.specs.Steps.{Passes, PassesAs};
-ghost use Rattle.tinkey_plans.specs.Handles.{handles, handle_refusal, IsServing};
+ghost use Rattle.tinkey_plans.specs.Handles.{handles, IsServing};
 ghost use Rattle.keyset_model.specs.Keyset.{Keys};
 ghost use Rattle.tinkey_plans.specs.Using.{dseals_plain, limit_for, seals_plain, use_output, with_opened, works, Works, WorksTelling};
 ghost use Rattle.tinkey_words.specs.Words.{primitive_for, datum_as, datum_of_hex, seen_datum, seen_lock, seen_work, to_seal, to_open, to_dseal, to_dopen, to_reseal, to_dreseal, to_tag, to_verify, to_derive};
@@ -23,8 +23,9 @@ use managers::{KeyTable, Managers};
 use std::alloc::Global;
 use tink_base::{Bytes, Entropy, NoMemory, Source, Store, Trials};
 use tinkey_plans::{Sealer, Status, Unopened};
+use tinkey_session::Refusal;
 use tinkey_words::{DATUM_LIMIT, Datum, Format, Master, Work};
-use wrapped_prims::{DeriveFault, Handle, HandleFault, SealFault};
+use wrapped_prims::{DeriveFault, Handle, SealFault};
 
 /// The most bytes of a whole input.
 pub(crate) const INPUT_LIMIT: usize = 16_777_216;
@@ -108,22 +109,8 @@ pub(crate) fn handle_of<'m>(
     ensures table { IfOk result (λ h. ⟦<Managers as KeyTable>⟧.table h.managers.now
         ≡ ⟦<Managers as KeyTable>⟧.table managers.now) }
 {
-    match Handle::new(alloc, keyset, managers, primitive) {
-        Ok(handle) => Ok(handle),
-        Err(fault) => Err(refusal(fault)),
-    }
-}
-
-/// The status of a keyset that can't serve.
-fn refusal(fault: HandleFault) -> Status
-    ensures { result ≡ handle_refusal fault }
-{
-    match fault {
-        HandleFault::NoManager(i) => Status::NoManager(i),
-        HandleFault::BadKey(i, rule) => Status::BadKey(i, rule),
-        HandleFault::NotRaw(i) => Status::NotRaw(i),
-        HandleFault::NoMemory => Status::NoMemory,
-    }
+    let handle = Handle::new(alloc, keyset, managers, primitive)?;
+    Ok(handle)
 }
 
 /// How many bytes precede the ciphertext, if the work seals its input.
@@ -382,7 +369,7 @@ fn verify(alloc: Global, handle: &Handle<'_>, tag: Datum<'_>, body: &[u8]) -> Re
     if handle.verify(tag.as_slice(), body, &mut Trials::new()) {
         Ok(Bytes::own(Vec::new(alloc)))
     } else {
-        Err(Status::VerifyFailed)
+        Err(Status::Refused(Refusal::VerifyFailed))
     }
 }
 
@@ -398,7 +385,8 @@ fn derive(alloc: Global, handle: &Handle<'_>, size: u32, input: &[u8]) -> Result
     match handle.derive(alloc, input, size as usize) {
         Ok(bytes) => Ok(Bytes::own(bytes)),
         Err(DeriveFault::OutputTooLong(greatest)) => {
-            Err(Status::OutputTooLong(size as usize, greatest))
+            let why = Refusal::OutputTooLong(size as usize, greatest);
+            Err(Status::Refused(why))
         }
         Err(DeriveFault::NoMemory) => Err(Status::NoMemory),
     }

@@ -29,6 +29,7 @@ use Rattle.tinkey_session.proofs.TurnLemmas.{handle_cases}
 use Rattle.tinkey_session.specs.LineLaws.{LinesDrawFew}
 use Rattle.tinkey_session.specs.Lines.{Seal}
 use Rattle.tinkey_session.specs.Serving.{cannot_serve, Served, sealed_reply, serve}
+use Rattle.tinkey_session.specs.declared.reply.LineRefusal.TheVariants.{Refused}
 use Rattle.tinkey_session.specs.declared.reply.Reply.TheVariants.{Gives, Refuses}
 use Rattle.wrapped_prims.specs.Answers.{Sealed, seal_answer, seal_behind, seal_under}
 use Rattle.wrapped_prims.specs.Candidates.{first_byte, is_raw, prefix_bytes, prefix_of}
@@ -125,5 +126,5 @@ sealed_small law table keys plain ad random bytes x k enough e gave = elim (hand
       let is = ap (λ b. length b) (same_bytes _ _ (ap (λ y. y.reply) made.2 ∙ gave)) in
       let small = answer_small table keys plain ad random made.0 made.1 (omega (arith, same, few, left)) in
       omega (arith, is, small)
-  | inr other ↦ (let is : Refuses (cannot_serve other.0.0 other.0.1) ≡ Gives bytes = ap (λ y. y.reply) other.1 ∙ gave in absurd cc)
+  | inr other ↦ (let is : Refuses (Refused (cannot_serve other.0.0 other.0.1)) ≡ Gives bytes = ap (λ y. y.reply) other.1 ∙ gave in absurd cc)
 ]

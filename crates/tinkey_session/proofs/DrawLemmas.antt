@@ -21,8 +21,8 @@ use Rattle.tinkey_session.specs.LineLaws.{LinesDrawFronts, RefusalsLeave}
 use Rattle.tinkey_session.specs.SessionLaws.{SessionGoesOn}
 use Rattle.tinkey_session.specs.Lines.{Line, Seal, Dseal, Open, Dopen, Reseal, Dreseal, Tag, Verify, Derive, Edit as AsksEdit, Bad}
 use Rattle.tinkey_session.specs.Serving.{cannot_serve, Served, answered, asked_line, computed, derived_reply, edit_line, edit_served, last_id, edited_reply, if_opened, sealed_reply, serve, stepped, unless_unfit}
-use Rattle.tinkey_session.specs.declared.reply.Refusal.{Refusal}
-use Rattle.tinkey_session.specs.declared.reply.Refusal.TheVariants.{OpenFailed}
+use Rattle.tinkey_session.specs.declared.reply.LineRefusal.{LineRefusal}
+use Rattle.tinkey_session.specs.declared.reply.LineRefusal.TheVariants.{OpenFailed, Refused}
 use Rattle.tinkey_session.specs.declared.reply.Reply.{Reply}
 use Rattle.tinkey_session.specs.declared.reply.Reply.TheVariants.{Gives, Refuses}
 use Rattle.tinkey_session.specs.Session.{remains, turn_then, turns}
@@ -54,7 +54,7 @@ fronts-computed keys reply None random x e = clash e
 fronts-unless : (u : Option (ℕ × Unfit)) (keys : Keys) (give : List ℕ → Option Served) → Fronts give → Fronts (λ random. unless_unfit u keys random (give random))
 unfolding Fronts
 fronts-unless None keys give fronts random x e = fronts random x e
-fronts-unless (Some found) keys give fronts random x e = fronts-answered keys (Refuses (cannot_serve found.0 found.1)) random x e
+fronts-unless (Some found) keys give fronts random x e = fronts-answered keys (Refuses (Refused (cannot_serve found.0 found.1))) random x e
 
 -- an IV, and what is made with it
 abbrev with_iv : (size : ℕ) → (List ℕ → List ℕ) → List ℕ → Option Sealed
@@ -150,7 +150,7 @@ lines_draw_fronts table keys line random x e = fronts-line table keys line rando
 -- ---- refusals
 
 pub KeepsRefused : Keys → Served → Type 0
-KeepsRefused keys x = (why : Refusal) → x.reply ≡ Refuses why → x.keys ≡ keys
+KeepsRefused keys x = (why : LineRefusal) → x.reply ≡ Refuses why → x.keys ≡ keys
 
 keeps-answered : (keys : Keys) (random : List ℕ) (reply : Reply) (x : Served) → Some (answered keys random reply) ≡ Some x → KeepsRefused keys x
 unfolding KeepsRefused
@@ -162,7 +162,7 @@ keeps-computed keys random reply None x e = clash e
 
 keeps-unless : (u : Option (ℕ × Unfit)) (keys : Keys) (random : List ℕ) (served : Option Served) (x : Served) → (served ≡ Some x → KeepsRefused keys x) → unless_unfit u keys random served ≡ Some x → KeepsRefused keys x
 keeps-unless None keys random served x keeps e = keeps e
-keeps-unless (Some found) keys random served x keeps e = keeps-answered keys random (Refuses (cannot_serve found.0 found.1)) x e
+keeps-unless (Some found) keys random served x keeps e = keeps-answered keys random (Refuses (Refused (cannot_serve found.0 found.1))) x e
 
 keeps-sealed : (keys : Keys) (sealed : Option Sealed) (x : Served) → option_map (sealed_reply keys) sealed ≡ Some x → KeepsRefused keys x
 keeps-sealed keys (Some sealed) x e = keeps-answered keys sealed.left (Gives sealed.bytes) x e
@@ -173,12 +173,12 @@ keeps-opened keys random (Some plain) next x each e = each plain e
 keeps-opened keys random None next x each e = keeps-answered keys random (Refuses OpenFailed) x e
 
 -- the reply to an accepted edit is no refusal
-last_accepts : {P : Type 0} (rs : List Record) (why : Refusal) → last_id rs ≡ Refuses why → P
+last_accepts : {P : Type 0} (rs : List Record) (why : LineRefusal) → last_id rs ≡ Refuses why → P
 last_accepts [] why e = absurd cc
 last_accepts (r ∷ []) why e = absurd cc
 last_accepts (r ∷ s ∷ later) why e = last_accepts (s ∷ later) why e
 
-edit_accepts : {P : Type 0} (edit : Edit) (keys : Keys) (why : Refusal) → edited_reply edit keys ≡ Refuses why → P
+edit_accepts : {P : Type 0} (edit : Edit) (keys : Keys) (why : LineRefusal) → edited_reply edit keys ≡ Refuses why → P
 edit_accepts (edits.Add row) keys why e = last_accepts keys.records why e
 edit_accepts (edits.Rotate row) keys why e = last_accepts keys.records why e
 edit_accepts (edits.Promote id) keys why e = absurd cc

@@ -17,8 +17,8 @@ use Rattle.tinkey_session.specs.Serving.{edited_reply, last_id, serve}
 use Rattle.tinkey_session.specs.declared.reply.Reply.TheVariants.{NewId}
 use Rattle.tinkey_session.specs.declared.line.Line.{Line as CodeLine}
 use Rattle.tinkey_session.specs.declared.line.Line.TheVariants as lines
-use Rattle.tinkey_session.specs.declared.reply.Refusal.{Refusal}
-use Rattle.tinkey_session.specs.declared.reply.Refusal.TheVariants as refusals
+use Rattle.tinkey_session.specs.declared.reply.LineRefusal.{LineRefusal}
+use Rattle.tinkey_session.specs.declared.reply.LineRefusal.TheVariants.{BadLine}
 use Rattle.tinkey_session.specs.declared.reply.Reply.{Reply}
 
 -- ---- accepted and refused edits
@@ -59,13 +59,13 @@ last_there (x ∷ rs) r n count there = last_at (x ∷ rs) r (n - 1) (omega arit
 -- ---- the edits that lines ask for
 
 -- what a `?` hands on
-pub asks_error : (line : Line) (why : Refusal) (result : Result (Command Template) Refusal) → IsErrAnd result (λ e. e ≡ why) → Asks line (Err why) → Asks line result
+pub asks_error : (line : Line) (why : LineRefusal) (result : Result (Command Template) LineRefusal) → IsErrAnd result (λ e. e ≡ why) → Asks line (Err why) → Asks line result
 asks_error line why (Ok command) is asks = absurd is
 asks_error line why (Err e) is asks = subst (λ w. Asks line (Err w)) (sym is) asks
 
 -- a line that needs no keys and isn't an edit is bad
 pub asks_nothing : (line : CodeLine) → needs (seen_line line) ≡ None → ((edit : Command (Bor (List ℕ))) → line ≡ lines.Edit edit → ⊥)
-    → Asks (seen_line line) (Err refusals.BadLine)
+    → Asks (seen_line line) (Err BadLine)
 unfolding serve
 asks_nothing (lines.Seal plain ad) keyless none = clash (sym keyless)
 asks_nothing (lines.Dseal plain ad) keyless none = clash (sym keyless)

@@ -32,7 +32,7 @@ use Rattle.tinkey_session.proofs.TurnLemmas.{asked_cases}
 use Rattle.tinkey_session.proofs.UsableLemmas.{fit_reading}
 use Rattle.tinkey_session.specs.LineLaws.{FirstsDrawFew, LinesDrawFew}
 use Rattle.tinkey_session.specs.Lines.{Line, Seal, Dseal, Open, Dopen, Reseal, Dreseal, Tag, Verify, Derive, Edit as AsksEdit, Bad}
-use Rattle.tinkey_session.specs.declared.reply.Refusal.TheVariants.{OpenFailed}
+use Rattle.tinkey_session.specs.declared.reply.LineRefusal.TheVariants.{OpenFailed, Refused}
 use Rattle.tinkey_session.specs.Serving.{cannot_serve, Served, answered, asked_line, computed, derived_reply, edit_line, if_opened, sealed_reply, serve, stepped, unless_unfit}
 use Rattle.tinkey_session.specs.declared.reply.Reply.{Reply}
 use Rattle.tinkey_session.specs.declared.reply.Reply.TheVariants.{Gives, Refuses}
@@ -161,7 +161,7 @@ few-answered keys random reply = (answered keys random reply, refl, omega arith)
 
 few-unless : (u : Option (ℕ × Unfit)) (keys : Keys) (random : List ℕ) (served : Option Served) → (u ≡ None → Few random served) → Few random (unless_unfit u keys random served)
 few-unless None keys random served few = few refl
-few-unless (Some found) keys random served few = few-answered keys random (Refuses (cannot_serve found.0 found.1))
+few-unless (Some found) keys random served few = few-answered keys random (Refuses (Refused (cannot_serve found.0 found.1)))
 
 few-computed : {A : Type 0} (keys : Keys) (random : List ℕ) (reply : A → Reply) (answer : Option A) (value : A) → answer ≡ Some value → Few random (computed keys random reply answer)
 few-computed keys random reply answer value e = subst (λ o. Few random (computed keys random reply o)) (sym e) (few-answered keys random (reply value))

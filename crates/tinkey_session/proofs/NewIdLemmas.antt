@@ -12,7 +12,8 @@ use Rattle.tinkey_session.proofs.Options.{map_some}
 use Rattle.tinkey_session.specs.LineLaws.{TellsNewId}
 use Rattle.tinkey_session.specs.Serving.{Served, edit_line, edit_served, edited_reply, last_id, serve, stepped, template_of, with_template}
 use Rattle.tinkey_session.specs.declared.reply.Refusal.{Refusal}
-use Rattle.tinkey_session.specs.declared.reply.Refusal.TheVariants.{EditRefused}
+use Rattle.tinkey_session.specs.declared.reply.Refusal.TheVariants.{Command}
+use Rattle.tinkey_session.specs.declared.reply.LineRefusal.TheVariants.{Refused}
 use Rattle.tinkey_session.specs.declared.reply.Reply.TheVariants.{NewId, Refuses}
 
 -- one record more, which stands last
@@ -43,7 +44,7 @@ last_id-push (s ∷ t ∷ later) r = last_id-push (t ∷ later) r
 
 -- a refusal, or the id of the one new record
 abbrev IsTold : Keys → Served → Type 0
-IsTold keys x = ((why : Refusal) × (x.reply ≡ Refuses why))
+IsTold keys x = ((why : Refusal) × (x.reply ≡ Refuses (Refused why)))
     ⊎ ((r : Record) × (x.reply ≡ NewId r.id) × (x.keys.records ≡ keys.records ++ r ∷ []))
 
 -- an edit that answers the id of the last record
@@ -52,7 +53,7 @@ TellsLast edit = (keys : Keys) → edited_reply edit keys ≡ last_id keys.recor
 
 told-served : (edit : Edit) (keys : Keys) (answer : Result Keys CmdFault) (left : List ℕ) → TellsLast edit
     → ((new : Keys) → answer ≡ Ok new → HasOneMore keys new) → IsTold keys (edit_served edit keys answer left)
-told-served edit keys (Err fault) left tells grown = inl (EditRefused fault, refl)
+told-served edit keys (Err fault) left tells grown = inl (Command fault, refl)
 told-served edit keys (Ok new) left tells grown =
     let more = grown new refl in
     inr (more.0, tells new ∙ ap last_id more.1 ∙ last_id-push keys.records more.0, more.1)

@@ -9,7 +9,7 @@ use Rattle.tinkey_session.proofs.AnswerLemmas.{fit_served}
 use Rattle.tinkey_session.specs.Answered.{Gives, Serves}
 use Rattle.tinkey_session.specs.Lines.{Dreseal, Dseal, Reseal, Seal}
 use Rattle.tinkey_session.specs.Serving.{answered, by_handle, computed, if_opened, sealed_reply, serve}
-use Rattle.tinkey_session.specs.declared.reply.Refusal.TheVariants.{OpenFailed}
+use Rattle.tinkey_session.specs.declared.reply.LineRefusal.TheVariants.{OpenFailed}
 use Rattle.tinkey_session.specs.declared.reply.Reply.{Reply}
 use Rattle.tinkey_session.specs.declared.reply.Reply.TheVariants as replies
 use Rattle.tinkey_session.specs.declared.session.LineFault.{LineFault}

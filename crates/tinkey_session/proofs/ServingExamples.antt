@@ -9,8 +9,9 @@ use Rattle.tinkey_cmds.specs.Edits.{Add, Rotate, Disable, Delete, changed, effec
 use Rattle.tinkey_cmds.specs.declared.command.CmdFault.TheVariants.{IdsExhausted, KeyIsPrimary, KeyNotFound, MixedPrimitive}
 use Rattle.tinkey_session.specs.Lines.{Line, Edit, Bad}
 use Rattle.tinkey_session.specs.Serving.{Served, answered, serve}
-use Rattle.tinkey_session.specs.declared.reply.Refusal.{Refusal}
-use Rattle.tinkey_session.specs.declared.reply.Refusal.TheVariants.{AsymmetricTemplate, BadLine, EditRefused, UnknownTemplate}
+use Rattle.tinkey_session.specs.declared.reply.LineRefusal.{LineRefusal}
+use Rattle.tinkey_session.specs.declared.reply.LineRefusal.TheVariants.{BadLine, Refused}
+use Rattle.tinkey_session.specs.declared.reply.Refusal.TheVariants.{AsymmetricTemplate, Command, UnknownTemplate}
 use Rattle.tinkey_session.specs.declared.reply.Reply.{Reply}
 use Rattle.tinkey_session.specs.declared.reply.Reply.TheVariants.{Done, NewId, Refuses}
 
@@ -27,16 +28,16 @@ keys = record { primary = 16909060; records = key 16909060 1 ∷ [] }
 abbrev rotated : ℕ → Keys
 rotated status = record { primary = 168496141; records = key 16909060 status ∷ key 168496141 1 ∷ [] }
 
-abbrev IsRefused : Keys → Line → (random left : List ℕ) → Refusal → Type 0
+abbrev IsRefused : Keys → Line → (random left : List ℕ) → LineRefusal → Type 0
 IsRefused before line random left why = serve standard_table before line random ≡ Some (answered before left (Refuses why))
 
 refused :
     IsRefused keys Bad (1 ∷ []) (1 ∷ []) BadLine
-    × IsRefused keys (Edit (Add (codes "AES128_GCN"))) [] [] UnknownTemplate
-    × IsRefused keys (Edit (Rotate (codes "ECDSA_P256"))) [] [] AsymmetricTemplate
-    × IsRefused keys (Edit (Add (codes "AES256_SIV"))) (1 ∷ []) (1 ∷ []) (EditRefused MixedPrimitive)
-    × IsRefused (rotated 1) (Edit (Delete 168496141)) [] [] (EditRefused KeyIsPrimary)
-    × IsRefused keys (Edit (Disable 8)) [] [] (EditRefused KeyNotFound)
+    × IsRefused keys (Edit (Add (codes "AES128_GCN"))) [] [] (Refused UnknownTemplate)
+    × IsRefused keys (Edit (Rotate (codes "ECDSA_P256"))) [] [] (Refused AsymmetricTemplate)
+    × IsRefused keys (Edit (Add (codes "AES256_SIV"))) (1 ∷ []) (1 ∷ []) (Refused (Command MixedPrimitive))
+    × IsRefused (rotated 1) (Edit (Delete 168496141)) [] [] (Refused (Command KeyIsPrimary))
+    × IsRefused keys (Edit (Disable 8)) [] [] (Refused (Command KeyNotFound))
 unfolding serve row_named type_of_url first_some when of_named full_or_mixed refusal_of
 refused = (refl, refl, refl, refl, refl, refl)
 
@@ -52,6 +53,6 @@ unfolding serve row_named type_of_url first_some when of_named full_or_mixed ref
 accepted = (refl, refl)
 
 -- 64 groups of four bytes 0 are drawn, none of which is an id
-exhausted : IsRefused keys (Edit (Rotate (codes "AES128_GCM"))) (replicate 257 0) (0 ∷ []) (EditRefused IdsExhausted)
+exhausted : IsRefused keys (Edit (Rotate (codes "AES128_GCM"))) (replicate 257 0) (0 ∷ []) (Refused (Command IdsExhausted))
 unfolding serve row_named type_of_url first_some when full_or_mixed refusal_of effect_of new_id
 exhausted = refl

@@ -13,7 +13,8 @@ use Rattle.tinkey_session.specs.LineLaws.{LinesOpen, LinesOpenPresent}
 use Rattle.tinkey_session.specs.SessionLaws.{HasTurns, SessionDopens, SessionDopensPresent, SessionOpens, SessionOpensPresent, SessionVerifies}
 use Rattle.tinkey_session.specs.Lines.{Line, Seal, Dseal, Open, Dopen, Tag, Verify}
 use Rattle.tinkey_session.specs.Serving.{cannot_serve, Served, answered, by_handle, computed, opened_reply, sealed_reply, serve, unless_unfit, verified_reply}
-use Rattle.tinkey_session.specs.declared.reply.Refusal.{Refusal}
+use Rattle.tinkey_session.specs.declared.reply.LineRefusal.{LineRefusal}
+use Rattle.tinkey_session.specs.declared.reply.LineRefusal.TheVariants.{Refused}
 use Rattle.tinkey_session.specs.declared.reply.Reply.{Reply}
 use Rattle.tinkey_session.specs.declared.reply.Reply.TheVariants.{Gives, Refuses}
 use Rattle.tinkey_session.specs.Session.{Turn}
@@ -26,7 +27,7 @@ use Rattle.wrapped_prims.specs.Laws.{IsKeyset}
 same_bytes : (a b : List ℕ) → Gives a ≡ Gives b → a ≡ b
 same_bytes a b e = cc
 
-refuses_not_gives : {P : Type 0} (why : Refusal) (bytes : List ℕ) → Refuses why ≡ Gives bytes → P
+refuses_not_gives : {P : Type 0} (why : LineRefusal) (bytes : List ℕ) → Refuses why ≡ Gives bytes → P
 refuses_not_gives why bytes e = absurd cc
 
 -- ---- the first line
@@ -40,7 +41,7 @@ gave : (p : Primitive) (keys : Keys) (random : List ℕ) (served : Option Served
     → Gave p keys served x
 gave p keys random served x bytes e reply = elim (handle_cases (unfit keys p standard_table) keys random served x e) [
   | inl is ↦ record { fit = is.0; is = is.1 }
-  | inr other ↦ refuses_not_gives (cannot_serve other.0.0 other.0.1) bytes (ap (λ y. y.reply) other.1 ∙ reply)
+  | inr other ↦ refuses_not_gives (Refused (cannot_serve other.0.0 other.0.1)) bytes (ap (λ y. y.reply) other.1 ∙ reply)
 ]
 
 -- ---- the second line

@@ -1,5 +1,5 @@
 -- A session's turns, and the edits that lead to each.
-use Rattle.std.proofs.Common.{◌≡◌, ◌∙◌, ◌⊎◌, inl, inr, refl, sym, ap, subst, ℕ, zero, suc, ◌<◌, Bool, true, false, List, [], ◌∷◌, ◌++◌, Option, Some, None, Result, Ok, Err, arith, option_map}
+use Rattle.std.proofs.Common.{◌≡◌, ◌∙◌, ◌⊎◌, inl, inr, refl, sym, ap, subst, ℕ, zero, suc, ◌<◌, Bool, List, [], ◌∷◌, ◌++◌, Option, Some, None, Result, Ok, Err, arith, option_map}
 use Rattle.std.specs.Prelude.{slice_get}
 use Rattle.std.specs.Option.{option_and_then}
 use Rattle.std.specs.Str.{bytes_eq}
@@ -20,8 +20,9 @@ use Rattle.tinkey_session.specs.Laws.{Asked, IsAsked, IsEdited, after, kept}
 use Rattle.tinkey_session.specs.SessionLaws.{SessionIsEdits}
 use Rattle.tinkey_session.specs.Lines.{Line, Seal, Dseal, Open, Dopen, Reseal, Dreseal, Tag, Verify, Derive, Edit as AsksEdit, Bad}
 use Rattle.tinkey_session.specs.Serving.{cannot_serve, Served, answered, asked_line, by_handle, computed, edit_line, edit_served, if_opened, sealed_reply, serve, stepped, template_of, template_or, unless_unfit, with_template}
+use Rattle.tinkey_session.specs.declared.reply.LineRefusal.{LineRefusal}
 use Rattle.tinkey_session.specs.declared.reply.Refusal.{Refusal}
-use Rattle.tinkey_session.specs.declared.reply.Refusal.TheVariants.{OpenFailed}
+use Rattle.tinkey_session.specs.declared.reply.LineRefusal.TheVariants.{OpenFailed, Refused}
 use Rattle.tinkey_session.specs.declared.reply.Reply.{Reply}
 use Rattle.tinkey_session.specs.declared.reply.Reply.TheVariants.{Refuses}
 use Rattle.tinkey_session.specs.Session.{Turn, remains, turn_then, turns}
@@ -72,7 +73,7 @@ Leaves keys random x = (keys ≡ x.keys) ⊎ ((edit : Edit) × HasTemplate edit 
 
 -- a keyset that can serve, or the first record that can't
 pub handle_cases : (u : Option (ℕ × Unfit)) (keys : Keys) (random : List ℕ) (served : Option Served) (x : Served) → unless_unfit u keys random served ≡ Some x
-    → ((u ≡ None) × (served ≡ Some x)) ⊎ ((f : ℕ × Unfit) × (answered keys random (Refuses (cannot_serve f.0 f.1)) ≡ x))
+    → ((u ≡ None) × (served ≡ Some x)) ⊎ ((f : ℕ × Unfit) × (answered keys random (Refuses (Refused (cannot_serve f.0 f.1))) ≡ x))
 handle_cases None keys random served x e = inl (refl, e)
 handle_cases (Some f) keys random served x e = inr (f, same_Some _ _ e)
 
@@ -101,19 +102,18 @@ template_there name row e = by (row_named name) (is_asymmetric name) refl e
     by : (o : Option Row) (asymmetric : Bool) → row_named name ≡ o → template_or o asymmetric ≡ Ok row → IsTemplate row
     by (Some r) asymmetric t k =
         contains-among templates row (find-among (λ x. bytes_eq x.name name) templates row (t ∙ ap Some (same_Ok r row k))).0
-    by None true t k = absurd cc
-    by None false t k = absurd cc
+    by None asymmetric t k = absurd cc
 
 -- what is asked for is an edit, which has its template, or is refused for its name
 abbrev pub GivesAsked : Keys → (List ℕ → Option Served) → Type 0
 GivesAsked keys give =
     ((edit : Edit) × HasTemplate edit × ((random : List ℕ) → give random ≡ edit_line keys random edit))
-    ⊎ ((why : Refusal) × ((random : List ℕ) → give random ≡ Some (answered keys random (Refuses why))))
+    ⊎ ((why : LineRefusal) × ((random : List ℕ) → give random ≡ Some (answered keys random (Refuses why))))
 
 asked_by : (keys : Keys) (edit : Row → Edit) → ((row : Row) → IsTemplate row → HasTemplate (edit row)) → (found : Result Row Refusal) → ((row : Row) → found ≡ Ok row → IsTemplate row)
     → GivesAsked keys (λ random. with_template keys random found (λ row. edit_line keys random (edit row)))
 asked_by keys edit has (Ok row) there = inl (edit row, has row (there row refl), λ random. refl)
-asked_by keys edit has (Err why) there = inr (why, λ random. refl)
+asked_by keys edit has (Err why) there = inr (Refused why, λ random. refl)
 
 pub asked_cases : (keys : Keys) (asked : EditOf (List ℕ)) → GivesAsked keys (λ random. asked_line keys random asked)
 asked_cases keys (edits.Add name) = asked_by keys edits.Add (λ row is. is) (template_of name) (template_there name)

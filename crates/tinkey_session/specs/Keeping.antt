@@ -10,19 +10,17 @@ use Rattle.keyset_model.specs.declared.record.Record.{Record}
 use Rattle.managers.specs.Table.{Table}
 use Rattle.tink_spec.specs.Outside.{EntropyState}
 use Rattle.tinkey_cmds.specs.Edits.{seen_edit}
-use Rattle.tinkey_cmds.specs.declared.command.CmdError.{CmdError}
-use Rattle.tinkey_cmds.specs.declared.command.CmdError.TheVariants as errors
 use Rattle.tinkey_cmds.specs.declared.command.Command.{Command}
 use Rattle.tinkey_session.specs.Answered.{Serves}
 use Rattle.tinkey_session.specs.Lines.{Line, Seal, Dseal, Open, Dopen, Reseal, Dreseal, Tag, Verify, Derive}
 use Rattle.tinkey_session.specs.Serving.{answered, edit_line, serve}
 use Rattle.tinkey_session.specs.declared.reply.Reply.TheVariants.{Refuses}
+use Rattle.tinkey_session.specs.declared.reply.LineRefusal.{LineRefusal}
 use Rattle.tinkey_session.specs.declared.reply.Refusal.{Refusal}
 use Rattle.tinkey_session.specs.declared.reply.Refusal.TheVariants as refusals
 use Rattle.tinkey_session.specs.declared.reply.Reply.{Reply}
 use Rattle.tinkey_session.specs.declared.reply.Reply.TheVariants as replies
 use Rattle.tinkey_session.specs.declared.session.LineFault.{LineFault}
-use Rattle.tinkey_session.specs.declared.session.LineFault.TheVariants as line_faults
 use Rattle.wrapped_prims.specs.Making.{IsOver}
 use Rattle.wrapped_prims.specs.declared.handle.HandleFault.{HandleFault}
 use Rattle.wrapped_prims.specs.declared.handle.HandleFault.TheVariants as faults
@@ -70,7 +68,7 @@ pub record IsKept (table own : Table) (primitive : Primitive) (keys : Keys) (hel
   pub over : IsOver own primitive keys held
 
 -- the edit that a line asks for, or why it is refused, over any keyset
-abbrev pub Asks : Line → Result (Command Template) Refusal → Type 0
+abbrev pub Asks : Line → Result (Command Template) LineRefusal → Type 0
 Asks line (Ok command) = (table : Table) (keys : Keys) (random : List ℕ)
     → serve table keys line random ≡ edit_line keys random (seen_edit command)
 Asks line (Err why) = (table : Table) (keys : Keys) (random : List ℕ)
@@ -84,15 +82,9 @@ IsUnedited (Ok (replies.NewId id)) = ⊥
 IsUnedited (Ok (replies.Refuses why)) = Unit {0}
 IsUnedited (Err fault) = Unit {0}
 
--- what comes of an edit that gives no keyset
-abbrev pub unedited : CmdError → Result Reply LineFault
-unedited (errors.Refused fault) = Ok (replies.Refuses (refusals.EditRefused fault))
-unedited errors.EntropyFault = Err line_faults.EntropyFault
-unedited errors.NoMemory = Err line_faults.NoMemory
-
--- what comes of a line whose keyset can't serve
-abbrev pub unserved : HandleFault → Result Reply LineFault
-unserved (faults.NoManager i) = Ok (replies.Refuses (refusals.NoManager i))
-unserved (faults.BadKey i rule) = Ok (replies.Refuses (refusals.BadKey i rule))
-unserved (faults.NotRaw i) = Ok (replies.Refuses (refusals.NotRaw i))
-unserved faults.NoMemory = Err line_faults.NoMemory
+-- why a keyset can't serve, as the fault of its handle says; none where memory was refused
+abbrev pub refusal_in : HandleFault → Option Refusal
+refusal_in (faults.NoManager i) = Some (refusals.NoManager i)
+refusal_in (faults.BadKey i rule) = Some (refusals.BadKey i rule)
+refusal_in (faults.NotRaw i) = Some (refusals.NotRaw i)
+refusal_in faults.NoMemory = None

@@ -11,6 +11,8 @@ use Rattle.tinkey_cmds.specs.Laws.{IsTemplate}
 use Rattle.tinkey_session.specs.Laws.{IsEdited}
 use Rattle.tinkey_session.specs.Lines.{Line, Seal, Open, Edit, bytes_in, word_of}
 use Rattle.tinkey_session.specs.Serving.{Served, serve}
+use Rattle.tinkey_session.specs.declared.reply.LineRefusal.{LineRefusal}
+use Rattle.tinkey_session.specs.declared.reply.LineRefusal.TheVariants.{Refused}
 use Rattle.tinkey_session.specs.declared.reply.Refusal.{Refusal}
 use Rattle.tinkey_session.specs.declared.reply.Reply.TheVariants.{Gives, NewId, Refuses}
 use Rattle.wrapped_prims.specs.Candidates.{prefix_of}
@@ -19,15 +21,15 @@ use Rattle.wrapped_prims.specs.Laws.{HasKey, HasSameKey, IsKeyset}
 -- a refused line leaves the keyset
 abbrev pub RefusalsLeave : Type 0
 RefusalsLeave = (table : Table) (keys : Keys) (line : Line) (random : List ℕ) (x : Served)
-    (why : Refusal) → serve table keys line random ≡ Some x → x.reply ≡ Refuses why
+    (why : LineRefusal) → serve table keys line random ≡ Some x → x.reply ≡ Refuses why
     → x.keys ≡ keys
 
 -- An accepted line that makes a key answers the id of the one new record, which stands last. Any
--- other answer of it is a refusal.
+-- other answer of it is a refusal, as of a command.
 abbrev pub TellsNewId : (List ℕ → EditOf (List ℕ)) → Type 0
 TellsNewId asks = (table : Table) (keys : Keys) (name random : List ℕ) (x : Served)
     → serve table keys (Edit (asks name)) random ≡ Some x
-    → ((why : Refusal) × (x.reply ≡ Refuses why))
+    → ((why : Refusal) × (x.reply ≡ Refuses (Refused why)))
     ⊎ ((r : Record) × (x.reply ≡ NewId r.id) × (x.keys.records ≡ keys.records ++ r ∷ []))
 
 -- The bytes drawn stand in front of those left, and whatever stands behind them, the line gives the

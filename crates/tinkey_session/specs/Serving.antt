@@ -18,8 +18,9 @@ use Rattle.tinkey_cmds.specs.Edits as edits
 use Rattle.tinkey_cmds.specs.declared.command.CmdFault.{CmdFault}
 use Rattle.tinkey_session.specs.Lines.{Line, Seal, Dseal, Open, Dopen, Reseal, Dreseal, Tag, Verify, Derive, Edit as AsksEdit, Bad}
 use Rattle.tinkey_session.specs.declared.reply.Refusal.{Refusal}
-use Rattle.tinkey_session.specs.declared.reply.Refusal.TheVariants.{AsymmetricTemplate, BadLine, EditRefused, OpenFailed, OutputTooLong, UnknownTemplate, VerifyFailed}
+use Rattle.tinkey_session.specs.declared.reply.Refusal.TheVariants.{AsymmetricTemplate, Command, OutputTooLong, UnknownTemplate, VerifyFailed}
 use Rattle.tinkey_session.specs.declared.reply.Refusal.TheVariants as refusals
+use Rattle.tinkey_session.specs.declared.reply.LineRefusal.TheVariants.{BadLine, OpenFailed, Refused}
 use Rattle.tinkey_session.specs.declared.reply.Reply.{Reply}
 use Rattle.tinkey_session.specs.declared.reply.Reply.TheVariants.{Done, Gives, NewId, Refuses}
 use Rattle.wrapped_prims.specs.Answers.{Sealed, derive_answer, dopen_answer, dseal_answer, open_answer, seal_answer, tag_answer, verify_answer}
@@ -47,7 +48,7 @@ cannot_serve place NotRaw = refusals.NotRaw place
 abbrev pub unless_unfit : Option (ℕ × Unfit) → Keys → List ℕ → Option Served → Option Served
 unless_unfit None keys random served = served
 unless_unfit (Some found) keys random served =
-    Some (answered keys random (Refuses (cannot_serve found.0 found.1)))
+    Some (answered keys random (Refuses (Refused (cannot_serve found.0 found.1))))
 
 -- under a keyset whose ENABLED records all serve the primitive
 abbrev pub by_handle : Primitive → Table → Keys → List ℕ → Option Served → Option Served
@@ -73,12 +74,12 @@ if_opened keys random None next = Some (answered keys random (Refuses OpenFailed
 -- the reply to a tag that is right, or isn't
 abbrev pub verified_reply : Bool → Reply
 verified_reply true = Done
-verified_reply false = Refuses VerifyFailed
+verified_reply false = Refuses (Refused VerifyFailed)
 
 -- the bytes, or how many there can be at the most
 abbrev pub derived_reply : (size : ℕ) → Result (List ℕ) ℕ → Reply
 derived_reply size (Ok bytes) = Gives bytes
-derived_reply size (Err greatest) = Refuses (OutputTooLong size greatest)
+derived_reply size (Err greatest) = Refuses (Refused (OutputTooLong size greatest))
 
 -- the reply with a sealing, behind which random bytes are left
 abbrev pub sealed_reply : Keys → Sealed → Served
@@ -101,7 +102,7 @@ edited_reply edit keys = Done
 -- a refused edit leaves the keyset
 abbrev pub edit_served : Edit → Keys → Result Keys CmdFault → (left : List ℕ) → Served
 edit_served edit keys (Ok edited) left = answered edited left (edited_reply edit edited)
-edit_served edit keys (Err fault) left = answered keys left (Refuses (EditRefused fault))
+edit_served edit keys (Err fault) left = answered keys left (Refuses (Refused (Command fault)))
 
 -- the reply to an edit's step
 abbrev pub stepped : Edit → Keys → Stepped → Served
@@ -111,11 +112,15 @@ stepped edit keys s = edit_served edit keys s.answer s.left
 abbrev pub edit_line : Keys → List ℕ → Edit → Option Served
 edit_line keys random edit = option_map (stepped edit keys) (step keys edit random)
 
+-- why a name has no template, which may be that of one for asymmetric keys
+abbrev pub no_template : (asymmetric : Bool) → Refusal
+no_template true = AsymmetricTemplate
+no_template false = UnknownTemplate
+
 -- the template of a name, or why there is none
 abbrev pub template_or : Option Row → (asymmetric : Bool) → Result Row Refusal
 template_or (Some row) asymmetric = Ok row
-template_or None true = Err AsymmetricTemplate
-template_or None false = Err UnknownTemplate
+template_or None asymmetric = Err (no_template asymmetric)
 
 -- the template of a name, or why there is none
 abbrev pub template_of : List ℕ → Result Row Refusal
@@ -125,7 +130,7 @@ template_of name = template_or (row_named name) (is_asymmetric name)
 abbrev pub with_template : Keys → List ℕ → Result Row Refusal → (Row → Option Served)
     → Option Served
 with_template keys random (Ok row) next = next row
-with_template keys random (Err why) next = Some (answered keys random (Refuses why))
+with_template keys random (Err why) next = Some (answered keys random (Refuses (Refused why)))
 
 -- an edit by the name of a template or the id of a record
 abbrev pub asked_line : Keys → List ℕ → EditOf (List ℕ) → Option Served

@@ -8,7 +8,9 @@ use Rattle.tinkey_cmds.specs.declared.command.CmdFault.{CmdFault}
 use Rattle.tinkey_cmds.specs.declared.command.CmdFault.TheVariants as refused
 use Rattle.tinkey_session.specs.Lines.{word_of}
 use Rattle.tinkey_session.specs.declared.reply.Refusal.{Refusal}
-use Rattle.tinkey_session.specs.declared.reply.Refusal.TheVariants.{AsymmetricTemplate, BadKey, BadLine, EditRefused, NoManager, NotRaw, OpenFailed, OutputTooLong, UnknownTemplate, VerifyFailed}
+use Rattle.tinkey_session.specs.declared.reply.Refusal.TheVariants.{AsymmetricTemplate, BadKey, Command, NoManager, NotRaw, OutputTooLong, UnknownTemplate, VerifyFailed}
+use Rattle.tinkey_session.specs.declared.reply.LineRefusal.{LineRefusal}
+use Rattle.tinkey_session.specs.declared.reply.LineRefusal.TheVariants.{BadLine, OpenFailed, Refused}
 use Rattle.tinkey_session.specs.declared.reply.Reply.{Reply}
 use Rattle.tinkey_session.specs.declared.reply.Reply.TheVariants.{Done, Gives, NewId, Refuses}
 
@@ -35,9 +37,8 @@ edit_text refused.IdsExhausted = codes "no free key id"
 edit_text refused.TooManyKeys = codes "too many keys"
 edit_text refused.AmbiguousPrimary = codes "primary would be ambiguous"
 
--- the text of a refusal
+-- the text of a refusal, of a line as of a command
 unfoldable pub refusal_text : Refusal → List ℕ
-refusal_text BadLine = codes "bad line"
 refusal_text UnknownTemplate = codes "unknown key template"
 refusal_text AsymmetricTemplate = codes "asymmetric key template"
 refusal_text (NoManager i) = codes "key " ++ decimal i ++ codes " has no manager for this command"
@@ -45,13 +46,18 @@ refusal_text (BadKey i rule) = codes "key " ++ decimal i ++ codes " is not valid
 refusal_text (NotRaw i) = codes "key " ++ decimal i ++ codes " is not RAW"
 refusal_text (OutputTooLong asked greatest) =
     codes "output too long: " ++ decimal asked ++ codes " over " ++ decimal greatest
-refusal_text (EditRefused fault) = edit_text fault
-refusal_text OpenFailed = codes "open failed"
+refusal_text (Command fault) = edit_text fault
 refusal_text VerifyFailed = codes "verify failed"
+
+-- the text of a line's refusal
+abbrev pub line_refusal_text : LineRefusal → List ℕ
+line_refusal_text BadLine = codes "bad line"
+line_refusal_text OpenFailed = codes "open failed"
+line_refusal_text (Refused why) = refusal_text why
 
 -- a reply, one line of text
 unfoldable pub reply_text : Reply → List ℕ
 reply_text Done = codes "ok\n"
 reply_text (Gives bytes) = codes "ok " ++ word_of bytes ++ codes "\n"
 reply_text (NewId id) = codes "ok " ++ decimal id ++ codes "\n"
-reply_text (Refuses why) = codes "no " ++ refusal_text why ++ codes "\n"
+reply_text (Refuses why) = codes "no " ++ line_refusal_text why ++ codes "\n"

@@ -8,7 +8,7 @@ ghost use Rattle.tinkey_session.specs.Reading.{IsWithin, seen_line};
 ghost use Rattle.tinkey_session.specs.Serving.{opened_reply};
 
 use crate::line::Line;
-use crate::reply::{Refusal, Reply};
+use crate::reply::{LineRefusal, Refusal, Reply};
 use crate::session::LineFault;
 use key_msgs::Primitive;
 use managers::{KeyTable, Managers};
@@ -50,7 +50,7 @@ fn opened_reply(opened: Option<Vec<u8>>) -> Reply
 {
     match opened {
         Some(plain) => Reply::Gives(Bytes::own(plain)),
-        None => Reply::Refuses(Refusal::OpenFailed),
+        None => Reply::Refuses(LineRefusal::OpenFailed),
     }
 }
 
@@ -123,7 +123,7 @@ fn reseal<E: Entropy>(
 {
     match handle.open(alloc, sealed, ad, &mut Trials::new()) {
         Ok(Some(plain)) => seal(alloc, handle, plain.as_slice(), ad, entropy),
-        Ok(None) => Ok(Reply::Refuses(Refusal::OpenFailed)),
+        Ok(None) => Ok(Reply::Refuses(LineRefusal::OpenFailed)),
         Err(_) => Err(LineFault::NoMemory),
     }
 }
@@ -139,7 +139,7 @@ fn dreseal(alloc: Global, handle: &Handle<'_>, sealed: &[u8], ad: &[u8]) -> Resu
 {
     match handle.dopen(alloc, sealed, ad, &mut Trials::new()) {
         Ok(Some(plain)) => dseal(alloc, handle, plain.as_slice(), ad),
-        Ok(None) => Ok(Reply::Refuses(Refusal::OpenFailed)),
+        Ok(None) => Ok(Reply::Refuses(LineRefusal::OpenFailed)),
         Err(_) => Err(LineFault::NoMemory),
     }
 }
@@ -169,7 +169,7 @@ fn verify(handle: &Handle<'_>, tag: &[u8], body: &[u8]) -> Reply
     if handle.verify(tag, body, &mut Trials::new()) {
         Reply::Done
     } else {
-        Reply::Refuses(Refusal::VerifyFailed)
+        Reply::Refuses(LineRefusal::Refused(Refusal::VerifyFailed))
     }
 }
 
@@ -183,10 +183,10 @@ fn derive(alloc: Global, handle: &Handle<'_>, size: u32, input: &[u8]) -> Result
 {
     match handle.derive(alloc, input, size as usize) {
         Ok(bytes) => Ok(Reply::Gives(Bytes::own(bytes))),
-        Err(DeriveFault::OutputTooLong(greatest)) => Ok(Reply::Refuses(Refusal::OutputTooLong(
-            size as usize,
-            greatest,
-        ))),
+        Err(DeriveFault::OutputTooLong(greatest)) => {
+            let why = Refusal::OutputTooLong(size as usize, greatest);
+            Ok(Reply::Refuses(LineRefusal::Refused(why)))
+        }
         Err(DeriveFault::NoMemory) => Err(LineFault::NoMemory),
     }
 }

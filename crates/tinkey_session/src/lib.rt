@@ -10,7 +10,9 @@ mod short_text;
 pub mod talk;
 
 pub use line::{Line, read_line};
-pub use reply::{Refusal, Reply, refusal_text, reply_text};
+pub use reply::{
+    LineRefusal, Refusal, Reply, line_refusal_text, refusal_in, refusal_text, reply_text,
+};
 pub use session::{LineFault, Session};
 pub use short_text::ShortText;
 pub use talk::TalkFault;

@@ -1,9 +1,10 @@
 //! The answer to a line, and its text.
 
 ghost use Rattle.std.specs.Prelude.{◌≡◌, ◌+◌, ◌≤◌, ◌++◌, length, codes, decimal, IfOk};
+ghost use Rattle.tinkey_session.specs.Keeping.{refusal_in};
 ghost use Rattle.tinkey_session.specs.Lines.{word_of};
 ghost use Rattle.tinkey_session.specs.declared.reply.Refusal.TheVariants.{BadKey};
-ghost use Rattle.tinkey_session.specs.Texts.{edit_text, refusal_text, reply_text, rule_text};
+ghost use Rattle.tinkey_session.specs.Texts.{edit_text, line_refusal_text, refusal_text, reply_text, rule_text};
 
 use crate::short_text::ShortText;
 use hex_lanes::encode_onto;
@@ -12,12 +13,11 @@ use key_msgs::Rule;
 use std::alloc::Global;
 use tink_base::{Bytes, NoMemory};
 use tinkey_cmds::CmdFault;
+use wrapped_prims::HandleFault;
 
-/// Why a line is refused. Places of records count from 0.
+/// Why a line is refused, and a command, too. Places of records count from 0.
 #[derive(Clone, Copy, Debug, PartialEq, Eq)]
 pub enum Refusal {
-    /// It isn't of the grammar of lines.
-    BadLine,
     /// No template has the name.
     UnknownTemplate,
     /// A template of Tink's for asymmetric keys has the name.
@@ -31,11 +31,30 @@ pub enum Refusal {
     /// The first number of bytes was asked for, and there are at most the second.
     OutputTooLong(usize, usize),
     /// The edit is refused.
-    EditRefused(CmdFault),
-    /// No key opens the bytes.
-    OpenFailed,
+    Command(CmdFault),
     /// No key of the keyset made the tag.
     VerifyFailed,
+}
+
+/// Why a line is refused.
+#[derive(Clone, Copy, Debug, PartialEq, Eq)]
+pub enum LineRefusal {
+    /// It isn't of the grammar of lines.
+    BadLine,
+    /// No key opens the bytes. A command tells more of them, so that it has a status of its own for this.
+    OpenFailed,
+    /// It is refused as a command is.
+    Refused(Refusal),
+}
+
+impl From<Refusal> for LineRefusal {
+    ghost use Rattle.tinkey_session.specs.declared.reply.LineRefusal.TheVariants as refused;
+
+    ghost from_gives = { λ why refusal. refusal ≡ refused.Refused why };
+
+    fn from(why: Refusal) -> LineRefusal {
+        LineRefusal::Refused(why)
+    }
 }
 
 /// The answer of a line.
@@ -48,7 +67,31 @@ pub enum Reply {
     /// The id of the key that it made.
     NewId(u32),
     /// It is refused, and the keyset is unchanged.
-    Refuses(Refusal),
+    Refuses(LineRefusal),
+}
+
+/// Why a keyset can't serve, from the fault of its handle; `None` if memory couldn't be allocated.
+pub fn refusal_in(fault: HandleFault) -> Option<Refusal>
+    ensures { result ≡ refusal_in fault }
+{
+    match fault {
+        HandleFault::NoManager(i) => Some(Refusal::NoManager(i)),
+        HandleFault::BadKey(i, rule) => Some(Refusal::BadKey(i, rule)),
+        HandleFault::NotRaw(i) => Some(Refusal::NotRaw(i)),
+        HandleFault::NoMemory => None,
+    }
+}
+
+/// The text of a line's refusal.
+pub fn line_refusal_text(refusal: LineRefusal) -> ShortText
+    ensures text { result ≡ line_refusal_text refusal }
+    ensures short { length result ≤ 110 }
+{
+    match refusal {
+        LineRefusal::BadLine => plain_text("bad line"),
+        LineRefusal::OpenFailed => plain_text("open failed"),
+        LineRefusal::Refused(why) => refusal_text(why),
+    }
 }
 
 /// The text of a refusal, as in replies and diagnostic lines.
@@ -58,15 +101,13 @@ pub fn refusal_text(refusal: Refusal) -> ShortText
     ensures short { length result ≤ 110 }
 {
     match refusal {
-        Refusal::BadLine => plain_text("bad line"),
         Refusal::UnknownTemplate => plain_text("unknown key template"),
         Refusal::AsymmetricTemplate => plain_text("asymmetric key template"),
         Refusal::NoManager(i) => key_text(i, " has no manager for this command"),
         Refusal::BadKey(i, rule) => invalid_text(i, rule),
         Refusal::NotRaw(i) => key_text(i, " is not RAW"),
         Refusal::OutputTooLong(asked, greatest) => length_text(asked, greatest),
-        Refusal::EditRefused(fault) => edit_text(fault),
-        Refusal::OpenFailed => plain_text("open failed"),
+        Refusal::Command(fault) => edit_text(fault),
         Refusal::VerifyFailed => plain_text("verify failed"),
     }
 }
@@ -80,7 +121,7 @@ pub fn reply_text(alloc: Global, reply: &Reply) -> Result<Vec<u8>, NoMemory>
         Reply::Done => line_of(alloc, b"ok", b""),
         Reply::Gives(bytes) => bytes_text(alloc, bytes.as_slice()),
         Reply::NewId(id) => id_text(alloc, *id),
-        Reply::Refuses(why) => line_of(alloc, b"no ", refusal_text(*why).as_slice()),
+        Reply::Refuses(why) => line_of(alloc, b"no ", line_refusal_text(*why).as_slice()),
     }
 }
 

@@ -8,7 +8,7 @@ ghost use Rattle.key_msgs.specs.declared.primitive.Primitive.TheVariants.{Stream
 ghost use Rattle.keyset_model.specs.Keyset.{IsShort};
 ghost use Rattle.tinkey_cmds.specs.Edits.{seen_edit};
 ghost use Rattle.tinkey_session.specs.Answered.{Serves};
-ghost use Rattle.tinkey_session.specs.Keeping.{Asks, IsKept, IsUnedited, needs, short-prop, unedited, unserved};
+ghost use Rattle.tinkey_session.specs.Keeping.{Asks, IsKept, IsUnedited, needs, short-prop};
 ghost use Rattle.tinkey_session.specs.Reading.{IsWithin, seen_line};
 ghost use Rattle.tinkey_session.specs.Serving.{edit_line, edited_reply, serve as served, template_of};
 ghost use Rattle.tinkey_session.specs.declared.line.Line.TheVariants as lines;
@@ -17,7 +17,7 @@ ghost use Rattle.wrapped_prims.specs.Making.{IsFaultOf};
 
 use crate::answering::{answer, needs};
 use crate::line::Line;
-use crate::reply::{Refusal, Reply};
+use crate::reply::{LineRefusal, Refusal, Reply, refusal_in};
 use key_msgs::{Primitive, Template, TemplateFault, template_named};
 use keyset_model::Keyset;
 use managers::{KeyTable, Managers};
@@ -140,7 +140,10 @@ impl<'m> Session<'m> {
             ≡ ⟦<Managers as KeyTable>⟧.table self.old.managers.now }
     {
         if let Err(fault) = self.fit(alloc, primitive) {
-            return unserved(fault);
+            return match refusal_in(fault) {
+                Some(why) => Ok(Reply::Refuses(LineRefusal::Refused(why))),
+                None => Err(LineFault::NoMemory),
+            };
         }
         match &self.kept {
             Some(handle) => answer(alloc, handle, line, entropy),
@@ -214,7 +217,12 @@ impl<'m> Session<'m> {
                 self.kept = None;
                 Ok(reply)
             }
-            Err(error) => unedited(error),
+            Err(CmdError::Refused(fault)) => {
+                let why = Refusal::Command(fault);
+                Ok(Reply::Refuses(LineRefusal::Refused(why)))
+            }
+            Err(CmdError::EntropyFault) => Err(LineFault::EntropyFault),
+            Err(CmdError::NoMemory) => Err(LineFault::NoMemory),
         }
     }
 }
@@ -233,19 +241,19 @@ fn template_of(name: &str) -> Result<Template, Refusal>
 
 /// The edit that the line asks for, or why there is none.
 #[tactic(auto, unfolding(crate::specs::Serving::serve))]
-fn command_of(line: &Line<'_>) -> Result<Command<Template>, Refusal>
+fn command_of(line: &Line<'_>) -> Result<Command<Template>, LineRefusal>
     requires no_keys { needs (seen_line line.now) ≡ None }
     ensures { Asks (seen_line line.now) result }
 {
     match line {
         Line::Edit(edit) => found_edit(*edit),
-        _ => Err(Refusal::BadLine),
+        _ => Err(LineRefusal::BadLine),
     }
 }
 
 /// The edit with its template found, or why there is none.
 #[tactic(auto, unfolding(crate::specs::Serving::serve))]
-fn found_edit(edit: Command<&str>) -> Result<Command<Template>, Refusal>
+fn found_edit(edit: Command<&str>) -> Result<Command<Template>, LineRefusal>
     ensures { Asks (seen_line (lines.Edit edit.entry)) result }
 {
     match edit {
@@ -268,28 +276,5 @@ fn edited_reply(command: &Command<Template>, keyset: &Keyset) -> Reply
             Reply::NewId(keyset.record_at(keyset.len() - 1).id)
         }
         _ => Reply::Done,
-    }
-}
-
-/// The outcome of an edit that gave no keyset.
-fn unedited(error: CmdError) -> Result<Reply, LineFault>
-    ensures { result ≡ unedited error }
-{
-    match error {
-        CmdError::Refused(fault) => Ok(Reply::Refuses(Refusal::EditRefused(fault))),
-        CmdError::EntropyFault => Err(LineFault::EntropyFault),
-        CmdError::NoMemory => Err(LineFault::NoMemory),
-    }
-}
-
-/// The outcome of a line whose keyset can't serve.
-fn unserved(fault: HandleFault) -> Result<Reply, LineFault>
-    ensures { result ≡ unserved fault }
-{
-    match fault {
-        HandleFault::NoManager(i) => Ok(Reply::Refuses(Refusal::NoManager(i))),
-        HandleFault::BadKey(i, rule) => Ok(Reply::Refuses(Refusal::BadKey(i, rule))),
-        HandleFault::NotRaw(i) => Ok(Reply::Refuses(Refusal::NotRaw(i))),
-        HandleFault::NoMemory => Err(LineFault::NoMemory),
     }
 }

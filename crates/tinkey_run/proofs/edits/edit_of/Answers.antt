@@ -1,8 +1,12 @@
-use Rattle.tinkey_plans.proofs.StepLemmas.{made_passes, unmade_passes}
+use Rattle.tinkey_cmds.specs.Edits.{seen_edit, step}
+use Rattle.tinkey_plans.proofs.StepLemmas.{handed_on, made_passes, unmade_passes}
+use Rattle.tinkey_plans.specs.Steps.{makes_keyset}
 use Rattle.tinkey_run.proofs.edits.edit_of.Goals as goal
 
-pub returns-in-Ok-clause-passes : goal.returns-in-Ok-clause-passes
-returns-in-Ok-clause-passes g c = λ w. made_passes _ (record w { entropy = g.E.Entropy.state c.args.entropy.now }) _ _ c.in-Ok.ensures.step
+pub returns-clause-passes : goal.returns-clause-passes
+returns-clause-passes g c = λ w. made_passes _ (record w { entropy = g.E.Entropy.state c.args.entropy.now }) _ _ c.in_ok-edited.ensures.step
 
-pub returns-in-Err-clause-passes : goal.returns-in-Err-clause-passes
-returns-in-Err-clause-passes g c = λ w next. rw c.refusal.ensures (unmade_passes _ (record w { entropy = g.E.Entropy.state c.args.entropy.now }) _ _ c.in-Err.ensures.step next)
+pub returns-in_err-edited-clause-passes : goal.returns-in_err-edited-clause-passes
+returns-in_err-edited-clause-passes g c = λ w.
+    let old = record w { entropy = g.E.Entropy.state c.args.entropy.now } in
+    handed_on (λ keys. keys) (makes_keyset (step c.args.keyset.now (seen_edit c.args.command.now))) old _ _ _ c.from_residual.ensures.1 (unmade_passes _ old _ _ c.in_err-edited.ensures.step)

@@ -1,7 +1,7 @@
 use Rattle.std.proofs.Common.{sym, arith}
 use Rattle.tinkey_session.proofs.AnswerLemmas.{undrawn}
 use Rattle.tinkey_session.proofs.ResealLemmas.{alike_serves, opened_within, reseal_refused, reseal_seals}
-use Rattle.tinkey_session.specs.declared.reply.Refusal.TheVariants as refusals
+use Rattle.tinkey_session.specs.declared.reply.LineRefusal.TheVariants as refusals
 use Rattle.tinkey_session.specs.declared.reply.Reply.TheVariants as replies
 use Rattle.tinkey_session.proofs.answering.reseal.Goals as goal
 

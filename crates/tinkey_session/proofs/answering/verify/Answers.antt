@@ -1,5 +1,6 @@
 use Rattle.std.proofs.Common.{◌∙◌, sym, true, false}
 use Rattle.tinkey_session.proofs.AnswerLemmas.{undrawn, verify_served}
+use Rattle.tinkey_session.specs.declared.reply.LineRefusal.TheVariants.{Refused}
 use Rattle.tinkey_session.specs.declared.reply.Refusal.TheVariants as refusals
 use Rattle.tinkey_session.specs.declared.reply.Reply.TheVariants as replies
 use Rattle.tinkey_session.proofs.answering.verify.Goals as goal
@@ -10,4 +11,4 @@ returns-then-verify g c = λ e keys over.
 
 pub returns-else-verify : goal.returns-else-verify
 returns-else-verify g c = λ e keys over.
-    undrawn _ (replies.Refuses refusals.VerifyFailed) keys e (λ random. verify_served _ keys _ _ false random over.fit (sym c.if-verify.false ∙ c.verify.ensures.verified keys over))
+    undrawn _ (replies.Refuses (Refused refusals.VerifyFailed)) keys e (λ random. verify_served _ keys _ _ false random over.fit (sym c.if-verify.false ∙ c.verify.ensures.verified keys over))
