@@ -12,7 +12,7 @@ use Rattle.keyset_model.specs.Keyset.{Keys, primary_of}
 use Rattle.keyset_model.specs.declared.record.Record.{Record}
 use Rattle.managers.specs.Table.{Table}
 use Rattle.managers.specs.Uses.{iv_size, seal_of}
-use Rattle.random_draws.specs.Slices.{Fill, Id, Key, edit_fills, effect_fills, fill_of, fills, iv_fills, new_fills, opened_fills, template_fills, total, unless_there, Iv}
+use Rattle.random_draws.specs.Slices.{Fill, Id, Key, edit_fills, effect_fills, fill_of, fills, iv_fills, new_fills, opened_fills, asked_fills, total, unless_there, Iv}
 use Rattle.tinkey_cmds.specs.Draws.{Drawn, and_then, answered as answers}
 use Rattle.tinkey_cmds.specs.Edits.{Edit, EditOf, added, effect_of, grown, id_of, is_taken, new_id, record_of, refusal_of, rotated, step, unless_refused, with_key}
 use Rattle.tinkey_cmds.specs.Edits as edits
@@ -20,7 +20,7 @@ use Rattle.tinkey_cmds.specs.declared.command.CmdFault.{CmdFault}
 use Rattle.tinkey_session.proofs.DrawLemmas.{served_left}
 use Rattle.tinkey_session.proofs.Options.{clash, map_some, then_some}
 use Rattle.tinkey_session.specs.Lines.{Line, Seal, Dseal, Open, Dopen, Reseal, Dreseal, Tag, Verify, Derive, Edit as AsksEdit, Bad}
-use Rattle.tinkey_session.specs.Serving.{Served, answered, cannot_serve, computed, derived_reply, edit_line, if_opened, sealed_reply, serve, stepped, template_of, unless_unfit, with_template}
+use Rattle.tinkey_session.specs.Serving.{Served, answered, cannot_serve, computed, derived_reply, edit_line, edit_named, if_opened, or_refused, refused_line, sealed_reply, serve, stepped, unless_unfit}
 use Rattle.tinkey_session.specs.declared.reply.Refusal.{Refusal}
 use Rattle.tinkey_session.specs.declared.reply.LineRefusal.TheVariants.{OpenFailed, Refused}
 use Rattle.tinkey_session.specs.declared.reply.Reply.{Reply}
@@ -134,20 +134,13 @@ took-unless : (u : Option (ℕ × Unfit)) (keys : Keys) (random : List ℕ) (ser
 took-unless None keys random served x took e = took e
 took-unless (Some found) keys random served x took e = took-answered keys random (Refuses (Refused (cannot_serve found.0 found.1))) x e
 
-template_took : (keys : Keys) (random : List ℕ) (edit : Row → Edit) (found : Result Row Refusal) (x : Served) → with_template keys random found (λ row. edit_line keys random (edit row)) ≡ Some x
-    → Took (total (template_fills found (λ row. edit_fills keys random (edit row)))) random x.left
-template_took keys random edit (Ok row) x e = edit_took keys (edit row) random x e
-template_took keys random edit (Err why) x e = took-answered keys random (Refuses (Refused why)) x e
-
 asked_took : (table : Table) (keys : Keys) (asked : EditOf (List ℕ)) (random : List ℕ) (x : Served) → serve table keys (AsksEdit asked) random ≡ Some x → Took (total (fills table keys (AsksEdit asked) random)) random x.left
 unfolding serve fills
-asked_took table keys (edits.Add name) random x e = template_took keys random edits.Add (template_of name) x e
-asked_took table keys (edits.Rotate name) random x e = template_took keys random edits.Rotate (template_of name) x e
-asked_took table keys (edits.Promote id) random x e = edit_took keys (edits.Promote id) random x e
-asked_took table keys (edits.Enable id) random x e = edit_took keys (edits.Enable id) random x e
-asked_took table keys (edits.Disable id) random x e = edit_took keys (edits.Disable id) random x e
-asked_took table keys (edits.Destroy id) random x e = edit_took keys (edits.Destroy id) random x e
-asked_took table keys (edits.Delete id) random x e = edit_took keys (edits.Delete id) random x e
+asked_took table keys asked random x e = by (edit_named asked) e
+  where
+    by : (found : Result Edit Refusal) → or_refused (refused_line keys random) found (edit_line keys random) ≡ Some x → Took (total (asked_fills keys random found)) random x.left
+    by (Ok edit) e = edit_took keys edit random x e
+    by (Err why) e = took-answered keys random (Refuses (Refused why)) x e
 
 -- a sealing, with the first random bytes as IV
 pub record IsSealing (table : Table) (keys : Keys) (plain ad random : List ℕ) (made : Sealed) : Type 0 where

@@ -11,7 +11,7 @@ use Rattle.managers.specs.Table.{Table}
 use Rattle.random_draws.proofs.SessionLemmas.{turns_have_slices}
 use Rattle.random_draws.proofs.PlaceLemmas.{placed-append}
 use Rattle.random_draws.proofs.StepFacts.{AddedAreDrawn, CreatedAreDrawn, HasNewKey}
-use Rattle.random_draws.specs.Slices.{Slice, Fill, Id, Key, size_of, slices, edit_fills, effect_fills, fill_of, fills, new_fills, placed, bytes_of, template_fills, total, unless_there}
+use Rattle.random_draws.specs.Slices.{Slice, Fill, Id, Key, size_of, slices, edit_fills, effect_fills, fill_of, fills, new_fills, placed, bytes_of, asked_fills, total, unless_there}
 use Rattle.random_draws.specs.Sessions.{IsMadeWith, NewKeysAreDrawn}
 use Rattle.tinkey_cmds.specs.Draws.{Drawn, and_then, answered as answers}
 use Rattle.tinkey_cmds.specs.Edits.{Edit, EditOf, added, alone, effect_of, grown, id_of, is_taken, new_id, record_of, refusal_of, rotated, step, unless_refused, with_key}
@@ -19,7 +19,7 @@ use Rattle.tinkey_cmds.specs.Edits as edits
 use Rattle.tinkey_cmds.specs.declared.command.CmdFault.{CmdFault}
 use Rattle.tinkey_session.proofs.Options.{clash, map_some}
 use Rattle.tinkey_session.specs.Lines.{Edit as AsksEdit}
-use Rattle.tinkey_session.specs.Serving.{Served, edit_line, edit_served, edited_reply, last_id, serve, stepped, template_of, with_template}
+use Rattle.tinkey_session.specs.Serving.{Served, edit_line, edit_served, edited_reply, last_id, or_refused, refused_line, serve, stepped, template_of}
 use Rattle.tinkey_session.specs.declared.reply.Refusal.{Refusal}
 use Rattle.tinkey_session.specs.declared.reply.Refusal.TheVariants.{Command}
 use Rattle.tinkey_session.specs.declared.reply.LineRefusal.TheVariants.{Refused}
@@ -194,8 +194,12 @@ told_step edit keys_with makes keys random row s (Some fault) e = told_refused (
 told_step edit keys_with makes keys random row s None e =
     told_made edit keys_with makes keys random row s (grown_made (keys_with keys) row keys.records random s (sym (makes.effect keys row random) ∙ e))
 
+-- the edit of the template that was found
+abbrev named : (Row → Edit) → Result Row Refusal → Result Edit Refusal
+named edit found = or_refused Err found (λ row. Ok (edit row))
+
 told_line : (edit : Row → Edit) (keys_with : Keys → Record → Keys) (makes : MakesKeys edit keys_with) (keys : Keys) (random : List ℕ) (found : Result Row Refusal) (x : Served)
-    → with_template keys random found (λ row. edit_line keys random (edit row)) ≡ Some x → IsTold keys random found (template_fills found (λ row. edit_fills keys random (edit row))) x
+    → or_refused (refused_line keys random) (named edit found) (edit_line keys random) ≡ Some x → IsTold keys random found (asked_fills keys random (named edit found)) x
 told_line edit keys_with makes keys random (Err why) x e = inl (why, ap (λ y. y.reply) (sym (same_Some _ _ e)))
 told_line edit keys_with makes keys random (Ok row) x e =
     let there = map_some (stepped (edit row) keys) (step keys (edit row) random) x e in

@@ -7,7 +7,7 @@ use Rattle.key_msgs.specs.Templates.{Row, random_of}
 use Rattle.keyset_model.specs.Keyset.{Keys}
 use Rattle.keyset_model.specs.declared.record.Record.{Record}
 use Rattle.managers.specs.Table.{Table}
-use Rattle.random_draws.specs.Slices.{Id, Key, slices_from, slices_then, edit_fills, effect_fills, fill_of, fills, new_fills, placed, template_fills, total, unless_there}
+use Rattle.random_draws.specs.Slices.{Id, Key, slices_from, slices_then, edit_fills, effect_fills, fill_of, fills, new_fills, placed, asked_fills, total, unless_there}
 use Rattle.random_draws.specs.Sessions.{SlicesAreSettled}
 use Rattle.tinkey_cmds.specs.Draws.{Drawn, and_then, answered as answers}
 use Rattle.tinkey_cmds.specs.Edits.{Edit, EditOf, added, effect_of, grown, id_of, is_taken, new_id, refusal_of, rotated, step, unless_refused, with_key}
@@ -16,7 +16,7 @@ use Rattle.tinkey_cmds.specs.declared.command.CmdFault.{CmdFault}
 use Rattle.tinkey_session.proofs.DrawLemmas.{lines_draw_fronts}
 use Rattle.tinkey_session.proofs.Options.{clash, map_some}
 use Rattle.tinkey_session.specs.Lines.{Line, Seal, Dseal, Open, Dopen, Reseal, Dreseal, Tag, Verify, Derive, Edit as AsksEdit, Bad}
-use Rattle.tinkey_session.specs.Serving.{Served, edit_line, serve, stepped, template_of, with_template}
+use Rattle.tinkey_session.specs.Serving.{Served, edit_line, edit_named, or_refused, refused_line, serve, stepped}
 use Rattle.tinkey_session.specs.Session.{Remains, remains, turn_then, turns}
 use Rattle.tinkey_session.specs.declared.reply.Refusal.{Refusal}
 
@@ -74,21 +74,14 @@ edit_more keys edit random more x e = by (refusal_of keys edit) (map_some (stepp
     by (Some fault) k = refl
     by None k = effect_more keys edit random more s k
 
-template_more : (keys : Keys) (random more : List ℕ) (edit : Row → Edit) (found : Result Row Refusal) (x : Served) → with_template keys random found (λ row. edit_line keys random (edit row)) ≡ Some x
-    → template_fills found (λ row. edit_fills keys (random ++ more) (edit row)) ≡ template_fills found (λ row. edit_fills keys random (edit row))
-template_more keys random more edit (Ok row) x e = edit_more keys (edit row) random more x e
-template_more keys random more edit (Err why) x e = refl
-
 asked_more : (table : Table) (keys : Keys) (asked : EditOf (List ℕ)) (random more : List ℕ) (x : Served) → serve table keys (AsksEdit asked) random ≡ Some x
     → fills table keys (AsksEdit asked) (random ++ more) ≡ fills table keys (AsksEdit asked) random
 unfolding serve fills
-asked_more table keys (edits.Add name) random more x e = template_more keys random more edits.Add (template_of name) x e
-asked_more table keys (edits.Rotate name) random more x e = template_more keys random more edits.Rotate (template_of name) x e
-asked_more table keys (edits.Promote id) random more x e = edit_more keys (edits.Promote id) random more x e
-asked_more table keys (edits.Enable id) random more x e = edit_more keys (edits.Enable id) random more x e
-asked_more table keys (edits.Disable id) random more x e = edit_more keys (edits.Disable id) random more x e
-asked_more table keys (edits.Destroy id) random more x e = edit_more keys (edits.Destroy id) random more x e
-asked_more table keys (edits.Delete id) random more x e = edit_more keys (edits.Delete id) random more x e
+asked_more table keys asked random more x e = by (edit_named asked) e
+  where
+    by : (found : Result Edit Refusal) → or_refused (refused_line keys random) found (edit_line keys random) ≡ Some x → asked_fills keys (random ++ more) found ≡ asked_fills keys random found
+    by (Ok edit) e = edit_more keys edit random more x e
+    by (Err why) e = refl
 
 fills_more : (table : Table) (keys : Keys) (line : Line) (random more : List ℕ) (x : Served) → serve table keys line random ≡ Some x → fills table keys line (random ++ more) ≡ fills table keys line random
 unfolding fills

@@ -6,18 +6,18 @@
 --   Slice      a fill of a line in its place
 --   slices     those of a whole session, in order
 --   bytes_of   the random bytes in a slice
-use Rattle.std.specs.Prelude.{◌⊎◌, ℕ, zero, suc, ◌+◌, ◌<◌, ◌≤◌, List, [], ◌∷◌, ◌++◌, take, drop, Option, Some, None, Result, Ok, Err, if◌then◌else◌, sum_by}
-use Rattle.key_msgs.specs.Templates.{Row, random_of}
+use Rattle.std.specs.Prelude.{◌⊎◌, ℕ, zero, suc, ◌+◌, ◌<◌, ◌≤◌, List, [], ◌∷◌, ◌++◌, take, drop, Option, Some, None, Result, if◌then◌else◌, sum_by}
+use Rattle.key_msgs.specs.Templates.{random_of}
 use Rattle.key_msgs.specs.declared.key.KeyKind.{KeyKind}
 use Rattle.key_msgs.specs.declared.primitive.Primitive.TheVariants.{Aead}
 use Rattle.keyset_model.specs.Keyset.{Keys}
 use Rattle.keyset_model.specs.declared.record.Record.{Record}
 use Rattle.managers.specs.Table.{Table}
 use Rattle.managers.specs.Uses.{iv_size}
-use Rattle.tinkey_cmds.specs.Edits.{Edit, edit_then, id_of, is_taken, refusal_of}
+use Rattle.tinkey_cmds.specs.Edits.{Edit, id_of, is_taken, refusal_of}
 use Rattle.tinkey_cmds.specs.Edits as edits
 use Rattle.tinkey_session.specs.Lines.{Line, Reseal, Seal, Edit as AsksEdit}
-use Rattle.tinkey_session.specs.Serving.{Served, serve, template_of}
+use Rattle.tinkey_session.specs.Serving.{Served, edit_named, or_refused, serve}
 use Rattle.tinkey_session.specs.declared.reply.Refusal.{Refusal}
 use Rattle.wrapped_prims.specs.Answers.{open_answer, primary_key}
 use Rattle.wrapped_prims.specs.Fitness.{unfit}
@@ -75,10 +75,9 @@ unless_there (Some refused) filled = []
 abbrev pub edit_fills : Keys → (random : List ℕ) → Edit → List Fill
 edit_fills keys random edit = unless_there (refusal_of keys edit) (effect_fills keys edit random)
 
--- what the template found draws; of a name that has none, nothing
-abbrev pub template_fills : Result Row Refusal → (Row → List Fill) → List Fill
-template_fills (Ok row) next = next row
-template_fills (Err why) next = []
+-- what the edit that was found draws; where it is refused, nothing
+abbrev pub asked_fills : Keys → (random : List ℕ) → Result Edit Refusal → List Fill
+asked_fills keys random found = or_refused (λ why. []) found (edit_fills keys random)
 
 -- what is sealed where something opened; where nothing did, nothing
 abbrev pub opened_fills : {A : Type 0} → Option A → List Fill → List Fill
@@ -91,7 +90,7 @@ unfoldable pub fills : Table → Keys → Line → (random : List ℕ) → List 
 fills table keys (Seal plain ad) random =
     unless_there (unfit keys Aead table) (iv_fills (primary_key keys table Aead))
 fills table keys (AsksEdit edit) random =
-    edit_then (λ name. template_fills (template_of name)) edit (edit_fills keys random)
+    asked_fills keys random (edit_named edit)
 fills table keys (Reseal sealed ad) random =
     unless_there (unfit keys Aead table) (opened_fills (open_answer keys table sealed ad)
     (iv_fills (primary_key keys table Aead)))

@@ -8,15 +8,17 @@ use Rattle.keyset_model.specs.Keyset.{Keys}
 use Rattle.keyset_model.specs.Reading.{Refusal, Wire, Fault, reads_binary}
 use Rattle.managers.specs.Table.{Table}
 use Rattle.tinkey_cmds.specs.Draws.{Draw}
-use Rattle.tinkey_cmds.specs.Edits.{Edit, Add, Rotate, Promote, Enable, Disable, Destroy, Delete}
+use Rattle.tinkey_cmds.specs.Edits.{Edit}
 use Rattle.tinkey_cmds.specs.declared.command.CmdFault.{CmdFault}
+use Rattle.tinkey_session.specs.Serving.{edit_named, or_refused}
+use Rattle.tinkey_session.specs.declared.reply.Refusal.{Refusal as Why}
 use Rattle.wrapped_prims.specs.Answers.{open_answer, dopen_answer, verify_answer, derive_answer}
 use Rattle.wrapped_prims.specs.Fitness.{Unfit, unfit}
 use Rattle.tinkey_plans.specs.declared.status.Status.TheVariants as status
 use Rattle.tinkey_words.specs.declared.words.rows.Format.{Format}
 use Rattle.tinkey_words.specs.declared.words.rows.Format.TheVariants as formats
 use Rattle.tinkey_plans.specs.Plan.{Plan, ends}
-use Rattle.tinkey_plans.specs.Steps.{has_no_key, with_keyset, with_json, keyset_in, with_row, finds_edit, with_made, keyset_limit, loads_bytes, reads_bytes, takes_bytes, writes_keyset, written_in}
+use Rattle.tinkey_plans.specs.Steps.{has_no_key, refuses, with_keyset, with_json, keyset_in, with_row, finds_edit, with_made, keyset_limit, loads_bytes, reads_bytes, takes_bytes, writes_keyset, written_in}
 use Rattle.tinkey_plans.specs.Handles.{unless_unfit}
 use Rattle.tinkey_plans.specs.Using.{seals, with_opened, with_verified, with_derived, works}
 use Rattle.tinkey_plans.specs.Locks.{keyset_under, limit_under, loads_locked, opens_lock, opens_master, opens_new_lock, takes_locked, takes_under, writes_under}
@@ -86,13 +88,11 @@ row_each P c (Some row) name next all = all row
 row_each P c None name next all = c.ended _ _
 
 pub edit_each : (P : Plan → Type 0) → IsClosed P → (asked : AskedEdit) (next : Edit → Plan) → AreAll P next → P (finds_edit asked next)
-edit_each P c (Add name) next all = row_each P c (row_named name) name (λ row. next (Add row)) (λ row. all (Add row))
-edit_each P c (Rotate name) next all = row_each P c (row_named name) name (λ row. next (Rotate row)) (λ row. all (Rotate row))
-edit_each P c (Promote id) next all = all (Promote id)
-edit_each P c (Enable id) next all = all (Enable id)
-edit_each P c (Disable id) next all = all (Disable id)
-edit_each P c (Destroy id) next all = all (Destroy id)
-edit_each P c (Delete id) next all = all (Delete id)
+edit_each P c asked next all = by (edit_named asked)
+  where
+    by : (found : Result Edit Why) → P (or_refused refuses found next)
+    by (Ok edit) = all edit
+    by (Err why) = c.ended _ _
 
 pub made_each : (P : Plan → Type 0) → IsClosed P → {A : Type 0} (given : Result A CmdFault) (next : A → Plan) → AreAll P next → P (with_made given next)
 made_each P c (Ok value) next all = all value

@@ -16,11 +16,12 @@ use Rattle.keyset_model.specs.declared.reading.ReadError.{ReadError}
 use Rattle.keyset_model.specs.declared.reading.ReadError.TheVariants as errors
 use Rattle.seal_wrap.specs.Unwrapped.{is_wrapped_binary, is_wrapped_json}
 use Rattle.tinkey_cmds.specs.Draws.{Draw}
-use Rattle.tinkey_cmds.specs.Edits.{Edit, edit_then}
+use Rattle.tinkey_cmds.specs.Edits.{Edit}
 use Rattle.tinkey_cmds.specs.declared.command.CmdError.{CmdError}
 use Rattle.tinkey_cmds.specs.declared.command.CmdError.TheVariants as given
 use Rattle.tinkey_cmds.specs.declared.command.CmdFault.{CmdFault}
-use Rattle.tinkey_session.specs.Serving.{no_template}
+use Rattle.tinkey_session.specs.Serving.{edit_named, no_template, or_refused}
+use Rattle.tinkey_session.specs.declared.reply.Refusal.{Refusal as Why}
 use Rattle.tinkey_session.specs.declared.reply.Refusal.TheVariants as refused
 use Rattle.tinkey_plans.specs.declared.status.Status.{Status}
 use Rattle.tinkey_plans.specs.declared.status.Status.TheVariants as status
@@ -145,10 +146,14 @@ reads_input limit next = reads_all limit status.InputTooLong tt next
 abbrev pub works_out : {A : Type 0} → A → (A → Plan) → Plan
 works_out value next = allocates (next value)
 
+-- a refusal is the answer
+abbrev pub refuses : Why → Plan
+refuses why = ends (status.Refused why) tt
+
 -- the row goes on, or the name is refused
 abbrev pub with_row : Option Row → List ℕ → (Row → Plan) → Plan
 with_row (Some row) name next = next row
-with_row None name next = ends (status.Refused (no_template (is_asymmetric name))) tt
+with_row None name next = refuses (no_template (is_asymmetric name))
 
 -- the template of this name
 abbrev pub finds_template : List ℕ → (Row → Plan) → Plan
@@ -156,7 +161,7 @@ finds_template name next = with_row (row_named name) name next
 
 -- the edit that is asked for, of the template of its name where it has one
 abbrev pub finds_edit : AskedEdit → (Edit → Plan) → Plan
-finds_edit asked next = edit_then finds_template asked next
+finds_edit asked next = or_refused refuses (edit_named asked) next
 
 -- the status of an edit that gives no keyset
 abbrev pub edit_refusal : CmdError → Status

@@ -9,9 +9,9 @@ use Rattle.managers.specs.Table.{Table}
 use Rattle.managers.specs.Uses.{iv_size}
 use Rattle.tinkey_cmds.specs.Draws.{Draw, Drawn}
 use Rattle.tinkey_cmds.specs.Edits.{Edit, first, step}
-use Rattle.tinkey_cmds.specs.Edits as edits
-use Rattle.tinkey_session.proofs.Options.{no_truth, then_some}
+use Rattle.tinkey_session.proofs.Options.{no_truth}
 use Rattle.key_msgs.specs.declared.primitive.Primitive.TheVariants.{Aead}
+use Rattle.tinkey_session.specs.Serving.{edit_named, or_refused}
 use Rattle.wrapped_prims.specs.Answers.{Sealed, derive_answer, dopen_answer, open_answer, seal_answer, verify_answer}
 use Rattle.tinkey_plans.specs.declared.status.Status.TheVariants as status
 use Rattle.tinkey_plans.specs.Commands.{command_plan}
@@ -20,7 +20,7 @@ use Rattle.tinkey_plans.specs.Handles.{handles, unless_unfit}
 use Rattle.tinkey_plans.specs.Laws.{FitKeysetsAnswer, IsFit}
 use Rattle.tinkey_plans.specs.Locks.{opens_lock, opens_new_lock, puts_under, takes_under}
 use Rattle.tinkey_plans.specs.Plan.{Answer, Plan, Told, answer, draw_answer, refused, writes}
-use Rattle.tinkey_plans.specs.Steps.{finds_edit, makes_keyset, puts, with_made, with_row, works_out}
+use Rattle.tinkey_plans.specs.Steps.{finds_edit, makes_keyset, puts, with_made, with_row, works_out, refuses}
 use Rattle.tinkey_plans.specs.Sealers.{sealer_of}
 use Rattle.tinkey_plans.specs.declared.sealer.Sealer.{Sealer}
 use Rattle.tinkey_plans.specs.declared.sealer.Unopened.{Unopened}
@@ -29,7 +29,7 @@ use Rattle.tinkey_plans.specs.Using.{as_drawn, dseals_plain, hex_line, limit_for
 use Rattle.tinkey_words.specs.Words.{AskedEdit, AskedWork, Lock, NewLock, Output, Place, convert_keyset, create_keyset, edit_keyset, use_keyset, to_seal, to_open, to_dseal, to_dopen, to_reseal, to_dreseal, to_tag, to_verify, to_derive, primitive_for}
 use Rattle.tinkey_readable.specs.DoneWhere.{ConvertGoes, CreateGoes, EditGoes, EditsDone, HasIv, WorkGoes, WorkIsDone, WorksDone}
 use Rattle.tinkey_readable.specs.Lying.{FitsThere}
-use Rattle.tinkey_readable.specs.Runs.{IsFree, edit_of}
+use Rattle.tinkey_readable.specs.Runs.{IsFree}
 use Rattle.tinkey_readable.proofs.LyingLemmas.{behind_faultless, behind_reached, behind_there, loads_reached, loads_there, lock_reached, lock_there, name_free, new_lock_reached, new_lock_there, put_comes, put_there, takes_reached, takes_there}
 use Rattle.tinkey_readable.proofs.PutLemmas.{made_put, worked}
 use Rattle.tinkey_readable.proofs.ReachLemmas.{IsDoneAnswer, behind, found_edit, found_row, input_reached, made_done, use_done, work_behind}
@@ -37,18 +37,8 @@ use Rattle.tinkey_readable.proofs.WrappedRunLemmas.{behind_files, behind_random}
 
 -- ---- edits
 
-edit_reached : (asked : AskedEdit) (edit : Edit) (next : Edit → Plan) (told : Told) → edit_of asked ≡ Some edit → answer (finds_edit asked next) told ≡ answer (next edit) told
-edit_reached (edits.Add name) edit next told e =
-    let m = then_some (λ row. Some (edits.Add row)) (row_named name) edit e in
-    ap (λ o. answer (with_row o name (λ row. next (edits.Add row))) told) m.1 ∙ ap (λ (x : Edit). answer (next x) told) (same_Some _ _ m.2)
-edit_reached (edits.Rotate name) edit next told e =
-    let m = then_some (λ row. Some (edits.Rotate row)) (row_named name) edit e in
-    ap (λ o. answer (with_row o name (λ row. next (edits.Rotate row))) told) m.1 ∙ ap (λ (x : Edit). answer (next x) told) (same_Some _ _ m.2)
-edit_reached (edits.Promote id) edit next told e = ap (λ (x : Edit). answer (next x) told) (same_Some _ _ e)
-edit_reached (edits.Enable id) edit next told e = ap (λ (x : Edit). answer (next x) told) (same_Some _ _ e)
-edit_reached (edits.Disable id) edit next told e = ap (λ (x : Edit). answer (next x) told) (same_Some _ _ e)
-edit_reached (edits.Destroy id) edit next told e = ap (λ (x : Edit). answer (next x) told) (same_Some _ _ e)
-edit_reached (edits.Delete id) edit next told e = ap (λ (x : Edit). answer (next x) told) (same_Some _ _ e)
+edit_reached : (asked : AskedEdit) (edit : Edit) (next : Edit → Plan) (told : Told) → edit_named asked ≡ Ok edit → answer (finds_edit asked next) told ≡ answer (next edit) told
+edit_reached asked edit next told is = ap (λ r. answer (or_refused refuses r next) told) is
 
 makes_reached : (give : Draw Keys) (next : Keys → Plan) (told : Told) (drawn : Drawn Keys) (new : Keys) → give told.random ≡ Some drawn → drawn.answer ≡ Ok new → answer (makes_keyset give next) told ≡ answer (next new) (record told { random = drawn.left })
 makes_reached give next told drawn new gave is =

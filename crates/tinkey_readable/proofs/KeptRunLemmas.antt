@@ -21,8 +21,8 @@ use Rattle.tinkey_cmds.specs.Laws.{FirstsAreKeysets}
 use Rattle.tinkey_session.proofs.DistinctLemmas.{IsHeld, firsts_have_distinct_ids, held_by_edit, ids_stay_distinct, word_of_key}
 use Rattle.tinkey_session.proofs.EnabledLemmas.{data_stays, enable_gives_back}
 use Rattle.tinkey_session.proofs.KeptKeyLemmas.{if_ok, kept_by_edits, passes_among}
-use Rattle.tinkey_session.proofs.KeptLineLemmas.{Follows, follows_key, held_by_session, kept_by_session, session_data_stays, session_ids_stay_distinct}
-use Rattle.tinkey_session.proofs.Options.{then_some}
+use Rattle.tinkey_session.proofs.KeptLineLemmas.{Follows, follows_key, held_by_session, kept_by_session, session_data_stays, session_ids_stay_distinct, named_follows}
+use Rattle.tinkey_session.proofs.TurnLemmas.{same_Ok}
 use Rattle.tinkey_session.specs.HeldLaws.{AreStored, FirstsAreStored}
 use Rattle.tinkey_session.specs.KeptKeys.{HasData, HasDistinctIds, Spares, SparesData, SparesKey}
 use Rattle.tinkey_session.specs.Laws.{kept}
@@ -42,21 +42,11 @@ use Rattle.tinkey_readable.proofs.LockedRunLemmas.{EachUnder, StepLaws, locks_ke
 use Rattle.tinkey_readable.proofs.ReachLemmas.{found_row, made_done, put_done}
 use Rattle.tinkey_readable.proofs.RunLemmas.{each_of, hands_within, template_row, kept as keyset_written}
 use Rattle.tinkey_readable.specs.KeptRuns.{CommandIdsStayDistinct, CreatedIdsAreDistinct, DataStaysByCommands, Event, EventDraws, GivenBackByEnable, HaveLed, HasLed, IsPut, KeptByCommands, KeptByItsIdAlone, HavePassed, OfAsked, OfEvent, OfEvents, OfLocked, Passes, PassesOn, PassesUnder, PassesWrapped, StaysIn, TookPlace, passed_by, passed_on, passed_wrapped}
-use Rattle.tinkey_readable.specs.Runs.{AreLocked, Does, GoesLocked, Handing, Hands, HandsOn, HandsUnder, HoldsBytes, ReadIsStored, Run, RunStep, Written, bytes_at, edit_of, keyset_of}
+use Rattle.tinkey_readable.specs.Runs.{AreLocked, Does, GoesLocked, Handing, Hands, HandsOn, HandsUnder, HoldsBytes, ReadIsStored, Run, RunStep, Written, bytes_at, keyset_of}
 use Rattle.tinkey_words.specs.declared.words.rows.Format.{Format}
 use Rattle.tinkey_words.specs.Words.{Asked, AskedEdit, Lock, Place, create_keyset, edit_keyset, list_keyset, key_of, convert_keyset, list_key_templates, use_keyset, use_envelope, seal_stream, open_stream, reseal_stream, open_range, self_test, session, help, version}
 
 -- ---- one run
-
--- the edit of a name is as what was asked for
-edit_follows : (asked : AskedEdit) (edit : Edit) → edit_of asked ≡ Some edit → Follows asked edit
-edit_follows (edits.Add name) edit e = let m = then_some (λ row. Some (edits.Add row)) (row_named name) edit e in subst (Follows (edits.Add name)) (same_Some _ _ m.2) (record { spares = λ id h. tt; no_other = λ r keys h. tt; data' = λ id h. tt })
-edit_follows (edits.Rotate name) edit e = let m = then_some (λ row. Some (edits.Rotate row)) (row_named name) edit e in subst (Follows (edits.Rotate name)) (same_Some _ _ m.2) (record { spares = λ id h. tt; no_other = λ r keys h. tt; data' = λ id h. tt })
-edit_follows (edits.Promote id) edit e = subst (Follows (edits.Promote id)) (same_Some _ _ e) (record { spares = λ id h. h; no_other = λ r keys h. h; data' = λ id h. h })
-edit_follows (edits.Enable id) edit e = subst (Follows (edits.Enable id)) (same_Some _ _ e) (record { spares = λ id h. h; no_other = λ r keys h. h; data' = λ id h. h })
-edit_follows (edits.Disable id) edit e = subst (Follows (edits.Disable id)) (same_Some _ _ e) (record { spares = λ id h. h; no_other = λ r keys h. h; data' = λ id h. h })
-edit_follows (edits.Destroy id) edit e = subst (Follows (edits.Destroy id)) (same_Some _ _ e) (record { spares = λ id h. h; no_other = λ r keys h. h; data' = λ id h. h })
-edit_follows (edits.Delete id) edit e = subst (Follows (edits.Delete id)) (same_Some _ _ e) (record { spares = λ id h. h; no_other = λ r keys h. h; data' = λ id h. h })
 
 -- what the edit of a run leaves has this, and what its session does
 record EachDone (P : Keys → Type 0) (table : Table) (told : Told) (old : Keys) (asked : Asked) : Type 0 where
@@ -66,7 +56,7 @@ record EachDone (P : Keys → Type 0) (table : Table) (told : Told) (old : Keys)
 -- any other run that hands a keyset on leaves it
 run_keeps : (P : Keys → Type 0) (table : Table) (told : Told) (asked : Asked) (old new : Keys) → P old → EachDone P table told old asked → Does table told old new asked → P new
 run_keeps P table told (edit_keyset lock edit in' out) old new p each does =
-    subst (λ a. P (kept old a)) does.accepted (each.by_edit lock edit in' out refl does.edit (edit_follows edit does.edit does.is) does.stepped does.steps)
+    subst (λ a. P (kept old a)) does.accepted (each.by_edit lock edit in' out refl does.edit (named_follows edit does.edit does.is) does.stepped does.steps)
 run_keeps P table told (convert_keyset lock how in' out) old new p each does = subst P does p
 run_keeps P table told (session lock name form out) old new p each does = subst P does.2 (each.by_session lock name form out refl does.0 does.1)
 run_keeps P table told (create_keyset lock template out) old new p each does = absurd does
@@ -306,7 +296,7 @@ alone_is_there r keys key =
 enabled_by : (r : Record) (prefix : List ℕ) → prefix_of r ≡ Some prefix → (told : Told) (old new : Keys) (in' out : Place) → HasDistinctIds old → AllByRecursion HasWordId old.records → HasData r old
     → Does standard_table told old new (edit_keyset None (edits.Enable r.id) in' out) → HasSameKey r new
 enabled_by r prefix has told old new in' out apart words h does =
-    enable_gives_back old new r prefix told.random does.stepped apart words has h (ap (λ e. step old e told.random) (same_Some _ _ does.is) ∙ does.steps) does.accepted
+    enable_gives_back old new r prefix told.random does.stepped apart words has h (ap (λ e. step old e told.random) (same_Ok _ _ does.is) ∙ does.steps) does.accepted
 
 pub given_back_by_enable : ReadIsStored → RunStep → GivenBackByEnable
 given_back_by_enable stored law run before after old r prefix in' out asked passes random holds is apart has h =

@@ -24,7 +24,7 @@ use Rattle.tinkey_cmds.specs.Edits.{Edit, first, step}
 use Rattle.tinkey_cmds.specs.Laws.{EditsKeepKeysets, FirstsAreKeysets}
 use Rattle.tinkey_session.proofs.DrawLemmas.{lines_draw_fronts}
 use Rattle.tinkey_session.proofs.Options.{clash, map_some}
-use Rattle.tinkey_session.proofs.TurnLemmas.{edited_on}
+use Rattle.tinkey_session.proofs.TurnLemmas.{edited_on, named_template}
 use Rattle.tinkey_session.specs.HeldLaws.{AreBytes, AreStored, EditsKeepStored, FirstsAreStored, SessionsKeepStored}
 use Rattle.tinkey_session.specs.Laws.{EditedIsKeyset, EditedIsSound, IsEdited, SoundIsUsable}
 use Rattle.tinkey_session.specs.Lines.{Line}
@@ -43,7 +43,7 @@ use Rattle.tinkey_plans.specs.Steps.{keyset_limit, makes_keyset, puts, written_i
 use Rattle.tinkey_plans.specs.Wrapping.{is_json, makes_wrapped, wrapped_limit}
 use Rattle.tinkey_readable.proofs.LockLemmas.{lock_done, under_done}
 use Rattle.tinkey_readable.proofs.ReachLemmas.{IsDoneAnswer, behind, bytes_put, found_edit, found_row, made_done}
-use Rattle.tinkey_readable.proofs.RunLemmas.{done_edits, each_of, edit_template, free_done, json_back, no_edits, primary_word, read_faultless, read_keyset, still_fit, talk_done, template_row}
+use Rattle.tinkey_readable.proofs.RunLemmas.{done_edits, each_of, free_done, json_back, no_edits, primary_word, read_faultless, read_keyset, still_fit, talk_done, template_row}
 use Rattle.tinkey_readable.proofs.WrappedRunLemmas.{behind_random, gives_key, text_made, unwrap_keeps, within_done, wraps_done}
 use Rattle.tinkey_readable.proofs.WrittenBytesLemmas.{written_bytes}
 use Rattle.tinkey_readable.proofs.StreamKeyLemmas.{fit_sound, sound_fit}
@@ -201,7 +201,7 @@ edit_under l lock edit in' out told master text put after over old w =
     let whole = f.goes_on ∙ o.goes_on ∙ t ∙ m.goes_on in
     let p = put_under over out m.new left (ap (λ (a : Answer). a.status) (sym whole) ∙ w.done) in
     let gave : step old f.edit told.random ≡ Some m.drawn = ap (step old f.edit) (sym (behind_random in'.file told)) ∙ m.gave in
-    let template = edit_template edit f.edit f.is in
+    let template = named_template edit f.edit f.is in
     let seal = sealed_so master after over m.new out left p _ w.read o.within (step_left old f.edit told.random m.drawn w.random gave) w.put_form w.put' (ap (λ (a : Answer). bytes_at out.file a.files a.output) whole ∙ p.there)
     (l.keeps old m.new f.edit told.random m.drawn template w.faultless gave m.made)
     (l.keeps_stored old m.new f.edit told.random m.drawn template w.random w.stored gave m.made) in

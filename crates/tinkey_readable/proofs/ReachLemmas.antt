@@ -2,29 +2,29 @@
 use Rattle.std.proofs.Common.{arith, ◌≡◌, ◌∙◌, sym, refl, ap, subst, ℕ, ◌+◌, ◌≤◌, Bool, true, false, cond, List, [], length, nat_le, Option, Some, None, Result, Ok, Err}
 use Rattle.std.specs.Prelude.{drop, if◌then◌else◌}
 use Rattle.std.specs.FinMap as map
-use Rattle.std.specs.Option.{option_and_then}
 use Rattle.std.specs.Result.{result_ok}
 use Rattle.std.proofs.lemmas.Bool.{leb-true}
 use Rattle.std.proofs.lemmas.Bool.Decides.{nat_tests}
 use Rattle.std.proofs.lemmas.Cmp.{eq_by_cmp_equiv, nat_list_cmp_total}
-use Rattle.key_msgs.specs.Templates.{Row, row_named}
+use Rattle.key_msgs.specs.Templates.{Row}
 use Rattle.keyset_json.specs.Reading.{reads_json}
 use Rattle.keyset_model.specs.Keyset.{Keys}
 use Rattle.keyset_model.specs.Reading.{reads_binary}
 use Rattle.managers.specs.Table.{Table}
 use Rattle.tinkey_cmds.specs.Draws.{Draw, Drawn}
 use Rattle.tinkey_cmds.specs.Edits.{Edit}
-use Rattle.tinkey_cmds.specs.Edits as edits
 use Rattle.tinkey_cmds.specs.declared.command.CmdFault.{CmdFault}
 use Rattle.tinkey_session.proofs.Options.{clash}
+use Rattle.tinkey_session.specs.Serving.{edit_named, or_refused}
+use Rattle.tinkey_session.specs.declared.reply.Refusal.{Refusal}
 use Rattle.wrapped_prims.specs.Fitness.{Unfit, unfit}
 use Rattle.seal_wrap.specs.Unwrapped.{is_wrapped_binary, is_wrapped_json}
 use Rattle.tinkey_plans.specs.declared.status.Status.TheVariants as status
 use Rattle.tinkey_words.specs.declared.words.rows.Format.{Format}
 use Rattle.tinkey_words.specs.declared.words.rows.Format.TheVariants as formats
 use Rattle.tinkey_plans.specs.Plan.{Plan, Told, Answer, answer, refused, load_answer, create_answer, draw_answer, ends}
-use Rattle.tinkey_readable.specs.Runs.{IsFree, read_in, bytes_at, edit_of}
-use Rattle.tinkey_plans.specs.Steps.{keyset_limit, keyset_in, with_keyset, with_json, loads_keyset, reads_keyset, takes_keyset, keyset_at, reads_input, finds_edit, with_row, makes_keyset, with_made, puts, puts_keyset, written_in}
+use Rattle.tinkey_readable.specs.Runs.{IsFree, read_in, bytes_at}
+use Rattle.tinkey_plans.specs.Steps.{keyset_limit, keyset_in, with_keyset, with_json, loads_keyset, reads_keyset, takes_keyset, keyset_at, reads_input, finds_edit, with_row, makes_keyset, with_made, puts, puts_keyset, written_in, refuses}
 use Rattle.tinkey_plans.specs.Handles.{handles, unless_unfit}
 use Rattle.tinkey_plans.specs.Using.{limit_for, use_output, works}
 use Rattle.tinkey_words.specs.Words.{AskedEdit, AskedWork, Place, primitive_for}
@@ -121,7 +121,7 @@ taken_within place bytes next told there done = by_file place.file there done
 
 pub record FoundEdit (asked : AskedEdit) (next : Edit → Plan) (told : Told) : Type 0 where
   pub edit : Edit
-  pub is : edit_of asked ≡ Some edit
+  pub is : edit_named asked ≡ Ok edit
   pub goes_on : answer (finds_edit asked next) told ≡ answer (next edit) told
 
 pub found_row : (row : Option Row) (name : List ℕ) (next : Row → Plan) (told : Told) → IsDoneAnswer (answer (with_row row name next) told) → (r : Row) × (row ≡ Some r) × (answer (with_row row name next) told ≡ answer (next r) told)
@@ -129,13 +129,11 @@ found_row (Some r) name next told done = (r, refl, refl)
 found_row None name next told done = absurd (cc)
 
 pub found_edit : (asked : AskedEdit) (next : Edit → Plan) (told : Told) → IsDoneAnswer (answer (finds_edit asked next) told) → FoundEdit asked next told
-found_edit (edits.Add name) next told done = let f = found_row (row_named name) name (λ row. next (edits.Add row)) told done in record { edit = edits.Add f.0; is = ap (option_and_then (λ row. Some (edits.Add row))) f.1; goes_on = f.2 }
-found_edit (edits.Rotate name) next told done = let f = found_row (row_named name) name (λ row. next (edits.Rotate row)) told done in record { edit = edits.Rotate f.0; is = ap (option_and_then (λ row. Some (edits.Rotate row))) f.1; goes_on = f.2 }
-found_edit (edits.Promote id) next told done = record { edit = edits.Promote id; is = refl; goes_on = refl }
-found_edit (edits.Enable id) next told done = record { edit = edits.Enable id; is = refl; goes_on = refl }
-found_edit (edits.Disable id) next told done = record { edit = edits.Disable id; is = refl; goes_on = refl }
-found_edit (edits.Destroy id) next told done = record { edit = edits.Destroy id; is = refl; goes_on = refl }
-found_edit (edits.Delete id) next told done = record { edit = edits.Delete id; is = refl; goes_on = refl }
+found_edit asked next told done = by (edit_named asked) refl done
+  where
+    by : (found : Result Edit Refusal) → edit_named asked ≡ found → IsDoneAnswer (answer (or_refused refuses found next) told) → FoundEdit asked next told
+    by (Ok edit) is done = record { edit = edit; is = is; goes_on = ap (λ r. answer (or_refused refuses r next) told) is }
+    by (Err why) is done = absurd (cc)
 
 pub record MadeKeyset (give : Draw Keys) (next : Keys → Plan) (told : Told) : Type 0 where
   pub drawn : Drawn Keys

@@ -21,12 +21,11 @@ use Rattle.keyset_model.specs.declared.record.Record.{Record}
 use Rattle.managers.specs.Standard.{standard_table}
 use Rattle.managers.specs.Table.{Table}
 use Rattle.tinkey_cmds.specs.Draws.{Drawn}
-use Rattle.tinkey_cmds.specs.Edits.{Edit, step}
-use Rattle.tinkey_cmds.specs.Edits as edits
-use Rattle.tinkey_cmds.specs.Laws.{EditsKeepKeysets, HasTemplate, IsTemplate}
-use Rattle.tinkey_session.proofs.Options.{clash, no_truth, then_some}
+use Rattle.tinkey_cmds.specs.Edits.{step}
+use Rattle.tinkey_cmds.specs.Laws.{EditsKeepKeysets, IsTemplate}
+use Rattle.tinkey_session.proofs.Options.{clash, no_truth}
 use Rattle.tinkey_session.proofs.StoredLemmas.{byte_there}
-use Rattle.tinkey_session.proofs.TurnLemmas.{edited_on, template_there}
+use Rattle.tinkey_session.proofs.TurnLemmas.{edited_on, named_template, template_there}
 use Rattle.tinkey_session.specs.Serving.{template_or}
 use Rattle.tinkey_session.specs.HeldLaws.{AreBytes, AreStored, EditsKeepStored, IsStored, SessionsKeepStored}
 use Rattle.tinkey_session.specs.Laws.{EditedIsKeyset, EditedIsSound, IsEdited, SoundIsUsable, after}
@@ -45,7 +44,7 @@ use Rattle.tinkey_words.specs.declared.words.rows.Format.TheVariants as formats
 use Rattle.tinkey_plans.specs.Commands.{command_plan}
 use Rattle.tinkey_plans.specs.Plan.{Told, Answer, Plan, answer, exchanges, writes, draw_answer, look_answer, refused, talk_answer}
 use Rattle.tinkey_plans.specs.Session.{finds_free, holds_session, saves, saves_as}
-use Rattle.tinkey_readable.specs.Runs.{Handing, hands_on, session_handing, AreRuns, Does, Gives, HandsOn, HoldsBytes, IsDone, Keeps, LeadOn, ReadIsStored, Passage, PassesBytes, Run, RunStep, WasDone, LocksStep, Written, by_run, by_wrap, bytes_at, edit_of, keyset_of, read_in, shown}
+use Rattle.tinkey_readable.specs.Runs.{Handing, hands_on, session_handing, AreRuns, Does, Gives, HandsOn, HoldsBytes, IsDone, Keeps, LeadOn, ReadIsStored, Passage, PassesBytes, Run, RunStep, WasDone, LocksStep, Written, by_run, by_wrap, bytes_at, keyset_of, read_in, shown}
 use Rattle.tinkey_plans.specs.Laws.{FitKeysetsAnswer}
 use Rattle.tinkey_plans.specs.Steps.{input_limit, sealed_limit, keyset_limit, takes_keyset, makes_keyset, puts_keyset, with_made, written_in}
 use Rattle.tinkey_plans.specs.declared.sealer.Sealer.{Sealer}
@@ -140,16 +139,6 @@ written_back binary json formats.Binary keys faultless stored = ap result_ok (bi
 pub template_row : (name : List ℕ) (row : Row) → row_named name ≡ Some row → IsTemplate row
 template_row name row e = template_there name row (ap (λ (o : Option Row). template_or o (is_asymmetric name)) e)
 
--- the edit of a name has its template
-pub edit_template : (asked : AskedEdit) (edit : Edit) → edit_of asked ≡ Some edit → HasTemplate edit
-edit_template (edits.Add name) edit e = let m = then_some (λ row. Some (edits.Add row)) (row_named name) edit e in subst HasTemplate (same_Some _ _ m.2) (template_row name m.0 m.1)
-edit_template (edits.Rotate name) edit e = let m = then_some (λ row. Some (edits.Rotate row)) (row_named name) edit e in subst HasTemplate (same_Some _ _ m.2) (template_row name m.0 m.1)
-edit_template (edits.Promote id) edit e = subst HasTemplate (same_Some _ _ e) tt
-edit_template (edits.Enable id) edit e = subst HasTemplate (same_Some _ _ e) tt
-edit_template (edits.Disable id) edit e = subst HasTemplate (same_Some _ _ e) tt
-edit_template (edits.Destroy id) edit e = subst HasTemplate (same_Some _ _ e) tt
-edit_template (edits.Delete id) edit e = subst HasTemplate (same_Some _ _ e) tt
-
 -- a keyset that was put out is there, and is read back
 pub kept : FaultlessKeysets → BinaryBack → JsonBack → (new : Keys) (form : Format) (after : Written) (found : Option (List ℕ)) → form ≡ after.form → found ≡ Some after.bytes → found ≡ Some (written_in form new) → length (written_in form new) ≤ keyset_limit → fault_of new ≡ None → AreStored new
     → Keeps new after
@@ -189,7 +178,7 @@ edit_step law binary json keeps keeps_stored table edit in' out told before afte
     let whole = f.goes_on ∙ t ∙ m.goes_on in
     let p = put_done out m.new left (ap (λ (a : Answer). a.status) (sym whole) ∙ done) in
     let gave : step old f.edit told.random ≡ Some m.drawn = ap (step old f.edit) (sym (behind_random in'.file told)) ∙ m.gave in
-    let template = edit_template edit f.edit f.is in
+    let template = named_template edit f.edit f.is in
     let faultless = read_faultless before old is in
     given law binary json table (record { asked = edit_keyset None edit in' out; told = told }) old m.new out after put_form put
     (ap (λ (a : Answer). bytes_at out.file a.files a.output) whole ∙ p.there)
@@ -394,7 +383,7 @@ pub done_edits : SessionIsEdits → (table : Table) (told : Told) (asked : Asked
 unfolding after
 done_edits sessions table told (edit_keyset lock edit in' out) old new does = record {
   edits = record { edit = does.edit; random = told.random } ∷ [];
-  asked = (edit_template edit does.edit does.is, tt);
+  asked = (named_template edit does.edit does.is, tt);
   last = rw does.steps (rw does.accepted refl);
 }
 done_edits sessions table told (convert_keyset lock how in' out) old new does = record { edits = []; asked = tt; last = ap Some does }

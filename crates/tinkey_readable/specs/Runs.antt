@@ -12,7 +12,6 @@
 use Rattle.std.specs.Prelude.{◌≡◌, ℕ, ◌<◌, ◌≤◌, Bool, true, false, List, [], ◌∷◌, length, Option, Some, None, Ok}
 use Rattle.std.specs.FinMap as map
 use Rattle.std.specs.List.{AllByRecursion}
-use Rattle.std.specs.Option.{option_and_then}
 use Rattle.std.specs.Result.{result_ok}
 use Rattle.key_msgs.specs.Templates.{Row, row_named}
 use Rattle.keyset_json.specs.Reading.{reads_json}
@@ -23,9 +22,10 @@ use Rattle.keyset_model.specs.declared.record.Record.{Record}
 use Rattle.managers.specs.Standard.{standard_table}
 use Rattle.managers.specs.Table.{Table}
 use Rattle.tink_spec.specs.Files.{Files}
-use Rattle.tinkey_cmds.specs.Edits.{Edit, Stepped, edit_then, first, step}
+use Rattle.tinkey_cmds.specs.Edits.{Edit, Stepped, first, step}
 use Rattle.tinkey_session.specs.HeldLaws.{AreBytes, AreStored}
 use Rattle.tinkey_session.specs.Laws.{IsEdited}
+use Rattle.tinkey_session.specs.Serving.{edit_named}
 use Rattle.tinkey_session.specs.Session.{Remains, asked_in, remains}
 use Rattle.wrapped_prims.specs.Candidates.{prefix_of}
 use Rattle.wrapped_prims.specs.Laws.{HasKey, HasSameKey}
@@ -267,14 +267,10 @@ PassesBytes (by_wrap wrap locked unwrap) = DrawsBytes wrap × AllByRecursion Dra
 
 -- ---- one run
 
--- the edit that is asked for, where there is a template of its name
-abbrev pub edit_of : AskedEdit → Option Edit
-edit_of asked = edit_then (λ name next. option_and_then next (row_named name)) asked Some
-
 -- an edit was accepted
 pub record IsEdit (asked : AskedEdit) (random : List ℕ) (old new : Keys) : Type 0 where
   pub edit : Edit
-  pub is : edit_of asked ≡ Some edit
+  pub is : edit_named asked ≡ Ok edit
   pub stepped : Stepped
   pub steps : step old edit random ≡ Some stepped
   pub accepted : stepped.answer ≡ Ok new

@@ -8,12 +8,11 @@ ghost use Rattle.managers.specs.Table.{Table};
 ghost use Rattle.tinkey_cmds.specs.Edits.{first, step, seen_edit as seen_command};
 ghost use Rattle.tinkey_plans.specs.Ends.{World, world};
 ghost use Rattle.tinkey_plans.specs.Locks.{puts_under, takes_under, IsLock, IsSomeLock};
-ghost use Rattle.tinkey_plans.specs.Steps.{finds_edit, makes_keyset, Finishes, Passes, PassesAs};
+ghost use Rattle.tinkey_plans.specs.Steps.{makes_keyset, Finishes, Passes};
 ghost use Rattle.tinkey_plans.specs.Commands.{command_plan};
 ghost use Rattle.tinkey_words.specs.Words.{create_keyset, edit_keyset, seen_edit, seen_lock, seen_place};
 
 use crate::locks::{OpenMaster, open_lock, put_under, take_under};
-use crate::steps::find_template;
 use key_msgs::Template;
 use keyset_model::Keyset;
 use managers::{KeyTable, Managers};
@@ -21,6 +20,7 @@ use std::alloc::Global;
 use tink_base::{Entropy, Sink, Source, Store};
 use tinkey_cmds::{Command, apply, create};
 use tinkey_plans::Status;
+use tinkey_session::{find_edit, find_template};
 use tinkey_words::{Master, Place};
 
 /// create-keyset: the keyset of one new key of the template of this name, put in clear or under the
@@ -172,27 +172,6 @@ fn edit_under<S: Source, K: Sink, E: Entropy, D: Store>(
     let keyset = take_under(alloc, lock, input, source, store)?;
     let edited = edit_of(alloc, &keyset, edit, entropy)?;
     put_under(alloc, lock, output, &edited, sink, entropy, store)
-}
-
-/// The edit that the words ask for, with its template found.
-fn find_edit(edit: Command<&str>) -> Result<Command<Template>, Status>
-    ensures { (w : World) → PassesAs seen_command (finds_edit (seen_edit edit.entry)) w result w }
-{
-    match edit {
-        Command::Add(name) => {
-            let template = find_template(name)?;
-            Ok(Command::Add(template))
-        }
-        Command::Rotate(name) => {
-            let template = find_template(name)?;
-            Ok(Command::Rotate(template))
-        }
-        Command::Promote(id) => Ok(Command::Promote(id)),
-        Command::Enable(id) => Ok(Command::Enable(id)),
-        Command::Disable(id) => Ok(Command::Disable(id)),
-        Command::Destroy(id) => Ok(Command::Destroy(id)),
-        Command::Delete(id) => Ok(Command::Delete(id)),
-    }
 }
 
 /// The keyset of one new key.

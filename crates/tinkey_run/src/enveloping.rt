@@ -16,7 +16,7 @@ ghost use Rattle.tinkey_run.specs.Rooms.{envelope_room};
 
 use crate::locks::load_locked;
 use crate::sealers::envelope_sealer_of;
-use crate::steps::{find_template, read_input_behind};
+use crate::steps::read_input_behind;
 use crate::using::{INPUT_LIMIT, SEALED_LIMIT, datum, handle_of, or_failed};
 use key_msgs::{Primitive, Template};
 use keyset_model::Keyset;
@@ -28,6 +28,7 @@ use seal_wrap::{
 use std::alloc::Global;
 use tink_base::{Bytes, Entropy, Source, Store};
 use tinkey_plans::{Sealer, Status, Unopened};
+use tinkey_session::find_template;
 use tinkey_words::{Datum, Envelope, Format, Master};
 use wrapped_prims::{Handle, SealFault};
 

@@ -1,16 +1,14 @@
-//! The steps that commands share: loading or reading a keyset or its bytes, reading the whole
-//! input, and finding a template by name.
+//! The steps that commands share: loading or reading a keyset or its bytes, and reading the whole
+//! input.
 
 ghost use Rattle.std.specs.Prelude.{false, true, ◌&&◌, ◌+◌, ◌≤◌, ◌^◌, drop, length, IfOk};
 ghost use Rattle.std.specs.List.{AllByRecursion};
-ghost use Rattle.key_msgs.specs.Templates.{seen};
 ghost use Rattle.keyset_model.specs.Keyset.{IsShort};
 ghost use Rattle.seal_wrap.specs.Unwrapped.{is_wrapped_binary, is_wrapped_json};
 ghost use Rattle.tinkey_plans.specs.Ends.{World};
 ghost use Rattle.tinkey_words.specs.Words.{seen_name};
-ghost use Rattle.tinkey_plans.specs.Steps.{refusal_of, wire_status, fault_status, has_no_key, json_refusal_of, OrStarved, keyset_in, loads_bytes, reads_bytes, takes_bytes, loads_keyset, reads_input, finds_template, Passes, PassesAs};
+ghost use Rattle.tinkey_plans.specs.Steps.{refusal_of, wire_status, fault_status, has_no_key, json_refusal_of, OrStarved, keyset_in, loads_bytes, reads_bytes, takes_bytes, loads_keyset, reads_input, Passes, PassesAs};
 
-use key_msgs::{Template, TemplateFault, template_named};
 use keyset_json::{JsonError, read_json};
 use keyset_model::{Keyset, KeysetFault, ReadError, read_binary};
 use seal_wrap::{is_wrapped_binary, is_wrapped_json};
@@ -19,7 +17,6 @@ use tink_base::{
     Bytes, Loaded, NoMemory, ReadAllFault, Source, Store, StoreError, read_all, read_behind,
 };
 use tinkey_plans::Status;
-use tinkey_session::Refusal;
 use tinkey_words::Format;
 
 /// The most bytes of a keyset.
@@ -204,19 +201,6 @@ pub(crate) fn read_input_behind<S: Source>(
             ReadAllFault::TooLong => Err(Status::InputTooLong),
             ReadAllFault::Failed => Err(Status::ReadFault),
             ReadAllFault::NoMemory => Err(Status::NoMemory),
-        },
-    }
-}
-
-/// The template of this name. No memory is taken.
-pub(crate) fn find_template(name: &str) -> Result<Template, Status>
-    ensures { (w : World) → PassesAs seen (finds_template name.now) w result w }
-{
-    match template_named(name) {
-        Ok(template) => Ok(template),
-        Err(e) => match e {
-            TemplateFault::Asymmetric => Err(Status::Refused(Refusal::AsymmetricTemplate)),
-            TemplateFault::Unknown => Err(Status::Refused(Refusal::UnknownTemplate)),
         },
     }
 }

@@ -1,5 +1,5 @@
 -- What edits answer, and which edit a line asks for.
-use Rattle.std.proofs.Common.{◌≡◌, refl, sym, ap, subst, ℕ, ◌+◌, ◌-◌, suc, List, [], ◌∷◌, length, Some, None, Result, Ok, Err, arith}
+use Rattle.std.proofs.Common.{◌≡◌, ◌∙◌, refl, sym, ap, subst, ℕ, ◌+◌, ◌-◌, suc, List, [], ◌∷◌, length, Some, None, Result, Ok, Err, arith}
 use Rattle.std.specs.Borrow.{Bor}
 use Rattle.std.specs.Prelude.{slice_get}
 use Rattle.std.specs.Result.{IsErrAnd}
@@ -7,18 +7,19 @@ use Rattle.std.proofs.lemmas.Option.{same_Some}
 use Rattle.key_msgs.specs.declared.template.Template.{Template}
 use Rattle.keyset_model.specs.Keyset.{Keys}
 use Rattle.keyset_model.specs.declared.record.Record.{Record}
-use Rattle.tinkey_cmds.specs.Edits.{Edit, Add, Rotate, Promote, Enable, Disable, Destroy, Delete}
+use Rattle.tinkey_cmds.specs.Edits.{Edit, EditOf, Add, Rotate, Promote, Enable, Disable, Destroy, Delete}
 use Rattle.tinkey_cmds.specs.declared.command.Command.{Command}
 use Rattle.tinkey_session.proofs.Options.{clash}
-use Rattle.tinkey_session.specs.Keeping.{Asks, IsUnedited, needs}
-use Rattle.tinkey_session.specs.Lines.{Line}
+use Rattle.tinkey_session.specs.Keeping.{Asks, FindsEdit, IsUnedited, needs}
+use Rattle.tinkey_session.specs.Lines.{Line, Edit as AsksEdit}
 use Rattle.tinkey_session.specs.Reading.{seen_line}
-use Rattle.tinkey_session.specs.Serving.{edited_reply, last_id, serve}
+use Rattle.tinkey_session.specs.Serving.{edit_line, edited_reply, last_id, or_refused, refused_line, serve}
 use Rattle.tinkey_session.specs.declared.reply.Reply.TheVariants.{NewId}
 use Rattle.tinkey_session.specs.declared.line.Line.{Line as CodeLine}
 use Rattle.tinkey_session.specs.declared.line.Line.TheVariants as lines
 use Rattle.tinkey_session.specs.declared.reply.LineRefusal.{LineRefusal}
-use Rattle.tinkey_session.specs.declared.reply.LineRefusal.TheVariants.{BadLine}
+use Rattle.tinkey_session.specs.declared.reply.LineRefusal.TheVariants.{BadLine, Refused}
+use Rattle.tinkey_session.specs.declared.reply.Refusal.{Refusal}
 use Rattle.tinkey_session.specs.declared.reply.Reply.{Reply}
 
 -- ---- accepted and refused edits
@@ -58,7 +59,19 @@ last_there (x ∷ rs) r n count there = last_at (x ∷ rs) r (n - 1) (omega arit
 
 -- ---- the edits that lines ask for
 
+pub asks_named : (asked : EditOf (List ℕ)) (command : Command Template) → FindsEdit asked (Ok command) → Asks (AsksEdit asked) (Ok command)
+unfolding serve
+asks_named asked command is = λ table keys random. ap (λ found. or_refused (refused_line keys random) found (edit_line keys random)) is
+
+pub asks_unnamed : (asked : EditOf (List ℕ)) (why : Refusal) → FindsEdit asked (Err why) → Asks (AsksEdit asked) (Err (Refused why))
+unfolding serve
+asks_unnamed asked why is = λ table keys random. ap (λ found. or_refused (refused_line keys random) found (edit_line keys random)) is
+
 -- what a `?` hands on
+pub finds_none : (asked : EditOf (List ℕ)) (why : Refusal) (result : Result (Command Template) Refusal) → IsErrAnd result (λ e. e ≡ why) → FindsEdit asked (Err why) → FindsEdit asked result
+finds_none asked why (Ok command) is none = absurd is
+finds_none asked why (Err e) is none = none ∙ ap Err (sym is)
+
 pub asks_error : (line : Line) (why : LineRefusal) (result : Result (Command Template) LineRefusal) → IsErrAnd result (λ e. e ≡ why) → Asks line (Err why) → Asks line result
 asks_error line why (Ok command) is asks = absurd is
 asks_error line why (Err e) is asks = subst (λ w. Asks line (Err w)) (sym is) asks

@@ -3,7 +3,6 @@ use Rattle.std.proofs.Common.{◌≡◌, ◌∙◌, inl, inr, refl, sym, ap, sub
 use Rattle.std.specs.Prelude.{IfSome, slice_get}
 use Rattle.std.specs.Option.{option_and_then}
 use Rattle.std.proofs.lemmas.Option.{same_Some}
-use Rattle.key_msgs.specs.Templates.{Row}
 use Rattle.key_msgs.specs.declared.primitive.Primitive.{Primitive}
 use Rattle.key_msgs.specs.declared.primitive.Primitive.TheVariants.{Aead, Daead, Mac, Prf}
 use Rattle.keyset_model.specs.Keyset.{Keys}
@@ -16,12 +15,12 @@ use Rattle.tinkey_session.proofs.DrawLemmas.{refusals_leave}
 use Rattle.tinkey_session.proofs.EnabledLemmas.{data_stays}
 use Rattle.tinkey_session.proofs.KeptKeyLemmas.{if_ok, kept_by_edits}
 use Rattle.tinkey_session.proofs.Options.{clash, map_some}
-use Rattle.tinkey_session.proofs.TurnLemmas.{answer_keeps, computed_keeps, handle_cases, opened_keeps, sealed_keeps, served_keys}
+use Rattle.tinkey_session.proofs.TurnLemmas.{answer_keeps, computed_keeps, handle_cases, opened_keeps, sealed_keeps, served_keys, named_row, same_Ok}
 use Rattle.tinkey_session.specs.KeptKeys.{HasData, SparesData, EnablesNoOther, HasDistinctIds, Spares, SparesKey}
 use Rattle.tinkey_session.specs.KeptLines.{EachAcceptedLine, IsAccepted, KeptByLines, KeptBySession, LineIdsStayDistinct, LinesOfOthersSpare, OfEdit, SessionDataStays, SessionIdsStayDistinct}
 use Rattle.tinkey_session.specs.Laws.{kept}
 use Rattle.tinkey_session.specs.Lines.{Line, Seal, Dseal, Open, Dopen, Reseal, Dreseal, Tag, Verify, Derive, Edit as AsksEdit, Bad}
-use Rattle.tinkey_session.specs.Serving.{Served, asked_line, by_handle, edit_line, sealed_reply, serve, stepped, template_of, with_template}
+use Rattle.tinkey_session.specs.Serving.{Served, asked_line, by_handle, edit_line, edit_named, or_refused, refused_line, sealed_reply, serve, stepped, template_of}
 use Rattle.tinkey_session.specs.Session.{Remains, Turn, remains, turn_then, turns}
 use Rattle.tinkey_session.specs.declared.reply.Refusal.{Refusal}
 use Rattle.tinkey_session.specs.declared.reply.Reply.{Reply}
@@ -52,19 +51,22 @@ edit_keeps P keys random edit x each e =
     let there = map_some (stepped edit keys) (step keys edit random) x e in
     subst P (served_keys edit keys there.0.answer there.0.left ∙ ap (λ y. y.keys) there.2) (each there.0 there.1)
 
-template_keeps : (P : Keys → Type 0) (keys : Keys) (random : List ℕ) (found : Result Row Refusal) (edit : Row → Edit) (x : Served) → P keys
-    → ((row : Row) (s : Stepped) → step keys (edit row) random ≡ Some s → P (kept keys s.answer)) → with_template keys random found (λ row. edit_line keys random (edit row)) ≡ Some x → P x.keys
-template_keeps P keys random (Ok row) edit x p each e = edit_keeps P keys random (edit row) x (each row) e
-template_keeps P keys random (Err why) edit x p each e = subst P (ap (λ y. y.keys) (same_Some _ _ e)) p
+-- the edit that was found is as what was asked for
+pub named_follows : (asked : EditOf (List ℕ)) (e : Edit) → edit_named asked ≡ Ok e → Follows asked e
+named_follows (edits.Add name) e is = subst (Follows (edits.Add name)) (named_row edits.Add (template_of name) e is).2 (record { spares = λ id h. tt; no_other = λ r keys h. tt; data' = λ id h. tt })
+named_follows (edits.Rotate name) e is = subst (Follows (edits.Rotate name)) (named_row edits.Rotate (template_of name) e is).2 (record { spares = λ id h. tt; no_other = λ r keys h. tt; data' = λ id h. tt })
+named_follows (edits.Promote id) e is = subst (Follows (edits.Promote id)) (same_Ok _ _ is) (record { spares = λ id h. h; no_other = λ r keys h. h; data' = λ id h. h })
+named_follows (edits.Enable id) e is = subst (Follows (edits.Enable id)) (same_Ok _ _ is) (record { spares = λ id h. h; no_other = λ r keys h. h; data' = λ id h. h })
+named_follows (edits.Disable id) e is = subst (Follows (edits.Disable id)) (same_Ok _ _ is) (record { spares = λ id h. h; no_other = λ r keys h. h; data' = λ id h. h })
+named_follows (edits.Destroy id) e is = subst (Follows (edits.Destroy id)) (same_Ok _ _ is) (record { spares = λ id h. h; no_other = λ r keys h. h; data' = λ id h. h })
+named_follows (edits.Delete id) e is = subst (Follows (edits.Delete id)) (same_Ok _ _ is) (record { spares = λ id h. h; no_other = λ r keys h. h; data' = λ id h. h })
 
 asked_keeps : (P : Keys → Type 0) (keys : Keys) (random : List ℕ) (asked : EditOf (List ℕ)) (x : Served) → P keys → EachEdit P keys random asked → asked_line keys random asked ≡ Some x → P x.keys
-asked_keeps P keys random (edits.Add name) x p each e = template_keeps P keys random (template_of name) edits.Add x p (λ row. each (edits.Add row) (record { spares = λ id h. tt; no_other = λ r keys h. tt; data' = λ id h. tt })) e
-asked_keeps P keys random (edits.Rotate name) x p each e = template_keeps P keys random (template_of name) edits.Rotate x p (λ row. each (edits.Rotate row) (record { spares = λ id h. tt; no_other = λ r keys h. tt; data' = λ id h. tt })) e
-asked_keeps P keys random (edits.Promote id) x p each e = edit_keeps P keys random (edits.Promote id) x (each (edits.Promote id) (record { spares = λ id h. h; no_other = λ r keys h. h; data' = λ id h. h })) e
-asked_keeps P keys random (edits.Enable id) x p each e = edit_keeps P keys random (edits.Enable id) x (each (edits.Enable id) (record { spares = λ id h. h; no_other = λ r keys h. h; data' = λ id h. h })) e
-asked_keeps P keys random (edits.Disable id) x p each e = edit_keeps P keys random (edits.Disable id) x (each (edits.Disable id) (record { spares = λ id h. h; no_other = λ r keys h. h; data' = λ id h. h })) e
-asked_keeps P keys random (edits.Destroy id) x p each e = edit_keeps P keys random (edits.Destroy id) x (each (edits.Destroy id) (record { spares = λ id h. h; no_other = λ r keys h. h; data' = λ id h. h })) e
-asked_keeps P keys random (edits.Delete id) x p each e = edit_keeps P keys random (edits.Delete id) x (each (edits.Delete id) (record { spares = λ id h. h; no_other = λ r keys h. h; data' = λ id h. h })) e
+asked_keeps P keys random asked x p each e = by (edit_named asked) (named_follows asked) e
+  where
+    by : (found : Result Edit Refusal) → ((e : Edit) → found ≡ Ok e → Follows asked e) → or_refused (refused_line keys random) found (edit_line keys random) ≡ Some x → P x.keys
+    by (Ok edit) follows e = edit_keeps P keys random edit x (each edit (follows edit refl)) e
+    by (Err why) follows e = subst P (ap (λ y. y.keys) (same_Some _ _ e)) p
 
 -- ---- every line
 

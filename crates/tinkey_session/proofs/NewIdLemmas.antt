@@ -10,7 +10,7 @@ use Rattle.tinkey_cmds.specs.Edits as edits
 use Rattle.tinkey_cmds.specs.declared.command.CmdFault.{CmdFault}
 use Rattle.tinkey_session.proofs.Options.{map_some}
 use Rattle.tinkey_session.specs.LineLaws.{TellsNewId}
-use Rattle.tinkey_session.specs.Serving.{Served, edit_line, edit_served, edited_reply, last_id, serve, stepped, template_of, with_template}
+use Rattle.tinkey_session.specs.Serving.{Served, edit_line, edit_served, edited_reply, last_id, or_refused, refused_line, serve, stepped, template_of}
 use Rattle.tinkey_session.specs.declared.reply.Refusal.{Refusal}
 use Rattle.tinkey_session.specs.declared.reply.Refusal.TheVariants.{Command}
 use Rattle.tinkey_session.specs.declared.reply.LineRefusal.TheVariants.{Refused}
@@ -59,7 +59,7 @@ told-served edit keys (Ok new) left tells grown =
     inr (more.0, tells new ∙ ap last_id more.1 ∙ last_id-push keys.records more.0, more.1)
 
 told-line : (edit : Row → Edit) → ((row : Row) → TellsLast (edit row)) → ((old new : Keys) (row : Row) → Grows old (edit row) new → HasOneMore old new)
-    → (keys : Keys) (random : List ℕ) (found : Result Row Refusal) (x : Served) → with_template keys random found (λ row. edit_line keys random (edit row)) ≡ Some x → IsTold keys x
+    → (keys : Keys) (random : List ℕ) (found : Result Row Refusal) (x : Served) → or_refused (refused_line keys random) (or_refused {P = Result Edit Refusal} Err found (λ row. Ok (edit row))) (edit_line keys random) ≡ Some x → IsTold keys x
 told-line edit tells grown keys random (Err why) x e = inl (why, ap (λ y. y.reply) (sym (same_Some _ _ e)))
 told-line edit tells grown keys random (Ok row) x e =
     let there = map_some (stepped (edit row) keys) (step keys (edit row) random) x e in

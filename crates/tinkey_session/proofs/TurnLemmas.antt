@@ -19,7 +19,7 @@ use Rattle.tinkey_session.proofs.Options.{clash, map_some}
 use Rattle.tinkey_session.specs.Laws.{Asked, IsAsked, IsEdited, after, kept}
 use Rattle.tinkey_session.specs.SessionLaws.{SessionIsEdits}
 use Rattle.tinkey_session.specs.Lines.{Line, Seal, Dseal, Open, Dopen, Reseal, Dreseal, Tag, Verify, Derive, Edit as AsksEdit, Bad}
-use Rattle.tinkey_session.specs.Serving.{cannot_serve, Served, answered, asked_line, by_handle, computed, edit_line, edit_served, if_opened, sealed_reply, serve, stepped, template_of, template_or, unless_unfit, with_template}
+use Rattle.tinkey_session.specs.Serving.{cannot_serve, Served, answered, asked_line, by_handle, computed, edit_line, edit_named, edit_served, if_opened, or_refused, refused_line, sealed_reply, serve, stepped, template_of, template_or, unless_unfit}
 use Rattle.tinkey_session.specs.declared.reply.LineRefusal.{LineRefusal}
 use Rattle.tinkey_session.specs.declared.reply.Refusal.{Refusal}
 use Rattle.tinkey_session.specs.declared.reply.LineRefusal.TheVariants.{OpenFailed, Refused}
@@ -92,7 +92,7 @@ computed_keeps keys random reply answer x e = ap (λ y. y.keys) (map_some (λ va
 
 -- ---- templates
 
-same_Ok : (a b : Row) → ◌≡◌ {A = Result Row Refusal} (Ok a) (Ok b) → a ≡ b
+pub same_Ok : {A : Type 0} (a b : A) → ◌≡◌ {A = Result A Refusal} (Ok a) (Ok b) → a ≡ b
 same_Ok a b e = cc
 
 pub template_there : (name : List ℕ) (row : Row) → template_of name ≡ Ok row → IsTemplate row
@@ -110,19 +110,26 @@ GivesAsked keys give =
     ((edit : Edit) × HasTemplate edit × ((random : List ℕ) → give random ≡ edit_line keys random edit))
     ⊎ ((why : LineRefusal) × ((random : List ℕ) → give random ≡ Some (answered keys random (Refuses why))))
 
-asked_by : (keys : Keys) (edit : Row → Edit) → ((row : Row) → IsTemplate row → HasTemplate (edit row)) → (found : Result Row Refusal) → ((row : Row) → found ≡ Ok row → IsTemplate row)
-    → GivesAsked keys (λ random. with_template keys random found (λ row. edit_line keys random (edit row)))
-asked_by keys edit has (Ok row) there = inl (edit row, has row (there row refl), λ random. refl)
-asked_by keys edit has (Err why) there = inr (Refused why, λ random. refl)
+-- an edit that was found by the name of a template
+pub named_row : (edit : Row → Edit) (found : Result Row Refusal) (e : Edit) → or_refused {P = Result Edit Refusal} Err found (λ row. Ok (edit row)) ≡ Ok e → (row : Row) × (found ≡ Ok row) × (edit row ≡ e)
+named_row edit (Ok row) e is = (row, refl, same_Ok _ _ is)
+named_row edit (Err why) e is = absurd cc
+
+pub named_template : (asked : EditOf (List ℕ)) (e : Edit) → edit_named asked ≡ Ok e → HasTemplate e
+named_template (edits.Add name) e is = let m = named_row edits.Add (template_of name) e is in subst HasTemplate m.2 (template_there name m.0 m.1)
+named_template (edits.Rotate name) e is = let m = named_row edits.Rotate (template_of name) e is in subst HasTemplate m.2 (template_there name m.0 m.1)
+named_template (edits.Promote id) e is = subst HasTemplate (same_Ok _ _ is) tt
+named_template (edits.Enable id) e is = subst HasTemplate (same_Ok _ _ is) tt
+named_template (edits.Disable id) e is = subst HasTemplate (same_Ok _ _ is) tt
+named_template (edits.Destroy id) e is = subst HasTemplate (same_Ok _ _ is) tt
+named_template (edits.Delete id) e is = subst HasTemplate (same_Ok _ _ is) tt
 
 pub asked_cases : (keys : Keys) (asked : EditOf (List ℕ)) → GivesAsked keys (λ random. asked_line keys random asked)
-asked_cases keys (edits.Add name) = asked_by keys edits.Add (λ row is. is) (template_of name) (template_there name)
-asked_cases keys (edits.Rotate name) = asked_by keys edits.Rotate (λ row is. is) (template_of name) (template_there name)
-asked_cases keys (edits.Promote id) = inl (edits.Promote id, tt, λ random. refl)
-asked_cases keys (edits.Enable id) = inl (edits.Enable id, tt, λ random. refl)
-asked_cases keys (edits.Disable id) = inl (edits.Disable id, tt, λ random. refl)
-asked_cases keys (edits.Destroy id) = inl (edits.Destroy id, tt, λ random. refl)
-asked_cases keys (edits.Delete id) = inl (edits.Delete id, tt, λ random. refl)
+asked_cases keys asked = by (edit_named asked) (named_template asked)
+  where
+    by : (found : Result Edit Refusal) → ((e : Edit) → found ≡ Ok e → HasTemplate e) → GivesAsked keys (λ random. or_refused (refused_line keys random) found (edit_line keys random))
+    by (Ok e) has = inl (e, has e refl, λ random. refl)
+    by (Err why) has = inr (Refused why, λ random. refl)
 
 asked_leaves : (keys : Keys) (asked : EditOf (List ℕ)) (random : List ℕ) (x : Served) → asked_line keys random asked ≡ Some x → Leaves keys random x
 asked_leaves keys asked random x e = elim (asked_cases keys asked) [

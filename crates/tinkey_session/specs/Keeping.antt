@@ -9,11 +9,11 @@ use Rattle.keyset_model.specs.Keyset.{IsShort, Keys}
 use Rattle.keyset_model.specs.declared.record.Record.{Record}
 use Rattle.managers.specs.Table.{Table}
 use Rattle.tink_spec.specs.Outside.{EntropyState}
-use Rattle.tinkey_cmds.specs.Edits.{seen_edit}
+use Rattle.tinkey_cmds.specs.Edits.{EditOf, seen_edit}
 use Rattle.tinkey_cmds.specs.declared.command.Command.{Command}
 use Rattle.tinkey_session.specs.Answered.{Serves}
 use Rattle.tinkey_session.specs.Lines.{Line, Seal, Dseal, Open, Dopen, Reseal, Dreseal, Tag, Verify, Derive}
-use Rattle.tinkey_session.specs.Serving.{answered, edit_line, serve}
+use Rattle.tinkey_session.specs.Serving.{answered, edit_line, edit_named, serve}
 use Rattle.tinkey_session.specs.declared.reply.Reply.TheVariants.{Refuses}
 use Rattle.tinkey_session.specs.declared.reply.LineRefusal.{LineRefusal}
 use Rattle.tinkey_session.specs.declared.reply.Refusal.{Refusal}
@@ -66,6 +66,11 @@ pub record IsKept (table own : Table) (primitive : Primitive) (keys : Keys) (hel
     : Type 0 where
   pub same : own ≡ table
   pub over : IsOver own primitive keys held
+
+-- the edit that is asked for by the name of a template or an id was found, or is refused
+abbrev pub FindsEdit : EditOf (List ℕ) → Result (Command Template) Refusal → Type 0
+FindsEdit asked (Ok command) = edit_named asked ≡ Ok (seen_edit command)
+FindsEdit asked (Err why) = edit_named asked ≡ Err why
 
 -- the edit that a line asks for, or why it is refused, over any keyset
 abbrev pub Asks : Line → Result (Command Template) LineRefusal → Type 0

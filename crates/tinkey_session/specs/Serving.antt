@@ -38,6 +38,10 @@ pub record Served : Type 0 where
 abbrev pub answered : Keys → (random : List ℕ) → Reply → Served
 answered keys random reply = record { reply = reply; keys = keys; left = random }
 
+-- a refusal leaves them
+abbrev pub refused_line : Keys → (random : List ℕ) → Refusal → Option Served
+refused_line keys random why = Some (answered keys random (Refuses (Refused why)))
+
 -- the refusal for the record of this place, which can't serve
 abbrev pub cannot_serve : (place : ℕ) → Unfit → Refusal
 cannot_serve place NoManager = refusals.NoManager place
@@ -48,7 +52,7 @@ cannot_serve place NotRaw = refusals.NotRaw place
 abbrev pub unless_unfit : Option (ℕ × Unfit) → Keys → List ℕ → Option Served → Option Served
 unless_unfit None keys random served = served
 unless_unfit (Some found) keys random served =
-    Some (answered keys random (Refuses (Refused (cannot_serve found.0 found.1))))
+    refused_line keys random (cannot_serve found.0 found.1)
 
 -- under a keyset whose ENABLED records all serve the primitive
 abbrev pub by_handle : Primitive → Table → Keys → List ℕ → Option Served → Option Served
@@ -126,16 +130,19 @@ template_or None asymmetric = Err (no_template asymmetric)
 abbrev pub template_of : List ℕ → Result Row Refusal
 template_of name = template_or (row_named name) (is_asymmetric name)
 
--- the template of a name, and then what comes of it
-abbrev pub with_template : Keys → List ℕ → Result Row Refusal → (Row → Option Served)
-    → Option Served
-with_template keys random (Ok row) next = next row
-with_template keys random (Err why) next = Some (answered keys random (Refuses (Refused why)))
+-- what is found, and then what comes of it; or what comes of the refusal
+abbrev pub or_refused : {A P : Type 0} → (Refusal → P) → Result A Refusal → (A → P) → P
+or_refused refuse (Ok found) next = next found
+or_refused refuse (Err why) next = refuse why
+
+-- the edit with the template of its name, or why there is none
+abbrev pub edit_named : EditOf (List ℕ) → Result Edit Refusal
+edit_named edit = edit_then (λ name. or_refused Err (template_of name)) edit Ok
 
 -- an edit by the name of a template or the id of a record
 abbrev pub asked_line : Keys → List ℕ → EditOf (List ℕ) → Option Served
-asked_line keys random edit = edit_then
-    (λ name. with_template keys random (template_of name)) edit (edit_line keys random)
+asked_line keys random asked =
+    or_refused (refused_line keys random) (edit_named asked) (edit_line keys random)
 
 -- ---- every line
 

@@ -13,6 +13,6 @@ pub use line::{Line, read_line};
 pub use reply::{
     LineRefusal, Refusal, Reply, line_refusal_text, refusal_in, refusal_text, reply_text,
 };
-pub use session::{LineFault, Session};
+pub use session::{LineFault, Session, find_edit, find_template};
 pub use short_text::ShortText;
 pub use talk::TalkFault;

@@ -6,12 +6,11 @@ ghost use Rattle.key_msgs.specs.Templates.{seen};
 ghost use Rattle.key_msgs.specs.declared.primitive.Primitive.{Primitive};
 ghost use Rattle.key_msgs.specs.declared.primitive.Primitive.TheVariants.{Stream};
 ghost use Rattle.keyset_model.specs.Keyset.{IsShort};
-ghost use Rattle.tinkey_cmds.specs.Edits.{seen_edit};
+ghost use Rattle.tinkey_cmds.specs.Edits.{seen_by, seen_edit};
 ghost use Rattle.tinkey_session.specs.Answered.{Serves};
-ghost use Rattle.tinkey_session.specs.Keeping.{Asks, IsKept, IsUnedited, needs, short-prop};
+ghost use Rattle.tinkey_session.specs.Keeping.{Asks, FindsEdit, IsKept, IsUnedited, needs, short-prop};
 ghost use Rattle.tinkey_session.specs.Reading.{IsWithin, seen_line};
 ghost use Rattle.tinkey_session.specs.Serving.{edit_line, edited_reply, serve as served, template_of};
-ghost use Rattle.tinkey_session.specs.declared.line.Line.TheVariants as lines;
 ghost use Rattle.wrapped_prims.specs.Fitness.{unfit};
 ghost use Rattle.wrapped_prims.specs.Making.{IsFaultOf};
 
@@ -227,8 +226,8 @@ impl<'m> Session<'m> {
     }
 }
 
-/// The template of this name, or why there is none.
-fn template_of(name: &str) -> Result<Template, Refusal>
+/// The template of this name, or why there is none. No memory is taken.
+pub fn find_template(name: &str) -> Result<Template, Refusal>
     ensures { MatchResult result (λ template. template_of name.now ≡ Ok (seen template))
         (λ why. template_of name.now ≡ Err why) }
 {
@@ -246,19 +245,21 @@ fn command_of(line: &Line<'_>) -> Result<Command<Template>, LineRefusal>
     ensures { Asks (seen_line line.now) result }
 {
     match line {
-        Line::Edit(edit) => found_edit(*edit),
+        Line::Edit(edit) => {
+            let command = find_edit(*edit)?;
+            Ok(command)
+        }
         _ => Err(LineRefusal::BadLine),
     }
 }
 
-/// The edit with its template found, or why there is none.
-#[tactic(auto, unfolding(crate::specs::Serving::serve))]
-fn found_edit(edit: Command<&str>) -> Result<Command<Template>, LineRefusal>
-    ensures { Asks (seen_line (lines.Edit edit.entry)) result }
+/// The edit with its template found, or why there is none. No memory is taken.
+pub fn find_edit(edit: Command<&str>) -> Result<Command<Template>, Refusal>
+    ensures { FindsEdit (seen_by (λ name. name.now) edit.entry) result }
 {
     match edit {
-        Command::Add(name) => Ok(Command::Add(template_of(name)?)),
-        Command::Rotate(name) => Ok(Command::Rotate(template_of(name)?)),
+        Command::Add(name) => Ok(Command::Add(find_template(name)?)),
+        Command::Rotate(name) => Ok(Command::Rotate(find_template(name)?)),
         Command::Promote(id) => Ok(Command::Promote(id)),
         Command::Enable(id) => Ok(Command::Enable(id)),
         Command::Disable(id) => Ok(Command::Disable(id)),
