@@ -1,10 +1,9 @@
 //! sseal, sopen and sreseal: the input as a stream, in one pass.
 
 ghost use Rattle.std.specs.Prelude.{◌≡◌, IfOk};
-ghost use Rattle.segment_stream.specs.KeysModel.{AreSound, KeysForStreams};
+ghost use Rattle.segment_stream.specs.KeysModel.{AreSound};
 ghost use Rattle.segment_stream.specs.PumpModels.{pump_result};
 ghost use Rattle.tinkey_plans.specs.Ends.{World, pump_status};
-ghost use Rattle.tinkey_plans.specs.Plan.{Plan};
 ghost use Rattle.tinkey_plans.specs.Steps.{Finishes, Passes, status_of};
 ghost use Rattle.tinkey_plans.specs.Streaming.{loads_stream_keys, seals_stream, opens_stream, reseals_stream};
 ghost use Rattle.tinkey_words.specs.Words.{seen_datum, seen_lock};
@@ -39,39 +38,9 @@ pub(crate) fn load_stream_keys<D: Store>(
     Ok(keys)
 }
 
-/// sseal: seals the input as a stream under the primary key.
+/// sseal: seals the input as a stream under the primary one of these keys.
 #[inline(never)]
 pub(crate) fn seal_stream<S: Source, K: Sink, E: Entropy>(
-    alloc: Global,
-    keys: Result<StreamKeys, Status>,
-    ad: Datum<'_>,
-    source: &mut S,
-    sink: &mut K,
-    entropy: &mut E,
-) -> Result<(), Status>
-    requires sound { IfOk keys AreSound }
-    ensures { (step : (KeysForStreams → Plan) → Plan) (first w : World) →
-        Passes step first keys
-        (record w {
-          source = S.state source.old;
-          sink = K.state sink.old;
-          entropy = E.state entropy.old;
-        }) →
-        Finishes (step (λ keys. seals_stream keys (seen_datum ad.entry))) first result
-        (record w {
-          source = S.state source.new;
-          sink = K.state sink.new;
-          entropy = E.state entropy.new;
-        }) }
-{
-    match keys {
-        Ok(keys) => seal_under(alloc, &keys, ad, source, sink, entropy),
-        Err(status) => Err(status),
-    }
-}
-
-/// Seals the input as a stream under these keys.
-fn seal_under<S: Source, K: Sink, E: Entropy>(
     alloc: Global,
     keys: &StreamKeys,
     ad: Datum<'_>,
@@ -102,30 +71,9 @@ fn seal_under<S: Source, K: Sink, E: Entropy>(
     }
 }
 
-/// sopen: opens the input as a stream.
+/// sopen: opens the input as a stream under these keys.
 #[inline(never)]
 pub(crate) fn open_stream<S: Source, K: Sink>(
-    alloc: Global,
-    keys: Result<StreamKeys, Status>,
-    ad: Datum<'_>,
-    source: &mut S,
-    sink: &mut K,
-) -> Result<(), Status>
-    requires sound { IfOk keys AreSound }
-    ensures { (step : (KeysForStreams → Plan) → Plan) (first w : World) →
-        Passes step first keys
-        (record w { source = S.state source.old; sink = K.state sink.old }) →
-        Finishes (step (λ keys. opens_stream keys (seen_datum ad.entry))) first result
-        (record w { source = S.state source.new; sink = K.state sink.new }) }
-{
-    match keys {
-        Ok(keys) => open_under(alloc, &keys, ad, source, sink),
-        Err(status) => Err(status),
-    }
-}
-
-/// Opens the input as a stream under these keys.
-fn open_under<S: Source, K: Sink>(
     alloc: Global,
     keys: &StreamKeys,
     ad: Datum<'_>,
@@ -146,39 +94,9 @@ fn open_under<S: Source, K: Sink>(
     }
 }
 
-/// sreseal: opens the input as a stream, and seals the plaintext under the primary key.
+/// sreseal: opens the input as a stream under these keys, and seals the plaintext under the primary one.
 #[inline(never)]
 pub(crate) fn reseal_stream<S: Source, K: Sink, E: Entropy>(
-    alloc: Global,
-    keys: Result<StreamKeys, Status>,
-    ad: Datum<'_>,
-    source: &mut S,
-    sink: &mut K,
-    entropy: &mut E,
-) -> Result<(), Status>
-    requires sound { IfOk keys AreSound }
-    ensures { (step : (KeysForStreams → Plan) → Plan) (first w : World) →
-        Passes step first keys
-        (record w {
-          source = S.state source.old;
-          sink = K.state sink.old;
-          entropy = E.state entropy.old;
-        }) →
-        Finishes (step (λ keys. reseals_stream keys (seen_datum ad.entry))) first result
-        (record w {
-          source = S.state source.new;
-          sink = K.state sink.new;
-          entropy = E.state entropy.new;
-        }) }
-{
-    match keys {
-        Ok(keys) => reseal_under(alloc, &keys, ad, source, sink, entropy),
-        Err(status) => Err(status),
-    }
-}
-
-/// Opens the input as a stream under these keys, and seals the plaintext under the primary one.
-fn reseal_under<S: Source, K: Sink, E: Entropy>(
     alloc: Global,
     keys: &StreamKeys,
     ad: Datum<'_>,

@@ -1,13 +1,13 @@
 //! The top call.
 
-ghost use Rattle.std.specs.Prelude.{◌≡◌, map, string_bytes, Err};
+ghost use Rattle.std.specs.Prelude.{map, string_bytes, Err};
 ghost use Rattle.managers.specs.Table.{Table};
 ghost use Rattle.tinkey_plans.specs.Ends.{Ends, World, world};
 ghost use Rattle.tinkey_plans.specs.Commands.{asked_plan, plan_of, command_plan};
 ghost use Rattle.tinkey_plans.specs.Promises.{Promised};
 ghost use Rattle.tinkey_readable.specs.Readable.{IsReadable};
 ghost use Rattle.tinkey_plans.specs.Status.{Reports};
-ghost use Rattle.tinkey_plans.specs.Steps.{Finishes, status_of};
+ghost use Rattle.tinkey_plans.specs.Steps.{Finishes};
 ghost use Rattle.tinkey_words.specs.Words.{seen_command};
 
 use crate::converting::convert_keyset;
@@ -86,18 +86,13 @@ fn do_words<S: Source, K: Sink, E: Lookahead, D: Store>(
         (world (S.state source.new) (K.state sink.new) (D.state store.new) (E.state entropy.new)) }
 {
     match parse(words) {
-        Ok(command) => status_of(dispatch(alloc, command, managers, source, sink, entropy, store)),
+        Ok(command) => {
+            match dispatch(alloc, command, managers, source, sink, entropy, store) {
+                Ok(()) => Status::Done,
+                Err(status) => status,
+            }
+        }
         Err(misuse) => unasked(words, misuse),
-    }
-}
-
-/// The status of a command that was done, or why it wasn't.
-fn status_of(done: Result<(), Status>) -> Status
-    ensures { result ≡ status_of done }
-{
-    match done {
-        Ok(()) => Status::Done,
-        Err(status) => status,
     }
 }
 
@@ -198,8 +193,8 @@ fn dispatch<S: Source, K: Sink, E: Lookahead, D: Store>(
             form,
             ad,
         } => {
-            let keys = load_stream_keys(alloc, managers, lock, keyset, form, store);
-            seal_stream(alloc, keys, ad, source, sink, entropy)
+            let keys = load_stream_keys(alloc, managers, lock, keyset, form, store)?;
+            seal_stream(alloc, &keys, ad, source, sink, entropy)
         }
         Request::OpenStream {
             lock,
@@ -207,8 +202,8 @@ fn dispatch<S: Source, K: Sink, E: Lookahead, D: Store>(
             form,
             ad,
         } => {
-            let keys = load_stream_keys(alloc, managers, lock, keyset, form, store);
-            open_stream(alloc, keys, ad, source, sink)
+            let keys = load_stream_keys(alloc, managers, lock, keyset, form, store)?;
+            open_stream(alloc, &keys, ad, source, sink)
         }
         Request::ResealStream {
             lock,
@@ -216,8 +211,8 @@ fn dispatch<S: Source, K: Sink, E: Lookahead, D: Store>(
             form,
             ad,
         } => {
-            let keys = load_stream_keys(alloc, managers, lock, keyset, form, store);
-            reseal_stream(alloc, keys, ad, source, sink, entropy)
+            let keys = load_stream_keys(alloc, managers, lock, keyset, form, store)?;
+            reseal_stream(alloc, &keys, ad, source, sink, entropy)
         }
         Request::OpenRange {
             lock,

@@ -1,13 +1,15 @@
 use Rattle.std.proofs.Common.{◌∙◌}
+use Rattle.segment_stream.specs.KeysModel.{KeysForStreams}
 use Rattle.tinkey_plans.specs.Commands.{list_keyset_output}
 use Rattle.tinkey_plans.specs.Ends.{world}
 use Rattle.tinkey_plans.specs.Envelopes.{envelope_output}
 use Rattle.tinkey_plans.specs.KeyOf.{key_of_output}
 use Rattle.tinkey_plans.specs.Ranging.{range_output}
 use Rattle.tinkey_plans.specs.SelfTesting.{self_test_output}
-use Rattle.tinkey_plans.specs.Streaming.{loads_stream_keys}
+use Rattle.tinkey_plans.specs.Streaming.{loads_stream_keys, opens_stream, reseals_stream, seals_stream}
 use Rattle.tinkey_plans.specs.Using.{shows, use_output}
 use Rattle.tinkey_words.specs.Words.{seen_datum, seen_envelope, seen_lock, seen_place, seen_range, seen_work}
+use Rattle.tinkey_run.proofs.LockLemmas.{finished_there, finishes_then}
 use Rattle.tinkey_run.proofs.top.dispatch.Goals as goal
 
 pub returns-in-CreateKeyset : goal.returns-in-CreateKeyset
@@ -52,23 +54,47 @@ returns-in-UseEnvelope g c =
     let new = record w { source = g.S.Source.state c.use_envelope-done.new.source; entropy = g.E.Entropy.state c.use_envelope-done.new.entropy; store = g.D.Store.state c.use_envelope-done.new.store } in
     rw x.is (c.finish_output-in-UseEnvelope.ensures (envelope_output _ (seen_lock x.lock) x.keyset.now x.form x.template.now (seen_envelope x.work)) w new (c.use_envelope-done.ensures w))
 
-pub returns-in-SealStream : goal.returns-in-SealStream
-returns-in-SealStream g c =
+pub returns-in_err-keys-in-SealStream : goal.returns-in_err-keys-in-SealStream
+returns-in_err-keys-in-SealStream g c =
     let w = world (g.S.Source.state c.args.source.now) (g.K.Sink.state c.args.sink.now) (g.D.Store.state c.args.store.now) (g.E.Entropy.state c.args.entropy.now) in
     let x = c.in-SealStream in
-    rw x.is (c.seal_stream.ensures (loads_stream_keys _ (seen_lock x.lock) x.keyset.now x.form) w (record w { store = g.D.Store.state c.load_stream_keys-keys.new.store }) (c.load_stream_keys-keys.ensures.passes w))
+    rw x.is (finished_there {A = KeysForStreams} (loads_stream_keys _ (seen_lock x.lock) x.keyset.now x.form) (λ keys. seals_stream keys (seen_datum x.ad)) w (record w { store = g.D.Store.state c.load_stream_keys.new.store }) _ _ c.from_residual.ensures.1 (c.in_err-keys-in-SealStream.ensures.passes w))
 
-pub returns-in-OpenStream : goal.returns-in-OpenStream
-returns-in-OpenStream g c =
+pub returns-in_ok-keys-in-SealStream : goal.returns-in_ok-keys-in-SealStream
+returns-in_ok-keys-in-SealStream g c =
+    let w = world (g.S.Source.state c.args.source.now) (g.K.Sink.state c.args.sink.now) (g.D.Store.state c.args.store.now) (g.E.Entropy.state c.args.entropy.now) in
+    let x = c.in-SealStream in
+    let mid = record w { store = g.D.Store.state c.load_stream_keys.new.store } in
+    let new = record mid { source = g.S.Source.state c.seal_stream.new.source; sink = g.K.Sink.state c.seal_stream.new.sink; entropy = g.E.Entropy.state c.seal_stream.new.entropy } in
+    rw x.is (finishes_then {A = KeysForStreams} (loads_stream_keys _ (seen_lock x.lock) x.keyset.now x.form) (λ keys. seals_stream keys (seen_datum x.ad)) w mid new c.in_ok-keys-in-SealStream.keys c.seal_stream.result (c.in_ok-keys-in-SealStream.ensures.passes w) (c.seal_stream.ensures mid))
+
+pub returns-in_err-keys-in-OpenStream : goal.returns-in_err-keys-in-OpenStream
+returns-in_err-keys-in-OpenStream g c =
     let w = world (g.S.Source.state c.args.source.now) (g.K.Sink.state c.args.sink.now) (g.D.Store.state c.args.store.now) (g.E.Entropy.state c.args.entropy.now) in
     let x = c.in-OpenStream in
-    rw x.is (c.open_stream.ensures (loads_stream_keys _ (seen_lock x.lock) x.keyset.now x.form) w (record w { store = g.D.Store.state c.load_stream_keys-keys-in-OpenStream.new.store }) (c.load_stream_keys-keys-in-OpenStream.ensures.passes w))
+    rw x.is (finished_there {A = KeysForStreams} (loads_stream_keys _ (seen_lock x.lock) x.keyset.now x.form) (λ keys. opens_stream keys (seen_datum x.ad)) w (record w { store = g.D.Store.state c.load_stream_keys-in-OpenStream.new.store }) _ _ c.from_residual-in_err-keys-in-OpenStream.ensures.1 (c.in_err-keys-in-OpenStream.ensures.passes w))
 
-pub returns-in-ResealStream : goal.returns-in-ResealStream
-returns-in-ResealStream g c =
+pub returns-in_ok-keys-in-OpenStream : goal.returns-in_ok-keys-in-OpenStream
+returns-in_ok-keys-in-OpenStream g c =
+    let w = world (g.S.Source.state c.args.source.now) (g.K.Sink.state c.args.sink.now) (g.D.Store.state c.args.store.now) (g.E.Entropy.state c.args.entropy.now) in
+    let x = c.in-OpenStream in
+    let mid = record w { store = g.D.Store.state c.load_stream_keys-in-OpenStream.new.store } in
+    let new = record mid { source = g.S.Source.state c.open_stream.new.source; sink = g.K.Sink.state c.open_stream.new.sink } in
+    rw x.is (finishes_then {A = KeysForStreams} (loads_stream_keys _ (seen_lock x.lock) x.keyset.now x.form) (λ keys. opens_stream keys (seen_datum x.ad)) w mid new c.in_ok-keys-in-OpenStream.keys c.open_stream.result (c.in_ok-keys-in-OpenStream.ensures.passes w) (c.open_stream.ensures mid))
+
+pub returns-in_err-keys-in-ResealStream : goal.returns-in_err-keys-in-ResealStream
+returns-in_err-keys-in-ResealStream g c =
     let w = world (g.S.Source.state c.args.source.now) (g.K.Sink.state c.args.sink.now) (g.D.Store.state c.args.store.now) (g.E.Entropy.state c.args.entropy.now) in
     let x = c.in-ResealStream in
-    rw x.is (c.reseal_stream.ensures (loads_stream_keys _ (seen_lock x.lock) x.keyset.now x.form) w (record w { store = g.D.Store.state c.load_stream_keys-keys-in-ResealStream.new.store }) (c.load_stream_keys-keys-in-ResealStream.ensures.passes w))
+    rw x.is (finished_there {A = KeysForStreams} (loads_stream_keys _ (seen_lock x.lock) x.keyset.now x.form) (λ keys. reseals_stream keys (seen_datum x.ad)) w (record w { store = g.D.Store.state c.load_stream_keys-in-ResealStream.new.store }) _ _ c.from_residual-in_err-keys-in-ResealStream.ensures.1 (c.in_err-keys-in-ResealStream.ensures.passes w))
+
+pub returns-in_ok-keys-in-ResealStream : goal.returns-in_ok-keys-in-ResealStream
+returns-in_ok-keys-in-ResealStream g c =
+    let w = world (g.S.Source.state c.args.source.now) (g.K.Sink.state c.args.sink.now) (g.D.Store.state c.args.store.now) (g.E.Entropy.state c.args.entropy.now) in
+    let x = c.in-ResealStream in
+    let mid = record w { store = g.D.Store.state c.load_stream_keys-in-ResealStream.new.store } in
+    let new = record mid { source = g.S.Source.state c.reseal_stream.new.source; sink = g.K.Sink.state c.reseal_stream.new.sink; entropy = g.E.Entropy.state c.reseal_stream.new.entropy } in
+    rw x.is (finishes_then {A = KeysForStreams} (loads_stream_keys _ (seen_lock x.lock) x.keyset.now x.form) (λ keys. reseals_stream keys (seen_datum x.ad)) w mid new c.in_ok-keys-in-ResealStream.keys c.reseal_stream.result (c.in_ok-keys-in-ResealStream.ensures.passes w) (c.reseal_stream.ensures mid))
 
 pub returns-in-OpenRange : goal.returns-in-OpenRange
 returns-in-OpenRange g c =

@@ -1,6 +1,6 @@
 use Rattle.std.proofs.Common.{◌∙◌, refl}
 use Rattle.tinkey_run.proofs.StreamLemmas.{opened_ends}
-use Rattle.tinkey_run.proofs.streaming.open_under.Goals as goal
+use Rattle.tinkey_run.proofs.streaming.open_stream.Goals as goal
 
 pub returns-in-Ok-new : goal.returns-in-Ok-new
 returns-in-Ok-new g c = λ w.
