@@ -24,3 +24,4 @@ pub mod KeyLemmas
 pub mod KeysLemmas
 pub mod SegmentLemmas
 pub mod ReadsOn
+pub mod Followed

@@ -1,20 +1,22 @@
 -- A pass that opens a stream under its key.
-use Rattle.std.proofs.Common.{◌≡◌, ℕ, zero, suc, ◌+◌, ◌-◌, ◌<◌, ◌≤◌, List, [], ◌++◌, length, take, drop, refl, sym, ◌∙◌, ap, subst, arith, inl, inr, append_assoc, append-nil}
-use Rattle.std.specs.Prelude.{Bool, true, false, Option, Some, None, Result, Ok, Err}
+use Rattle.std.proofs.Common.{◌≡◌, ℕ, zero, suc, ◌+◌, ◌-◌, ◌*◌, ◌<◌, ◌≤◌, List, [], ◌++◌, length, take, drop, refl, sym, ◌∙◌, ap, subst, arith, inl, inr, append_assoc, append-nil}
+use Rattle.std.specs.Prelude.{Bool, true, false, Option, Some, None, Result, Ok, Err, IfErr, OnOk, if◌then◌else◌}
 use Rattle.std.proofs.lemmas.Bool.{cases_lt}
-use Rattle.std.proofs.lemmas.List.{length-append, take-take, length-take-le, length-drop, drop-drop}
-use Rattle.tink_spec.specs.Outside.{SourceState, SinkState, Rose, Gave, Took, TookPrefix, IsAtEnd}
+use Rattle.std.proofs.lemmas.List.{take-take, length-take-le, length-drop, drop-drop}
+use Rattle.tink_spec.specs.Outside.{SourceState, SinkState, Rose, Stood, Gave, Took, IsAtEnd, next}
 use Rattle.tink_spec.proofs.Moves.{gave_nothing, gave_more, took_nothing, took_more}
 use Rattle.segment_stream.specs.Cipher.{SegmentCipher, IsCipher, most_segments, behind_header}
-use Rattle.segment_stream.specs.Opening.{StreamRefusal, too_many, failed, released_by, chosen}
+use Rattle.segment_stream.specs.Halting.{Halts, IsOpened, IsShown, OpensOn, ShowsFault}
+use Rattle.segment_stream.specs.Opening.{StreamRefusal, too_many, failed}
 use Rattle.segment_stream.specs.Under.{Standing}
+use Rattle.segment_stream.proofs.Places.{rows_le}
 use Rattle.segment_stream.proofs.Slices.{behind, rest_is}
 use borrow.Rule.Slice.PartMut.{put_mid}
-use Rattle.segment_stream.specs.Pumping.{Pumps, pumped, refused, unread, unwritten, opening_under, fault_of, Follows}
+use Rattle.segment_stream.specs.Pumping.{Pumps, pumped, refused, unread, unwritten, opening_under, fault_of, Follows, ShowsFaults}
 use Rattle.segment_stream.specs.Reading.{ReadBehind}
 use Rattle.segment_stream.specs.declared.fault.OpenPumpFault.{OpenPumpFault}
 use Rattle.segment_stream.specs.declared.fault.OpenPumpFault.TheVariants as fault
-use Rattle.segment_stream.proofs.Standing.{held_opens, standing_more, standing_next, standing_front, standing_waits, standing_fails, standing_ends, standing_ends_badly, standing_many, standing_many_fails, Stops}
+use Rattle.segment_stream.proofs.Standing.{held_opens, standing_more, standing_next, standing_waits, standing_fails, standing_ends, standing_ends_badly, standing_many, standing_many_fails, Stops}
 
 -- since the pass began these bytes were taken, and these written
 pub record Going (key : SegmentCipher) (header taken written : List ℕ) (whole seen : Bool) (was now : SourceState) (old new : SinkState) (held : List ℕ) (number : ℕ) : Type 0 where
@@ -114,27 +116,60 @@ going_ends_badly key header taken written whole seen was now old new held number
     let s = standing_ends_badly key header (taken ++ x.more) number held (written ++ x.out) is x.stands short below (held_later key header number true held least ∙ none) in
     refused x.more x.out true (failed number) refl x.gave (λ e. ((x.follows e).0, refl)) (λ e. x.end end) x.took (sym s.released) s.decided
 
--- a segment that opens isn't written to its end
-went_front : (key : SegmentCipher) (taken written out p rest front back : List ℕ) (ended : Bool) → ((written ++ out) ++ p) ++ rest ≡ released_by (chosen key) taken ended → front ++ back ≡ p → written ++ ((out ++ front) ++ (back ++ rest)) ≡ released_by (chosen key) taken ended
-went_front key taken written out p rest front back ended e f = tidy ∙ e
-  where
-    tidy : written ++ ((out ++ front) ++ (back ++ rest)) ≡ ((written ++ out) ++ p) ++ rest
-    tidy = rw (← f) (simp append_assoc)
+-- ---- segments that were opened in one call, behind what the pass did before
 
-pub going_unwritten : (key : SegmentCipher) (header taken written : List ℕ) (whole seen : Bool) (was now : SourceState) (old mid new : SinkState) (held p : List ℕ) (number : ℕ) → IsCipher key → 1 ≤ number → number < most_segments → key.size < length held
-    → Going key header taken written whole seen was now old mid held number → key.opens header number false (take key.size held) ≡ Some p → Rose mid.faults new.faults → TookPrefix mid new p → Pumps (opening_under key) taken written whole (Err fault.WriteFault) was now old new
-going_unwritten key header taken written whole seen was now old mid new held p number is least below full x opens rose t =
-    let s = standing_next key header (taken ++ x.more) number held (written ++ x.out) p is x.stands full below (held_later key header number false (take key.size held) least ∙ opens) in
-    let f = standing_front key header (taken ++ x.more) (number + 1) (drop key.size held) ((written ++ x.out) ++ p) seen s in
-    unwritten x.more (x.out ++ t.front) (t.rest ++ f.0) seen refl (rose_after _ _ _ x.took.faults rose) x.gave x.follows x.end (took_more _ _ _ _ _ x.took t.took) (omega (arith, t.some, length-append t.rest f.0))
-    (went_front key (taken ++ x.more) written x.out p f.0 t.front t.rest seen f.1 t.whole)
+pub going_opens : (key : SegmentCipher) (header taken written : List ℕ) (whole seen : Bool) (was now : SourceState) (old mid new : SinkState) (held later : List ℕ) (number later_number : ℕ) → (x : Going key header taken written whole seen was now old mid held number)
+    → OpensOn key header (taken ++ x.more) (written ++ x.out) later_number later mid new → Going key header taken written whole seen was now old new later later_number
+going_opens key header taken written whole seen was now old mid new held later number later_number x o = record {
+  more = x.more;
+  out = x.out ++ o.more;
+  gave = x.gave;
+  took = took_more _ _ _ _ _ x.took o.took;
+  stands = subst (λ (w : List ℕ). Standing key header (taken ++ x.more) later_number later w) (append_assoc written x.out o.more) o.stands;
+  follows = x.follows;
+  end = x.end;
+}
 
-pub going_ends_unwritten : (key : SegmentCipher) (header taken written : List ℕ) (whole seen : Bool) (was now : SourceState) (old mid new : SinkState) (held p : List ℕ) (number : ℕ) → IsCipher key → 1 ≤ number → number < most_segments → length held ≤ key.size
-    → Going key header taken written whole seen was now old mid held number → seen ≡ true → key.opens header number true held ≡ Some p → Rose mid.faults new.faults → TookPrefix mid new p → Pumps (opening_under key) taken written whole (Err fault.WriteFault) was now old new
-going_ends_unwritten key header taken written whole seen was now old mid new held p number is least below short x end opens rose t =
-    let s = standing_ends key header (taken ++ x.more) number held (written ++ x.out) p is x.stands short below (held_later key header number true held least ∙ opens) in
-    unwritten x.more (x.out ++ t.front) (t.rest ++ []) true refl (rose_after _ _ _ x.took.faults rose) x.gave (λ e. ((x.follows e).0, refl)) (λ e. x.end end) (took_more _ _ _ _ _ x.took t.took) (omega (arith, t.some, length-append t.rest []))
-    (went_front key (taken ++ x.more) written x.out p [] t.front t.rest true (append-nil _ ∙ sym s.released) t.whole)
+-- the bytes taken aren't opened
+pub going_halts : (key : SegmentCipher) (header taken written : List ℕ) (whole seen : Bool) (was now : SourceState) (old mid new : SinkState) (held : List ℕ) (number : ℕ) (why : OpenPumpFault) → (x : Going key header taken written whole seen was now old mid held number)
+    → Halts (opening_under key) why (taken ++ x.more) (written ++ x.out) seen mid new → IsShown why mid new → Pumps (opening_under key) taken written whole (Err why) was now old new
+going_halts key header taken written whole seen was now old mid new held number fault.ReadFault x h shown = absurd h
+going_halts key header taken written whole seen was now old mid new held number fault.WriteFault x h shown =
+    unwritten x.more (x.out ++ h.more) h.rest seen refl (rose_after _ _ _ x.took.faults shown.0) x.gave x.follows x.end (took_more _ _ _ _ _ x.took h.took) h.some
+    (ap (λ (l : List ℕ). written ++ l) (append_assoc x.out h.more h.rest) ∙ sym (append_assoc written x.out (h.more ++ h.rest)) ∙ h.whole)
+going_halts key header taken written whole seen was now old mid new held number fault.TooManySegments x h shown =
+    refused x.more (x.out ++ h.more) seen too_many refl x.gave x.follows x.end (took_more _ _ _ _ _ x.took h.took) (sym (append_assoc written x.out h.more) ∙ h.whole) h.decided
+going_halts key header taken written whole seen was now old mid new held number (fault.StreamFailed n) x h shown =
+    refused x.more (x.out ++ h.more) seen (failed n) refl x.gave x.follows x.end (took_more _ _ _ _ _ x.took h.took) (sym (append_assoc written x.out h.more) ∙ h.whole) h.decided
+
+-- the end was seen
+pub going_finishes : (key : SegmentCipher) (header taken written : List ℕ) (whole : Bool) (was now : SourceState) (old mid new : SinkState) (held : List ℕ) (number : ℕ) (result : Result (Unit {0}) OpenPumpFault) → (x : Going key header taken written whole true was now old mid held number)
+    → OnOk result (IsOpened (opening_under key) (taken ++ x.more) (written ++ x.out) mid new) → IfErr result (λ why. Halts (opening_under key) why (taken ++ x.more) (written ++ x.out) true mid new) → ShowsFault result mid new
+    → Pumps (opening_under key) taken written whole result was now old new
+going_finishes key header taken written whole was now old mid new held number (Ok done) x o h shown =
+    pumped x.more (x.out ++ o.more) refl x.gave x.follows (x.end refl) (took_more _ _ _ _ _ x.took o.took) (sym (append_assoc written x.out o.more) ∙ o.whole) o.none
+going_finishes key header taken written whole was now old mid new held number (Err why) x o h shown = going_halts key header taken written whole true was now old mid new held number why x h shown
+
+-- the measure of a pass: segments are opened, or bytes are read, until the end is seen
+pub still_to_read : (number later most size len held more : ℕ) → number ≤ later → later ≤ most → (later ≡ number → held ≡ len) → held ≤ size → 0 < more
+    → (most - later) * (size + 3) + (size + 1 - (held + more)) + 1 < (most - number) * (size + 3) + (size + 1 - len) + 1
+still_to_read number later most size len held more le within same short some = elim (cases_lt number later) [
+  | inl lt ↦ let rows = rows_le (most - later + 1) (most - number) (size + 3) (omega arith) in omega (arith, rows)
+  | inr ge ↦ let e : later ≡ number = omega arith in let h = same e in let rows : (most - later) * (size + 3) ≡ (most - number) * (size + 3) = ap (λ n. (most - n) * (size + 3)) e in omega (arith, rows, h)
+]
+
+pub until_ended : (seen later : Bool) (x y : ℕ) → seen ≡ false → (later ≡ false → y < x) → 0 < x → (if later then 0 else y) < (if seen then 0 else x)
+until_ended true later x y e less some = absurd cc
+until_ended false true x y e less some = some
+until_ended false false x y e less some = less refl
+
+-- no fault is hidden
+pub shows_pump : (result : Result (Unit {0}) OpenPumpFault) (was now : SourceState) (old mid new : SinkState) → Stood was.faults now.faults → Stood old.faults mid.faults → ShowsFault result mid new → ShowsFaults result was now old new
+shows_pump (Ok done) was now old mid new r w s = (r, s ∙ w)
+shows_pump (Err fault.ReadFault) was now old mid new r w s = absurd s
+shows_pump (Err fault.WriteFault) was now old mid new r w s = (r, s.1 ∙ ap next w)
+shows_pump (Err fault.TooManySegments) was now old mid new r w s = (r, s ∙ w)
+shows_pump (Err (fault.StreamFailed number)) was now old mid new r w s = (r, s ∙ w)
 
 -- ---- over a buffer, of which the first bytes are done with
 

@@ -15,7 +15,7 @@ after_read seen later n was mid now r unseen some more stops = record {
   stops = goes_on_stops was mid now (r.goes_on unseen) stops;
 }
 
-not_both : (b : Bool) → b ≡ true → b ≡ false → ⊥
+pub not_both : (b : Bool) → b ≡ true → b ≡ false → ⊥
 not_both b is not = let e : true ≡ false = sym is ∙ not in absurd cc
 
 -- after reads until a key is decided, of which there are none where the end was seen

@@ -17,3 +17,4 @@ pub mod PumpModels
 pub mod Pushing
 pub mod Passing
 pub mod Lending
+pub mod Halting
