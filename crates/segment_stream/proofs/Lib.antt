@@ -25,3 +25,6 @@ pub mod KeysLemmas
 pub mod SegmentLemmas
 pub mod ReadsOn
 pub mod Followed
+pub mod ArrivingLemmas
+pub mod ArrivingCalls
+pub mod ArrivingEnds

@@ -129,7 +129,7 @@ pumps_unread ciphers index key was mid now taken ended sink t here u =
     unread all [] refl (rose_after _ _ _ t.gave.faults u.rose) (gave_more _ _ _ _ _ t.gave u.gave) (λ n. absurd cc) (took_nothing sink) (sym (ap (λ (x : Choice). released_by x all false) c)) (ap (λ (x : Choice). decides_by x all false) c)
 
 -- the first segment is the last
-first_last : (key : SegmentCipher) (taken p : List ℕ) → IsCipher key → length taken ≤ key.size → opens_at key taken 0 ≡ Some p → Stops key taken true p None
+pub first_last : (key : SegmentCipher) (taken p : List ℕ) → IsCipher key → length taken ≤ key.size → opens_at key taken 0 ≡ Some p → Stops key taken true p None
 first_last key taken p is short opens =
     let s = standing_begins key taken (opens_has key taken p 0 _ opens) in
     standing_ends key (take key.header taken) taken 0 taken [] p is s short (omega arith) (sym (short_opens key (take key.header taken) taken 0 taken [] is s short (omega arith)) ∙ opens)

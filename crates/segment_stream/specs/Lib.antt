@@ -18,3 +18,5 @@ pub mod Pushing
 pub mod Passing
 pub mod Lending
 pub mod Halting
+pub mod Arriving
+pub mod Settling

@@ -14,6 +14,7 @@ mod resealing;
 mod sealer;
 mod sealing;
 mod segments;
+mod settling;
 mod trying;
 
 pub use fault::{OpenPumpFault, SealPumpFault, UpdateFault};

@@ -1,20 +1,23 @@
 //! Opening a stream under the first of several keys that opens its first segment.
 
-ghost use Rattle.std.specs.Prelude.{◌≡◌, ◌+◌, ◌≤◌, [], length, take, drop, false, true, OnErr, OnOk, IfOk, All};
+ghost use Rattle.std.specs.Prelude.{◌≡◌, ℕ, ◌+◌, ◌≤◌, ◌<◌, [], length, take, drop, false, true, ◌||◌, nat_lt, OnErr, OnOk, IfOk, All};
 ghost use Rattle.std.specs.List.{AllByRecursion};
 ghost use Rattle.std.specs.Vec.{vec_capacity, vec_len};
 ghost use Rattle.tink_spec.specs.Outside.{IsAtEnd, Stood, StopsAtEnd};
 ghost use Rattle.segment_stream.specs.Ending.{EndsFirst};
+ghost use Rattle.segment_stream.specs.Halting.{ShowsFault};
 ghost use Rattle.segment_stream.specs.Opening.{has_header};
 ghost use Rattle.segment_stream.specs.Pumping.{Pumps, ShowsFaults, opening_any};
 ghost use Rattle.segment_stream.specs.Reading.{Decided, IsInPlace, ReadsOn, Undecided};
 ghost use Rattle.segment_stream.specs.Segments.{IsSound, cipher_of, ciphers_of};
+ghost use Rattle.segment_stream.specs.Settling.{Chooses, IsBelow, TriesWithin};
 
 use crate::OpenPumpFault;
 use crate::buffer::{Buffer, fill_until, turn};
 use crate::key::StreamKey;
 use crate::opening::{SegmentEnd, open_rest, write_segment};
 use crate::segments::Stream;
+use crate::settling::Stage;
 use tink_base::{Failed, Sink, Source};
 
 /// How the trial of a key ended.
@@ -144,6 +147,49 @@ pub(crate) fn open_any<S: Source, K: Sink>(
                 return open_rest(&mut stream, bytes, len - size, ended, source, sink);
             }
         }
+    }
+    Err(OpenPumpFault::StreamFailed(0))
+}
+
+/// Whether so many bytes, up to the end or not, decide if the first segment opens under a key of this segment
+/// size.
+fn is_settled(len: usize, ended: bool, size: usize) -> bool
+    ensures { result ≡ (ended || nat_lt size len) }
+{
+    ended || len > size
+}
+
+/// Opens the first segment, of those bytes that the buffer holds, under the first of the keys that opens it,
+/// and writes its plaintext. The keys are tried in their order, up to one that isn't decided.
+pub(crate) fn choose<K: Sink>(
+    keys: &[StreamKey],
+    ad: &[u8],
+    buffer: &mut [u8],
+    len: usize,
+    ended: bool,
+    sink: &mut K,
+) -> Result<Stage, OpenPumpFault>
+    requires sound { AllByRecursion IsSound keys.now }
+    requires within { len ≤ length buffer.old }
+    ensures chooses { Chooses (ciphers_of ad.now keys.now) (take len buffer.old) (take len buffer.new)
+        ended result (K.state sink.old) (K.state sink.new) }
+    ensures tried { IfOk result (TriesWithin (length keys.now)) }
+    ensures below { (most : ℕ) → AllByRecursion (λ key. key.segment < most) keys.now
+        → IfOk result (IsBelow len most) }
+    ensures shown { ShowsFault result (K.state sink.old) (K.state sink.new) }
+{
+    let mut count = 0;
+    for key in keys {
+        let size = key.segment as usize;
+        if !is_settled(len, ended, size) {
+            return Ok(Stage::Trying(count));
+        }
+        match open_first(key, ad, buffer, len, sink) {
+            Trial::Refused => {}
+            Trial::Unwritten => return Err(OpenPumpFault::WriteFault),
+            Trial::Written(stream) => return Ok(Stage::Under(stream, 1)),
+        }
+        count += 1;
     }
     Err(OpenPumpFault::StreamFailed(0))
 }
