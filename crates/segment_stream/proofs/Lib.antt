@@ -28,3 +28,4 @@ pub mod Followed
 pub mod ArrivingLemmas
 pub mod ArrivingCalls
 pub mod ArrivingEnds
+pub mod PieceAnswers

@@ -13,6 +13,7 @@ use Rattle.tink_spec.specs.Outside.{SourceState, SinkState}
 use Rattle.std.specs.Prelude.{Result, ◌⊎◌}
 use Rattle.segment_stream.specs.declared.fault.OpenPumpFault.{OpenPumpFault}
 use Rattle.segment_stream.specs.declared.fault.OpenPumpFault.TheVariants.{ReadFault, WriteFault}
+use Rattle.segment_stream.specs.Arriving.{Feeds, HasOpened, OpenStops, OpenStopsLast, OpeningState, OpensLast}
 use Rattle.segment_stream.specs.Pumping.{Pumps, opening_any, resealing, sealing, result_of}
 use Rattle.std.specs.Prelude.{Ok, Err, nat_lt}
 use Rattle.segment_stream.specs.KeysModel.{AreSound, KeysForStreams}
@@ -130,6 +131,30 @@ PassAnswers = (keys : List SegmentCipher) (bytes before : List ℕ)
     ((result ≡ Err WriteFault) ⊎
     ((new.written ≡ Some (before ++ (stream_answer keys bytes).0))
     × (result ≡ result_of (stream_answer keys bytes).1)))
+
+-- A stream that arrives in pieces, however it is cut, gives the stated answer for the whole of it, into a sink that
+-- tells: where its end is answered to be whole, and where it is refused.
+abbrev pub PiecesAnswer : Type 0
+PiecesAnswer = (opening later : OpeningState) (keys : List SegmentCipher) (pieces : List (List ℕ)) (before : List ℕ)
+    (old mid new : SinkState) → HasOpened opening keys [] [] → Feeds opening pieces later old mid
+    → old.written ≡ Some before
+    → (OpensLast later mid new
+    → (new.written ≡ Some (before ++ (stream_answer keys (concat pieces)).0))
+    × ((stream_answer keys (concat pieces)).1 ≡ None))
+    × ((fault : OpenPumpFault) → OpenStopsLast fault later mid new
+    → (fault ≡ WriteFault) ⊎
+    ((new.written ≡ Some (before ++ (stream_answer keys (concat pieces)).0))
+    × (Err fault ≡ result_of (stream_answer keys (concat pieces)).1)))
+
+-- the same where a piece is refused, whatever follows it
+abbrev pub RefusedEarly : Type 0
+RefusedEarly = (opening later : OpeningState) (keys : List SegmentCipher) (pieces : List (List ℕ))
+    (piece more before : List ℕ) (fault : OpenPumpFault) (old mid new : SinkState)
+    → HasOpened opening keys [] [] → Feeds opening pieces later old mid → old.written ≡ Some before
+    → OpenStops fault later piece mid new
+    → (fault ≡ WriteFault) ⊎
+    ((new.written ≡ Some (before ++ (stream_answer keys (concat pieces ++ (piece ++ more))).0))
+    × (Err fault ≡ result_of (stream_answer keys (concat pieces ++ (piece ++ more))).1))
 
 -- the same of a pass that seals: too many segments where 2^32 full ones and one more byte stand
 -- there

@@ -1,8 +1,8 @@
 //! Laws of the definitions of streams. Each is the contract of a function with no effect.
 
 ghost use Rattle.segment_stream.specs.Laws.{DecidedStays, HoldsMore, KeysAreCiphers};
-ghost use Rattle.segment_stream.specs.Laws.{OpensOneMore, PassAnswers, PiecesAreAll, RangeIsSlice, ReleasedPrefix, SealedLength};
-ghost use Rattle.segment_stream.specs.Laws.{RefusedUnfinished, ResealPassAnswers, ResealStays, ResealedBack};
+ghost use Rattle.segment_stream.specs.Laws.{OpensOneMore, PassAnswers, PiecesAnswer, PiecesAreAll, RangeIsSlice, ReleasedPrefix, SealedLength};
+ghost use Rattle.segment_stream.specs.Laws.{RefusedEarly, RefusedUnfinished, ResealPassAnswers, ResealStays, ResealedBack};
 ghost use Rattle.segment_stream.specs.Laws.{SealPassAnswers, SealedPrefix, SealsOneMore, StandsReleased, StreamBack, TooManyOutput, TrialsInOrder, SchemesAreCiphers};
 
 /// The pieces, joined, are all the bytes.
@@ -74,6 +74,16 @@ pub fn range_is_slice()
 /// answer.
 pub fn pass_answers()
     ensures { PassAnswers }
+{}
+
+/// A stream that arrives in pieces gives the stated answer for the whole of it, however it is cut.
+pub fn pieces_answer()
+    ensures { PiecesAnswer }
+{}
+
+/// The same if a piece is refused, whatever follows it.
+pub fn refused_early()
+    ensures { RefusedEarly }
 {}
 
 /// The same for a pass that seals.

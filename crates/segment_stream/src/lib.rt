@@ -1,6 +1,7 @@
 //! Tink's streaming AEAD, AES-GCM-HKDF and AES-CTR-HMAC: streams sealed and opened in one pass.
 #![tactic(auto)]
 
+mod arriving;
 mod buffer;
 mod derived;
 mod fault;
@@ -17,6 +18,7 @@ mod segments;
 mod settling;
 mod trying;
 
+pub use arriving::OpeningStream;
 pub use fault::{OpenPumpFault, SealPumpFault, UpdateFault};
 pub use key::StreamKey;
 pub use keys::{StreamKeys, StreamKeysFault};

@@ -197,7 +197,7 @@ fn seal_held<K: Sink>(
 
 /// Puts a piece after the first `held` bytes of the buffer. No memory is taken: its block has room
 /// for it, and isn't moved.
-fn hold(buffer: &mut Buffer, held: usize, piece: &[u8])
+pub(crate) fn hold(buffer: &mut Buffer, held: usize, piece: &[u8])
     requires within { held ≤ vec_len buffer.old.bytes }
     requires room { held + length piece.now ≤ vec_capacity buffer.old.bytes }
     ensures in_place { IsInPlace buffer.old.bytes buffer.new.bytes }
