@@ -16,6 +16,7 @@ pub mod Slices
 pub mod Pass
 pub mod Trials
 pub mod First
+pub mod Chosen
 pub mod SealPass
 pub mod PushLemmas
 pub mod PassingLemmas

@@ -1,6 +1,7 @@
 pub mod Pieces
 pub mod Cipher
 pub mod Opening
+pub mod Choosing
 pub mod Sealing
 pub mod Resealing
 pub mod Range

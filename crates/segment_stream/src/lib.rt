@@ -3,6 +3,7 @@
 
 mod arriving;
 mod buffer;
+mod choosing;
 mod derived;
 mod fault;
 mod key;

@@ -1,20 +1,23 @@
 //! Streams opened in one pass.
 
-ghost use Rattle.std.specs.Prelude.{◌≡◌, ◌+◌, [], false, IfOk};
-ghost use Rattle.tink_spec.specs.Outside.{StopsAtEnd};
+ghost use Rattle.std.specs.Prelude.{◌≡◌, ◌+◌, [], false, IfOk, OnErr, OnOk};
+ghost use Rattle.tink_spec.specs.Outside.{Rose, RoseOnce, Stood, StopsAtEnd};
+ghost use Rattle.segment_stream.specs.Choosing.{Chooses};
 ghost use Rattle.segment_stream.specs.Cipher.{SegmentCipher};
 ghost use Rattle.segment_stream.specs.PumpModels.{SealsUnder};
 ghost use Rattle.segment_stream.specs.Pumping.{Pumps, ShowsFaults, opening_any, resealing};
+ghost use Rattle.segment_stream.specs.Reading.{GaveBelow};
 ghost use Rattle.segment_stream.specs.Segments.{ciphers_of};
 ghost use Rattle.segment_stream.specs.StreamKeys.{largest_of};
 
-use crate::buffer::Buffer;
+use crate::buffer::{Buffer, fill_until};
+use crate::choosing::place_of;
 use crate::resealing::pass_any;
 use crate::trying::open_any;
 use crate::{OpenPumpFault, Sealer, StreamKeys};
 use std::alloc::Global;
 use std::marker::Model;
-use tink_base::{NoMemory, Sink, Source};
+use tink_base::{Failed, NoMemory, Sink, Source};
 
 /// Opens one stream under the keys of a keyset.
 #[derive(Drop)]
@@ -75,6 +78,35 @@ impl<'k> Opener<'k> {
     {
         let mut buffer = self.buffer;
         open_any(self.keys.keys(), self.ad, &mut buffer, source, sink)
+    }
+
+    /// Reads what decides under which key `pump` opens the stream from the source, and returns the
+    /// place of that key among the keyset's keys for streams, counted from 0: `None` if and only if
+    /// `pump` refuses the first segment, since no key opens it.
+    ///
+    /// It reads one byte more than the largest segment under these keys has, or the whole stream if
+    /// that is shorter, and nothing after that. No plaintext is given out. `Failed` comes only if
+    /// the source failed before that. Nothing is read after the end was seen, and no failed call is
+    /// tried again. No memory is taken.
+    pub fn choose<S: Source>(self, source: &mut S) -> Result<Option<usize>, Failed>
+        ensures chooses { IfOk result (λ place. Chooses (ciphers_of self.entry.ad self.entry.keys.keys)
+            self.entry.room (S.state source.old) (S.state source.new) place) }
+        ensures fewer { OnErr result (GaveBelow (S.state source.old) (S.state source.new) 0
+            self.entry.room) }
+        ensures stops { StopsAtEnd (S.state source.old) (S.state source.new) }
+        ensures no_fault { OnOk result (Stood (S.state source.old).faults (S.state source.new).faults) }
+        ensures failed { OnErr result (Rose (S.state source.old).faults (S.state source.new).faults) }
+        ensures once { OnErr result
+            (RoseOnce (S.state source.old).faults (S.state source.new).faults) }
+    {
+        let mut buffer = self.buffer;
+        match fill_until(source, &mut buffer, 0, self.keys.largest() + 1) {
+            Ok(len) => {
+                let bytes = buffer.as_mut_slice();
+                Ok(place_of(self.keys.keys(), self.ad, bytes, len))
+            }
+            Err(_) => Err(Failed),
+        }
     }
 
     /// Opens the stream from the source, as `pump` does, and seals its plaintext again as it comes,
