@@ -15,7 +15,7 @@ _tinkey() {
         mapfile -t COMPREPLY < <(compgen -f -- "$word")
         return ;;
     --in-format | --out-format | --keyset-format | --master-format | --new-master-format) words='json binary' ;;
-    --as) words='text envelope' ;;
+    --as) words='text envelope stream' ;;
     --key-template | --dek-template)
         words=$("${COMP_WORDS[0]/#\~/$HOME}" list-key-templates 2>/dev/null) ;;
     --key-id | --ad | --ad-hex | --tag-hex | --length | --seed | --lines | --from) return ;;
@@ -57,7 +57,7 @@ _tinkey() {
             eopen) words='--keyset --dek-template --keyset-format --ad --ad-hex --out --master --master-format --help' ;;
             ereseal) words='--keyset --dek-template --keyset-format --out --master --master-format --help' ;;
             srange) words='--keyset --file --from --length --keyset-format --ad --ad-hex --out --master --master-format --help' ;;
-            key-of) words='--keyset --keyset-format --master --master-format --as --help' ;;
+            key-of) words='--keyset --keyset-format --ad --ad-hex --master --master-format --as --help' ;;
             esac
             # --help comes right after the command and alone, every option once, and none with one that
             # excludes it

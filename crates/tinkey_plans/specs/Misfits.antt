@@ -20,7 +20,7 @@ form_text forms.LineCount = codes "a number from 1 to 100000"
 form_text forms.RangeLength = codes "a number from 0 to 16777216"
 form_text forms.Offset = codes "a number from 0 to 9223372036854775807"
 form_text forms.Format = codes "json or binary"
-form_text forms.SealedForm = codes "text or envelope"
+form_text forms.SealedForm = codes "text, envelope or stream"
 form_text forms.Datum = codes "at most 1048576 bytes"
 form_text forms.Hex = codes "at most 1048576 bytes in hexadecimal"
 form_text forms.Flag = codes "no value"
@@ -59,6 +59,8 @@ misfit_text (misfits.Lacks command name) =
     told_of (row_of command).word (codes " lacks ") (option_row name).word command
 misfit_text (misfits.Without command name other) =
     told_of (option_row name).word (codes " stands without ") (option_row other).word command
+misfit_text (misfits.NoStream command name) =
+    told_of (option_row name).word (codes " stands without ") (codes "--as stream") command
 
 -- the line that tells it
 unfoldable pub misfit_line : Misfit → List ℕ

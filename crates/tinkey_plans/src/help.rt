@@ -249,7 +249,7 @@ Make and change a keyset:
 
 Look at a keyset, and keep it:
   list-keyset         lists a keyset without key material
-  key-of              tells which keys may have sealed a text or an envelope, or made a tag
+  key-of              tells which keys may have made a sealed text, tag, envelope or stream
   list-key-templates  lists the names of the templates for new keys
   convert-keyset      writes a keyset in another form, or under another master
   wrap-keyset         seals a keyset under another one, the master
@@ -602,22 +602,28 @@ Optional:
   tinkey list-keyset --in listed.json
 "),
         CommandName::KeyOf => text!([] "\
-tinkey key-of: tells which keys may have sealed a text or an envelope, or made a tag
+tinkey key-of: tells which keys may have made a sealed text, tag, envelope or stream
 
-  tinkey key-of --keyset FILE [--keyset-format json|binary] [--master FILE]
-      [--master-format json|binary] [--as text|envelope]
+  tinkey key-of --keyset FILE [--keyset-format json|binary] [--ad TEXT] [--ad-hex HEX]
+      [--master FILE] [--master-format json|binary] [--as text|envelope|stream]
 
 Required:
 " keyset_31 "
 Optional:
-" keyset_format_31 master_31 master_format_31 "  --as text|envelope           what the input is: a sealed text or a tag, or an envelope:
-                               text or envelope, in upper or lower case; text if it isn't
-                               given
+" keyset_format_31 "  --ad TEXT                    the associated data, only with --as stream: a text of at most
+                               1,048,576 bytes, taken as they stand; not beside --ad-hex
+  --ad-hex HEX                 the associated data in hexadecimal, only with --as stream: an
+                               even number of hexadecimal digits of either case, at most
+                               2,097,152, or none; not beside --ad
+" master_31 master_format_31 "  --as text|envelope|stream    what the input is: a sealed text or a tag, an envelope, or a
+                               stream: text, envelope or stream, in upper or lower case;
+                               text if it isn't given
 
-Reads  the keyset, and the first 5 bytes of standard input, or the first 9 with --as
-       envelope; of a stream it tells nothing, as streams have no output prefix
+Reads  the keyset, and the first 5 bytes of standard input, the first 9 with --as envelope,
+       or with --as stream one byte more than the largest segment under the keyset's keys
 Gives  a line for each key, of any status, whose output prefix stands in front, and one that
-       counts the keys without one, on standard output
+       counts the keys without one; with --as stream the line of the key under which sopen
+       opens the stream; on standard output
 " codes_012345678 "  tinkey create-keyset --key-template AES256_GCM --out sealer.json
   echo 'Dear Ada' | tinkey seal --keyset sealer.json --out sealed.text
   tinkey key-of --keyset sealer.json < sealed.text

@@ -83,6 +83,15 @@ fn push_misfit(line: &mut ShortText, why: Misfit)
                 command,
             );
         }
+        Misfit::NoStream(command, name) => {
+            push_told(
+                line,
+                option_word(name),
+                " stands without ",
+                "--as stream",
+                command,
+            );
+        }
     }
 }
 
@@ -157,7 +166,7 @@ fn form_text(form: Form) -> &'static str
         Form::RangeLength => "a number from 0 to 16777216",
         Form::Offset => "a number from 0 to 9223372036854775807",
         Form::Format => "json or binary",
-        Form::SealedForm => "text or envelope",
+        Form::SealedForm => "text, envelope or stream",
         Form::Datum => "at most 1048576 bytes",
         Form::Hex => "at most 1048576 bytes in hexadecimal",
         Form::Flag => "no value",

@@ -6,10 +6,10 @@ use Rattle.std.proofs.Math.Path.{fun_ext}
 use Rattle.tinkey_words.specs.declared.words.names.CommandName.{CommandName}
 use Rattle.tinkey_words.specs.declared.words.names.OptionName.{OptionName}
 use Rattle.tinkey_words.specs.declared.words.names.OptionName.TheVariants as options
-use Rattle.tinkey_words.specs.Names.{row_of, form_for, needs}
+use Rattle.tinkey_words.specs.Names.{row_of, form_for, needs, for_streams}
 use Rattle.tinkey_words.specs.Rows.{same, is_one_of, dash}
 use Rattle.tinkey_words.specs.Words.{Asked, asked_by, asked_with, holds_dash, meant}
-use Rattle.tinkey_words.specs.Grammar.{IsValue, Spelling, IsGiven, IsOnce, IsOneOf, HasNeeded, Fits, values_of, Spells, IsDash, words_with, DashesAreLeftOut}
+use Rattle.tinkey_words.specs.Grammar.{IsValue, Spelling, IsGiven, IsOnce, IsOneOf, HasNeeded, SaysStream, Fits, values_of, Spells, IsDash, words_with, DashesAreLeftOut}
 use Rattle.tinkey_words.proofs.FitLemmas.{neither, words_are_spelled}
 use Rattle.tinkey_words.proofs.NameLemmas.{never_required}
 use Rattle.tinkey_words.proofs.RowLemmas.{same_self, same_is}
@@ -72,16 +72,6 @@ by_file : (P : OptionName → Type 0) (name : OptionName) → (name ≡ options.
 by_file P name (inl is) one other = subst P (sym is) one
 by_file P name (inr is) one other = subst P (sym is) other
 
-fits_less : (command : CommandName) (before : List Spelling) (s : Spelling) (behind : List Spelling) → IsDash s → Fits command (before ++ (s ∷ behind)) → Fits command (before ++ behind)
-fits_less command before s behind dashed fits = record {
-  once = once_less before s behind fits.once;
-  apart = λ a b excludes one other. fits.apart a b excludes (given_more a before s behind one) (given_more b before s behind other);
-  taken = all_less (λ t. IsOneOf t.name ((row_of command).required ++ (row_of command).optional)) before s behind fits.taken;
-  formed = all_less (λ t. IsValue (form_for t.name command) t.value) before s behind fits.formed;
-  complete = complete_less (row_of command).required before s behind (by_file (λ name. is_one_of name (row_of command).required ≡ false) s.name dashed.file (never_required command).0 (never_required command).1) fits.complete;
-  met = met_less needs before s behind (by_file (λ name. AllByRecursion (λ need. same name need.1 ≡ false) needs) s.name dashed.file (refl, (refl, tt)) (refl, (refl, tt))) fits.met;
-}
-
 -- The values.
 
 values_other : (name : OptionName) (before : List Spelling) (s : Spelling) (behind : List Spelling) → same s.name name ≡ false → values_of (before ++ (s ∷ behind)) name ≡ values_of (before ++ behind) name
@@ -104,6 +94,27 @@ values_here (t ∷ before) s behind once = by (same t.name s.name) refl (values_
     by : (b : Bool) → same t.name s.name ≡ b → values_of (before ++ (s ∷ behind)) s.name ≡ Some s.value → (if b then Some t.value else values_of (before ++ (s ∷ behind)) s.name) ≡ Some s.value
     by true is later = absurd (once.0 (given_as t.name before s behind (same_is t.name s.name is)))
     by false is later = later
+
+-- that the input is a stream is said by another option
+streams_less : (names : List OptionName) (before : List Spelling) (s : Spelling) (behind : List Spelling) → IsDash s → AllByRecursion (λ name. IsGiven name (before ++ (s ∷ behind)) → SaysStream (before ++ (s ∷ behind))) names → AllByRecursion (λ name. IsGiven name (before ++ behind) → SaysStream (before ++ behind)) names
+streams_less [] before s behind dashed says = tt
+streams_less (name ∷ names) before s behind dashed says = (
+  λ there.
+      let said = says.0 (given_more name before s behind there) in
+      (said.0, sym (values_other options.As before s behind (by_file (λ n. same n options.As ≡ false) s.name dashed.file refl refl)) ∙ said.1, said.2),
+  streams_less names before s behind dashed says.1,
+)
+
+fits_less : (command : CommandName) (before : List Spelling) (s : Spelling) (behind : List Spelling) → IsDash s → Fits command (before ++ (s ∷ behind)) → Fits command (before ++ behind)
+fits_less command before s behind dashed fits = record {
+  once = once_less before s behind fits.once;
+  apart = λ a b excludes one other. fits.apart a b excludes (given_more a before s behind one) (given_more b before s behind other);
+  taken = all_less (λ t. IsOneOf t.name ((row_of command).required ++ (row_of command).optional)) before s behind fits.taken;
+  formed = all_less (λ t. IsValue (form_for t.name command) t.value) before s behind fits.formed;
+  complete = complete_less (row_of command).required before s behind (by_file (λ name. is_one_of name (row_of command).required ≡ false) s.name dashed.file (never_required command).0 (never_required command).1) fits.complete;
+  met = met_less needs before s behind (by_file (λ name. AllByRecursion (λ need. same name need.1 ≡ false) needs) s.name dashed.file (refl, (refl, tt)) (refl, (refl, tt))) fits.met;
+  streams = streams_less (for_streams command) before s behind dashed fits.streams;
+}
 
 -- a value as it is meant
 abbrev meant_as : OptionName → Option (List ℕ) → Option (List ℕ)

@@ -1,8 +1,9 @@
 -- The options of a run fit their command, and options that fit are a run; so words are accepted exactly
 -- where they spell a command and options that fit it, or ask for help or for the version.
 use Rattle.std.proofs.Common.{◌≡◌, ◌⊎◌, ◌∙◌, sym, refl, ap, subst, inl, inr, ℕ, ◌+◌, Bool, true, false, List, [], ◌∷◌, ◌++◌, length, Option, Some, None, Ok, Err, Result}
-use Rattle.std.specs.Prelude.{◌||◌, ◌&&◌, is_some, not, if◌then◌else◌}
+use Rattle.std.specs.Prelude.{◌||◌, ◌&&◌, is_some, not, if◌then◌else◌, codes}
 use Rattle.std.specs.List.{AllByRecursion, flat_map}
+use Rattle.std.specs.Str.{str_eq_ignore_ascii_case, str_to_ascii_lowercase}
 use Rattle.std.proofs.Math.Path.{fun_ext}
 use Rattle.tinkey_words.specs.declared.words.help.First.{First}
 use Rattle.tinkey_words.specs.declared.words.help.First.TheVariants as firsts
@@ -11,13 +12,14 @@ use Rattle.tinkey_words.specs.declared.words.misuse.Misfit.TheVariants as misfit
 use Rattle.tinkey_words.specs.declared.words.misuse.Misuse.{Misuse}
 use Rattle.tinkey_words.specs.declared.words.names.CommandName.{CommandName}
 use Rattle.tinkey_words.specs.declared.words.names.OptionName.{OptionName}
-use Rattle.tinkey_words.specs.Names.{row_of, form_for, rival, needs}
-use Rattle.tinkey_words.specs.Rows.{same, is_one_of}
-use Rattle.tinkey_words.specs.Words.{◌>>=◌, Asked, Values, asked_by, Options, is_given, is_excluded, is_barred, put, options_of, no_options, given_in, lacking, lacking_none, unmet, unmet_none, misuse_at, complete, with_options, is_help_flag, help, version, first_of, by_itself, command_words, asked_of, words_of}
-use Rattle.tinkey_words.specs.Grammar.{IsValue, Spelling, spelled, IsGiven, IsOnce, AreApart, IsOneOf, HasNeeded, Fits, values_of, Spells, Helps, the_list, its_help, the_version, WordsAreSpelled}
+use Rattle.tinkey_words.specs.declared.words.names.OptionName.TheVariants as options
+use Rattle.tinkey_words.specs.Names.{row_of, form_for, rival, needs, for_streams}
+use Rattle.tinkey_words.specs.Rows.{same, is_one_of, sealed_form_of}
+use Rattle.tinkey_words.specs.Words.{◌>>=◌, Asked, Values, asked_by, Options, is_given, is_excluded, is_barred, put, options_of, no_options, given_in, lacking, lacking_none, unmet, unmet_none, is_stream, sealed_in, first_given, idle, idle_of, idle_none, misuse_at, complete, with_options, is_help_flag, help, version, first_of, by_itself, command_words, asked_of, words_of}
+use Rattle.tinkey_words.specs.Grammar.{IsValue, Spelling, spelled, IsGiven, IsOnce, AreApart, IsOneOf, HasNeeded, SaysStream, Fits, values_of, Spells, Helps, the_list, its_help, the_version, WordsAreSpelled}
 use Rattle.tinkey_words.proofs.HelpLemmas.{first_found, first_is, flag_is, options_behind, alone_accepted, help_asked, helps_accepted}
 use Rattle.tinkey_words.proofs.NameLemmas.{are_rivals}
-use Rattle.tinkey_words.proofs.RowLemmas.{same_self, same_is}
+use Rattle.tinkey_words.proofs.RowLemmas.{same_self, same_is, stream_named, named_stream}
 use Rattle.tinkey_words.proofs.SpellingLemmas.{Runs, all_put, run_taken, run_read}
 
 -- One option more.
@@ -172,15 +174,59 @@ value_run command given [] name runs = or_none (given.values name)
 value_run command given (s ∷ run) name runs =
     value_run command (put s.name s.value given) run name runs.3 ∙ value_put (same s.name name) name s given (values_of run name) refl (not_barred s.name given runs.1).0
 
-values_run : (command : CommandName) (run : List Spelling) → Runs command no_options run → (all_put no_options run).values ≡ values_of run
+pub values_run : (command : CommandName) (run : List Spelling) → Runs command no_options run → (all_put no_options run).values ≡ values_of run
 values_run command run runs = fun_ext (λ name. value_run command no_options run name runs)
+
+-- A stream is said to be one.
+
+value_said : (value : Option (List ℕ)) → is_stream (sealed_in value) ≡ true → (text : List ℕ) × (value ≡ Some text) × (str_to_ascii_lowercase text ≡ codes "stream")
+unfolding sealed_form_of
+value_said None is = let clash : false ≡ true = is in absurd (cc)
+value_said (Some text) is = (text, refl, stream_named text is)
+
+said_value : (value : Option (List ℕ)) (text : List ℕ) → value ≡ Some text → str_to_ascii_lowercase text ≡ codes "stream" → is_stream (sealed_in value) ≡ true
+said_value value text given low = rw given (named_stream text low)
+
+-- the words of a run say so where their values do
+says_stream : (command : CommandName) (run : List Spelling) → Runs command no_options run → is_stream (sealed_in ((all_put no_options run).values options.As)) ≡ true → SaysStream run
+says_stream command run runs is = value_said (values_of run options.As) (ap (λ (values : Values). is_stream (sealed_in (values options.As))) (sym (values_run command run runs)) ∙ is)
+
+stream_said : (command : CommandName) (run : List Spelling) → Runs command no_options run → SaysStream run → is_stream (sealed_in ((all_put no_options run).values options.As)) ≡ true
+stream_said command run runs says = ap (λ (values : Values). is_stream (sealed_in (values options.As))) (values_run command run runs) ∙ said_value (values_of run options.As) says.0 says.1 says.2
+
+pub no_stream_said : (command : CommandName) (run : List Spelling) → Runs command no_options run → is_stream (sealed_in ((all_put no_options run).values options.As)) ≡ false → SaysStream run → ⊥
+no_stream_said command run runs is says = let clash : true ≡ false = sym (stream_said command run runs says) ∙ is in cc
+
+-- an option for streams isn't idle where it has one
+given_test : (b : Bool) (name : OptionName) (later : Option OptionName) → b ≡ false → (if b then Some name else later) ≡ later
+given_test true name later is = absurd (cc)
+given_test false name later is = refl
+
+none_first : (names : List OptionName) (run : List Spelling) → AllByRecursion (λ name. IsGiven name run → ⊥) names → first_given names (all_put no_options run) ≡ None
+none_first [] run none = refl
+none_first (name ∷ names) run none =
+    given_test (is_given name (all_put no_options run)) name (first_given names (all_put no_options run)) (by (is_given name (all_put no_options run)) refl)
+    ∙ none_first names run none.1
+  where
+    by : (b : Bool) → is_given name (all_put no_options run) ≡ b → b ≡ false
+    by true is = absurd (none.0 (there_of name no_options run refl is))
+    by false is = refl
+
+none_given : (names : List OptionName) (run : List Spelling) → (SaysStream run → ⊥) → AllByRecursion (λ name. IsGiven name run → SaysStream run) names → AllByRecursion (λ name. IsGiven name run → ⊥) names
+none_given [] run not all = tt
+none_given (name ∷ names) run not all = ((λ given. not (all.0 given)), none_given names run not all.1)
+
+none_idle : (stream : Bool) (command : CommandName) (run : List Spelling) → Runs command no_options run → AllByRecursion (λ name. IsGiven name run → SaysStream run) (for_streams command) → is_stream (sealed_in ((all_put no_options run).values options.As)) ≡ stream → idle stream (for_streams command) (all_put no_options run) ≡ None
+none_idle true command run runs all is = refl
+none_idle false command run runs all is = none_first (for_streams command) run (none_given (for_streams command) run (no_stream_said command run runs is) all)
 
 -- a command that has all that it requires is complete
 completed : (command : CommandName) (count : ℕ) (run : List Spelling) (asked : Asked) → Fits command run → Runs command no_options run → asked ≡ asked_by command (values_of run) → complete command count (all_put no_options run) ≡ Ok asked
 completed command count run asked fits runs asks =
     let there = all_there (row_of command).required run fits.complete in
     let has = all_met needs run fits.met in
-    rw (there, has) (ap (λ (values : Values). Ok (asked_by command values)) (values_run command run runs) ∙ ap Ok (sym asks))
+    let used : idle_of command (all_put no_options run) ≡ None = none_idle (is_stream (sealed_in ((all_put no_options run).values options.As))) command run runs fits.streams refl in
+    rw (there, has, used) (ap (λ (values : Values). Ok (asked_by command values)) (values_run command run runs) ∙ ap Ok (sym asks))
 
 spelled_accepted : (words : List (List ℕ)) (asked : Asked) → Spells words asked → words_of words ≡ Ok asked
 unfolding words_of given_in
@@ -245,18 +291,41 @@ unmet_pass true true need later is = (λ same. refl, is)
 unmet_pass true false need later is = let clash : Some need ≡ None = is in absurd (cc)
 unmet_pass false b need later is = (λ same. absurd (cc), is)
 
-met_of : (pairs : List (OptionName × OptionName)) (run : List Spelling) → unmet pairs (all_put no_options run) ≡ None → AllByRecursion (HasNeeded run) pairs
+pub met_of : (pairs : List (OptionName × OptionName)) (run : List Spelling) → unmet pairs (all_put no_options run) ≡ None → AllByRecursion (HasNeeded run) pairs
 met_of [] run is = tt
 met_of (need ∷ pairs) run is =
     let here = unmet_pass (is_given need.0 (all_put no_options run)) (is_given need.1 (all_put no_options run)) need (unmet pairs (all_put no_options run)) is in
     (λ there. there_of need.1 no_options run refl (here.0 (given_there need.0 no_options run there)), met_of pairs run here.1)
 
-met_test : (lack : Option (OptionName × OptionName)) (command : CommandName) (count : ℕ) (given : Options) (asked : Asked) → unmet_none lack command count given ≡ Ok asked → (lack ≡ None) × (asked ≡ asked_by command given.values)
-met_test None command count given asked is = (refl, let same : Ok (asked_by command given.values) ≡ Ok asked = is in cc)
+given_pass : (b : Bool) (name : OptionName) (later : Option OptionName) → (if b then Some name else later) ≡ None → (b ≡ false) × (later ≡ None)
+given_pass true name later is = let clash : Some name ≡ None = is in absurd (cc)
+given_pass false name later is = (refl, is)
+
+-- where none of these options is given, that they need a stream is so
+none_there : (names : List OptionName) (run : List Spelling) → first_given names (all_put no_options run) ≡ None → AllByRecursion (λ name. IsGiven name run → SaysStream run) names
+none_there [] run is = tt
+none_there (name ∷ names) run is =
+    let here = given_pass (is_given name (all_put no_options run)) name (first_given names (all_put no_options run)) is in
+    (λ there. (let clash : true ≡ false = sym (given_there name no_options run there) ∙ here.0 in absurd (cc)), none_there names run here.1)
+
+all_say : (names : List OptionName) (run : List Spelling) → SaysStream run → AllByRecursion (λ name. IsGiven name run → SaysStream run) names
+all_say [] run says = tt
+all_say (name ∷ names) run says = ((λ there. says), all_say names run says)
+
+streams_of : (stream : Bool) (command : CommandName) (run : List Spelling) → Runs command no_options run → is_stream (sealed_in ((all_put no_options run).values options.As)) ≡ stream → idle stream (for_streams command) (all_put no_options run) ≡ None → AllByRecursion (λ name. IsGiven name run → SaysStream run) (for_streams command)
+streams_of true command run runs test is = all_say (for_streams command) run (says_stream command run runs test)
+streams_of false command run runs test is = none_there (for_streams command) run is
+
+used_test : (lack : Option OptionName) (command : CommandName) (count : ℕ) (given : Options) (asked : Asked) → idle_none lack command count given ≡ Ok asked → (lack ≡ None) × (asked ≡ asked_by command given.values)
+used_test None command count given asked is = (refl, let same : Ok (asked_by command given.values) ≡ Ok asked = is in cc)
+used_test (Some name) command count given asked is = let clash : Err (misuse_at count (misfits.NoStream command name)) ≡ Ok asked = is in absurd (cc)
+
+met_test : (lack : Option (OptionName × OptionName)) (command : CommandName) (count : ℕ) (given : Options) (asked : Asked) → unmet_none lack command count given ≡ Ok asked → (lack ≡ None) × (idle_of command given ≡ None) × (asked ≡ asked_by command given.values)
+met_test None command count given asked is = let used = used_test (idle_of command given) command count given asked is in (refl, used.0, used.1)
 met_test (Some need) command count given asked is = let clash : Err (misuse_at count (misfits.Without command need.0 need.1)) ≡ Ok asked = is in absurd (cc)
 
-complete_test : (lack : Option OptionName) (command : CommandName) (count : ℕ) (given : Options) (asked : Asked) → lacking_none lack command count given ≡ Ok asked → (lack ≡ None) × (unmet needs given ≡ None) × (asked ≡ asked_by command given.values)
-complete_test None command count given asked is = let met = met_test (unmet needs given) command count given asked is in (refl, met.0, met.1)
+complete_test : (lack : Option OptionName) (command : CommandName) (count : ℕ) (given : Options) (asked : Asked) → lacking_none lack command count given ≡ Ok asked → (lack ≡ None) × (unmet needs given ≡ None) × (idle_of command given ≡ None) × (asked ≡ asked_by command given.values)
+complete_test None command count given asked is = let met = met_test (unmet needs given) command count given asked is in (refl, met.0, met.1, met.2)
 complete_test (Some name) command count given asked is = let clash : Err (misuse_at count (misfits.Lacks command name)) ≡ Ok asked = is in absurd (cc)
 
 -- a run of a complete command fits
@@ -270,8 +339,9 @@ fits_of command count run asked runs is =
         formed = formed_of command no_options run runs;
         complete = all_of (row_of command).required run done.0;
         met = met_of needs run done.1;
+        streams = streams_of (is_stream (sealed_in ((all_put no_options run).values options.As))) command run runs refl done.2;
       },
-      done.2 ∙ ap (asked_by command) (values_run command run runs),
+      done.3 ∙ ap (asked_by command) (values_run command run runs),
     )
 
 accepted_options : (command : CommandName) (words : List (List ℕ)) (asked : Asked) (r : Result Options Misuse) → options_of command 1 no_options words ≡ r → (r >>= complete command (1 + length words)) ≡ Ok asked → (run : List Spelling) × (words ≡ flat_map spelled run) × Fits command run × (asked ≡ asked_by command (values_of run))

@@ -11,7 +11,7 @@ use Rattle.tinkey_words.specs.declared.words.names.CommandName.{CommandName}
 use Rattle.tinkey_words.specs.declared.words.names.OptionName.{OptionName}
 use Rattle.tinkey_words.specs.Names.{row_of, form_for, rival, needs}
 use Rattle.tinkey_words.specs.Rows.{option_of, takes, is_value}
-use Rattle.tinkey_words.specs.Words.{◌>>=◌, Asked, Options, misuse_at, is_barred, bar, unbarred, new_option, put, misvalued, with_value, own_value, option_word, word_after, next_word, ended, options_of, no_options, given_in, lacking, lacking_none, unmet, unmet_none, asked_by, complete, with_options, is_help_flag, help, version, topic_of, first_of, by_itself, topic_words, help_words, command_words, asked_of, words_of}
+use Rattle.tinkey_words.specs.Words.{◌>>=◌, Asked, Options, misuse_at, is_barred, bar, unbarred, new_option, put, misvalued, with_value, own_value, option_word, word_after, next_word, ended, options_of, no_options, given_in, lacking, lacking_none, unmet, unmet_none, idle_of, idle_none, asked_by, complete, with_options, is_help_flag, help, version, topic_of, first_of, by_itself, topic_words, help_words, command_words, asked_of, words_of}
 use Rattle.tinkey_words.specs.Grammar.{PlacesAreDecided}
 
 -- what is at fault is at fault at this place
@@ -88,8 +88,14 @@ options_decided command first given (word ∷ front) rest others misuse size is 
     (λ more later. options_decided command (first + 1) more front rest others misuse (omega arith) later) is
 
 -- a command that isn't complete has its fault behind the words
+idle_place : (lack : Option OptionName) (command : CommandName) (count : ℕ) (given : Options) (misuse : Misuse) → idle_none lack command count given ≡ Err misuse → misuse.place ≡ count
+idle_place None command count given misuse is = let clash : Ok (asked_by command given.values) ≡ Err misuse = is in absurd (cc)
+idle_place (Some name) command count given misuse is =
+    let same : misuse ≡ misuse_at count (misfits.NoStream command name) = cc in
+    same_place misuse (misuse_at count (misfits.NoStream command name)) same
+
 unmet_place : (lack : Option (OptionName × OptionName)) (command : CommandName) (count : ℕ) (given : Options) (misuse : Misuse) → unmet_none lack command count given ≡ Err misuse → misuse.place ≡ count
-unmet_place None command count given misuse is = let clash : Ok (asked_by command given.values) ≡ Err misuse = is in absurd (cc)
+unmet_place None command count given misuse is = idle_place (idle_of command given) command count given misuse is
 unmet_place (Some need) command count given misuse is =
     let same : misuse ≡ misuse_at count (misfits.Without command need.0 need.1) = cc in
     same_place misuse (misuse_at count (misfits.Without command need.0 need.1)) same

@@ -10,11 +10,12 @@ use Rattle.tinkey_words.specs.declared.words.misuse.Misfit.TheVariants as misfit
 use Rattle.tinkey_words.specs.declared.words.misuse.Misuse.{Misuse}
 use Rattle.tinkey_words.specs.declared.words.names.CommandName.{CommandName}
 use Rattle.tinkey_words.specs.declared.words.names.OptionName.{OptionName}
-use Rattle.tinkey_words.specs.Names.{row_of, option_row, form_for, rival, needs}
-use Rattle.tinkey_words.specs.Rows.{option_of, takes, is_aside, is_dash, is_hex_form, is_named_file, is_new_file, is_odd_hex, is_value, is_flag}
-use Rattle.tinkey_words.specs.Words.{◌>>=◌, Asked, Options, misuse_at, own_value, misvalued, is_given, is_excluded, is_barred, bar, new_option, put, with_value, alone, option_word, word_after, next_word, ended, options_of, no_options, given_in, lacking, lacking_none, unmet, unmet_none, complete, with_options, is_help_flag, help, version, topic_of, first_of, by_itself, topic_words, help_words, command_words, asked_of, words_of}
-use Rattle.tinkey_words.specs.Grammar.{IsValue, Spelling, spelled_as, spelled, IsGiven, HasNeeded, IsHelpWord, IsVersionWord, IsNameOf, IsOptionOf, Helps, the_list, a_topic, its_help, the_version, IsWordOf, IsTold, aside_told, dash_told, odd_told, bad_told, IsFault, no_option, twice, beside, own_value_bad, next_value_bad, value_missing, lacks, without, IsMisused, no_word, no_command, no_topic, too_many, behind_options, MisusesAreTrue}
-use Rattle.tinkey_words.proofs.FitLemmas.{is_one, one_is, given_there, once_of, apart_of, taken_of, formed_of, there_of, all_of}
+use Rattle.tinkey_words.specs.declared.words.names.OptionName.TheVariants as options
+use Rattle.tinkey_words.specs.Names.{row_of, option_row, form_for, rival, needs, for_streams}
+use Rattle.tinkey_words.specs.Rows.{option_of, takes, is_aside, is_new_file, is_value, is_flag, is_dash, is_hex_form, is_named_file, is_odd_hex}
+use Rattle.tinkey_words.specs.Words.{◌>>=◌, Asked, Options, misuse_at, own_value, misvalued, is_given, is_excluded, is_barred, bar, new_option, put, with_value, alone, option_word, word_after, next_word, ended, options_of, no_options, given_in, lacking, lacking_none, unmet, unmet_none, is_stream, sealed_in, first_given, idle, idle_of, idle_none, complete, with_options, is_help_flag, help, version, topic_of, first_of, by_itself, topic_words, help_words, command_words, asked_of, words_of}
+use Rattle.tinkey_words.specs.Grammar.{IsValue, Spelling, spelled_as, spelled, IsGiven, HasNeeded, IsHelpWord, IsVersionWord, IsNameOf, IsOptionOf, Helps, the_list, a_topic, its_help, the_version, IsWordOf, IsTold, aside_told, bad_told, IsFault, no_option, twice, beside, own_value_bad, next_value_bad, value_missing, lacks, without, no_stream, SaysStream, IsMisused, no_word, no_command, no_topic, too_many, behind_options, MisusesAreTrue, dash_told, odd_told}
+use Rattle.tinkey_words.proofs.FitLemmas.{is_one, one_is, given_there, once_of, apart_of, taken_of, formed_of, there_of, all_of, met_of, values_run, no_stream_said}
 use Rattle.tinkey_words.proofs.NameLemmas.{flag_form}
 use Rattle.tinkey_words.proofs.HelpLemmas.{first_found, first_is, flag_is, topic_found, topic_is}
 use Rattle.tinkey_words.proofs.RowLemmas.{option_found, option_named, own_plain, own_joined, value_taken, two_pass, aside_is, is_aside', dash_is, is_dash', odd_is, is_odd', flag_formed}
@@ -350,15 +351,58 @@ first_unmet : (pairs : List (OptionName × OptionName)) (run : List Spelling) (n
 first_unmet [] run need is = absurd (cc)
 first_unmet (first ∷ pairs) run need is = unmet_test (is_given first.0 (all_put no_options run)) (is_given first.1 (all_put no_options run)) first pairs run need refl refl is (first_unmet pairs run need)
 
-unmet_of : (lack : Option (OptionName × OptionName)) (command : CommandName) (run : List Spelling) (place : ℕ) (misuse : Misuse) → AllByRecursion (λ other. IsGiven other run) (row_of command).required → unmet needs (all_put no_options run) ≡ lack → unmet_none lack command place (all_put no_options run) ≡ Err misuse → IsFault command run place [] misuse
-unmet_of None command run place misuse complete found is = absurd (cc)
-unmet_of (Some need) command run place misuse complete found is =
+-- the first of these options that is given
+record FirstGiven (names : List OptionName) (run : List Spelling) (name : OptionName) : Type 0 where
+  before : List OptionName
+  behind : List OptionName
+  are : names ≡ before ++ (name ∷ behind)
+  none : AllByRecursion (λ other. IsGiven other run → ⊥) before
+  given : IsGiven name run
+
+given_test : (b : Bool) (first : OptionName) (names : List OptionName) (run : List Spelling) (name : OptionName) → is_given first (all_put no_options run) ≡ b → (if b then Some first else first_given names (all_put no_options run)) ≡ Some name → (first_given names (all_put no_options run) ≡ Some name → FirstGiven names run name) → FirstGiven (first ∷ names) run name
+given_test true first names run name there is later =
+    let same : first ≡ name = (let some : Some first ≡ Some name = is in cc) in
+    record {
+      before = [];
+      behind = names;
+      are = ap (λ (n : OptionName). n ∷ names) same;
+      none = tt;
+      given = subst (λ (n : OptionName). IsGiven n run) same (all_given first run there);
+    }
+given_test false first names run name there is later =
+    let found = later is in
+    record {
+      before = first ∷ found.before;
+      behind = found.behind;
+      are = ap (λ (ns : List OptionName). first ∷ ns) found.are;
+      none = (not_there first run there, found.none);
+      given = found.given;
+    }
+
+first_one : (names : List OptionName) (run : List Spelling) (name : OptionName) → first_given names (all_put no_options run) ≡ Some name → FirstGiven names run name
+first_one [] run name is = absurd (cc)
+first_one (first ∷ names) run name is = given_test (is_given first (all_put no_options run)) first names run name refl is (first_one names run name)
+
+-- an option for streams, and none that says that there is one
+idle_test : (stream : Bool) (names : List OptionName) (run : List Spelling) (name : OptionName) → idle stream names (all_put no_options run) ≡ Some name → (stream ≡ false) × FirstGiven names run name
+idle_test true names run name is = let clash : None ≡ Some name = is in absurd (cc)
+idle_test false names run name is = (refl, first_one names run name is)
+
+idle_fault : (lack : Option OptionName) (command : CommandName) (run : List Spelling) (place : ℕ) (misuse : Misuse) → Runs command no_options run → AllByRecursion (λ other. IsGiven other run) (row_of command).required → AllByRecursion (HasNeeded run) needs → idle_of command (all_put no_options run) ≡ lack → idle_none lack command place (all_put no_options run) ≡ Err misuse → IsFault command run place [] misuse
+idle_fault None command run place misuse runs complete met found is = absurd (cc)
+idle_fault (Some name) command run place misuse runs complete met found is =
+    let one = idle_test (is_stream (sealed_in ((all_put no_options run).values options.As))) (for_streams command) run name found in
+    no_stream name one.1.before one.1.behind refl complete met one.1.are one.1.none one.1.given (no_stream_said command run runs one.0) (let same : Err (misuse_at place (misfits.NoStream command name)) ≡ Err misuse = is in cc)
+
+unmet_of : (lack : Option (OptionName × OptionName)) (command : CommandName) (run : List Spelling) (place : ℕ) (misuse : Misuse) → Runs command no_options run → AllByRecursion (λ other. IsGiven other run) (row_of command).required → unmet needs (all_put no_options run) ≡ lack → unmet_none lack command place (all_put no_options run) ≡ Err misuse → IsFault command run place [] misuse
+unmet_of None command run place misuse runs complete found is = idle_fault (idle_of command (all_put no_options run)) command run place misuse runs complete (met_of needs run found) refl is
+unmet_of (Some need) command run place misuse runs complete found is =
     let lack = first_unmet needs run need found in
     without need lack.before lack.behind refl complete lack.are lack.met lack.given lack.lack (let same : Err (misuse_at place (misfits.Without command need.0 need.1)) ≡ Err misuse = is in cc)
 
-lack_of : (lack : Option OptionName) (command : CommandName) (run : List Spelling) (place : ℕ) (misuse : Misuse) → lacking (row_of command).required (all_put no_options run) ≡ lack → lacking_none lack command place (all_put no_options run) ≡ Err misuse → IsFault command run place [] misuse
-lack_of None command run place misuse found is = unmet_of (unmet needs (all_put no_options run)) command run place misuse (all_of (row_of command).required run found) refl is
-lack_of (Some name) command run place misuse found is =
+lack_of : (lack : Option OptionName) (command : CommandName) (run : List Spelling) (place : ℕ) (misuse : Misuse) → Runs command no_options run → lacking (row_of command).required (all_put no_options run) ≡ lack → lacking_none lack command place (all_put no_options run) ≡ Err misuse → IsFault command run place [] misuse
+lack_of None command run place misuse runs found is = unmet_of (unmet needs (all_put no_options run)) command run place misuse runs (all_of (row_of command).required run found) refl is
+lack_of (Some name) command run place misuse runs found is =
     let lack = first_lack (row_of command).required run name found in
     lacks name lack.before lack.behind refl lack.are lack.given lack.lack (let same : Err (misuse_at place (misfits.Lacks command name)) ≡ Err misuse = is in cc)
 
@@ -374,7 +418,7 @@ options_misused command name words misuse (Err at) named taken is =
 options_misused command name words misuse (Ok last) named taken is =
     let found = run_read command 1 no_options words last taken in
     let count = ap (λ (ws : List (List ℕ)). 1 + length ws) found.1 in
-    let fault = lack_of (lacking (row_of command).required (all_put no_options found.0)) command found.0 (1 + length words) misuse refl (ap (complete command (1 + length words)) (sym found.3) ∙ is) in
+    let fault = lack_of (lacking (row_of command).required (all_put no_options found.0)) command found.0 (1 + length words) misuse found.2 refl (ap (complete command (1 + length words)) (sym found.3) ∙ is) in
     misused_behind command name words found.0 [] misuse named (found.1 ∙ sym (append-nil (flat_map spelled found.0))) found.2
     (subst (λ (place : ℕ). IsFault command found.0 place [] misuse) count fault)
 

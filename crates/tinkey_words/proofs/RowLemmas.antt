@@ -22,8 +22,8 @@ use Rattle.tinkey_words.specs.declared.words.names.OptionName.{OptionName}
 use Rattle.tinkey_words.specs.declared.words.names.OptionName.TheVariants as options
 use Rattle.hex.specs.Hex.{is_hex_digit}
 use Rattle.tinkey_words.specs.Names.{row_of, all_commands, option_row, all_options}
-use Rattle.tinkey_words.specs.Rows.{command_of, option_of, same, datum_limit, is_line_count, most_lines, is_range_length, most_range, offset_in, format_of, sealed_form_of, is_hex, is_odd_hex, is_value, is_flag, aside, begins_aside, is_aside, dash, is_dash}
-use Rattle.tinkey_words.specs.Words.{is_equals, own_value}
+use Rattle.tinkey_words.specs.Rows.{command_of, option_of, same, datum_limit, is_line_count, most_lines, is_range_length, most_range, offset_in, format_of, sealed_form_of, is_hex, is_value, is_flag, aside, begins_aside, is_aside, is_odd_hex, dash, is_dash}
+use Rattle.tinkey_words.specs.Words.{is_equals, own_value, is_stream, known_sealed, sealed_in}
 use Rattle.tinkey_words.proofs.NameLemmas.{is_found}
 use Rattle.tinkey_words.specs.Grammar.{IsAside, IsHex, IsOddHex, IsLineCount, IsNumber, IsOffset, IsRangeLength, IsValue}
 
@@ -239,6 +239,21 @@ which_one x y true b is = inl refl
 which_one x y false true is = inr refl
 which_one x y false false is = absurd (cc)
 
+-- one of three names
+one_of_three : {X : Type 0} (x y z : X) (a b c : Bool) → (a ≡ true) ⊎ (b ≡ true) ⊎ (c ≡ true) → is_some (if a then Some x else (if b then Some y else (if c then Some z else None))) ≡ true
+one_of_three x y z true b c one = refl
+one_of_three x y z false true c one = refl
+one_of_three x y z false false true one = refl
+one_of_three x y z false false false (inl is) = absurd (cc)
+one_of_three x y z false false false (inr (inl is)) = absurd (cc)
+one_of_three x y z false false false (inr (inr is)) = absurd (cc)
+
+which_of_three : {X : Type 0} (x y z : X) (a b c : Bool) → is_some (if a then Some x else (if b then Some y else (if c then Some z else None))) ≡ true → (a ≡ true) ⊎ (b ≡ true) ⊎ (c ≡ true)
+which_of_three x y z true b c is = inl refl
+which_of_three x y z false true c is = inr (inl refl)
+which_of_three x y z false false true is = inr (inr refl)
+which_of_three x y z false false false is = absurd (cc)
+
 lowered_is : (value name : List ℕ) → str_to_ascii_lowercase name ≡ name → str_to_ascii_lowercase value ≡ name → str_eq_ignore_ascii_case value name ≡ true
 lowered_is value name low is = (bytes_eq-Decides (str_to_ascii_lowercase value) (str_to_ascii_lowercase name)).1 (is ∙ sym low)
 
@@ -259,15 +274,36 @@ format_formed value is = elim (which_one formats.Json formats.Binary (str_eq_ign
 
 sealed_taken : (value : List ℕ) → IsValue forms.SealedForm value → is_some (sealed_form_of value) ≡ true
 unfolding sealed_form_of
-sealed_taken value (inl text) = one_of_both sealed.Text sealed.Envelope (str_eq_ignore_ascii_case value (codes "text")) (str_eq_ignore_ascii_case value (codes "envelope")) (inl (lowered_is value (codes "text") refl text))
-sealed_taken value (inr envelope) = one_of_both sealed.Text sealed.Envelope (str_eq_ignore_ascii_case value (codes "text")) (str_eq_ignore_ascii_case value (codes "envelope")) (inr (lowered_is value (codes "envelope") refl envelope))
+sealed_taken value named = one_of_three sealed.Text sealed.Envelope sealed.Stream (str_eq_ignore_ascii_case value (codes "text")) (str_eq_ignore_ascii_case value (codes "envelope")) (str_eq_ignore_ascii_case value (codes "stream")) (by named)
+  where
+    by : IsValue forms.SealedForm value → (str_eq_ignore_ascii_case value (codes "text") ≡ true) ⊎ (str_eq_ignore_ascii_case value (codes "envelope") ≡ true) ⊎ (str_eq_ignore_ascii_case value (codes "stream") ≡ true)
+    by (inl text) = inl (lowered_is value (codes "text") refl text)
+    by (inr (inl envelope)) = inr (inl (lowered_is value (codes "envelope") refl envelope))
+    by (inr (inr stream)) = inr (inr (lowered_is value (codes "stream") refl stream))
 
 sealed_formed : (value : List ℕ) → is_some (sealed_form_of value) ≡ true → IsValue forms.SealedForm value
 unfolding sealed_form_of
-sealed_formed value is = elim (which_one sealed.Text sealed.Envelope (str_eq_ignore_ascii_case value (codes "text")) (str_eq_ignore_ascii_case value (codes "envelope")) is) [
-  | inl text ↦ inl (is_lowered value (codes "text") refl text)
-  | inr envelope ↦ inr (is_lowered value (codes "envelope") refl envelope)
-]
+sealed_formed value is = by (which_of_three sealed.Text sealed.Envelope sealed.Stream (str_eq_ignore_ascii_case value (codes "text")) (str_eq_ignore_ascii_case value (codes "envelope")) (str_eq_ignore_ascii_case value (codes "stream")) is)
+  where
+    by : (str_eq_ignore_ascii_case value (codes "text") ≡ true) ⊎ (str_eq_ignore_ascii_case value (codes "envelope") ≡ true) ⊎ (str_eq_ignore_ascii_case value (codes "stream") ≡ true) → IsValue forms.SealedForm value
+    by (inl text) = inl (is_lowered value (codes "text") refl text)
+    by (inr (inl envelope)) = inr (inl (is_lowered value (codes "envelope") refl envelope))
+    by (inr (inr stream)) = inr (inr (is_lowered value (codes "stream") refl stream))
+
+-- a stream is named so, and what is named so is one
+third_of : (a b c : Bool) → is_stream (known_sealed (if a then Some sealed.Text else (if b then Some sealed.Envelope else (if c then Some sealed.Stream else None)))) ≡ true → c ≡ true
+third_of true b c is = let clash : false ≡ true = is in absurd (cc)
+third_of false true c is = let clash : false ≡ true = is in absurd (cc)
+third_of false false true is = refl
+third_of false false false is = let clash : false ≡ true = is in absurd (cc)
+
+pub stream_named : (value : List ℕ) → is_stream (sealed_in (Some value)) ≡ true → str_to_ascii_lowercase value ≡ codes "stream"
+unfolding sealed_form_of
+stream_named value is = is_lowered value (codes "stream") refl (third_of (str_eq_ignore_ascii_case value (codes "text")) (str_eq_ignore_ascii_case value (codes "envelope")) (str_eq_ignore_ascii_case value (codes "stream")) is)
+
+pub named_stream : (value : List ℕ) → str_to_ascii_lowercase value ≡ codes "stream" → is_stream (sealed_in (Some value)) ≡ true
+unfolding sealed_form_of
+named_stream value low = rw low refl
 
 hex_taken : (value : List ℕ) → IsHex value → is_hex value ≡ true
 hex_taken value formed =

@@ -23,8 +23,8 @@ use Rattle.tinkey_words.specs.declared.words.rows.Form.TheVariants as forms
 use Rattle.tinkey_words.specs.declared.words.names.OptionName.{OptionName}
 use Rattle.tinkey_words.specs.declared.words.names.OptionName.TheVariants as options
 use Rattle.hex.specs.Hex.{is_hex_digit}
-use Rattle.tinkey_words.specs.Names.{row_of, option_row, form_for, rival, needs}
-use Rattle.tinkey_words.specs.Rows.{same, aside, dash, datum_limit, most_lines, most_range, is_flag, is_hex_form, is_named_file, is_new_file}
+use Rattle.tinkey_words.specs.Names.{row_of, option_row, form_for, rival, needs, for_streams}
+use Rattle.tinkey_words.specs.Rows.{same, aside, datum_limit, most_lines, most_range, is_flag, is_new_file, dash, is_hex_form, is_named_file}
 use Rattle.tinkey_words.specs.Words.{Asked, Values, asked_by, help, version, misuse_at, words_of}
 
 -- where the word of a place is at fault, it is so, and for the same reason, whatever words stand behind it
@@ -91,6 +91,7 @@ IsValue forms.Format value =
 IsValue forms.SealedForm value =
     (str_to_ascii_lowercase value ≡ codes "text")
     ⊎ (str_to_ascii_lowercase value ≡ codes "envelope")
+    ⊎ (str_to_ascii_lowercase value ≡ codes "stream")
 IsValue forms.Datum value = length value ≤ datum_limit
 IsValue forms.Hex value = IsHex value
 IsValue forms.Flag value = value ≡ []
@@ -135,8 +136,19 @@ IsOneOf name (other ∷ names) = (name ≡ other) ⊎ IsOneOf name names
 abbrev pub HasNeeded : List Spelling → (need : OptionName × OptionName) → Type 0
 HasNeeded given need = IsGiven need.0 given → IsGiven need.1 given
 
+-- the value that each option has, the first one of it
+abbrev pub values_of : List Spelling → Values
+values_of [] name = None
+values_of (s ∷ given) name = if same s.name name then Some s.value else values_of given name
+
+-- one of them says that the input is a stream: it is `--as stream`, in letters of either case
+abbrev pub SaysStream : List Spelling → Type 0
+SaysStream given = (value : List ℕ) × (values_of given options.As ≡ Some value)
+    × (str_to_ascii_lowercase value ≡ codes "stream")
+
 -- the options fit a command: each is in its row, once and with a value of its form, no two exclude
--- each other, and all are there that it requires or that one of them needs
+-- each other, all are there that it requires or that one of them needs, and one that means something for a
+-- stream alone is there only where another says that there is one
 pub record Fits (command : CommandName) (given : List Spelling) : Type 0 where
   pub once : IsOnce given
   pub apart : AreApart given
@@ -144,11 +156,7 @@ pub record Fits (command : CommandName) (given : List Spelling) : Type 0 where
   pub formed : AllByRecursion (λ s. IsValue (form_for s.name command) s.value) given
   pub complete : AllByRecursion (λ name. IsGiven name given) (row_of command).required
   pub met : AllByRecursion (HasNeeded given) needs
-
--- the value that each option has, the first one of it
-abbrev pub values_of : List Spelling → Values
-values_of [] name = None
-values_of (s ∷ given) name = if same s.name name then Some s.value else values_of given name
+  pub streams : AllByRecursion (λ name. IsGiven name given → SaysStream given) (for_streams command)
 
 -- the words spell a command that asks so
 pub record Spells (words : List (List ℕ)) (asked : Asked) : Type 0 where
@@ -283,6 +291,13 @@ pub data IsFault (command : CommandName) (given : List Spelling) (place : ℕ) (
       needs ≡ before ++ (need ∷ behind) → AllByRecursion (HasNeeded given) before → IsGiven need.0 given →
       (IsGiven need.1 given → ⊥) → misuse ≡ misuse_at place (misfits.Without command need.0 need.1) →
       IsFault command given place rest misuse
+  -- nothing is behind the options, which are all that the command requires and that one of them needs, none says that
+  -- the input is a stream, and of those that mean something for a stream alone this is the first that is given
+  no_stream : (name : OptionName) (before behind : List OptionName) → rest ≡ [] →
+      AllByRecursion (λ other. IsGiven other given) (row_of command).required →
+      AllByRecursion (HasNeeded given) needs → for_streams command ≡ before ++ (name ∷ behind) →
+      AllByRecursion (λ other. IsGiven other given → ⊥) before → IsGiven name given → (SaysStream given → ⊥) →
+      misuse ≡ misuse_at place (misfits.NoStream command name) → IsFault command given place rest misuse
 
 -- what is at fault with the words
 pub data IsMisused (words : List (List ℕ)) (misuse : Misuse) : Type 0 where

@@ -93,7 +93,11 @@ abbrev pub srange_requires : List OptionName
 srange_requires = options.Keyset ∷ options.File ∷ options.From ∷ options.Length ∷ []
 
 abbrev pub key_of_may : List OptionName
-key_of_may = options.KeysetFormat ∷ options.Master ∷ options.MasterFormat ∷ options.As ∷ []
+key_of_may = options.KeysetFormat ∷ options.Ad ∷ options.AdHex ∷ options.Master ∷ options.MasterFormat
+    ∷ options.As ∷ []
+
+abbrev pub key_of_streams : List OptionName
+key_of_streams = options.Ad ∷ options.AdHex ∷ []
 
 -- the row of each command
 abbrev pub row_of : CommandName → Row
@@ -129,6 +133,11 @@ row_of commands.Eopen = row (codes "eopen") eseal_requires seal_may
 row_of commands.Ereseal = row (codes "ereseal") eseal_requires ereseal_may
 row_of commands.Srange = row (codes "srange") srange_requires seal_may
 row_of commands.KeyOf = row (codes "key-of") seal_requires key_of_may
+
+-- the options of a command that mean something for a stream alone
+abbrev pub for_streams : CommandName → List OptionName
+for_streams commands.KeyOf = key_of_streams
+for_streams _ = []
 
 -- all commands
 abbrev pub all_commands : List CommandName

@@ -118,12 +118,13 @@ format_of text =
     else (if str_eq_ignore_ascii_case text (codes "binary") then Some formats.Binary
     else None)
 
--- the form of a sealed text, a tag or an envelope, of this name, in letters of either case
+-- the form of a sealed text or a tag, of an envelope, or of a stream, of this name, in letters of either case
 unfoldable pub sealed_form_of : List ℕ → Option SealedForm
 sealed_form_of text =
     if str_eq_ignore_ascii_case text (codes "text") then Some sealed.Text
     else (if str_eq_ignore_ascii_case text (codes "envelope") then Some sealed.Envelope
-    else None)
+    else (if str_eq_ignore_ascii_case text (codes "stream") then Some sealed.Stream
+    else None))
 
 -- a datum of more bytes is too long
 abbrev pub datum_limit : ℕ

@@ -5,7 +5,9 @@
 -- The answer is a command, or the first word at fault, by its place and by why it is so: an unknown
 -- command or option, one that the command doesn't have, a repeat, the second of two that exclude each
 -- other, or one that holds a value that isn't of its form, as a name aside for a new file, a dash where it stands for
--- no file, or an odd number of hexadecimal digits; of help, a topic that isn't known, or a word too many. Where a value, a required option, or one that another needs is missing at the end, the place is the
+-- no file, or an odd number of hexadecimal digits; of help, a topic that isn't known, or a word too many. Where a value,
+-- a required option, or one that another needs is missing at the end, or an option is there that means something for
+-- a stream alone and no word says that there is one, the place is the
 -- number of words; they are looked for in this order. Places count from 0.
 use Rattle.std.specs.Prelude.{◌≡◌, ℕ, ◌+◌, ◌*◌, List, [], ◌∷◌, length, Bool, false, ◌&&◌, ◌||◌, Option, Some, None, is_some, option_map, not, Result, Ok, Err, ◌==◌, nat_lt, nat_le, if◌then◌else◌, slice_index_or, codes, true}
 use Rattle.std.specs.List.{find, position_or_len, before_first, after_first}
@@ -50,8 +52,8 @@ use Rattle.tinkey_words.specs.declared.words.names.CommandName.TheVariants as co
 use Rattle.tinkey_words.specs.declared.words.names.OptionName.{OptionName}
 use Rattle.tinkey_words.specs.declared.words.names.OptionName.TheVariants as options
 use Rattle.tink_base.specs.Decimal.{number_in}
-use Rattle.tinkey_words.specs.Names.{row_of, option_row, form_for, rival, needs}
-use Rattle.tinkey_words.specs.Rows.{command_of, option_of, same, takes, datum_limit, most_range, format_of, sealed_form_of, is_aside, is_dash, is_hex_form, is_named_file, is_new_file, is_odd_hex, is_value, offset_in, is_flag}
+use Rattle.tinkey_words.specs.Names.{row_of, option_row, form_for, rival, needs, for_streams}
+use Rattle.tinkey_words.specs.Rows.{command_of, option_of, same, takes, datum_limit, most_range, format_of, sealed_form_of, is_aside, is_new_file, is_value, offset_in, is_flag, is_dash, is_hex_form, is_named_file, is_odd_hex}
 
 -- What is asked.
 
@@ -139,8 +141,9 @@ pub data Asked : Type 0 where
   edit_keyset : (lock : Lock) (edit : AskedEdit) (in' out : Place) → Asked
   -- the listing of a keyset
   list_keyset : (lock : Lock) (in' : Place) → Asked
-  -- the keys under which the input stands, of the keyset in the file of this name
-  key_of : (lock : Lock) (keyset : List ℕ) (form : Format) (kind : SealedForm) → Asked
+  -- the keys under which the input stands, of the keyset in the file of this name; a stream has these
+  -- associated data
+  key_of : (lock : Lock) (keyset : List ℕ) (form : Format) (kind : SealedForm) (ad : List ℕ) → Asked
   -- a keyset, in another place, and where it is asked for under another master or in clear
   convert_keyset : (lock : Lock) (new : NewLock) (in' out : Place) → Asked
   -- the names of the templates
@@ -365,7 +368,7 @@ asked_with commands.Srange values =
     (ad values) (range values) (values options.Out)
 asked_with commands.KeyOf values =
     key_of (lock values) (text (values options.Keyset)) (form_in (values options.KeysetFormat))
-    (sealed_in (values options.As))
+    (sealed_in (values options.As)) (ad values)
 
 -- the value is there, and is a dash
 abbrev pub holds_dash : Option (List ℕ) → Bool
@@ -518,9 +521,33 @@ lacking names given = find (λ name. not (is_given name given)) names
 abbrev pub unmet : List (OptionName × OptionName) → Options → Option (OptionName × OptionName)
 unmet pairs given = find (λ need. is_given need.0 given && not (is_given need.1 given)) pairs
 
--- the command with its options, where each that needs another has it; the number of words is behind them
+-- the words say that the input is a stream
+abbrev pub is_stream : SealedForm → Bool
+is_stream sealed.Stream = true
+is_stream _ = false
+
+-- the first of these options that is given
+abbrev pub first_given : List OptionName → Options → Option OptionName
+first_given names given = find (λ name. is_given name given) names
+
+-- the first of these options, which mean something for a stream alone, that is given where there is none
+abbrev pub idle : (stream : Bool) → List OptionName → Options → Option OptionName
+idle true names given = None
+idle false names given = first_given names given
+
+-- the same of the options of the command
+abbrev pub idle_of : CommandName → Options → Option OptionName
+idle_of command given =
+    idle (is_stream (sealed_in (given.values options.As))) (for_streams command) given
+
+-- the command with its options, where none is for a stream that isn't there; the number of words is behind them
+abbrev pub idle_none : Option OptionName → CommandName → ℕ → Options → Result Asked Misuse
+idle_none None command count given = Ok (asked_by command given.values)
+idle_none (Some name) command count given = Err (misuse_at count (misfits.NoStream command name))
+
+-- the same, where each option that needs another has it
 abbrev pub unmet_none : Option (OptionName × OptionName) → CommandName → ℕ → Options → Result Asked Misuse
-unmet_none None command count given = Ok (asked_by command given.values)
+unmet_none None command count given = idle_none (idle_of command given) command count given
 unmet_none (Some need) command count given = Err (misuse_at count (misfits.Without command need.0 need.1))
 
 -- the same, where it lacks none that it requires
@@ -664,7 +691,8 @@ seen_command (asks.CreateKeyset lock template output) =
 seen_command (asks.EditKeyset lock edit input output) =
     edit_keyset (seen_lock lock) (seen_edit edit) (seen_place input) (seen_place output)
 seen_command (asks.ListKeyset lock input) = list_keyset (seen_lock lock) (seen_place input)
-seen_command (asks.KeyOf lock keyset form kind) = key_of (seen_lock lock) keyset.now form kind
+seen_command (asks.KeyOf lock keyset form kind ad) =
+    key_of (seen_lock lock) keyset.now form kind (seen_datum ad)
 seen_command (asks.ConvertKeyset lock new input output) =
     convert_keyset (seen_lock lock) (seen_new_lock new) (seen_place input) (seen_place output)
 seen_command asks.ListKeyTemplates = list_key_templates

@@ -1,10 +1,10 @@
 //! The command's words, read by the grammar of `specs/Words.antt`. No memory is taken.
 
-ghost use Rattle.std.specs.Prelude.{◌≡◌, ◌<◌, ◌≤◌, ◌^◌, None, Some, length, map, option_map, slice_set, string_bytes};
-ghost use Rattle.tinkey_words.specs.Names.{needs, option_row};
+ghost use Rattle.std.specs.Prelude.{◌≡◌, ◌<◌, ◌≤◌, ◌^◌, Some, length, map, option_map, slice_set, string_bytes, None};
+ghost use Rattle.tinkey_words.specs.Names.{for_streams, needs, option_row};
 ghost use Rattle.tinkey_words.specs.Rows.{option_of, is_flag};
 ghost use Rattle.tinkey_words.specs.declared.words.names.OptionName.TheVariants.{As, Lines};
-ghost use Rattle.tinkey_words.specs.Words.{words_of, by_itself, command_words, help_words, topic_words, with_options, topic_of, given_in, lines_in, next_word, option_word, own_value, misvalued, holds_dash, without_dash, meant, is_barred, bar, unbarred, new_option, with_value, no_options, lacking, complete, unmet, unmet_none, asked_by, asked_with, text, number, id, template, ad, edited, enveloped, worked, seen_command, seen_datum, seen_edit, seen_envelope, seen_name, seen_options, seen_range, seen_work, offset, range, range_length, Reads, form_in, sealed_in, taken_from, put_to, seen_place, alone, output_in, seen_output, convert_keyset, lock, lock_of, new_lock, relocked, seen_lock, seen_new_lock};
+ghost use Rattle.tinkey_words.specs.Words.{words_of, by_itself, command_words, help_words, topic_words, with_options, topic_of, given_in, lines_in, next_word, option_word, own_value, misvalued, is_barred, bar, unbarred, new_option, with_value, no_options, lacking, complete, unmet, unmet_none, idle, idle_of, idle_none, is_stream, first_given, asked_with, text, number, id, template, ad, edited, enveloped, worked, seen_command, seen_datum, seen_edit, seen_envelope, seen_name, seen_options, seen_range, seen_work, offset, range, range_length, Reads, form_in, sealed_in, taken_from, put_to, seen_place, alone, output_in, seen_output, convert_keyset, lock, lock_of, new_lock, relocked, seen_lock, seen_new_lock, holds_dash, without_dash, meant, asked_by};
 
 mod help;
 mod lock;
@@ -72,6 +72,8 @@ pub enum Request<'a> {
         form: Format,
         /// What the input is.
         kind: SealedForm,
+        /// The associated data of a stream.
+        ad: Datum<'a>,
     },
     /// Put a keyset elsewhere, in another form, or under another master.
     ConvertKeyset {
@@ -364,9 +366,45 @@ fn unmet_none<'a>(
         (unmet_none (unmet needs (seen_options given.now)) command count (seen_options given.now)) }
 {
     match unmet(&NEEDS, given) {
-        None => Ok(command_with(command, &meant(given))),
+        None => idle_none(command, count, given),
         Some((name, other)) => Err(misuse_at(count, Misfit::Without(command, name, other))),
     }
+}
+
+/// The command with its options, where none is for a stream that isn't there.
+fn idle_none<'a>(
+    command: CommandName,
+    count: usize,
+    given: &Options<'a>,
+) -> Result<Request<'a>, Misuse>
+    ensures { Reads seen_command result
+        (idle_none (idle_of command (seen_options given.now)) command count (seen_options given.now)) }
+{
+    match idle(command.for_streams(), given) {
+        None => Ok(command_with(command, &meant(given))),
+        Some(name) => Err(misuse_at(count, Misfit::NoStream(command, name))),
+    }
+}
+
+/// The first of these options, which mean something for a stream alone, that is given where there is none.
+fn idle(names: &[OptionName], given: &Options<'_>) -> Option<OptionName>
+    ensures { result ≡ idle (is_stream (sealed_in ((seen_options given.now).values As))) names.now
+        (seen_options given.now) }
+{
+    match given.kind() {
+        SealedForm::Stream => None,
+        SealedForm::Text | SealedForm::Envelope => first_given(names, given),
+    }
+}
+
+/// The first of these options that is given.
+fn first_given(names: &[OptionName], given: &Options<'_>) -> Option<OptionName>
+    ensures { result ≡ first_given names.now (seen_options given.now) }
+{
+    names
+        .iter()
+        .copied()
+        .find(|name| given.value(*name).is_some())
 }
 
 /// The first of these options that is given without the one that it needs, and that one.
@@ -499,6 +537,7 @@ fn command_with<'a>(command: CommandName, given: &Options<'a>) -> Request<'a>
             keyset: given.text(OptionName::Keyset),
             form: given.form(OptionName::KeysetFormat),
             kind: given.kind(),
+            ad: given.ad(),
         },
     }
 }

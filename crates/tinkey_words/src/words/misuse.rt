@@ -44,6 +44,8 @@ pub enum Misfit {
     /// The words end without the second option, which the first one needs; it is the first such
     /// pair.
     Without(CommandName, OptionName, OptionName),
+    /// The option means something for a stream alone, and the words end without `--as stream`.
+    NoStream(CommandName, OptionName),
 }
 
 /// The word at this place is at fault, for this reason.

@@ -1,7 +1,7 @@
 //! The names of commands and options, and their rows; made by tools/words of words.table.
 
 ghost use Rattle.std.specs.Prelude.{◌≡◌, ◌<◌};
-ghost use Rattle.tinkey_words.specs.Names.{form_for, length_form, option_row, out_form, rival, row, row_of, seen_row};
+ghost use Rattle.tinkey_words.specs.Names.{for_streams, form_for, length_form, option_row, out_form, rival, row, row_of, seen_row};
 
 use super::rows::Form;
 
@@ -121,7 +121,7 @@ pub enum OptionName {
     From,
     /// `--hex`, writes the output in hexadecimal.
     Hex,
-    /// `--as`, what the input is: a sealed text or a tag, or an envelope.
+    /// `--as`, what the input is: a sealed text or a tag, an envelope, or a stream.
     As,
 }
 
@@ -203,6 +203,16 @@ impl CommandName {
             CommandName::Ereseal => row("ereseal", &ESEAL_REQUIRES, &ERESEAL_MAY),
             CommandName::Srange => row("srange", &SRANGE_REQUIRES, &SEAL_MAY),
             CommandName::KeyOf => row("key-of", &SEAL_REQUIRES, &KEY_OF_MAY),
+        }
+    }
+
+    /// The options of the command that mean something for a stream alone.
+    pub fn for_streams(self) -> &'static [OptionName]
+        ensures { result.now ≡ for_streams self }
+    {
+        match self {
+            CommandName::KeyOf => &KEY_OF_STREAMS,
+            _ => &[],
         }
     }
 }
@@ -321,12 +331,16 @@ const SRANGE_REQUIRES: [OptionName; 4] = [
     OptionName::Length,
 ];
 
-const KEY_OF_MAY: [OptionName; 4] = [
+const KEY_OF_MAY: [OptionName; 6] = [
     OptionName::KeysetFormat,
+    OptionName::Ad,
+    OptionName::AdHex,
     OptionName::Master,
     OptionName::MasterFormat,
     OptionName::As,
 ];
+
+const KEY_OF_STREAMS: [OptionName; 2] = [OptionName::Ad, OptionName::AdHex];
 
 fn row(
     word: &'static str,

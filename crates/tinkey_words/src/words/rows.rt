@@ -40,6 +40,8 @@ pub enum SealedForm {
     Text,
     /// An envelope.
     Envelope,
+    /// A stream.
+    Stream,
 }
 
 /// The form of an option's value.
@@ -65,7 +67,7 @@ pub enum Form {
     Offset,
     /// The form of a keyset: `json` or `binary`, in letters of either case.
     Format,
-    /// The form of what key-of is given: `text` or `envelope`, in letters of either case.
+    /// The form of what key-of is given: `text`, `envelope` or `stream`, in letters of either case.
     SealedForm,
     /// A text of at most 1,048,576 bytes, which are the value.
     Datum,
@@ -241,6 +243,8 @@ pub fn sealed_form_named(text: &str) -> Option<SealedForm>
         Some(SealedForm::Text)
     } else if text.eq_ignore_ascii_case("envelope") {
         Some(SealedForm::Envelope)
+    } else if text.eq_ignore_ascii_case("stream") {
+        Some(SealedForm::Stream)
     } else {
         None
     }

@@ -27,3 +27,10 @@ returns-in-OddHex-clause-text c =
     rw c.in-OddHex.is
     (c.push_told-in-OddHex.ensures.text
     ∙ ap (λ (word : List ℕ). c.args.line.now ++ told_of word (codes " takes an even number of digits, two for each byte") [] c.in-OddHex.command) c.option_word-in-OddHex.ensures.word)
+
+pub returns-in-NoStream-clause-text : goal.returns-in-NoStream-clause-text
+unfolding misfit_text
+returns-in-NoStream-clause-text c =
+    rw c.in-NoStream.is
+    (c.push_told-in-NoStream.ensures.text
+    ∙ ap (λ (word : List ℕ). c.args.line.now ++ told_of word (codes " stands without ") (codes "--as stream") c.in-NoStream.command) c.option_word-in-NoStream.ensures.word)
