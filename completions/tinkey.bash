@@ -16,6 +16,7 @@ _tinkey() {
         return ;;
     --in-format | --out-format | --keyset-format | --master-format | --new-master-format) words='json binary' ;;
     --as) words='text envelope stream' ;;
+    --for) words='seal open dseal dopen reseal dreseal sseal sopen sreseal tag verify derive wrap-keyset unwrap-keyset eseal eopen ereseal srange' ;;
     --key-template | --dek-template)
         words=$("${COMP_WORDS[0]/#\~/$HOME}" list-key-templates 2>/dev/null) ;;
     --key-id | --ad | --ad-hex | --tag-hex | --length | --seed | --lines | --from) return ;;
@@ -36,7 +37,7 @@ _tinkey() {
             delete-key) words='--key-id --in --in-format --out --out-format --master --master-format --help' ;;
             list-keyset) words='--in --in-format --master --master-format --help' ;;
             convert-keyset) words='--in --in-format --out --out-format --master --master-format --new-master --new-master-format --help' ;;
-            list-key-templates) words='--help' ;;
+            list-key-templates) words='--for --help' ;;
             seal) words='--keyset --keyset-format --ad --ad-hex --out --master --master-format --help' ;;
             open) words='--keyset --keyset-format --ad --ad-hex --out --master --master-format --help' ;;
             dseal) words='--keyset --keyset-format --ad --ad-hex --out --master --master-format --help' ;;

@@ -1,9 +1,12 @@
 -- The plan of each command: its steps, in the order of refusals. What a keyset answers is said apart
 -- from plans, in KeyOf, in keyset_model's Listing, in wrapped_prims' Answers and in seal_wrap's Wrapped, Unwrapped and
 -- Enveloped.
-use Rattle.std.specs.Prelude.{ℕ, List, [], ◌∷◌, ◌++◌, Option, Result, Ok, Err, codes}
+use Rattle.std.specs.Prelude.{ℕ, List, [], ◌∷◌, ◌++◌, filter, Bool, true, false, Option, Some, None, Result, Ok, Err, codes}
 use Rattle.std.specs.List.{flat_map}
-use Rattle.key_msgs.specs.Templates.{templates}
+use Rattle.key_msgs.specs.KeyTypes.{primitive_of_type}
+use Rattle.key_msgs.specs.Templates.{Row, templates, type_made}
+use Rattle.key_msgs.specs.declared.primitive.Primitive.{Primitive}
+use Rattle.key_msgs.specs.declared.primitive.Primitive.TheVariants.{Aead, Daead, Mac, Prf, Stream}
 use Rattle.keyset_model.specs.Keyset.{Keys}
 use Rattle.keyset_model.specs.Listing.{info_of}
 use Rattle.managers.specs.Table.{Table}
@@ -51,9 +54,24 @@ convert_output table lock new in' next =
     opens_new_lock table new taken (λ put.
     takes_under table taken in' (next put)))
 
--- list-key-templates: the name of each template, one a line
-unfoldable pub template_names : List ℕ
-template_names = flat_map (λ row. row.name ++ codes "\n") templates
+-- the two are one primitive
+abbrev pub is_primitive : Primitive → Primitive → Bool
+is_primitive Aead Aead = true
+is_primitive Daead Daead = true
+is_primitive Mac Mac = true
+is_primitive Prf Prf = true
+is_primitive Stream Stream = true
+is_primitive _ _ = false
+
+-- the keys that a template makes have this primitive, where one is given
+abbrev pub makes_for : Option Primitive → Row → Bool
+makes_for None row = true
+makes_for (Some primitive) row = is_primitive (primitive_of_type (type_made row)) primitive
+
+-- list-key-templates: the name of each template, one a line; where a primitive is given, of each whose keys have it
+unfoldable pub template_names : Option Primitive → List ℕ
+template_names primitive =
+    flat_map (λ row. row.name ++ codes "\n") (filter (makes_for primitive) templates)
 
 -- the plan of a command, under the table of the managers handed in
 abbrev pub command_plan : Table → Asked → Plan
@@ -65,7 +83,7 @@ command_plan table (list_keyset lock in') = list_keyset_output table lock in' wr
 command_plan table (key_of lock name form kind) = key_of_output table lock name form kind writes
 command_plan table (convert_keyset lock new in' out) =
     convert_output table lock new in' (λ master. puts_under table master out)
-command_plan table list_key_templates = writes template_names
+command_plan table (list_key_templates primitive) = writes (template_names primitive)
 command_plan table (use_keyset lock name form work out) =
     use_output table lock name form work (puts_output out)
 command_plan table (use_envelope lock name form template work out) =

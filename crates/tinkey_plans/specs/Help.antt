@@ -524,13 +524,17 @@ command_text commands.KeyOf =
     ++ codes "  tinkey key-of --keyset sealer.json < sealed.text\n"
 command_text commands.ListKeyTemplates =
     codes "tinkey list-key-templates: lists the names of the templates for new keys\n\n"
-    ++ codes "  tinkey list-key-templates\n"
+    ++ codes "  tinkey list-key-templates [--for COMMAND]\n\n"
+    ++ codes "Optional:\n"
+    ++ codes "  --for COMMAND  the command that the templates' keys are to serve: the word of a command\n"
+    ++ codes "                 that seals, opens, reseals, tags, verifies, derives, wraps or unwraps\n"
     ++ read_by_create_keyset
-    ++ codes "Gives  the names of the templates, one a line, on standard output\n\n"
+    ++ codes "Gives  the names of the templates, or with --for of those whose keys serve that command, one\n"
+    ++ codes "       a line, on standard output\n\n"
     ++ codes "Exit codes:\n"
     ++ code_0 ++ code_2 ++ code_5 ++ code_7 ++ code_8
     ++ codes "\nExample:\n"
-    ++ codes "  tinkey list-key-templates\n"
+    ++ codes "  tinkey list-key-templates --for dseal\n"
 command_text commands.ConvertKeyset =
     codes "tinkey convert-keyset: writes a keyset in another form, or under another master\n\n"
     ++ codes "  tinkey convert-keyset [--in FILE] [--in-format json|binary] [--out FILE]\n"

@@ -631,14 +631,19 @@ Gives  a line for each key, of any status, whose output prefix stands in front, 
         CommandName::ListKeyTemplates => text!([] "\
 tinkey list-key-templates: lists the names of the templates for new keys
 
-  tinkey list-key-templates
+  tinkey list-key-templates [--for COMMAND]
+
+Optional:
+  --for COMMAND  the command that the templates' keys are to serve: the word of a command
+                 that seals, opens, reseals, tags, verifies, derives, wraps or unwraps
 " read_by_create_keyset "\
-Gives  the names of the templates, one a line, on standard output
+Gives  the names of the templates, or with --for of those whose keys serve that command, one
+       a line, on standard output
 
 Exit codes:
 " code_0 code_2 code_5 code_7 code_8 "
 Example:
-  tinkey list-key-templates
+  tinkey list-key-templates --for dseal
 "),
         CommandName::ConvertKeyset => text!([] "\
 tinkey convert-keyset: writes a keyset in another form, or under another master

@@ -167,6 +167,7 @@ fn form_text(form: Form) -> &'static str
         Form::Offset => "a number from 0 to 9223372036854775807",
         Form::Format => "json or binary",
         Form::SealedForm => "text, envelope or stream",
+        Form::Command => "a command that uses keys",
         Form::Datum => "at most 1048576 bytes",
         Form::Hex => "at most 1048576 bytes in hexadecimal",
         Form::Flag => "no value",

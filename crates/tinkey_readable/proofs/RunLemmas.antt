@@ -325,7 +325,7 @@ by_asked law binary json keeps keeps_stored turns sessions edited keep_sessions 
 by_asked law binary json keeps keeps_stored turns sessions edited keep_sessions table (create_keyset lock template out) told before after old h e done form read put_form put random is stored = clash e
 by_asked law binary json keeps keeps_stored turns sessions edited keep_sessions table (list_keyset lock in') told before after old h e done form read put_form put random is stored = clash e
 by_asked law binary json keeps keeps_stored turns sessions edited keep_sessions table (key_of lock name form' kind) told before after old h e done form read put_form put random is stored = clash e
-by_asked law binary json keeps keeps_stored turns sessions edited keep_sessions table list_key_templates told before after old h e done form read put_form put random is stored = clash e
+by_asked law binary json keeps keeps_stored turns sessions edited keep_sessions table (list_key_templates primitive) told before after old h e done form read put_form put random is stored = clash e
 by_asked law binary json keeps keeps_stored turns sessions edited keep_sessions table (use_keyset lock name form' work out) told before after old h e done form read put_form put random is stored = clash e
 by_asked law binary json keeps keeps_stored turns sessions edited keep_sessions table (use_envelope lock name form' template work out) told before after old h e done form read put_form put random is stored = clash e
 by_asked law binary json keeps keeps_stored turns sessions edited keep_sessions table (seal_stream lock name form' ad) told before after old h e done form read put_form put random is stored = clash e
@@ -356,7 +356,7 @@ asked_within table (session (Some master) name form' out) told bytes h e done re
 asked_within table (create_keyset lock template out) told bytes h e done read = clash e
 asked_within table (list_keyset lock in') told bytes h e done read = clash e
 asked_within table (key_of lock name form kind) told bytes h e done read = clash e
-asked_within table list_key_templates told bytes h e done read = clash e
+asked_within table (list_key_templates primitive) told bytes h e done read = clash e
 asked_within table (use_keyset lock name form work out) told bytes h e done read = clash e
 asked_within table (use_envelope lock name form template work out) told bytes h e done read = clash e
 asked_within table (seal_stream lock name form ad) told bytes h e done read = clash e
@@ -391,7 +391,7 @@ done_edits sessions table told (session lock name form out) old new does = subst
 done_edits sessions table told (create_keyset lock template out) old new does = absurd does
 done_edits sessions table told (list_keyset lock in') old new does = absurd does
 done_edits sessions table told (key_of lock name form kind) old new does = absurd does
-done_edits sessions table told list_key_templates old new does = absurd does
+done_edits sessions table told (list_key_templates primitive) old new does = absurd does
 done_edits sessions table told (use_keyset lock name form work out) old new does = absurd does
 done_edits sessions table told (use_envelope lock name form template work out) old new does = absurd does
 done_edits sessions table told (seal_stream lock name form ad) old new does = absurd does

@@ -130,6 +130,7 @@ pub use tinkey_session::laws::stored_kept;
 pub use tinkey_session::laws::talk_is_turns;
 pub use tinkey_session::laws::talks_are_steady;
 pub use tinkey_words::laws::dashes_are_left_out;
+pub use tinkey_words::laws::keys_are_asked;
 pub use tinkey_words::laws::misuses_are_true;
 pub use tinkey_words::laws::places_are_decided;
 pub use tinkey_words::laws::words_are_spelled;

@@ -160,7 +160,7 @@ fn dispatch<S: Source, K: Sink, E: Lookahead, D: Store>(
         } => convert_keyset(
             alloc, managers, lock, new, input, output, source, sink, entropy, store,
         ),
-        Request::ListKeyTemplates => list_templates(sink),
+        Request::ListKeyTemplates { primitive } => list_templates(primitive, sink),
         Request::UseKeyset {
             lock,
             keyset,

@@ -1,3 +1,4 @@
+pub mod AskedLemmas
 pub mod DashLemmas
 pub mod FitLemmas
 pub mod GrammarLemmas

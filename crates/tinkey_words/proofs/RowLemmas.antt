@@ -2,6 +2,7 @@
 use Rattle.std.proofs.Common.{◌≡◌, ◌≢◌, ◌⊎◌, inl, inr, ◌∙◌, sym, refl, ap, subst, ℕ, ◌+◌, ◌*◌, ◌^◌, ◌%◌, ◌≤◌, Bool, true, false, List, [], ◌∷◌, ◌++◌, length, drop, get_or, cond, arith, length-append, Option, Some, None}
 use Rattle.std.specs.Prelude.{◌==◌, ◌&&◌, nat_lt, nat_le, is_some, not, option_map, if◌then◌else◌, codes}
 use Rattle.std.specs.List.{find, list_all, position_or_len, before_first, after_first}
+use Rattle.std.specs.Option.{option_and_then}
 use Rattle.std.specs.Path.{path_file_name}
 use Rattle.std.specs.Str.{bytes_eq, str_eq_ignore_ascii_case, str_to_ascii_lowercase}
 use Rattle.std.specs.Str.Parse.{digits_value}
@@ -21,11 +22,12 @@ use Rattle.tinkey_words.specs.declared.words.rows.Form.TheVariants as forms
 use Rattle.tinkey_words.specs.declared.words.names.OptionName.{OptionName}
 use Rattle.tinkey_words.specs.declared.words.names.OptionName.TheVariants as options
 use Rattle.hex.specs.Hex.{is_hex_digit}
-use Rattle.tinkey_words.specs.Names.{row_of, all_commands, option_row, all_options}
-use Rattle.tinkey_words.specs.Rows.{command_of, option_of, same, datum_limit, is_line_count, most_lines, is_range_length, most_range, offset_in, format_of, sealed_form_of, is_hex, is_value, is_flag, aside, begins_aside, is_aside, is_odd_hex, dash, is_dash}
+use Rattle.tinkey_words.specs.Names.{row_of, all_commands, option_row, all_options, primitive_of}
+use Rattle.tinkey_words.specs.Rows.{command_of, option_of, same, datum_limit, is_line_count, most_lines, is_range_length, most_range, offset_in, format_of, sealed_form_of, is_hex, is_value, is_flag, aside, begins_aside, is_aside, is_odd_hex, dash, is_dash, primitive_named}
+use Rattle.key_msgs.specs.declared.primitive.Primitive.{Primitive}
 use Rattle.tinkey_words.specs.Words.{is_equals, own_value, is_stream, known_sealed, sealed_in}
-use Rattle.tinkey_words.proofs.NameLemmas.{is_found}
-use Rattle.tinkey_words.specs.Grammar.{IsAside, IsHex, IsOddHex, IsLineCount, IsNumber, IsOffset, IsRangeLength, IsValue}
+use Rattle.tinkey_words.proofs.NameLemmas.{command_found, is_found}
+use Rattle.tinkey_words.specs.Grammar.{AsksForKeys, IsAside, IsHex, IsOddHex, IsLineCount, IsNumber, IsOffset, IsRangeLength, IsValue}
 
 pub same_option : {A : Type 0} (o : Option A) → option_map (λ x. x) o ≡ o
 same_option None = refl
@@ -305,6 +307,24 @@ pub named_stream : (value : List ℕ) → str_to_ascii_lowercase value ≡ codes
 unfolding sealed_form_of
 named_stream value low = rw low refl
 
+command_taken : (value : List ℕ) → AsksForKeys value → is_some (primitive_named value) ≡ true
+unfolding primitive_named
+command_taken value asks =
+    let found : command_of value ≡ Some asks.command = ap command_of asks.word ∙ command_found asks.command in
+    ap (λ (o : Option CommandName). is_some (option_and_then primitive_of o)) found ∙ ap (λ (o : Option Primitive). is_some o) asks.asks
+
+with_keys : (value : List ℕ) (command : CommandName) (o : Option Primitive) → value ≡ (row_of command).word → primitive_of command ≡ o → is_some o ≡ true → AsksForKeys value
+with_keys value command (Some primitive) word asks is = record { command = command; primitive = primitive; word = word; asks = asks }
+with_keys value command None word asks is = absurd (cc)
+
+command_formed : (value : List ℕ) → is_some (primitive_named value) ≡ true → AsksForKeys value
+unfolding primitive_named
+command_formed value is = by (command_of value) refl is
+  where
+    by : (o : Option CommandName) → command_of value ≡ o → is_some (option_and_then primitive_of o) ≡ true → AsksForKeys value
+    by (Some command) found is = with_keys value command (primitive_of command) (command_named value command found) refl is
+    by None found is = absurd (cc)
+
 hex_taken : (value : List ℕ) → IsHex value → is_hex value ≡ true
 hex_taken value formed =
     let a : nat_le (length value) (2 * datum_limit) ≡ true = grind (arith, nat_tests, formed.short) in
@@ -355,6 +375,7 @@ value_taken forms.RangeLength value other formed = range_taken value formed
 value_taken forms.Offset value other formed = offset_taken value formed
 value_taken forms.Format value other formed = format_taken value formed
 value_taken forms.SealedForm value other formed = sealed_taken value formed
+value_taken forms.Command value other formed = command_taken value formed
 value_taken forms.Datum value other formed = datum_taken value formed
 value_taken forms.Hex value other formed = hex_taken value formed
 value_taken forms.Flag value other formed = absurd (cc)
@@ -372,6 +393,7 @@ value_formed forms.RangeLength value is = range_formed value is
 value_formed forms.Offset value is = offset_formed value is
 value_formed forms.Format value is = format_formed value is
 value_formed forms.SealedForm value is = sealed_formed value is
+value_formed forms.Command value is = command_formed value is
 value_formed forms.Datum value is = datum_formed value is
 value_formed forms.Hex value is = hex_formed value is
 value_formed forms.Flag value is = absurd (cc)
@@ -389,6 +411,7 @@ value_other forms.RangeLength value is = refl
 value_other forms.Offset value is = refl
 value_other forms.Format value is = refl
 value_other forms.SealedForm value is = refl
+value_other forms.Command value is = refl
 value_other forms.Datum value is = refl
 value_other forms.Hex value is = refl
 value_other forms.Flag value is = absurd (cc)
@@ -406,6 +429,7 @@ flag_is forms.RangeLength is = absurd (cc)
 flag_is forms.Offset is = absurd (cc)
 flag_is forms.Format is = absurd (cc)
 flag_is forms.SealedForm is = absurd (cc)
+flag_is forms.Command is = absurd (cc)
 flag_is forms.Datum is = absurd (cc)
 flag_is forms.Hex is = absurd (cc)
 flag_is forms.Flag is = refl

@@ -5,6 +5,7 @@
 --                      options that fit its row, in any order, or ask for help or for the version
 --   DashesAreLeftOut   `--in -` and `--out -` ask what leaving them out asks
 --   MisusesAreTrue     what is told of a word at fault is so
+--   KeysAreAsked       a command asks for keys of the primitive of its row, and without one for none
 --
 -- The commands and options are those of Names.
 use Rattle.std.specs.Prelude.{◌≡◌, ◌≢◌, ◌⊎◌, ◌↔◌, ℕ, ◌+◌, ◌*◌, ◌%◌, ◌^◌, ◌<◌, ◌≤◌, List, [], ◌∷◌, ◌++◌, length, Bool, true, None, Some, if◌then◌else◌, Ok, Err, codes, false}
@@ -12,6 +13,8 @@ use Rattle.std.specs.List.{AllByRecursion, flat_map, list_all}
 use Rattle.std.specs.Path.{path_file_name}
 use Rattle.std.specs.Str.{all_ascii_digits, str_to_ascii_lowercase}
 use Rattle.std.specs.Str.Parse.{digits_value}
+use Rattle.key_msgs.specs.declared.primitive.Primitive.{Primitive}
+use Rattle.key_msgs.specs.declared.primitive.Primitive.TheVariants.{Aead, Stream}
 use Rattle.tinkey_words.specs.declared.words.help.Topic.{Topic}
 use Rattle.tinkey_words.specs.declared.words.help.Topic.TheVariants as topics
 use Rattle.tinkey_words.specs.declared.words.misuse.Misfit.{Misfit}
@@ -23,9 +26,9 @@ use Rattle.tinkey_words.specs.declared.words.rows.Form.TheVariants as forms
 use Rattle.tinkey_words.specs.declared.words.names.OptionName.{OptionName}
 use Rattle.tinkey_words.specs.declared.words.names.OptionName.TheVariants as options
 use Rattle.hex.specs.Hex.{is_hex_digit}
-use Rattle.tinkey_words.specs.Names.{row_of, option_row, form_for, rival, needs, for_streams}
+use Rattle.tinkey_words.specs.Names.{row_of, option_row, form_for, rival, needs, for_streams, primitive_of}
 use Rattle.tinkey_words.specs.Rows.{same, aside, datum_limit, most_lines, most_range, is_flag, is_new_file, dash, is_hex_form, is_named_file}
-use Rattle.tinkey_words.specs.Words.{Asked, Values, asked_by, help, version, misuse_at, words_of}
+use Rattle.tinkey_words.specs.Words.{Asked, Values, asked_by, convert_keyset, help, open_range, open_stream, primitive_for, reseal_stream, seal_stream, use_envelope, use_keyset, version, misuse_at, words_of}
 
 -- where the word of a place is at fault, it is so, and for the same reason, whatever words stand behind it
 abbrev pub PlacesAreDecided : Type 0
@@ -70,6 +73,13 @@ pub record IsOddHex (text : List ℕ) : Type 0 where
   pub odd : length text % 2 ≡ 1
   pub short : length text ≤ 2 * datum_limit
 
+-- the word of a command that asks for keys of a primitive
+pub record AsksForKeys (text : List ℕ) : Type 0 where
+  pub command : CommandName
+  pub primitive : Primitive
+  pub word : text ≡ (row_of command).word
+  pub asks : primitive_of command ≡ Some primitive
+
 -- the path is a name aside: its last part begins as those do
 abbrev pub IsAside : List ℕ → Type 0
 IsAside path = (rest : List ℕ) × (path_file_name path ≡ Some (aside ++ rest))
@@ -92,9 +102,40 @@ IsValue forms.SealedForm value =
     (str_to_ascii_lowercase value ≡ codes "text")
     ⊎ (str_to_ascii_lowercase value ≡ codes "envelope")
     ⊎ (str_to_ascii_lowercase value ≡ codes "stream")
+IsValue forms.Command value = AsksForKeys value
 IsValue forms.Datum value = length value ≤ datum_limit
 IsValue forms.Hex value = IsHex value
 IsValue forms.Flag value = value ≡ []
+
+-- what is asked needs keys of this primitive: of the keyset that is used, or of the master of one that is wrapped or
+-- unwrapped
+abbrev pub NeedsKeys : Asked → Primitive → Type 0
+NeedsKeys (use_keyset lock name form work out) primitive = primitive_for work ≡ primitive
+NeedsKeys (use_envelope lock name form template work out) primitive = Aead ≡ primitive
+NeedsKeys (seal_stream lock name form ad) primitive = Stream ≡ primitive
+NeedsKeys (open_stream lock name form ad) primitive = Stream ≡ primitive
+NeedsKeys (reseal_stream lock name form ad) primitive = Stream ≡ primitive
+NeedsKeys (open_range lock name form ad range out) primitive = Stream ≡ primitive
+NeedsKeys (convert_keyset lock new in' out) primitive = Aead ≡ primitive
+NeedsKeys _ primitive = ⊥
+
+-- what is asked uses the keys of a keyset, of one primitive
+abbrev pub UsesKeys : Asked → Type 0
+UsesKeys (use_keyset lock name form work out) = Unit {0}
+UsesKeys (use_envelope lock name form template work out) = Unit {0}
+UsesKeys (seal_stream lock name form ad) = Unit {0}
+UsesKeys (open_stream lock name form ad) = Unit {0}
+UsesKeys (reseal_stream lock name form ad) = Unit {0}
+UsesKeys (open_range lock name form ad range out) = Unit {0}
+UsesKeys _ = ⊥
+
+-- a command whose row has a primitive asks for keys of it, whatever its options; and each that uses the keys of a
+-- keyset has one there
+pub record KeysAreAsked : Type 0 where
+  pub asked : (command : CommandName) (values : Values) (primitive : Primitive)
+      → primitive_of command ≡ Some primitive → NeedsKeys (asked_by command values) primitive
+  pub none : (command : CommandName) (values : Values)
+      → primitive_of command ≡ None → UsesKeys (asked_by command values) → ⊥
 
 -- an option with its value, and whether they stand in one word
 pub record Spelling : Type 0 where

@@ -1,6 +1,8 @@
 -- The rows of the command's words: the commands with the options that each requires and may have, and
 -- the options with the form of the value of each; made by tools/words of words.table.
 use Rattle.std.specs.Prelude.{ℕ, List, [], ◌∷◌, Option, Some, None, codes}
+use Rattle.key_msgs.specs.declared.primitive.Primitive.{Primitive}
+use Rattle.key_msgs.specs.declared.primitive.Primitive.TheVariants as primitives
 use Rattle.tinkey_words.specs.declared.words.names.CommandRow.{CommandRow as CodeRow}
 use Rattle.tinkey_words.specs.declared.words.names.CommandName.{CommandName}
 use Rattle.tinkey_words.specs.declared.words.names.CommandName.TheVariants as commands
@@ -45,6 +47,9 @@ list_keyset_may = options.In ∷ options.InFormat ∷ options.Master ∷ options
 abbrev pub convert_keyset_may : List OptionName
 convert_keyset_may = options.In ∷ options.InFormat ∷ options.Out ∷ options.OutFormat ∷ options.Master
     ∷ options.MasterFormat ∷ options.NewMaster ∷ options.NewMasterFormat ∷ []
+
+abbrev pub list_key_templates_may : List OptionName
+list_key_templates_may = options.For ∷ []
 
 abbrev pub seal_requires : List OptionName
 seal_requires = options.Keyset ∷ []
@@ -111,7 +116,7 @@ row_of commands.DestroyKey = row (codes "destroy-key") promote_key_requires add_
 row_of commands.DeleteKey = row (codes "delete-key") promote_key_requires add_key_may
 row_of commands.ListKeyset = row (codes "list-keyset") [] list_keyset_may
 row_of commands.ConvertKeyset = row (codes "convert-keyset") [] convert_keyset_may
-row_of commands.ListKeyTemplates = row (codes "list-key-templates") [] []
+row_of commands.ListKeyTemplates = row (codes "list-key-templates") [] list_key_templates_may
 row_of commands.Seal = row (codes "seal") seal_requires seal_may
 row_of commands.Open = row (codes "open") seal_requires seal_may
 row_of commands.Dseal = row (codes "dseal") seal_requires seal_may
@@ -138,6 +143,28 @@ row_of commands.KeyOf = row (codes "key-of") seal_requires key_of_may
 abbrev pub for_streams : CommandName → List OptionName
 for_streams commands.KeyOf = key_of_streams
 for_streams _ = []
+
+-- the primitive of the keys that a command asks for: of its keyset, or, to wrap and to unwrap, of the master
+abbrev pub primitive_of : CommandName → Option Primitive
+primitive_of commands.Seal = Some primitives.Aead
+primitive_of commands.Open = Some primitives.Aead
+primitive_of commands.Dseal = Some primitives.Daead
+primitive_of commands.Dopen = Some primitives.Daead
+primitive_of commands.Reseal = Some primitives.Aead
+primitive_of commands.Dreseal = Some primitives.Daead
+primitive_of commands.Sseal = Some primitives.Stream
+primitive_of commands.Sopen = Some primitives.Stream
+primitive_of commands.Sreseal = Some primitives.Stream
+primitive_of commands.Tag = Some primitives.Mac
+primitive_of commands.Verify = Some primitives.Mac
+primitive_of commands.Derive = Some primitives.Prf
+primitive_of commands.WrapKeyset = Some primitives.Aead
+primitive_of commands.UnwrapKeyset = Some primitives.Aead
+primitive_of commands.Eseal = Some primitives.Aead
+primitive_of commands.Eopen = Some primitives.Aead
+primitive_of commands.Ereseal = Some primitives.Aead
+primitive_of commands.Srange = Some primitives.Stream
+primitive_of _ = None
 
 -- all commands
 abbrev pub all_commands : List CommandName
@@ -188,6 +215,7 @@ option_row options.File = option 19 (codes "--file") forms.FileName
 option_row options.From = option 20 (codes "--from") forms.Offset
 option_row options.Hex = option 21 (codes "--hex") forms.Flag
 option_row options.As = option 22 (codes "--as") forms.SealedForm
+option_row options.For = option 23 (codes "--for") forms.Command
 
 -- all options, in the order of their places
 abbrev pub all_options : List OptionName
@@ -196,7 +224,7 @@ all_options =
     ∷ options.OutFormat ∷ options.Keyset ∷ options.KeysetFormat ∷ options.Ad ∷ options.AdHex
     ∷ options.TagHex ∷ options.Length ∷ options.Seed ∷ options.Lines ∷ options.Master
     ∷ options.MasterFormat ∷ options.NewMaster ∷ options.NewMasterFormat ∷ options.DekTemplate
-    ∷ options.File ∷ options.From ∷ options.Hex ∷ options.As ∷ []
+    ∷ options.File ∷ options.From ∷ options.Hex ∷ options.As ∷ options.For ∷ []
 
 -- the option that must not stand beside this one, which gives the same thing
 abbrev pub rival : OptionName → Option OptionName

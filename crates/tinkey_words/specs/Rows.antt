@@ -1,5 +1,6 @@
 -- What the rows of the command's words are asked, and the forms of values.
 use Rattle.std.specs.Prelude.{ℕ, ◌*◌, ◌%◌, ◌^◌, List, ◌++◌, length, Bool, true, false, Option, Some, None, is_some, not, ◌==◌, ◌&&◌, nat_lt, nat_le, if◌then◌else◌, codes}
+use Rattle.std.specs.Option.{option_and_then}
 use Rattle.std.specs.List.{find, list_any, list_all, starts_with}
 use Rattle.std.specs.Path.{path_file_name}
 use Rattle.std.specs.Str.{all_ascii_digits, bytes_eq, str_eq_ignore_ascii_case}
@@ -14,13 +15,18 @@ use Rattle.tinkey_words.specs.declared.words.rows.Form.{Form}
 use Rattle.tinkey_words.specs.declared.words.rows.Form.TheVariants as forms
 use Rattle.tinkey_words.specs.declared.words.names.CommandName.{CommandName}
 use Rattle.tinkey_words.specs.declared.words.names.OptionName.{OptionName}
-use Rattle.tinkey_words.specs.Names.{row_of, all_commands, option_row, all_options}
+use Rattle.key_msgs.specs.declared.primitive.Primitive.{Primitive}
+use Rattle.tinkey_words.specs.Names.{row_of, all_commands, option_row, all_options, primitive_of}
 
 -- The names.
 
 -- the command of this name
 unfoldable pub command_of : List ℕ → Option CommandName
 command_of name = find (λ command. bytes_eq (row_of command).word name) all_commands
+
+-- the primitive of the keys that the command of this name asks for, where it asks for any
+unfoldable pub primitive_named : List ℕ → Option Primitive
+primitive_named name = option_and_then primitive_of (command_of name)
 
 -- the option of this name
 unfoldable pub option_of : List ℕ → Option OptionName
@@ -146,8 +152,8 @@ is_odd_hex text =
 
 -- the text is a value of this form: any text; the name of a file, which isn't empty, and isn't a dash but where the
 -- file is read or made in place of standard input or output; that of a new one, which isn't a name aside either; a
--- number, a count of lines, the length of a range, an offset in a file, the name of a keyset's form or of what key-of is given, or a
--- datum as it stands or in hexadecimal; a flag has none
+-- number, a count of lines, the length of a range, an offset in a file, the name of a keyset's form or of what key-of
+-- is given, the word of a command that asks for keys, or a datum as it stands or in hexadecimal; a flag has none
 unfoldable pub is_value : Form → List ℕ → Bool
 is_value forms.Text text = true
 is_value forms.FileName text = nat_lt 0 (length text) && not (is_dash text)
@@ -160,6 +166,7 @@ is_value forms.RangeLength text = is_range_length (number_in text)
 is_value forms.Offset text = is_some (offset_in text)
 is_value forms.Format text = is_some (format_of text)
 is_value forms.SealedForm text = is_some (sealed_form_of text)
+is_value forms.Command text = is_some (primitive_named text)
 is_value forms.Datum text = is_datum text
 is_value forms.Hex text = is_hex text
 is_value forms.Flag text = false

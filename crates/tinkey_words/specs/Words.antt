@@ -12,6 +12,7 @@
 use Rattle.std.specs.Prelude.{◌≡◌, ℕ, ◌+◌, ◌*◌, List, [], ◌∷◌, length, Bool, false, ◌&&◌, ◌||◌, Option, Some, None, is_some, option_map, not, Result, Ok, Err, ◌==◌, nat_lt, nat_le, if◌then◌else◌, slice_index_or, codes, true}
 use Rattle.std.specs.List.{find, position_or_len, before_first, after_first}
 use Rattle.std.specs.Borrow.{Bor}
+use Rattle.std.specs.Option.{option_and_then}
 use Rattle.std.specs.Str.{bytes_eq}
 use Rattle.hex.specs.Hex.{decode_of}
 use Rattle.hex.specs.declared.error.FromHexError.{FromHexError}
@@ -53,7 +54,7 @@ use Rattle.tinkey_words.specs.declared.words.names.OptionName.{OptionName}
 use Rattle.tinkey_words.specs.declared.words.names.OptionName.TheVariants as options
 use Rattle.tink_base.specs.Decimal.{number_in}
 use Rattle.tinkey_words.specs.Names.{row_of, option_row, form_for, rival, needs, for_streams}
-use Rattle.tinkey_words.specs.Rows.{command_of, option_of, same, takes, datum_limit, most_range, format_of, sealed_form_of, is_aside, is_new_file, is_value, offset_in, is_flag, is_dash, is_hex_form, is_named_file, is_odd_hex}
+use Rattle.tinkey_words.specs.Rows.{command_of, option_of, same, takes, datum_limit, most_range, format_of, sealed_form_of, is_aside, is_new_file, is_value, offset_in, is_flag, is_dash, is_hex_form, is_named_file, is_odd_hex, primitive_named}
 
 -- What is asked.
 
@@ -146,8 +147,8 @@ pub data Asked : Type 0 where
   key_of : (lock : Lock) (keyset : List ℕ) (form : Format) (kind : SealedForm) (ad : List ℕ) → Asked
   -- a keyset, in another place, and where it is asked for under another master or in clear
   convert_keyset : (lock : Lock) (new : NewLock) (in' out : Place) → Asked
-  -- the names of the templates
-  list_key_templates : Asked
+  -- the names of the templates, where a primitive is given of those whose keys have it
+  list_key_templates : (primitive : Option Primitive) → Asked
   -- work on the input, by the keys of the keyset in the file of this name, and where it is put
   use_keyset : (lock : Lock) (keyset : List ℕ) (form : Format) (work : AskedWork) (out : Output)
       → Asked
@@ -259,6 +260,10 @@ known_sealed (Some kind) = kind
 abbrev pub sealed_in : Option (List ℕ) → SealedForm
 sealed_in value = known_sealed (sealed_form_of (text value))
 
+-- the primitive of the keys that the command asks for that is named for templates, where one is
+abbrev pub served : Values → Option Primitive
+served values = option_and_then primitive_named (values options.For)
+
 -- where a keyset is taken from
 abbrev pub taken_from : Values → Place
 taken_from values = record { file = values options.In; form = form_in (values options.InFormat) }
@@ -331,7 +336,7 @@ asked_with commands.DeleteKey values = edited (edits.Delete (id values)) values
 asked_with commands.ListKeyset values = list_keyset (lock values) (taken_from values)
 asked_with commands.ConvertKeyset values =
     convert_keyset (lock values) (new_lock values) (taken_from values) (put_to values)
-asked_with commands.ListKeyTemplates values = list_key_templates
+asked_with commands.ListKeyTemplates values = list_key_templates (served values)
 asked_with commands.Seal values = worked (to_seal (ad values)) values
 asked_with commands.Open values = worked (to_open (ad values)) values
 asked_with commands.Dseal values = worked (to_dseal (ad values)) values
@@ -695,7 +700,7 @@ seen_command (asks.KeyOf lock keyset form kind ad) =
     key_of (seen_lock lock) keyset.now form kind (seen_datum ad)
 seen_command (asks.ConvertKeyset lock new input output) =
     convert_keyset (seen_lock lock) (seen_new_lock new) (seen_place input) (seen_place output)
-seen_command asks.ListKeyTemplates = list_key_templates
+seen_command (asks.ListKeyTemplates primitive) = list_key_templates primitive
 seen_command (asks.UseKeyset lock keyset form work output) =
     use_keyset (seen_lock lock) keyset.now form (seen_work work) (seen_output output)
 seen_command (asks.SealStream lock keyset form ad) =

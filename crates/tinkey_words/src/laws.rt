@@ -1,6 +1,6 @@
 //! Laws of the words. Each is the contract of a function with no effect.
 
-ghost use Rattle.tinkey_words.specs.Grammar.{DashesAreLeftOut, MisusesAreTrue, PlacesAreDecided, WordsAreSpelled};
+ghost use Rattle.tinkey_words.specs.Grammar.{DashesAreLeftOut, KeysAreAsked, MisusesAreTrue, PlacesAreDecided, WordsAreSpelled};
 
 /// A word at fault, and the reason, depend only on the words up to it.
 pub fn places_are_decided()
@@ -17,6 +17,13 @@ pub fn words_are_spelled()
 /// `--in -` and `--out -` mean the same as leaving them out: standard input and standard output.
 pub fn dashes_are_left_out()
     ensures { DashesAreLeftOut }
+{}
+
+/// A command whose row has a primitive asks for keys of it, of the keyset that it uses or of the master under which
+/// it wraps or unwraps one; and each command that uses the keys of a keyset for one primitive has it in its row. So
+/// `list-key-templates --for` names what serves the command.
+pub fn keys_are_asked()
+    ensures { KeysAreAsked }
 {}
 
 /// The reason reported for refused words is true of the word at fault and the words before it.

@@ -4,7 +4,7 @@ ghost use Rattle.std.specs.Prelude.{◌≡◌, ◌<◌, ◌≤◌, ◌^◌, Some
 ghost use Rattle.tinkey_words.specs.Names.{for_streams, needs, option_row};
 ghost use Rattle.tinkey_words.specs.Rows.{option_of, is_flag};
 ghost use Rattle.tinkey_words.specs.declared.words.names.OptionName.TheVariants.{As, Lines};
-ghost use Rattle.tinkey_words.specs.Words.{words_of, by_itself, command_words, help_words, topic_words, with_options, topic_of, given_in, lines_in, next_word, option_word, own_value, misvalued, is_barred, bar, unbarred, new_option, with_value, no_options, lacking, complete, unmet, unmet_none, idle, idle_of, idle_none, is_stream, first_given, asked_with, text, number, id, template, ad, edited, enveloped, worked, seen_command, seen_datum, seen_edit, seen_envelope, seen_name, seen_options, seen_range, seen_work, offset, range, range_length, Reads, form_in, sealed_in, taken_from, put_to, seen_place, alone, output_in, seen_output, convert_keyset, lock, lock_of, new_lock, relocked, seen_lock, seen_new_lock, holds_dash, without_dash, meant, asked_by};
+ghost use Rattle.tinkey_words.specs.Words.{words_of, by_itself, command_words, help_words, topic_words, with_options, topic_of, given_in, lines_in, next_word, option_word, own_value, misvalued, is_barred, bar, unbarred, new_option, with_value, no_options, lacking, complete, unmet, unmet_none, idle, idle_of, idle_none, is_stream, first_given, asked_with, text, number, id, template, ad, edited, enveloped, worked, seen_command, seen_datum, seen_edit, seen_envelope, seen_name, seen_options, seen_range, seen_work, offset, range, range_length, Reads, form_in, sealed_in, taken_from, put_to, seen_place, alone, output_in, seen_output, convert_keyset, lock, lock_of, new_lock, relocked, seen_lock, seen_new_lock, holds_dash, without_dash, meant, asked_by, served};
 
 mod help;
 mod lock;
@@ -15,6 +15,7 @@ mod rows;
 
 pub use help::Topic;
 use help::{First, first_named, is_help_flag, topic_named};
+use key_msgs::Primitive;
 pub use lock::{Master, NewLock};
 use misuse::misuse_at;
 pub use misuse::{Misfit, Misuse};
@@ -24,7 +25,7 @@ pub use range::Range;
 pub use rows::{DATUM_LIMIT, Form, Format, SealedForm};
 use rows::{
     MOST_RANGE, format_named, is_aside, is_dash, is_flag, is_odd_hex, is_value, offset_in,
-    option_named, sealed_form_named, takes,
+    option_named, primitive_named, sealed_form_named, takes,
 };
 use tink_base::number_in;
 use tinkey_cmds::Command as Edit;
@@ -87,7 +88,10 @@ pub enum Request<'a> {
         output: Place<'a>,
     },
     /// List the names of the templates.
-    ListKeyTemplates,
+    ListKeyTemplates {
+        /// The primitive of the templates' keys, or any.
+        primitive: Option<Primitive>,
+    },
     /// Work on the input, by the keys of a keyset.
     UseKeyset {
         /// The master of the keyset, if it lies under one.
@@ -479,7 +483,9 @@ fn command_with<'a>(command: CommandName, given: &Options<'a>) -> Request<'a>
             input: given.taken_from(),
         },
         CommandName::ConvertKeyset => given.converted(given.lock(), given.new_lock()),
-        CommandName::ListKeyTemplates => Request::ListKeyTemplates,
+        CommandName::ListKeyTemplates => Request::ListKeyTemplates {
+            primitive: given.served(),
+        },
         CommandName::Seal => given.worked(Work::Seal(given.ad())),
         CommandName::Open => given.worked(Work::Open(given.ad())),
         CommandName::Dseal => given.worked(Work::Dseal(given.ad())),
@@ -636,6 +642,16 @@ impl<'a> Options<'a> {
         match sealed_form_named(self.text(OptionName::As)) {
             Some(kind) => kind,
             None => SealedForm::Text,
+        }
+    }
+
+    /// The primitive of the keys that the command asks for that is named for templates, where one is.
+    fn served(&self) -> Option<Primitive>
+        ensures { result ≡ served (seen_options self.now).values }
+    {
+        match self.value(OptionName::For) {
+            Some(name) => primitive_named(name),
+            None => None,
         }
     }
 

@@ -1,9 +1,10 @@
 //! The names of commands and options, and their rows; made by tools/words of words.table.
 
 ghost use Rattle.std.specs.Prelude.{◌≡◌, ◌<◌};
-ghost use Rattle.tinkey_words.specs.Names.{for_streams, form_for, length_form, option_row, out_form, rival, row, row_of, seen_row};
+ghost use Rattle.tinkey_words.specs.Names.{for_streams, form_for, length_form, option_row, out_form, primitive_of, rival, row, row_of, seen_row};
 
 use super::rows::Form;
+use key_msgs::Primitive;
 
 /// A command by its name.
 #[derive(Clone, Copy, Debug, PartialEq, Eq)]
@@ -123,13 +124,15 @@ pub enum OptionName {
     Hex,
     /// `--as`, what the input is: a sealed text or a tag, an envelope, or a stream.
     As,
+    /// `--for`, the command that the templates' keys are to serve.
+    For,
 }
 
 /// How many commands there are.
 const COMMAND_COUNT: usize = 32;
 
 /// How many options there are.
-pub const OPTION_COUNT: usize = 23;
+pub const OPTION_COUNT: usize = 24;
 
 /// A command's word, the options that it requires, and those that it may have.
 #[derive(Clone, Copy)]
@@ -177,7 +180,11 @@ impl CommandName {
             CommandName::DeleteKey => row("delete-key", &PROMOTE_KEY_REQUIRES, &ADD_KEY_MAY),
             CommandName::ListKeyset => row("list-keyset", &[], &LIST_KEYSET_MAY),
             CommandName::ConvertKeyset => row("convert-keyset", &[], &CONVERT_KEYSET_MAY),
-            CommandName::ListKeyTemplates => row("list-key-templates", &[], &[]),
+            CommandName::ListKeyTemplates => row(
+                "list-key-templates",
+                &[],
+                &LIST_KEY_TEMPLATES_MAY,
+            ),
             CommandName::Seal => row("seal", &SEAL_REQUIRES, &SEAL_MAY),
             CommandName::Open => row("open", &SEAL_REQUIRES, &SEAL_MAY),
             CommandName::Dseal => row("dseal", &SEAL_REQUIRES, &SEAL_MAY),
@@ -215,6 +222,28 @@ impl CommandName {
             _ => &[],
         }
     }
+    /// The primitive of the keys that the command asks for, or none.
+    pub fn primitive(self) -> Option<Primitive>
+        ensures { result ≡ primitive_of self }
+            CommandName::Seal => Some(Primitive::Aead),
+            CommandName::Open => Some(Primitive::Aead),
+            CommandName::Dseal => Some(Primitive::Daead),
+            CommandName::Dopen => Some(Primitive::Daead),
+            CommandName::Reseal => Some(Primitive::Aead),
+            CommandName::Dreseal => Some(Primitive::Daead),
+            CommandName::Sseal => Some(Primitive::Stream),
+            CommandName::Sopen => Some(Primitive::Stream),
+            CommandName::Sreseal => Some(Primitive::Stream),
+            CommandName::Tag => Some(Primitive::Mac),
+            CommandName::Verify => Some(Primitive::Mac),
+            CommandName::Derive => Some(Primitive::Prf),
+            CommandName::WrapKeyset => Some(Primitive::Aead),
+            CommandName::UnwrapKeyset => Some(Primitive::Aead),
+            CommandName::Eseal => Some(Primitive::Aead),
+            CommandName::Eopen => Some(Primitive::Aead),
+            CommandName::Ereseal => Some(Primitive::Aead),
+            CommandName::Srange => Some(Primitive::Stream),
+            _ => None,
 }
 
 // What commands require or may have, named after the first one that it is so of.
@@ -255,6 +284,8 @@ const CONVERT_KEYSET_MAY: [OptionName; 8] = [
     OptionName::NewMaster,
     OptionName::NewMasterFormat,
 ];
+
+const LIST_KEY_TEMPLATES_MAY: [OptionName; 1] = [OptionName::For];
 
 const SEAL_REQUIRES: [OptionName; 1] = [OptionName::Keyset];
 
@@ -393,6 +424,7 @@ impl OptionName {
             OptionName::From => option("--from", Form::Offset),
             OptionName::Hex => option("--hex", Form::Flag),
             OptionName::As => option("--as", Form::SealedForm),
+            OptionName::For => option("--for", Form::Command),
         }
     }
 
@@ -521,4 +553,5 @@ pub const OPTIONS: [OptionName; OPTION_COUNT] = [
     OptionName::From,
     OptionName::Hex,
     OptionName::As,
+    OptionName::For,
 ];

@@ -3,9 +3,10 @@
 ghost use Rattle.std.specs.Prelude.{◌≡◌};
 ghost use Rattle.std.specs.List.{list_all};
 ghost use Rattle.hex.specs.Hex.{is_hex_digit};
-ghost use Rattle.tinkey_words.specs.Rows.{command_of, option_of, is_one_of, takes, format_of, sealed_form_of, is_dash, is_hex, is_odd_hex, is_line_count, is_range_length, is_aside, is_value, offset_in, is_flag};
+ghost use Rattle.tinkey_words.specs.Rows.{command_of, option_of, is_one_of, takes, format_of, sealed_form_of, primitive_named, is_dash, is_hex, is_odd_hex, is_line_count, is_range_length, is_aside, is_value, offset_in, is_flag};
 
 use super::names::{COMMANDS, CommandName, OPTIONS, OptionName};
+use key_msgs::Primitive;
 use std::path::Path;
 use tink_base::{ASIDE, number_in};
 
@@ -69,6 +70,8 @@ pub enum Form {
     Format,
     /// The form of what key-of is given: `text`, `envelope` or `stream`, in letters of either case.
     SealedForm,
+    /// The word of a command that asks for keys of one primitive.
+    Command,
     /// A text of at most 1,048,576 bytes, which are the value.
     Datum,
     /// An even number of hexadecimal digits of either case, at most 2,097,152.
@@ -85,6 +88,17 @@ pub fn command_named(name: &str) -> Option<CommandName>
         .iter()
         .copied()
         .find(|command| command.row().word == name)
+}
+
+/// The primitive of the keys that the command of this name asks for, or none.
+#[tactic(auto, unfolding(crate::specs::Rows::primitive_named))]
+pub fn primitive_named(name: &str) -> Option<Primitive>
+    ensures { result ≡ primitive_named name.now }
+{
+    match command_named(name) {
+        Some(command) => command.primitive(),
+        None => None,
+    }
 }
 
 /// The option of this name.
@@ -129,6 +143,7 @@ pub fn is_value(form: Form, text: &str) -> bool
         Form::Offset => offset_in(text).is_some(),
         Form::Format => format_named(text).is_some(),
         Form::SealedForm => sealed_form_named(text).is_some(),
+        Form::Command => primitive_named(text).is_some(),
         Form::Datum => text.len() <= DATUM_LIMIT,
         Form::Hex => is_hex(text),
         Form::Flag => false,
