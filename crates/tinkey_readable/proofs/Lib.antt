@@ -32,6 +32,7 @@ pub mod ReadIdLemmas
 pub mod RangeRunLemmas
 pub mod StreamKeyLemmas
 pub mod StreamRunLemmas
+pub mod TemplateLemmas
 pub mod WrappedRunLemmas
 pub mod WrittenBytesLemmas
 pub mod NamedRunLemmas

@@ -15,5 +15,6 @@ pub mod Readable
 pub mod Resealing
 pub mod ResealedStreams
 pub mod Runs
+pub mod ServingTemplates
 pub mod StreamRuns
 pub mod NamedRuns

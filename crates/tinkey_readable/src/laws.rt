@@ -18,6 +18,7 @@ ghost use Rattle.tinkey_readable.specs.Readable.{AnswersAreReadable, SessionsAre
 ghost use Rattle.tinkey_readable.specs.Resealing.{ResealedDopens, ResealedEnvelopesOpen, ResealedOpens};
 ghost use Rattle.tinkey_readable.specs.ResealedStreams.{ResealedStreamsOpen};
 ghost use Rattle.tinkey_readable.specs.Runs.{LocksStep, ReadIsStored, RunStep, RunsDopen, RunsDopenPresent, RunsOpen, RunsOpenPresent, RunsUnwrap, RunsVerify, WrapStep};
+ghost use Rattle.tinkey_readable.specs.ServingTemplates.{StreamTemplatesServe, TemplatesServe};
 ghost use Rattle.tinkey_readable.specs.StreamRuns.{RunsOpenStream, RunsOpenStreamPresent};
 
 use keyset_json::laws::{json_back, json_is_stored};
@@ -32,7 +33,7 @@ use tinkey_plans::laws::{done_exactly, fit_keysets_answer};
 use tinkey_session::laws::{
     edited_kept, kept_dopen, kept_dopen_present, kept_open, kept_open_present, kept_tag,
     session_dopens, session_dopens_present, session_is_edits, session_opens, session_opens_present,
-    session_verifies, sound_usable, stored_kept, talk_is_turns,
+    session_verifies, sound_kept, sound_usable, stored_kept, talk_is_turns,
 };
 
 /// The written form of a keyset without a fault, binary or JSON, reads back to it: in the binary
@@ -142,6 +143,19 @@ pub fn created_serve()
     read_is_stored();
     wrap_back_bytes();
     sound_usable();
+}
+
+/// The first keyset of a template that `list-key-templates` names for AEADs, deterministic AEADs or
+/// MACs serves these, and one named for streams serves streams: so each command for which the
+/// template is named accepts it, within its limits. Nothing is said of pseudo-random functions.
+pub fn templates_serve()
+    ensures aead { TemplatesServe Aead }
+    ensures daead { TemplatesServe Daead }
+    ensures mac { TemplatesServe Mac }
+    ensures streams { StreamTemplatesServe }
+{
+    sound_usable();
+    sound_kept();
 }
 
 /// What was wrapped under a key with a prefix unwraps to the keyset, after any runs that pass the
