@@ -1,5 +1,5 @@
 -- What draws in the plan of a command is one of the six steps or a session over a keyset.
-use Rattle.std.proofs.Common.{◌≡◌, refl, ℕ, ◌+◌, Bool, true, false, List, [], ◌∷◌, Option, Some, None, Result, Ok, Err}
+use Rattle.std.proofs.Common.{◌≡◌, refl, ℕ, ◌+◌, Bool, true, false, List, [], ◌∷◌, drop, Option, Some, None, Result, Ok, Err}
 use Rattle.key_msgs.specs.Templates.{row_named}
 use Rattle.key_msgs.specs.declared.primitive.Primitive.TheVariants.{Aead}
 use Rattle.keyset_model.specs.Keyset.{Keys}
@@ -13,7 +13,7 @@ use Rattle.tinkey_cmds.specs.Edits.{first, step}
 use Rattle.tinkey_cmds.specs.declared.command.CmdFault.{CmdFault}
 use Rattle.tinkey_plans.proofs.EachLemmas.{AreAll, IsClosed, IsOpen, dek_each, edit_each, envelope_each, fit_each, lines_each, loaded_each, lock_each, locked_each, made_each, new_lock_each, row_each, scheme_each, stretch_each, under_each, work_each, written_under_each}
 use Rattle.tinkey_plans.specs.Commands.{asked_plan, command_plan, plan_of}
-use Rattle.tinkey_plans.specs.KeyOf.{front_in, key_of_answer}
+use Rattle.tinkey_plans.specs.KeyOf.{key_of_answer, stream_record_line, tells_front, tells_keys}
 use Rattle.tinkey_plans.specs.Locks.{puts_under, writes_under}
 use Rattle.tinkey_plans.specs.Plan.{Of, Plan, ends, writes, creates, looks, allocates, loads, reads_all, reads_front, ranges, draws, pumps, exchanges, keysets}
 use Rattle.tinkey_plans.specs.SelfTesting.{tells_counts}
@@ -28,6 +28,8 @@ use Rattle.tinkey_selftest.specs.declared.counts.Counts.{Counts}
 use Rattle.tinkey_session.specs.Talking.{talk}
 use Rattle.tinkey_words.specs.declared.words.misuse.Misuse.{Misuse}
 use Rattle.tinkey_words.specs.declared.words.rows.Format.{Format}
+use Rattle.tinkey_words.specs.declared.words.rows.SealedForm.{SealedForm}
+use Rattle.tinkey_words.specs.declared.words.rows.SealedForm.TheVariants as sealed
 use Rattle.tinkey_words.specs.Words.{Asked, Lock, Place, primitive_for, create_keyset, edit_keyset, list_keyset, key_of, convert_keyset, list_key_templates, use_keyset, use_envelope, seal_stream, open_stream, reseal_stream, open_range, self_test, session, help, version, words_of}
 use Rattle.wrapped_prims.specs.Fitness.{unfit}
 
@@ -105,11 +107,16 @@ session_drawing table master out keys = free_drawing out.file _ ((table, keys, r
 streams_drawing : (table : Table) (lock : Lock) (name : List ℕ) (form : Format) (next : KeysForStreams → Plan) → AreAll IsDrawing next → IsDrawing (streaming.loads_stream_keys table lock name form next)
 streams_drawing table lock name form next all = loaded_each IsDrawing open_drawing table lock name form _ (λ keys. stream_fit_drawing (streams.stream_unfit keys) _ (stream_keys_drawing (streaming.keys_for keys) next all))
 
+tells_drawing : (kind : SealedForm) (ad : List ℕ) (keys : Keys) → IsDrawing (tells_keys kind ad keys writes)
+tells_drawing sealed.Text ad keys = λ front. lines_each IsDrawing closed (key_of_answer keys front) writes (λ lines. tt)
+tells_drawing sealed.Envelope ad keys = λ front. lines_each IsDrawing closed (key_of_answer keys (drop 4 front)) writes (λ lines. tt)
+tells_drawing sealed.Stream ad keys = stream_fit_drawing (streams.stream_unfit keys) _ (stream_keys_drawing (streaming.keys_for keys) (tells_front ad keys writes) (λ those front. lines_each IsDrawing closed (stream_record_line keys ad front) writes (λ lines. tt)))
+
 commands_are_drawing : (table : Table) (asked : Asked) → IsDrawing (command_plan table asked)
 commands_are_drawing table (create_keyset lock name out) = row_each IsDrawing closed (row_named name) name _ (λ row. lock_each IsDrawing open_drawing table lock _ (λ master. made_drawing (first row) (creation row) refl _ (out_drawing table master out)))
 commands_are_drawing table (edit_keyset lock edit in' out) = edit_each IsDrawing closed edit _ (λ edit. lock_each IsDrawing open_drawing table lock _ (λ master. under_each IsDrawing open_drawing table master in' _ (λ keys. made_drawing (step keys edit) (edition keys edit) refl _ (out_drawing table master out))))
 commands_are_drawing table (list_keyset lock in') = locked_each IsDrawing open_drawing table lock in' _ (λ keys. tt)
-commands_are_drawing table (key_of lock name form kind) = loaded_each IsDrawing open_drawing table lock name form _ (λ keys front. lines_each IsDrawing closed (key_of_answer keys (front_in kind front)) writes (λ lines. tt))
+commands_are_drawing table (key_of lock name form kind ad) = loaded_each IsDrawing open_drawing table lock name form _ (tells_drawing kind ad)
 commands_are_drawing table (convert_keyset lock new in' out) = lock_each IsDrawing open_drawing table lock _ (λ taken. new_lock_each IsDrawing open_drawing table new taken _ (λ put. under_each IsDrawing open_drawing table taken in' _ (out_drawing table put out)))
 commands_are_drawing table (list_key_templates primitive) = tt
 commands_are_drawing table (use_keyset lock name form work out) = loaded_each IsDrawing open_drawing table lock name form _ (λ keys. fit_each IsDrawing closed (unfit keys (primitive_for work) table) _ (λ input. work_each IsDrawing closed table keys work input (λ plain ad next all. ((sealing table keys plain ad, refl), all)) (puts_output out) (shown_drawing out.hex out.file)))

@@ -19,9 +19,11 @@ use Rattle.wrapped_prims.specs.Fitness.{unfit}
 use Rattle.tinkey_plans.specs.declared.status.Status.{Status}
 use Rattle.tinkey_plans.specs.declared.status.Status.TheVariants as status
 use Rattle.tinkey_words.specs.declared.words.rows.Format.{Format}
+use Rattle.tinkey_words.specs.declared.words.rows.SealedForm.{SealedForm}
+use Rattle.tinkey_words.specs.declared.words.rows.SealedForm.TheVariants as sealed
 use Rattle.tinkey_plans.specs.Going.{DoneExactly, NoneRefuses}
 use Rattle.tinkey_plans.specs.Plan.{Answer, Of, Plan, Told, answer, create_answer, draw_answer, load_answer, look_answer, range_answer, pump_answer, refused, stream_status, talk_answer, limit_status, ends, writes, creates, looks, allocates, loads, reads_all, reads_front, ranges, draws, pumps, exchanges}
-use Rattle.tinkey_plans.specs.KeyOf.{front_in, key_of_answer}
+use Rattle.tinkey_plans.specs.KeyOf.{key_of_answer, stream_record_line, tells_front, tells_keys}
 use Rattle.tinkey_plans.specs.Locks.{puts_under}
 use Rattle.tinkey_plans.specs.Steps.{makes_keyset, puts}
 use Rattle.tinkey_plans.specs.Using.{hex_line, puts_output, shows}
@@ -196,11 +198,16 @@ free_proper : (file : Option (List ℕ)) (next : Unit {0} → Plan) → IsProper
 free_proper None next proper = proper
 free_proper (Some name) next proper = (λ e. cc, proper)
 
+tells_proper : (kind : SealedForm) (ad : List ℕ) (keys : Keys) → IsProper (tells_keys kind ad keys writes)
+tells_proper sealed.Text ad keys = λ front. lines_each IsProper closed (key_of_answer keys front) writes (λ lines. tt)
+tells_proper sealed.Envelope ad keys = λ front. lines_each IsProper closed (key_of_answer keys (drop 4 front)) writes (λ lines. tt)
+tells_proper sealed.Stream ad keys = stream_fit_proper (streams.stream_unfit keys) _ (stream_keys_proper (keys_for keys) (tells_front ad keys writes) (λ those front. lines_each IsProper closed (stream_record_line keys ad front) writes (λ lines. tt)))
+
 commands_are_proper : (table : Table) (asked : Asked) → IsProper (command_plan table asked)
 commands_are_proper table (create_keyset lock name out) = (row_each IsProper closed (row_named name) name _ (λ row. lock_each IsProper open' table lock _ (λ master. draw_proper (first row) _ (out_proper table master out))))
 commands_are_proper table (edit_keyset lock edit in' out) = (edit_each IsProper closed edit _ (λ edit. lock_each IsProper open' table lock _ (λ master. under_each IsProper open' table master in' _ (λ keys. draw_proper (step keys edit) _ (out_proper table master out)))))
 commands_are_proper table (list_keyset lock in') = (locked_each IsProper open' table lock in' _ (λ keys. tt))
-commands_are_proper table (key_of lock name form kind) = loaded_each IsProper open' table lock name form _ (λ keys front. lines_each IsProper closed (key_of_answer keys (front_in kind front)) writes (λ lines. tt))
+commands_are_proper table (key_of lock name form kind ad) = loaded_each IsProper open' table lock name form _ (tells_proper kind ad)
 commands_are_proper table (convert_keyset lock new in' out) = (lock_each IsProper open' table lock _ (λ taken. new_lock_each IsProper open' table new taken _ (λ put. under_each IsProper open' table taken in' _ (out_proper table put out))))
 commands_are_proper table (list_key_templates primitive) = tt
 commands_are_proper table (use_keyset lock name form work out) = (loaded_each IsProper open' table lock name form _ (λ keys. fit_each IsProper closed (unfit keys (primitive_for work) table) _ (λ e. cc, λ input. work_each IsProper closed table keys work input (λ plain ad next all. all) (puts_output out) (shown_proper out.hex out.file))))

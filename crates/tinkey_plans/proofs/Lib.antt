@@ -10,6 +10,9 @@ pub mod RetiringLemmas
 pub mod SealerLemmas
 pub mod StepLemmas
 pub mod StreamFitLemmas
+pub mod StreamNamingLemmas
+pub mod StreamRetiringLemmas
+pub mod StreamSoundLemmas
 pub mod WholeLemmas
 pub mod WroteLemmas
 pub mod GoingLemmas

@@ -16,6 +16,7 @@ use Rattle.seal_wrap.specs.Enveloped.{open_behind, open_payload}
 use Rattle.tinkey_cmds.proofs.Among.{Among, contains-among}
 use Rattle.tinkey_cmds.proofs.Cases.{Seven, edit_case, yielded}
 use Rattle.tinkey_cmds.specs.Edits.{Edit, changed, destroyed, step, with_status, without}
+use Rattle.tinkey_plans.proofs.StreamRetiringLemmas.{streams_alike}
 use Rattle.tinkey_plans.specs.KeyOf.{front_of}
 use Rattle.tinkey_plans.specs.Retiring.{IsUnnamed, OpensAlike, Retires, RetiringLosesNothing, UnwrapsAlike}
 use Rattle.tinkey_plans.specs.Sealers.{stands_under}
@@ -162,4 +163,4 @@ envelopes_alike old new edit id bytes random left retires is unnamed =
     (left_is (Some (take 5 (take size (drop 4 bytes)))) (cut_lacks old id (drop 4 bytes) size lacks.0)) (left_is None lacks.1)))
 
 pub retiring_loses_nothing : RetiringLosesNothing
-retiring_loses_nothing = record { texts = texts_alike; envelopes = envelopes_alike }
+retiring_loses_nothing = record { texts = texts_alike; envelopes = envelopes_alike; streams = streams_alike }

@@ -18,7 +18,7 @@ unfit_next place r rs none = rw none refl
 unfit_first : (place : ℕ) (r : Record) (rs : List Record) (why : StreamUnfit) → unfit_record r ≡ Some why → slice_get (unfit_records place (r ∷ rs)) 0 ≡ Some (place, why)
 unfit_first place r rs why is = rw is refl
 
-none_unfit : (place : ℕ) (r : Record) (rs : List Record) → slice_get (unfit_records place (r ∷ rs)) 0 ≡ None → (unfit_record r ≡ None) × (slice_get (unfit_records (place + 1) rs) 0 ≡ None)
+pub none_unfit : (place : ℕ) (r : Record) (rs : List Record) → slice_get (unfit_records place (r ∷ rs)) 0 ≡ None → (unfit_record r ≡ None) × (slice_get (unfit_records (place + 1) rs) 0 ≡ None)
 none_unfit place r rs e = by (unfit_record r) refl
   where
     by : (o : Option StreamUnfit) → unfit_record r ≡ o → (unfit_record r ≡ None) × (slice_get (unfit_records (place + 1) rs) 0 ≡ None)

@@ -1,5 +1,5 @@
 -- Plans that write nothing but at their end.
-use Rattle.std.proofs.Common.{inl, inr, ℕ, Bool, true, false, List, Option, Some, None, Result, Ok, Err}
+use Rattle.std.proofs.Common.{inl, inr, ℕ, Bool, true, false, List, drop, Option, Some, None, Result, Ok, Err}
 use Rattle.key_msgs.specs.Templates.{row_named}
 use Rattle.key_msgs.specs.declared.primitive.Primitive.TheVariants.{Aead}
 use Rattle.keyset_model.specs.Keyset.{Keys}
@@ -10,11 +10,13 @@ use Rattle.managers.specs.Table.{Table, scheme_at}
 use Rattle.seal_wrap.specs.Enveloping.{url_made}
 use Rattle.wrapped_prims.specs.Fitness.{unfit}
 use Rattle.tinkey_words.specs.declared.words.rows.Format.{Format}
+use Rattle.tinkey_words.specs.declared.words.rows.SealedForm.{SealedForm}
+use Rattle.tinkey_words.specs.declared.words.rows.SealedForm.TheVariants as sealed
 use Rattle.tinkey_plans.specs.Laws.{CommandsAreWhole}
 use Rattle.tinkey_plans.specs.Plan.{writes, Plan}
 use Rattle.tinkey_plans.specs.Promises.{IsWhole}
 use Rattle.tinkey_plans.proofs.EachLemmas.{AreAll, IsClosed, IsOpen, dek_each, envelope_each, scheme_each, stretch_each, edit_each, fit_each, lines_each, loaded_each, lock_each, locked_each, made_each, new_lock_each, row_each, under_each, work_each, written_under_each}
-use Rattle.tinkey_plans.specs.KeyOf.{front_in, key_of_answer}
+use Rattle.tinkey_plans.specs.KeyOf.{key_of_answer, stream_record_line, tells_front, tells_keys}
 use Rattle.tinkey_plans.specs.Locks.{puts_under}
 use Rattle.tinkey_plans.specs.Steps.{makes_keyset, puts}
 use Rattle.tinkey_plans.specs.Using.{hex_line, puts_output, shows}
@@ -59,11 +61,16 @@ stream_keys_whole : (found : Option KeysForStreams) (next : KeysForStreams → P
 stream_keys_whole None next whole = tt
 stream_keys_whole (Some keys) next whole = whole keys
 
+tells_whole : (kind : SealedForm) (ad : List ℕ) (keys : Keys) → IsWhole (tells_keys kind ad keys writes)
+tells_whole sealed.Text ad keys = λ front. lines_each IsWhole closed (key_of_answer keys front) writes (λ lines. tt)
+tells_whole sealed.Envelope ad keys = λ front. lines_each IsWhole closed (key_of_answer keys (drop 4 front)) writes (λ lines. tt)
+tells_whole sealed.Stream ad keys = stream_fit_whole (streams.stream_unfit keys) _ (stream_keys_whole (streaming.keys_for keys) (tells_front ad keys writes) (λ those front. lines_each IsWhole closed (stream_record_line keys ad front) writes (λ lines. tt)))
+
 pub commands_are_whole : CommandsAreWhole
 commands_are_whole table (create_keyset lock name out) = inl (row_each IsWhole closed (row_named name) name _ (λ row. lock_each IsWhole open' table lock _ (λ master. draw_whole (first row) _ (out_whole table master out))))
 commands_are_whole table (edit_keyset lock edit in' out) = inl (edit_each IsWhole closed edit _ (λ edit. lock_each IsWhole open' table lock _ (λ master. under_each IsWhole open' table master in' _ (λ keys. draw_whole (step keys edit) _ (out_whole table master out)))))
 commands_are_whole table (list_keyset lock in') = inl (locked_each IsWhole open' table lock in' _ (λ keys. tt))
-commands_are_whole table (key_of lock name form kind) = inl (loaded_each IsWhole open' table lock name form _ (λ keys front. lines_each IsWhole closed (key_of_answer keys (front_in kind front)) writes (λ lines. tt)))
+commands_are_whole table (key_of lock name form kind ad) = inl (loaded_each IsWhole open' table lock name form _ (tells_whole kind ad))
 commands_are_whole table (convert_keyset lock new in' out) = inl (lock_each IsWhole open' table lock _ (λ taken. new_lock_each IsWhole open' table new taken _ (λ put. under_each IsWhole open' table taken in' _ (out_whole table put out))))
 commands_are_whole table (list_key_templates primitive) = inl tt
 commands_are_whole table (use_keyset lock name form work out) = inl (loaded_each IsWhole open' table lock name form _ (λ keys. fit_each IsWhole closed (unfit keys (primitive_for work) table) _ (λ input. work_each IsWhole closed table keys work input (λ plain ad next all. all) (puts_output out) (shown_whole out.hex out.file))))

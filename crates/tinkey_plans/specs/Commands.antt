@@ -80,7 +80,7 @@ command_plan table (create_keyset lock template out) =
 command_plan table (edit_keyset lock edit in' out) =
     edit_output table lock edit in' (λ master. puts_under table master out)
 command_plan table (list_keyset lock in') = list_keyset_output table lock in' writes
-command_plan table (key_of lock name form kind) = key_of_output table lock name form kind writes
+command_plan table (key_of lock name form kind ad) = key_of_output table lock name form kind ad writes
 command_plan table (convert_keyset lock new in' out) =
     convert_output table lock new in' (λ master. puts_under table master out)
 command_plan table (list_key_templates primitive) = writes (template_names primitive)

@@ -1,18 +1,28 @@
--- What key-of tells of bytes that the primary key of a keyset made, and what is told of bytes that no key opens.
+-- What key-of tells of bytes that the primary key of a keyset made, and of a stream; and what is told of bytes that no
+-- key opens.
 --
 --   NamesPrefix   the records that are named are exactly those with this output prefix
 --   KeyOfTells    so it is of what is sealed, tagged, or sealed in an envelope; and where nothing is told
+--   OpensUnder    opening a stream goes on under the key of this record
+--   KeyOfStreamTells   of a stream that record is told, and where there is none, no key
 --   SealersAreNamed   the record that is told of bytes that no key opens is one that key-of names
-use Rattle.std.specs.Prelude.{◌≡◌, ◌↔◌, ℕ, true, List, [], Option, Some, None, Ok}
-use Rattle.std.specs.List.{Contains}
+use Rattle.std.specs.Prelude.{◌≡◌, ◌↔◌, ℕ, true, List, [], ◌∷◌, ◌++◌, take, Option, Some, None, Ok}
+use Rattle.std.specs.List.{Contains, filter_map}
 use Rattle.key_msgs.specs.Templates.{Row}
 use Rattle.keyset_model.specs.Keyset.{Keys, is_enabled, primary_of}
 use Rattle.keyset_model.specs.declared.record.Record.{Record}
 use Rattle.managers.specs.Schemes.{Scheme}
 use Rattle.managers.specs.Table.{Table}
 use Rattle.seal_wrap.specs.Enveloped.{envelope_of}
-use Rattle.tinkey_plans.specs.KeyOf.{front_of, key_of_answer}
+use Rattle.segment_stream.specs.Opening.{choose, chosen, decides, failed, no_key}
+use Rattle.segment_stream.specs.Segments.{cipher_of, ciphers_of}
+use Rattle.segment_stream.specs.StreamKeys.{key_in, stream_keys}
+use Rattle.segment_stream.specs.declared.key.StreamKey.{StreamKey}
+use Rattle.tinkey_plans.specs.declared.status.Status.TheVariants as status
+use Rattle.tinkey_plans.specs.KeyOf.{front_of, key_of_answer, stream_front_size, stream_record, tells_stream}
+use Rattle.tinkey_plans.specs.Plan.{Told, answer, writes}
 use Rattle.tinkey_plans.specs.Sealers.{named, raw_count, record_named, sealer_under, told_none, told_record}
+use Rattle.tinkey_plans.specs.Streaming.{opens_stream, takes_stream_keys}
 use Rattle.tinkey_words.specs.declared.words.rows.SealedForm.{SealedForm}
 use Rattle.tinkey_words.specs.declared.words.rows.SealedForm.TheVariants as forms
 use Rattle.wrapped_prims.specs.Answers.{Sealed, dseal_answer, seal_answer, tag_answer}
@@ -52,6 +62,38 @@ pub record KeyOfTells : Type 0 where
       → prefix_of r ≡ prefix_of other
   pub untold : (keys : Keys) (front : List ℕ)
       → (key_of_answer keys front ≡ None) ↔ ((named keys front ≡ []) × (raw_count keys ≡ 0))
+
+-- ---- streams
+
+-- the bytes of a stream at which key-of looks
+abbrev pub stream_front : Keys → (bytes : List ℕ) → List ℕ
+stream_front keys bytes = take (stream_front_size (stream_keys keys)) bytes
+
+-- Opening these bytes as a stream goes on under the key of this record: that is the key chosen among those of the
+-- keyset; and among those of the records before it none would be.
+pub record OpensUnder (keys : Keys) (ad bytes : List ℕ) (r : Record) : Type 0 where
+  pub before : List Record
+  pub behind : List Record
+  pub are : keys.records ≡ before ++ r ∷ behind
+  pub key : StreamKey
+  pub has : key_in r ≡ Some key
+  pub passed : choose (ciphers_of ad (filter_map key_in before)) bytes true ≡ no_key
+  pub goes_on : choose (ciphers_of ad (stream_keys keys)) bytes true ≡ chosen (cipher_of ad key)
+
+-- Of a stream the record is told under whose key it is opened; and none is exactly where the first segment is
+-- refused, by the definition of opening, and by the answers of the two commands over a keyset.
+pub record KeyOfStreamTells : Type 0 where
+  pub names : (keys : Keys) (ad bytes : List ℕ) (r : Record)
+      → (stream_record keys ad (stream_front keys bytes) ≡ Some r) ↔ OpensUnder keys ad bytes r
+  pub untold : (keys : Keys) (ad bytes : List ℕ)
+      → (stream_record keys ad (stream_front keys bytes) ≡ None)
+      ↔ (decides (ciphers_of ad (stream_keys keys)) bytes true ≡ Some (failed 0))
+  pub refused : (keys : Keys) (ad : List ℕ) (told : Told)
+      → ((answer (tells_stream ad keys writes) told).status ≡ status.NoKeyOf)
+      ↔ ((answer (takes_stream_keys keys (λ those. opens_stream those ad)) told).status
+      ≡ status.StreamFailed 0)
+
+-- ---- bytes that no key opens
 
 -- A record is one of those that key-of names for this front; and it is ENABLED if any of them is.
 pub record IsOneNamed (keys : Keys) (front : List ℕ) (r : Record) : Type 0 where

@@ -39,11 +39,15 @@ abbrev pub with_keys : Option KeysForStreams → (KeysForStreams → Plan) → P
 with_keys None next = ends (status.Keyset faults.NoPrimary) tt
 with_keys (Some keys) next = next keys
 
--- the keys for streams of the keyset in a file
+-- the keys for streams of a keyset
+abbrev pub takes_stream_keys : Keys → (KeysForStreams → Plan) → Plan
+takes_stream_keys keys next =
+    allocates (unless_unfit (stream_unfit keys) (with_keys (keys_for keys) next))
+
+-- those of the keyset in a file
 abbrev pub loads_stream_keys : Table → Lock → List ℕ → Format → (KeysForStreams → Plan) → Plan
 loads_stream_keys table lock name form next =
-    loads_locked table lock name form (λ keys.
-    allocates (unless_unfit (stream_unfit keys) (with_keys (keys_for keys) next)))
+    loads_locked table lock name form (λ keys. takes_stream_keys keys next)
 
 -- the input sealed under the primary key, behind a header of random bytes: salt and nonce prefix
 abbrev pub seals_stream : KeysForStreams → (ad : List ℕ) → Plan

@@ -1,7 +1,7 @@
 //! Laws of what the program answers. Each is the contract of a function with no effect.
 
 ghost use Rattle.tinkey_plans.specs.Going.{DoneExactly, FitKeysetsSeal};
-ghost use Rattle.tinkey_plans.specs.Naming.{KeyOfTells, SealersAreNamed};
+ghost use Rattle.tinkey_plans.specs.Naming.{KeyOfStreamTells, KeyOfTells, SealersAreNamed};
 ghost use Rattle.tinkey_plans.specs.Retiring.{RetiringLosesNothing};
 ghost use Rattle.tinkey_plans.specs.Laws.{CommandsAreWhole, DataKeysCome, FitKeysetsAnswer, RangesReadLittle, SelfTestRuns, SelfTestsTell};
 
@@ -64,8 +64,16 @@ pub fn key_of_tells()
     ensures { KeyOfTells }
 {}
 
+/// For a stream `key-of` names the record under whose key `sopen` with the same associated data
+/// goes on, and no other: the keyset's first ENABLED one whose key opens the first segment in its
+/// place. It finds no key if and only if `sopen` refuses that segment.
+pub fn key_of_stream_tells()
+    ensures { KeyOfStreamTells }
+{}
+
 /// Disabling, destroying or deleting a key that `key-of` doesn't name for a text, tag or envelope,
-/// and that isn't RAW, doesn't change what that opens to.
+/// and that isn't RAW, doesn't change what that opens to; nor what a stream opens to for which it
+/// names a key with another id, or no key.
 pub fn retiring_loses_nothing()
     ensures { RetiringLosesNothing }
 {}

@@ -34,6 +34,7 @@ use Rattle.tinkey_session.specs.declared.reply.Reply.TheVariants.{Gives}
 use Rattle.wrapped_prims.specs.Answers.{dseal_answer, open_answer, seal_answer, tag_answer}
 use Rattle.wrapped_prims.specs.Fitness.{unfit}
 use Rattle.wrapped_prims.specs.Laws.{HasKey, IsKeyset}
+use Rattle.tinkey_plans.proofs.StreamSoundLemmas.{sound_key}
 use Rattle.tinkey_plans.proofs.EnvelopeLemmas.{row_known}
 use Rattle.tinkey_plans.specs.Envelopes.{envelope_limit, envelopes}
 use Rattle.tinkey_plans.specs.Laws.{FitKeysetsAnswer}
@@ -58,7 +59,7 @@ use Rattle.tinkey_readable.proofs.ReachLemmas.{IsDoneAnswer, behind, bytes_put, 
 use Rattle.tinkey_plans.specs.Sealers.{envelope_sealer_of}
 use Rattle.tinkey_plans.specs.declared.sealer.Unopened.TheVariants as unopened
 use Rattle.tinkey_readable.proofs.RunLemmas.{Started, done_within, dsealed_by, dsealed_fits, finished, opens_so, read_keyset, sealed_by, sealed_fits, started, tagged_by}
-use Rattle.tinkey_readable.proofs.StreamKeyLemmas.{first_under, fit_sound, opens_under, primary_gives, primary_key_there, sound_key}
+use Rattle.tinkey_readable.proofs.StreamKeyLemmas.{first_under, fit_sound, opens_under, primary_gives, primary_key_there}
 use Rattle.tinkey_readable.proofs.StreamRunLemmas.{chosen_so, keys_loaded, keys_reached, opened_so, opens_alone, sealed_by as stream_by, with_primary}
 use Rattle.tinkey_readable.proofs.WrappedRunLemmas.{behind_files, form_within, given_keyset, opens_plan, put_reached, text_reached, unwrapped, wraps_done}
 use Rattle.tinkey_readable.specs.Anywhere.{DopensAnywhere, DopensSomehowAnywhere, IsReadAnywhere, IsReadSomehowAnywhere, IsTaken, OpensAnywhere, OpensEnvelopeAnywhere, OpensFirstAnywhere, OpensRangeAnywhere, OpensSomehowAnywhere, OpensStreamAnywhere, ServesStreams, UnwrapsAnywhere, VerifiesAnywhere, WasMadeBy, by_call, by_line, by_locked, by_locked_line, by_run, ServesEnvelopes}

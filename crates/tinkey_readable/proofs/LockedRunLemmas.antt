@@ -299,7 +299,7 @@ step_by l (convert_keyset (Some lock) in_clear in' out) told master text put aft
 step_by l (session None name form out) told master text put after over old x e w = clash e
 step_by l (create_keyset lock template out) told master text put after over old x e w = clash e
 step_by l (list_keyset lock in') told master text put after over old x e w = clash e
-step_by l (key_of lock name form kind) told master text put after over old x e w = clash e
+step_by l (key_of lock name form kind ad) told master text put after over old x e w = clash e
 step_by l (list_key_templates primitive) told master text put after over old x e w = clash e
 step_by l (use_keyset lock name form work out) told master text put after over old x e w = clash e
 step_by l (use_envelope lock name form template work out) told master text put after over old x e w = clash e

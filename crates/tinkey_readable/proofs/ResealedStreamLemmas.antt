@@ -17,6 +17,7 @@ use Rattle.segment_stream.specs.Sealing.{header_of, seal_decides, sealed}
 use Rattle.segment_stream.specs.Segments.{cipher_of, ciphers_of}
 use Rattle.segment_stream.specs.StreamKeys.{primary_key, stream_key_of, stream_keys}
 use Rattle.tinkey_cmds.specs.Draws.{Drawn}
+use Rattle.tinkey_plans.proofs.StreamSoundLemmas.{sound_key}
 use Rattle.tinkey_plans.specs.declared.status.Status.TheVariants as status
 use Rattle.tinkey_plans.specs.Plan.{Answer, Told, answer, draw_answer, pump_answer, pumps, refused}
 use Rattle.tinkey_plans.specs.Steps.{with_made}
@@ -25,7 +26,7 @@ use Rattle.tinkey_readable.proofs.AnywhereLemmas.{MadeStream, opens_made, stream
 use Rattle.tinkey_readable.proofs.DoneStreamLemmas.{neither, reseal_part}
 use Rattle.tinkey_readable.proofs.LyingLemmas.{same_lying}
 use Rattle.tinkey_readable.proofs.ReachLemmas.{IsDoneAnswer}
-use Rattle.tinkey_readable.proofs.StreamKeyLemmas.{opens_under, primary_gives, sound_key}
+use Rattle.tinkey_readable.proofs.StreamKeyLemmas.{opens_under, primary_gives}
 use Rattle.tinkey_readable.proofs.StreamRunLemmas.{keys_loaded, with_primary}
 use Rattle.tinkey_readable.specs.Lying.{lock_in}
 use Rattle.tinkey_readable.specs.Resealing.{SealedText}

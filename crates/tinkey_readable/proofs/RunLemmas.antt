@@ -324,7 +324,7 @@ by_asked law binary json keeps keeps_stored turns sessions edited keep_sessions 
 by_asked law binary json keeps keeps_stored turns sessions edited keep_sessions table (session (Some master) name form' out) told before after old h e done form read put_form put random is stored = clash e
 by_asked law binary json keeps keeps_stored turns sessions edited keep_sessions table (create_keyset lock template out) told before after old h e done form read put_form put random is stored = clash e
 by_asked law binary json keeps keeps_stored turns sessions edited keep_sessions table (list_keyset lock in') told before after old h e done form read put_form put random is stored = clash e
-by_asked law binary json keeps keeps_stored turns sessions edited keep_sessions table (key_of lock name form' kind) told before after old h e done form read put_form put random is stored = clash e
+by_asked law binary json keeps keeps_stored turns sessions edited keep_sessions table (key_of lock name form' kind ad) told before after old h e done form read put_form put random is stored = clash e
 by_asked law binary json keeps keeps_stored turns sessions edited keep_sessions table (list_key_templates primitive) told before after old h e done form read put_form put random is stored = clash e
 by_asked law binary json keeps keeps_stored turns sessions edited keep_sessions table (use_keyset lock name form' work out) told before after old h e done form read put_form put random is stored = clash e
 by_asked law binary json keeps keeps_stored turns sessions edited keep_sessions table (use_envelope lock name form' template work out) told before after old h e done form read put_form put random is stored = clash e
@@ -355,7 +355,7 @@ asked_within table (convert_keyset None (under master) in' out) told bytes h e d
 asked_within table (session (Some master) name form' out) told bytes h e done read = clash e
 asked_within table (create_keyset lock template out) told bytes h e done read = clash e
 asked_within table (list_keyset lock in') told bytes h e done read = clash e
-asked_within table (key_of lock name form kind) told bytes h e done read = clash e
+asked_within table (key_of lock name form kind ad) told bytes h e done read = clash e
 asked_within table (list_key_templates primitive) told bytes h e done read = clash e
 asked_within table (use_keyset lock name form work out) told bytes h e done read = clash e
 asked_within table (use_envelope lock name form template work out) told bytes h e done read = clash e
@@ -390,7 +390,7 @@ done_edits sessions table told (convert_keyset lock how in' out) old new does = 
 done_edits sessions table told (session lock name form out) old new does = subst (λ k. IsEdited old k) does.2 (sessions table old (asked_in told.input) told.random does.0 does.1)
 done_edits sessions table told (create_keyset lock template out) old new does = absurd does
 done_edits sessions table told (list_keyset lock in') old new does = absurd does
-done_edits sessions table told (key_of lock name form kind) old new does = absurd does
+done_edits sessions table told (key_of lock name form kind ad) old new does = absurd does
 done_edits sessions table told (list_key_templates primitive) old new does = absurd does
 done_edits sessions table told (use_keyset lock name form work out) old new does = absurd does
 done_edits sessions table told (use_envelope lock name form template work out) old new does = absurd does

@@ -1,5 +1,5 @@
--- The keys for streams of keysets: their sizes are sound, a keyset that gives them gives them after edits,
--- and what one of them sealed opens.
+-- The keys for streams of keysets: a keyset that gives them gives them after edits, and what one of them sealed
+-- opens.
 use Rattle.std.proofs.Common.{◌≡◌, ◌∙◌, sym, refl, ap, subst, arith, ℕ, suc, ◌+◌, Bool, true, false, List, [], ◌∷◌, ◌++◌, take, drop, add-one, drop-cons, Option, Some, None, Result, Ok, Err}
 use Rattle.std.specs.Prelude.{All, slice_get, option_map, ◌==◌, if◌then◌else◌}
 use Rattle.std.specs.List.{AllByRecursion, filter_map}
@@ -10,74 +10,31 @@ use Rattle.std.proofs.lemmas.List.{take-append-drop}
 use Rattle.std.proofs.lemmas.List.Elements.{filter_map-append}
 use Rattle.std.proofs.lemmas.Option.{same_Some, slice_get_within, get_or_from_slice_get}
 use Rattle.key_msgs.specs.KeyTypes.{primitive_of_type, type_of_url}
-use Rattle.key_msgs.specs.Keys.{IsValid, type_of}
+use Rattle.key_msgs.specs.Keys.{type_of}
 use Rattle.key_msgs.specs.Reading.{key_of}
 use Rattle.key_msgs.specs.declared.key.KeyKind.{KeyKind}
 use Rattle.key_msgs.specs.declared.key.KeyKind.TheVariants as kinds
 use Rattle.key_msgs.specs.declared.key_type.KeyType.{KeyType}
 use Rattle.key_msgs.specs.declared.key_type.KeyType.TheVariants as types
 use Rattle.key_msgs.specs.declared.primitive.Primitive.TheVariants.{Stream}
-use Rattle.key_msgs.specs.declared.rule.Rule.{Rule}
 use Rattle.keyset_model.specs.Keyset.{Keys, is_enabled, primary_of}
 use Rattle.keyset_model.specs.declared.record.Record.{Record}
 use Rattle.keyset_model.proofs.PrimaryLemmas.{primary_there}
 use Rattle.managers.proofs.ReadingLemmas.{read_of_type}
 use Rattle.segment_stream.proofs.CipherLemmas.{ciphers_of-are_ciphers}
-use Rattle.segment_stream.proofs.KeyLemmas.{ctr_stream-sound, gcm_stream-sound}
 use Rattle.segment_stream.specs.Cipher.{IsCipher, SegmentCipher}
 use Rattle.segment_stream.specs.Opening.{Choice, no_key, chosen, choose, decides, decides_by, failed, fits, released_by, stream_answer, StreamRefusal}
-use Rattle.segment_stream.specs.Segments.{IsSound, cipher_of, ciphers_of}
+use Rattle.segment_stream.specs.Segments.{cipher_of, ciphers_of}
 use Rattle.segment_stream.specs.StreamKeys.{StreamUnfit, given, given_by, key_in, of_kind, of_message, of_type, primary_key, refused, stream_key_of, stream_keys, stream_unfit, unfit_record, unfit_records}
 use Rattle.segment_stream.specs.declared.key.StreamKey.{StreamKey}
 use Rattle.segment_stream.specs.declared.key.SegmentScheme.TheVariants as schemes
+use Rattle.tinkey_plans.proofs.StreamSoundLemmas.{given_in, message_read, ok_same, sound_keys}
 use Rattle.tinkey_session.proofs.Options.{clash, map_some, ok_there}
 use Rattle.tinkey_session.proofs.SoundLemmas.{primary_key_for}
 use Rattle.tinkey_session.specs.Laws.{IsKeyFor, IsUsable}
 use Rattle.tinkey_session.specs.Laws as keysets
 use Rattle.wrapped_prims.specs.Laws.{HasKey, IsKeyset, IsSameKey}
 use Rattle.tinkey_readable.specs.StreamRuns.{NoOtherBefore}
-
--- ---- sound sizes
-
-ok_same : {A E : Type 0} (x y : A) → ◌≡◌ {A = Result A E} (Ok x) (Ok y) → x ≡ y
-ok_same x y e = cc
-
-sound_kind : (kind : KeyKind) (key : StreamKey) → IsValid kind → of_kind kind ≡ Ok key → IsSound key
-sound_kind (kinds.GcmStream value segment derived hash) key valid e = subst IsSound (ok_same _ _ e) (gcm_stream-sound value segment derived hash valid)
-sound_kind (kinds.CtrStream value segment derived hash mac_hash tag_size) key valid e = subst IsSound (ok_same _ _ e) (ctr_stream-sound value segment derived hash mac_hash tag_size valid)
-sound_kind _ key valid e = absurd (cc)
-
--- the kind of key that a message of a key for streams is
-message_read : (read : Result KeyKind Rule) (key : StreamKey) → of_message read ≡ Ok key → (kind : KeyKind) × (read ≡ Ok kind) × (of_kind kind ≡ Ok key)
-message_read (Ok kind) key e = (kind, refl, e)
-message_read (Err rule) key e = absurd (cc)
-
-sound_message : (type : KeyType) (value : List ℕ) (key : StreamKey) → of_message (key_of type value) ≡ Ok key → IsSound key
-sound_message type value key e =
-    let m = message_read (key_of type value) key e in
-    sound_kind m.0 key (read_of_type type value m.0 m.1).1 m.2
-
-pub sound_key : (r : Record) (key : StreamKey) → stream_key_of r ≡ Ok key → IsSound key
-unfolding stream_key_of
-sound_key r key e = by_type (type_of_url r.url) e
-  where
-    by_type : (found : Option KeyType) → of_type found r.value ≡ Ok key → IsSound key
-    by_type (Some types.GcmStream) e = sound_message types.GcmStream r.value key e
-    by_type (Some types.CtrStream) e = sound_message types.CtrStream r.value key e
-    by_type _ e = absurd (cc)
-
-given_in : (b : Bool) (read : Result StreamKey StreamUnfit) (key : StreamKey) → (if b then given read else None) ≡ Some key → read ≡ Ok key
-given_in true (Ok k) key e = ap Ok (same_Some _ _ e)
-given_in true (Err why) key e = clash e
-given_in false read key e = clash e
-
-pub sound_keys : (rs : List Record) → AllByRecursion IsSound (filter_map key_in rs)
-sound_keys [] = tt
-sound_keys (r ∷ rs) = by (key_in r) refl (sound_keys rs)
-  where
-    by : (o : Option StreamKey) → key_in r ≡ o → AllByRecursion IsSound (filter_map key_in rs) → AllByRecursion IsSound (filter_map key_in (r ∷ rs))
-    by None is rest = rw is rest
-    by (Some key) is rest = rw is (sound_key r key (given_in (r.status == 1) (stream_key_of r) key is), rest)
 
 -- ---- a keyset gives keys for streams where it is sound for them
 

@@ -66,6 +66,7 @@ pub use tinkey_plans::laws::commands_are_whole;
 pub use tinkey_plans::laws::data_keys_come;
 pub use tinkey_plans::laws::done_exactly;
 pub use tinkey_plans::laws::fit_keysets_answer;
+pub use tinkey_plans::laws::key_of_stream_tells;
 pub use tinkey_plans::laws::key_of_tells;
 pub use tinkey_plans::laws::ranges_read_little;
 pub use tinkey_plans::laws::retiring_loses_nothing;
