@@ -279,6 +279,9 @@ refuse sealed-stream sseal --keyset stream
 takes < "$work/sealed"
 ends same "$(zeros 4057 | shaped same)" none
 refuse opened-stream sopen --keyset stream
+keys='key_id: 7 status: ENABLED output_prefix_type: RAW type_url: "type.googleapis.com/google.crypto.tink.AesGcmHkdfStreamingKey"'
+ends same "$(text "$keys")" none
+refuse key-of-segments key-of --as stream --keyset stream
 cp "$work/sealed" "$files/pages"
 : | takes
 ends same "$(zeros 7 | shaped same)" none

@@ -48,7 +48,7 @@ fits keys next = allocates (unless_unfit (stream_unfit keys) (with_keys (keys_fo
 pub no_keyset : (table : Table) (lock : Lock) (name : List ℕ) (form : Format) (old new : World) (r : Result KeysForStreams Status) (s : Status) → IsErrAnd r (λ e. e ≡ s) → Passes {A = Keys} (loads_locked table lock name form) old (Err s) new → Passes (loads_stream_keys table lock name form) old r new
 no_keyset table lock name form old new r s is one = ends_there (loads_locked table lock name form) fits old new r s is one
 
-keys_are : (keys : Keys) (those : KeysForStreams) → AreOf those keys → keys_for keys ≡ Some those
+pub keys_are : (keys : Keys) (those : KeysForStreams) → AreOf those keys → keys_for keys ≡ Some those
 keys_are keys those are =
     ap (option_map (λ primary. record { primary = primary; keys = stream_keys keys })) are.1
     ∙ ap (λ (all : List StreamKey). Some (record { primary = those.primary; keys = all })) (sym are.0)
@@ -58,7 +58,7 @@ pub with_stream_keys : (table : Table) (lock : Lock) (name : List ℕ) (form : F
 with_stream_keys table lock name form old mid keys those fit are one =
     passes_then (loads_locked table lock name form) fits old mid mid keys (Ok those) one (λ next s last run. inl (rw (fit, keys_are keys those are) run))
 
-unfit_ends : (keys : Keys) (fault : StreamKeysFault) (w : World) → IsUnfit fault (stream_unfit keys) → (next : KeysForStreams → Plan) → Ends (fits keys next) w (stream_keys_refusal fault) w
+pub unfit_ends : (keys : Keys) (fault : StreamKeysFault) (w : World) → IsUnfit fault (stream_unfit keys) → (next : KeysForStreams → Plan) → Ends (fits keys next) w (stream_keys_refusal fault) w
 unfit_ends keys (key_faults.NotStream i) w is next = rw is (inl (refl, refl))
 unfit_ends keys (key_faults.BadKey i rule) w is next = rw is (inl (refl, refl))
 unfit_ends keys key_faults.NoMemory w is next = inr (refl, refl)

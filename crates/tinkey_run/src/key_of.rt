@@ -1,4 +1,5 @@
-//! key-of: the keys of a keyset under whose output prefix the input stands. Nothing is opened.
+//! key-of: the keys of a keyset under whose output prefix the input stands, for which nothing is opened; and the one
+//! under which it is opened as a stream (`stream_key.rt`).
 
 ghost use Rattle.std.specs.Prelude.{◌≡◌, ◌+◌, ◌≤◌, ◌∷◌, ◌++◌, [], List, ℕ, IfOk, OnErr, OnOk, codes, drop, if◌then◌else◌, length, take};
 ghost use Rattle.std.specs.Fmt.{decimal};
@@ -12,19 +13,20 @@ ghost use Rattle.tinkey_plans.specs.KeyOf.{front_size, key_line, key_of_answer, 
 ghost use Rattle.tinkey_plans.specs.Sealers.{may_have_made, named, raw_count, stands_under};
 ghost use Rattle.tinkey_plans.specs.Plan.{reads_front};
 ghost use Rattle.tinkey_plans.specs.Steps.{Passes, PassesAs};
-ghost use Rattle.tinkey_words.specs.Words.{seen_lock};
+ghost use Rattle.tinkey_words.specs.Words.{seen_datum, seen_lock};
 ghost use Rattle.wrapped_prims.specs.Candidates.{is_raw, prefix_of};
 
 use crate::locks::load_locked;
+use crate::stream_key::tell_stream;
 use itoa::Buffer;
 use keyset_model::{Keyset, Record, prefix_name, status_name};
 use managers::{KeyTable, Managers};
 use std::alloc::Global;
 use tink_base::{Bytes, Failed, NoMemory, RAW, Source, Store, TINK};
 use tinkey_plans::Status;
-use tinkey_words::{Format, Master, SealedForm};
+use tinkey_words::{Datum, Format, Master, SealedForm};
 
-/// The lines of the keys under which the input stands, by the keyset in a file.
+/// The lines of the keys under which the input stands, by the keyset in a file. A stream has this associated data.
 #[inline(never)]
 pub(crate) fn tell_keys<S: Source, D: Store>(
     alloc: Global,
@@ -33,17 +35,18 @@ pub(crate) fn tell_keys<S: Source, D: Store>(
     keyset: &str,
     form: Format,
     kind: SealedForm,
+    ad: Datum<'_>,
     source: &mut S,
     store: &mut D,
 ) -> Result<Bytes, Status>
     ensures { (w : World) → Passes
         (key_of_output (⟦<Managers as KeyTable>⟧.table managers.now) (seen_lock lock.entry) keyset.now
-        form kind)
+        form kind (seen_datum ad.entry))
         (record w { source = S.state source.old; store = D.state store.old }) result
         (record w { source = S.state source.new; store = D.state store.new }) }
 {
     let keyset = load_locked(alloc, managers, lock, keyset, form, store)?;
-    tell_under(alloc, &keyset, kind, source)
+    tell_under(alloc, &keyset, kind, ad, source)
 }
 
 /// The lines of the keys of a keyset with the input's output prefix.
@@ -51,9 +54,10 @@ fn tell_under<S: Source>(
     alloc: Global,
     keyset: &Keyset,
     kind: SealedForm,
+    ad: Datum<'_>,
     source: &mut S,
 ) -> Result<Bytes, Status>
-    ensures { (w : World) → Passes (tells_keys kind keyset.now)
+    ensures { (w : World) → Passes (tells_keys kind (seen_datum ad.entry) keyset.now)
         (record w { source = S.state source.old }) result
         (record w { source = S.state source.new }) }
 {
@@ -68,6 +72,7 @@ fn tell_under<S: Source>(
             let n = read_front(source, &mut front)?;
             lines_of(alloc, keyset, behind_length(&front[..n]))
         }
+        SealedForm::Stream => tell_stream(alloc, keyset, ad, source),
     }
 }
 
@@ -240,7 +245,7 @@ fn five_bytes(first: u8, id: u32) -> [u8; 5]
 }
 
 /// Adds the line of a record, in the spelling of a listing.
-fn push_key(out: &mut Vec<u8>, key: &Record) -> Result<(), NoMemory>
+pub(crate) fn push_key(out: &mut Vec<u8>, key: &Record) -> Result<(), NoMemory>
     requires known { IsKnown key.now }
     ensures { OnOk result (out.new.items ≡ out.old.items ++ key_line key.now) }
 {

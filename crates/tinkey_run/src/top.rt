@@ -148,8 +148,11 @@ fn dispatch<S: Source, K: Sink, E: Lookahead, D: Store>(
             keyset,
             form,
             kind,
+            ad,
         } => {
-            let told = tell_keys(alloc, managers, lock, keyset, form, kind, source, store);
+            let told = tell_keys(
+                alloc, managers, lock, keyset, form, kind, ad, source, store,
+            );
             finish_output(alloc, None, sink, store, told)
         }
         Request::ConvertKeyset {

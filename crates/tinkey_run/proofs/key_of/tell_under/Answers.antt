@@ -25,3 +25,6 @@ returns-in_ok-n-in-Envelope g c = λ w.
     let new = record w { source = g.S.Source.state c.read_front-in-Envelope.new.source } in
     rw c.in-Envelope.is (passes_then (reads_front 9) (λ (bytes : List ℕ). with_lines (key_of_answer c.args.keyset.now (drop 4 bytes))) old new new (take c.in_ok-n-in-Envelope.n c.read_front-in-Envelope.new.front) c.lines_of-in-Envelope.result
     (c.in_ok-n-in-Envelope.ensures.passes w) (rw c.behind_length.ensures at (c.lines_of-in-Envelope.ensures new)))
+
+pub returns-in-Stream : goal.returns-in-Stream
+returns-in-Stream g c = λ w. rw c.in-Stream.is (c.tell_stream.ensures w)

@@ -29,7 +29,7 @@ pub returns-in-KeyOf : goal.returns-in-KeyOf
 returns-in-KeyOf g c =
     let w = world (g.S.Source.state c.args.source.now) (g.K.Sink.state c.args.sink.now) (g.D.Store.state c.args.store.now) (g.E.Entropy.state c.args.entropy.now) in
     let x = c.in-KeyOf in
-    rw x.is (c.finish_output-in-KeyOf.ensures (key_of_output _ (seen_lock x.lock) x.keyset.now x.form x.kind) w (record w { source = g.S.Source.state c.tell_keys-told.new.source; store = g.D.Store.state c.tell_keys-told.new.store }) (c.tell_keys-told.ensures w))
+    rw x.is (c.finish_output-in-KeyOf.ensures (key_of_output _ (seen_lock x.lock) x.keyset.now x.form x.kind (seen_datum x.ad)) w (record w { source = g.S.Source.state c.tell_keys-told.new.source; store = g.D.Store.state c.tell_keys-told.new.store }) (c.tell_keys-told.ensures w))
 
 pub returns-in-ConvertKeyset : goal.returns-in-ConvertKeyset
 returns-in-ConvertKeyset g c = rw c.in-ConvertKeyset.is c.convert_keyset.ensures
