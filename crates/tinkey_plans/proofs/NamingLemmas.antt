@@ -5,7 +5,6 @@ use Rattle.std.specs.Int.{to_be_bytes, w32}
 use Rattle.std.specs.List.{Contains, list_any}
 use Rattle.std.specs.Option.{option_and_then}
 use Rattle.std.proofs.lemmas.List.{take_at}
-use Rattle.std.proofs.lemmas.Bool.{or_right}
 use Rattle.std.proofs.lemmas.Option.{same_Some}
 use Rattle.std.proofs.lemmas.Slice.Eq.{bytes_eq-Decides}
 use Rattle.key_msgs.specs.Templates.{Row, random_of}
@@ -19,7 +18,7 @@ use Rattle.managers.specs.Schemes.{Scheme, key_under}
 use Rattle.managers.specs.Table.{Table}
 use Rattle.managers.specs.Uses.{dseal_of, iv_size, seal_of, tag_of, tagged}
 use Rattle.seal_wrap.specs.Enveloped.{Enveloped, behind_data_key, data_key_of, envelope, envelope_of, under_data_key}
-use Rattle.tinkey_cmds.proofs.Among.{Among, among-any, contains-among}
+use Rattle.tinkey_cmds.proofs.Among.{Among, contains-among}
 use Rattle.tinkey_plans.specs.KeyOf.{front_of, key_of_answer, key_of_lines}
 use Rattle.tinkey_plans.specs.Sealers.{may_have_made, named, raw_count, stands_under}
 use Rattle.tinkey_plans.specs.Naming.{IsPrimaryPrefix, KeyOfTells, NamesPrefix}
@@ -61,10 +60,6 @@ has_filter {A} p (y ∷ ys) x a = by (p y) refl (λ later. has_filter p ys x lat
 stands : (front : List ℕ) (r : Record) → prefix_of r ≡ Some front → stands_under front r ≡ true
 stands front r has = subst (λ own. same_prefix own (Some front) ≡ true) (sym has) ((bytes_eq-Decides front front).1 refl)
 
--- so it may have made the bytes
-pub some_may : (front : List ℕ) (keys : Keys) (r : Record) → Contains keys.records r → prefix_of r ≡ Some front → list_any (may_have_made front) keys.records ≡ true
-some_may front keys r there has = among-any (may_have_made front) keys.records r (among-contains _ r there) (or_right (is_raw r) _ (stands front r has))
-
 pub names : (prefix front : List ℕ) (later : Keys) (r : Record) → front ≡ prefix → Contains (named later front) r ↔ (Contains later.records r × (prefix_of r ≡ Some prefix))
 names prefix front later r same = (
   λ c. let x = has_filter (stands_under front) later.records r (among-contains _ r c) in (contains-among _ r x.0, same_prefix_is (prefix_of r) (Some front) x.1 ∙ ap Some same),
@@ -80,7 +75,7 @@ five_bytes r prefix has = sym (ap length (five-prefix_of r prefix has))
 pub text_front : (prefix rest bytes : List ℕ) → length prefix ≡ 5 → bytes ≡ prefix ++ rest → front_of forms.Text bytes ≡ prefix
 text_front prefix rest bytes size is = ap (λ (l : List ℕ). take 5 l) is ∙ take_at prefix rest 5 size
 
-envelope_front : (n : ℕ) (prefix rest payload bytes : List ℕ) → length prefix ≡ 5 → bytes ≡ to_be_bytes w32 n ++ ((prefix ++ rest) ++ payload) → front_of forms.Envelope bytes ≡ prefix
+pub envelope_front : (n : ℕ) (prefix rest payload bytes : List ℕ) → length prefix ≡ 5 → bytes ≡ to_be_bytes w32 n ++ ((prefix ++ rest) ++ payload) → front_of forms.Envelope bytes ≡ prefix
 envelope_front n prefix rest payload bytes size is =
     ap (λ (l : List ℕ). front_of forms.Envelope l) is
     ∙ ap (λ (l : List ℕ). take 5 l) (append_assoc prefix rest payload)
@@ -114,13 +109,13 @@ made_behind keys table primitive make prefix bytes own is = by_key (key_of_recor
     by_key (Some key) e = record { rest = make key own.r; is = sym (same_Some _ _ e) ∙ ap (λ o. prefix_bytes o ++ make key own.r) own.has }
 
 -- an envelope, with the sealed data key in it
-record Encloses (prefix bytes : List ℕ) : Type 0 where
-  size : ℕ
-  rest : List ℕ
-  payload : List ℕ
-  is : bytes ≡ to_be_bytes w32 size ++ ((prefix ++ rest) ++ payload)
+pub record Encloses (prefix bytes : List ℕ) : Type 0 where
+  pub size : ℕ
+  pub rest : List ℕ
+  pub payload : List ℕ
+  pub is : bytes ≡ to_be_bytes w32 size ++ ((prefix ++ rest) ++ payload)
 
-enclosed : (keys : Keys) (table : Table) (scheme : Scheme) (row : Row) (prefix plain ad random bytes left : List ℕ) → IsPrimaryPrefix keys prefix → envelope_of keys table scheme row plain ad random ≡ Some (record { answer = Ok bytes; left = left }) → Encloses prefix bytes
+pub enclosed : (keys : Keys) (table : Table) (scheme : Scheme) (row : Row) (prefix plain ad random bytes left : List ℕ) → IsPrimaryPrefix keys prefix → envelope_of keys table scheme row plain ad random ≡ Some (record { answer = Ok bytes; left = left }) → Encloses prefix bytes
 enclosed keys table scheme row prefix plain ad random bytes left own is = by_size (nat_lt (length random) (random_of row)) is
   where
     value : List ℕ

@@ -176,10 +176,11 @@ pub fn kept_wrapped()
     sound_usable();
 }
 
-/// For what a run of `seal`, `dseal` or `tag`, or a line of a session, made under a key with an
-/// output prefix, from a keyset in clear or under a master: over each keyset in clear, within its
-/// limit, that has a record with the key's id and output prefix type, of any status, `key-of` is
-/// Done and prints the records with that prefix, among them that record.
+/// For what a run of `seal`, `dseal`, `tag` or `eseal`, or except for `eseal` a line of a session,
+/// made under a key with an output prefix, from a keyset in clear or under a master: over each
+/// keyset that is accepted, in clear or under a master, `key-of` is Done and prints exactly the
+/// records with that prefix, of any status, each with the key's id and output prefix type among
+/// them; or it finds no key, if and only if there is none and none is RAW.
 pub fn keys_are_named()
     ensures { KeysAreNamed }
 {
