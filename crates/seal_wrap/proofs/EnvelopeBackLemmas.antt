@@ -1,5 +1,5 @@
 -- What an envelope is made of, and that it opens.
-use Rattle.std.proofs.Common.{◌≡◌, ◌∙◌, refl, sym, ap, ℕ, ◌+◌, ◌<◌, ◌≤◌, ◌^◌, option_map, ◌==◌, ◌||◌, ltb, ne_eqb, cond, Bool, true, false, List, [], ◌++◌, length, take, drop, Option, Some, None, Ok, Err, Result, arith}
+use Rattle.std.proofs.Common.{◌≡◌, ◌∙◌, refl, sym, ap, subst, ℕ, ◌+◌, ◌<◌, ◌≤◌, ◌^◌, option_map, ◌==◌, ◌||◌, ltb, ne_eqb, cond, Bool, true, false, List, [], ◌∷◌, ◌++◌, length, take, drop, Option, Some, None, Ok, Err, Result, arith}
 use Rattle.std.specs.Prelude.{nat_lt}
 use Rattle.std.specs.Int.{from_be_bytes, to_be_bytes, w32}
 use Rattle.std.specs.Option.{option_and_then}
@@ -25,9 +25,9 @@ use Rattle.wrapped_prims.proofs.SealLemmas.{enough}
 use Rattle.wrapped_prims.specs.Answers.{Sealed, open_answer, seal_answer, seal_behind, seal_under}
 use Rattle.wrapped_prims.specs.Candidates.{prefix_bytes, prefix_of}
 use Rattle.wrapped_prims.specs.Fitness.{key_of_record}
-use Rattle.wrapped_prims.specs.Laws.{SameKeyOpens}
+use Rattle.wrapped_prims.specs.Laws.{GivesKeyFor, SameKeyOpens}
 use Rattle.seal_wrap.specs.Enveloped.{Enveloped, Parts, behind_data_key, behind_length, data_key_of, envelope, envelope_of, in_envelope, open_envelope_of, open_payload, open_under, parts_behind, parts_in, reseal_envelope_of, seal_parts, under_data_key, valid_parts, with_key, with_payload}
-use Rattle.seal_wrap.specs.EnvelopeLaws.{EnvelopeBack, EnvelopeResealed, EnvelopesFit, IsAeadScheme, IsDataKeyRow, ResealedFit}
+use Rattle.seal_wrap.specs.EnvelopeLaws.{AreKeysResealed, EnvelopeBack, EnvelopeResealed, EnvelopeUnder, EnvelopesFit, IsAeadScheme, IsDataKeyRow, IsKeyResealed, ResealedFit}
 use Rattle.seal_wrap.proofs.DataKeyLemmas.{data_key-long}
 use Rattle.seal_wrap.proofs.SealedSizes.{IsSealed, length-seal_of, sealed_behind, sealing-long, then_some}
 use Rattle.seal_wrap.proofs.WrapLemmas.{map_some}
@@ -173,26 +173,103 @@ envelope_back opens law admitted table scheme row old new r prefix plain ad rand
     (opens table old new r prefix value [] m.rest m.sealed primary is gives has m.sealing) m.valid
     (payload_opens law admitted old table scheme row plain ad random bytes aead m)
 
-pub envelope_resealed : SameKeyOpens → SealingsOpen → ReadingIsAdmitted → EnvelopeResealed
-envelope_resealed opens law admitted table scheme row old middle new r m prefix again plain ad random drawn bytes left resealed known aead first is gives has second at gives' has' e e' =
-    let n = is_envelope old table scheme row plain ad random bytes left e in
+-- ---- resealed
+
+-- an envelope of this plaintext, by its parts: a data key that this keyset sealed, and the payload under it
+record EnvelopeOf (table : Table) (scheme : Scheme) (row : Row) (plain ad : List ℕ) (t : EnvelopeUnder) : Type 0 where
+  first : List ℕ
+  whole : length first ≡ random_of row
+  key : KeyKind
+  valid : key_under scheme (data_key_of row first) ≡ Ok key
+  payload : List ℕ
+  opens : open_key key payload ad ≡ Some plain
+  short : length payload ≤ length plain + 80
+  random : List ℕ
+  sealed : Sealed
+  sealing : seal_answer t.keys table (data_key_of row first) [] random ≡ Some sealed
+  joined : t.bytes ≡ envelope sealed.bytes payload
+  is_primary : primary_of t.keys ≡ Some t.primary
+  gives : GivesKeyFor table Aead t.primary
+
+-- one that was sealed
+sealed_envelope : SealingsOpen → ReadingIsAdmitted → (table : Table) (scheme : Scheme) (row : Row) (t : EnvelopeUnder) (plain ad random left : List ℕ) → IsAeadScheme scheme → primary_of t.keys ≡ Some t.primary → GivesKeyFor table Aead t.primary
+    → envelope_of t.keys table scheme row plain ad random ≡ Some (record { answer = Ok t.bytes; left = left }) → EnvelopeOf table scheme row plain ad t
+sealed_envelope law admitted table scheme row t plain ad random left aead under gives e =
+    let n = is_envelope t.keys table scheme row plain ad random t.bytes left e in
+    let iv : List ℕ = take (iv_size n.key) n.sealed.left in
+    let size : length iv ≡ iv_size n.key = length-take-le (iv_size n.key) n.sealed.left n.last.enough in
+    record {
+      first = n.first;
+      whole = n.whole;
+      key = n.key;
+      valid = n.valid;
+      payload = n.payload.bytes;
+      opens = payload_opens law admitted t.keys table scheme row plain ad random t.bytes aead n;
+      short = omega (arith, ap length n.last.bytes, length-seal_of n.key iv plain ad, size, iv-short n.key (admitted scheme (data_key_of row n.first) n.key n.valid).1);
+      random = n.rest;
+      sealed = n.sealed;
+      sealing = n.sealing;
+      joined = n.joined;
+      is_primary = under;
+      gives = gives;
+    }
+
+-- one that was resealed of such a one
+envelope_next : SameKeyOpens → (table : Table) (scheme : Scheme) (row : Row) (plain ad : List ℕ) (old new : EnvelopeUnder) → IsDataKeyRow row → EnvelopeOf table scheme row plain ad old → IsKeyResealed table scheme old new → EnvelopeOf table scheme row plain ad new
+envelope_next opens table scheme row plain ad old new known n x =
     let value : List ℕ = data_key_of row n.first in
-    let p : List ℕ = n.payload.bytes in
-    let parts : parts_in middle table scheme bytes ≡ Some (record { value = value; payload = p })
-    = ap (parts_in middle table scheme) n.joined
-    ∙ found_in middle table (valid_parts scheme) n.sealed.bytes p value (few table old row n.first n.rest n.sealed known n.whole n.sealing)
-    (sealed-some table old value [] n.rest prefix r n.sealed first is n.sealing)
-    (opens table old middle r prefix value [] n.rest n.sealed first is gives has n.sealing)
+    let p : List ℕ = n.payload in
+    let parts : parts_in new.keys table scheme old.bytes ≡ Some (record { value = value; payload = p })
+    = ap (parts_in new.keys table scheme) n.joined
+    ∙ found_in new.keys table (valid_parts scheme) n.sealed.bytes p value (few table old.keys row n.first n.random n.sealed known n.whole n.sealing)
+    (sealed-some table old.keys value [] n.random x.prefix old.primary n.sealed n.is_primary x.has n.sealing)
+    (opens table old.keys new.keys old.primary x.prefix value [] n.random n.sealed n.is_primary x.has n.gives x.there n.sealing)
     ∙ ap (with_key value p) n.valid in
-    let made : option_map (with_payload p) (seal_answer middle table value [] drawn) ≡ Some resealed
-    = sym (ap (option_and_then (seal_parts middle table drawn)) parts) ∙ e' in
-    let found = map_some (with_payload p) (seal_answer middle table value [] drawn) resealed made in
-    let s : Sealed = found.0 in
-    ap (λ (x : Sealed). open_envelope_of new table scheme x.bytes ad) (sym found.2)
-    ∙ opens_again new table scheme s.bytes p ad value plain n.key (few table middle row n.first drawn s known n.whole found.1)
-    (sealed-some table middle value [] drawn again m s second at found.1)
-    (opens table middle new m again value [] drawn s second at gives' has' found.1) n.valid
-    (payload_opens law admitted old table scheme row plain ad random bytes aead n)
+    let made : option_map (with_payload p) (seal_answer new.keys table value [] x.random) ≡ Some x.resealed
+    = sym (ap (option_and_then (seal_parts new.keys table x.random)) parts) ∙ x.is in
+    let found = map_some (with_payload p) (seal_answer new.keys table value [] x.random) x.resealed made in
+    record {
+      first = n.first;
+      whole = n.whole;
+      key = n.key;
+      valid = n.valid;
+      payload = p;
+      opens = n.opens;
+      short = n.short;
+      random = x.random;
+      sealed = found.0;
+      sealing = found.1;
+      joined = sym (ap (λ (s : Sealed). s.bytes) found.2 ∙ x.bytes);
+      is_primary = x.is_primary;
+      gives = x.gives;
+    }
+
+envelope_last : SameKeyOpens → (table : Table) (scheme : Scheme) (row : Row) (plain ad : List ℕ) (between : List EnvelopeUnder) (first last : EnvelopeUnder) → IsDataKeyRow row → EnvelopeOf table scheme row plain ad first → AreKeysResealed table scheme first between last
+    → EnvelopeOf table scheme row plain ad last
+unfolding AreKeysResealed
+envelope_last opens table scheme row plain ad [] first last known n are = subst (EnvelopeOf table scheme row plain ad) are n
+envelope_last opens table scheme row plain ad (next ∷ later) first last known n are =
+    envelope_last opens table scheme row plain ad later next last known (envelope_next opens table scheme row plain ad first next known n are.0) are.1
+
+pub envelope_resealed : SameKeyOpens → SealingsOpen → ReadingIsAdmitted → EnvelopeResealed
+envelope_resealed opens law admitted table scheme row first last between new prefix plain ad random left known aead under gives e are is has =
+    let n = envelope_last opens table scheme row plain ad between first last known (sealed_envelope law admitted table scheme row first plain ad random left aead under gives e) are in
+    let value : List ℕ = data_key_of row n.first in
+    let w : List ℕ = n.sealed.bytes in (
+      ap (λ (b : List ℕ). open_envelope_of new table scheme b ad) n.joined
+          ∙ opens_again new table scheme w n.payload ad value plain n.key (few table last.keys row n.first n.random n.sealed known n.whole n.sealing)
+          (sealed-some table last.keys value [] n.random prefix last.primary n.sealed n.is_primary is n.sealing)
+          (opens table last.keys new last.primary prefix value [] n.random n.sealed n.is_primary is n.gives has n.sealing) n.valid n.opens,
+      omega (
+        arith,
+        ap length n.joined,
+        length-append (to_be_bytes w32 (length w)) (w ++ n.payload),
+        length-append w n.payload,
+        sealing-long table last.keys value [] n.random n.sealed n.sealing,
+        data_key-long row n.first known n.whole,
+        n.short,
+      ),
+    )
 
 -- ---- how long it is
 

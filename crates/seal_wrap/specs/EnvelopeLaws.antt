@@ -2,10 +2,11 @@
 --
 --   EnvelopeBack     what was sealed opens
 --   EnvelopesFit     how long it is
---   EnvelopeResealed     what was sealed, and whose data key was sealed anew, opens
+--   AreKeysResealed  envelopes, each of which was resealed of the one before it
+--   EnvelopeResealed     what was sealed, and whose data key was sealed anew any number of times, opens
 --   ResealedFit      how long that is
 --   DataKeysAreServed, DataKeysAreValid   under the standard table a data key is always made
-use Rattle.std.specs.Prelude.{◌≡◌, ℕ, ◌+◌, ◌≤◌, List, length, Contains, Some, Ok}
+use Rattle.std.specs.Prelude.{◌≡◌, ℕ, ◌+◌, ◌≤◌, List, [], ◌∷◌, length, Contains, Some, Ok}
 use Rattle.key_msgs.specs.KeyTypes.{primitive_of_type}
 use Rattle.key_msgs.specs.Templates.{Row, made, random_of, templates, type_made}
 use Rattle.key_msgs.specs.declared.primitive.Primitive.TheVariants.{Aead}
@@ -42,22 +43,48 @@ EnvelopeBack = (table : Table) (scheme : Scheme) (row : Row) (old new : Keys) (r
     ≡ Some (record { answer = Ok bytes; left = left })
     → open_envelope_of new table scheme bytes ad ≡ Some plain
 
--- What was sealed in an envelope under an old keyset, and resealed under a middle one in which the old
--- primary key is ENABLED and alone under its prefix, opens with the same scheme and the same associated data
--- under every keyset in which the middle's primary key is so: whatever became of the old key. Both primary
--- records have a prefix.
+-- an envelope, and the keyset with the primary record under whose key its data key was sealed
+pub record EnvelopeUnder : Type 0 where
+  pub bytes : List ℕ
+  pub keys : Keys
+  pub primary : Record
+
+-- The new envelope was resealed of the old one, under a keyset in which the old one's key, which has a prefix,
+-- is ENABLED and alone under it.
+pub record IsKeyResealed (table : Table) (scheme : Scheme) (old new : EnvelopeUnder) : Type 0 where
+  pub prefix : List ℕ
+  pub has : prefix_of old.primary ≡ Some prefix
+  pub there : HasSameKey old.primary new.keys
+  pub is_primary : primary_of new.keys ≡ Some new.primary
+  pub gives : GivesKeyFor table Aead new.primary
+  pub random : List ℕ
+  pub resealed : Sealed
+  pub is : reseal_envelope_of new.keys table scheme old.bytes random ≡ Some resealed
+  pub bytes : resealed.bytes ≡ new.bytes
+
+-- each of these envelopes was resealed so of the one before it, the first of them of this one, and the last is
+-- that
+unfoldable pub AreKeysResealed : Table → Scheme → (first : EnvelopeUnder) → List EnvelopeUnder
+    → (last : EnvelopeUnder) → Type 0
+AreKeysResealed table scheme first [] last = first ≡ last
+AreKeysResealed table scheme first (next ∷ later) last =
+    IsKeyResealed table scheme first next × AreKeysResealed table scheme next later last
+
+-- What was sealed in an envelope, and then resealed any number of times, opens with the same scheme and the
+-- same associated data under every keyset in which the key of the last resealing, which has a prefix, is
+-- ENABLED and alone under it: whatever became of the keys before it. It is no longer than one that wasn't
+-- resealed may be.
 abbrev pub EnvelopeResealed : Type 0
-EnvelopeResealed = (table : Table) (scheme : Scheme) (row : Row) (old middle new : Keys) (r m : Record)
-    (prefix again plain ad random drawn bytes left : List ℕ) (resealed : Sealed)
+EnvelopeResealed = (table : Table) (scheme : Scheme) (row : Row) (first last : EnvelopeUnder)
+    (between : List EnvelopeUnder) (new : Keys) (prefix plain ad random left : List ℕ)
     → IsDataKeyRow row → IsAeadScheme scheme
-    → primary_of old ≡ Some r → prefix_of r ≡ Some prefix
-    → GivesKeyFor table Aead r → HasSameKey r middle
-    → primary_of middle ≡ Some m → prefix_of m ≡ Some again
-    → GivesKeyFor table Aead m → HasSameKey m new
-    → envelope_of old table scheme row plain ad random
-    ≡ Some (record { answer = Ok bytes; left = left })
-    → reseal_envelope_of middle table scheme bytes drawn ≡ Some resealed
-    → open_envelope_of new table scheme resealed.bytes ad ≡ Some plain
+    → primary_of first.keys ≡ Some first.primary → GivesKeyFor table Aead first.primary
+    → envelope_of first.keys table scheme row plain ad random
+    ≡ Some (record { answer = Ok first.bytes; left = left })
+    → AreKeysResealed table scheme first between last
+    → prefix_of last.primary ≡ Some prefix → HasSameKey last.primary new
+    → (open_envelope_of new table scheme last.bytes ad ≡ Some plain)
+    × (length last.bytes ≤ length plain + 251)
 
 -- An envelope that was resealed has at most 85 bytes more than it had, whoever made it.
 abbrev pub ResealedFit : Type 0

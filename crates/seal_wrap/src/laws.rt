@@ -64,11 +64,12 @@ pub fn envelope_back()
     reading_is_admitted();
 }
 
-/// What was sealed in an envelope under a keyset whose primary key isn't RAW, and resealed under a
-/// second one in which that key is ENABLED and alone under its output prefix, and whose own primary
-/// key isn't RAW, opens to the plaintext, with the same scheme and associated data, under every
-/// keyset in which the second one's primary key is ENABLED and alone under its output prefix,
-/// whatever became of the first key. The data key is made from an AEAD template of the table.
+/// What was sealed in an envelope, and resealed any number of times, opens to the plaintext, with
+/// the scheme and the associated data with which it was sealed, under every keyset in which the
+/// primary key of the last resealing is ENABLED and alone under its output prefix, whatever became
+/// of the keys before it. Each resealing was under a keyset in which the same held for the key of
+/// the envelope before it; none of these keys is RAW. The data key is made from an AEAD template of
+/// the table. The last envelope has at most 251 bytes more than the plaintext.
 pub fn envelope_resealed()
     ensures { EnvelopeResealed }
 {

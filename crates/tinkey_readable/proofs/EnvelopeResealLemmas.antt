@@ -1,5 +1,5 @@
--- Envelopes whose data key was resealed open.
-use Rattle.std.proofs.Common.{◌≡◌, ◌≤◌, ◌∙◌, arith, sym, refl, ap, ℕ, List, [], length, Option, Some, None, option_map}
+-- Envelopes whose data key was resealed, any number of times, open.
+use Rattle.std.proofs.Common.{◌≡◌, ◌∙◌, arith, sym, refl, ap, ℕ, List, [], ◌∷◌, Option, Some, None, option_map}
 use Rattle.std.specs.Option.{option_and_then}
 use Rattle.std.proofs.lemmas.Option.{same_Some}
 use Rattle.key_msgs.specs.KeyTypes.{url_of_type}
@@ -11,7 +11,7 @@ use Rattle.managers.specs.Schemes.{Scheme}
 use Rattle.managers.specs.Standard.{standard_table}
 use Rattle.managers.specs.Table.{scheme_at}
 use Rattle.seal_wrap.specs.Enveloped.{Parts, envelope, open_envelope_of, parts_in, reseal_envelope_of, seal_parts, with_payload}
-use Rattle.seal_wrap.specs.EnvelopeLaws.{DataKeysAreServed, EnvelopeResealed, EnvelopesFit, IsDataKeyRow, ResealedFit}
+use Rattle.seal_wrap.specs.EnvelopeLaws.{AreKeysResealed, DataKeysAreServed, EnvelopeResealed, EnvelopeUnder, IsDataKeyRow, IsKeyResealed}
 use Rattle.tinkey_cmds.specs.Draws.{Drawn}
 use Rattle.wrapped_prims.specs.Answers.{Sealed, seal_answer}
 use Rattle.tinkey_plans.proofs.EnvelopeLemmas.{row_known}
@@ -20,13 +20,13 @@ use Rattle.tinkey_plans.specs.Sealers.{envelope_sealer_of}
 use Rattle.tinkey_plans.specs.declared.sealer.Sealer.{Sealer}
 use Rattle.tinkey_plans.specs.Envelopes.{envelopes, reseals_key, with_parts}
 use Rattle.tinkey_plans.specs.Plan.{Answer, Told, answer, draw_answer, refused, writes}
-use Rattle.tinkey_plans.specs.Steps.{sealed_limit, with_made}
+use Rattle.tinkey_plans.specs.Steps.{with_made}
 use Rattle.tinkey_plans.specs.Using.{as_drawn}
 use Rattle.tinkey_words.specs.Words.{to_ereseal, to_eseal}
 use Rattle.tinkey_readable.proofs.AnywhereLemmas.{is_opened, was_used}
 use Rattle.tinkey_readable.proofs.EnvelopeRunLemmas.{aead_scheme, gives_key_for, sealed_by}
 use Rattle.tinkey_readable.proofs.ReachLemmas.{IsDoneAnswer}
-use Rattle.tinkey_readable.specs.Resealing.{ResealedEnvelopesOpen}
+use Rattle.tinkey_readable.specs.Resealing.{AreEnvelopesResealed, IsEnvelopeResealed, ResealedEnvelopesOpen, SealedText}
 
 -- ---- what a keyset reseals
 
@@ -53,26 +53,52 @@ resealed_by keys scheme row told output done gave = by_parts keys (envelope_seal
 
 -- ---- the law
 
-pub resealed_envelopes_open : EnvelopeResealed → EnvelopesFit → ResealedFit → DataKeysAreServed → ReadKeysFit → ResealedEnvelopesOpen
-resealed_envelopes_open back sizes more served fit before middle other old mid keys r m prefix again template second third ad sealed resealed told at lies primary is was lies' primary' is' has was' input type2 type3 serves same =
-    let u = was_used fit (to_eseal ad) before old template sealed told lies was in
-    let v = was_used fit to_ereseal middle mid second resealed at lies' was' in
-    let s = sealed_by old u.scheme u.row ad told sealed u.done u.gave in
-    let x = resealed_by mid v.scheme v.row at resealed v.done v.gave in
+-- an envelope with the keyset that sealed its data key
+abbrev under_keys : SealedText → Keys → EnvelopeUnder
+under_keys text keys = record { bytes = text.bytes; keys = keys; primary = text.under' }
+
+-- envelopes that runs resealed are so by the definitions, and the last of them under some keyset
+record ResealedAll (scheme : Scheme) (first : EnvelopeUnder) (last : SealedText) : Type 0 where
+  keys : Keys
+  between : List EnvelopeUnder
+  are : AreKeysResealed standard_table scheme first between (under_keys last keys)
+
+reseal_next : ReadKeysFit → (scheme : Scheme) (row : Row) (template : List ℕ) (from : Keys) (old new : SealedText) → row_named template ≡ Some row → scheme_at standard_table Aead (url_of_type (type_made row)) ≡ Some scheme → (x : IsEnvelopeResealed template old new)
+    → IsKeyResealed standard_table scheme (under_keys old from) (under_keys new x.keys)
+reseal_next fit scheme row template from old new named served x =
+    let v = was_used fit to_ereseal x.lying x.keys x.again new.bytes x.told x.lies x.was in
+    let y = resealed_by x.keys v.scheme v.row x.told new.bytes v.done v.gave in
+    let made : type_made v.row ≡ type_made row = same_Some _ _ (ap (option_map type_made) (sym v.named) ∙ sym x.alike ∙ ap (option_map type_made) named) in
+    let same : v.scheme ≡ scheme = same_Some _ _ (sym v.served ∙ ap (λ made. scheme_at standard_table Aead (url_of_type made)) made ∙ served) in
+    record {
+      prefix = x.prefix;
+      has = x.has;
+      there = x.there;
+      is_primary = x.primary;
+      gives = gives_key_for x.keys new.under' v.fit v.keyset x.primary;
+      random = x.told.random;
+      resealed = y.0;
+      is = ap (λ (k : Scheme). reseal_envelope_of x.keys standard_table k old.bytes x.told.random) (sym same)
+          ∙ ap (λ (i : List ℕ). reseal_envelope_of x.keys standard_table v.scheme i x.told.random) (sym x.same)
+          ∙ y.1;
+      bytes = y.2;
+    }
+
+reseal_all : ReadKeysFit → (scheme : Scheme) (row : Row) (template : List ℕ) (between : List SealedText) (from : Keys) (first last : SealedText) → row_named template ≡ Some row → scheme_at standard_table Aead (url_of_type (type_made row)) ≡ Some scheme
+    → AreEnvelopesResealed template first between last → ResealedAll scheme (under_keys first from) last
+unfolding AreEnvelopesResealed AreKeysResealed
+reseal_all fit scheme row template [] from first last named served are =
+    record { keys = from; between = []; are = ap (λ (t : SealedText). under_keys t from) are }
+reseal_all fit scheme row template (next ∷ later) from first last named served are =
+    let one = reseal_next fit scheme row template from first next named served are.0 in
+    let all = reseal_all fit scheme row template later are.0.keys next last named served are.1 in
+    record { keys = all.keys; between = under_keys next are.0.keys ∷ all.between; are = (one, all.are) }
+
+pub resealed_envelopes_open : EnvelopeResealed → DataKeysAreServed → ReadKeysFit → ResealedEnvelopesOpen
+resealed_envelopes_open back served fit before other old keys prefix template again ad told first last between lies primary was are one_type is serves same =
+    let u = was_used fit (to_eseal ad) before old template first.bytes told lies was in
+    let s = sealed_by old u.scheme u.row ad told first.bytes u.done u.gave in
     let row : IsDataKeyRow u.row = record { known = row_known template u.row u.named; aead = u.aead } in
-    let made : type_made v.row ≡ type_made u.row = same_Some _ _ (ap (option_map type_made) (sym v.named) ∙ sym type2 ∙ ap (option_map type_made) u.named) in
-    let scheme : v.scheme ≡ u.scheme = same_Some _ _ (sym v.served ∙ ap (λ made. scheme_at standard_table Aead (url_of_type made)) made ∙ u.served) in
-    let resealing : reseal_envelope_of mid standard_table u.scheme sealed at.random ≡ Some x.0
-    = ap (λ (k : Scheme). reseal_envelope_of mid standard_table k sealed at.random) (sym scheme)
-    ∙ ap (λ (i : List ℕ). reseal_envelope_of mid standard_table v.scheme i at.random) (sym input)
-    ∙ x.1 in
-    let opened = back standard_table u.scheme u.row old mid keys r m prefix again told.input ad told.random at.random sealed s.0 x.0 row (aead_scheme served u.row u.scheme u.aead u.served) primary is (gives_key_for old r u.fit u.keyset primary) has primary' is' (gives_key_for mid m v.fit v.keyset primary') same s.1 resealing in
-    let short : length resealed ≤ sealed_limit = omega (
-      arith,
-      sizes standard_table u.scheme u.row old told.input ad told.random sealed s.0 row s.1,
-      more standard_table u.scheme mid sealed at.random x.0 resealing,
-      ap length x.2,
-      u.short,
-    ) in
-    is_opened other keys u.row u.scheme template third ad resealed told.input u.named u.aead u.served type3 serves short
-    (ap (λ (b : List ℕ). open_envelope_of keys standard_table u.scheme b ad) (sym x.2) ∙ opened)
+    let all = reseal_all fit u.scheme u.row template between old first last u.named u.served are in
+    let opened = back standard_table u.scheme u.row (under_keys first old) (under_keys last all.keys) all.between keys prefix told.input ad told.random s.0 row (aead_scheme served u.row u.scheme u.aead u.served) primary (gives_key_for old first.under' u.fit u.keyset primary) s.1 all.are is same in
+    is_opened other keys u.row u.scheme template again ad last.bytes told.input u.named u.aead u.served one_type serves (omega (arith, opened.1, u.short)) opened.0

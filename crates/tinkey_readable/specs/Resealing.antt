@@ -5,7 +5,8 @@
 --   SealedText      a text, and the record under whose key it is sealed
 --   AreResealed     texts, each of which was made of the one before it
 --   ResealedOpens   the law, and the same without an IV
---   ResealedEnvelopesOpen   the same of an envelope, whose data key was resealed
+--   AreEnvelopesResealed    envelopes, each of which was made of the one before it
+--   ResealedEnvelopesOpen   the law for them
 use Rattle.std.specs.Prelude.{◌≡◌, ℕ, List, [], ◌∷◌, Some}
 use Rattle.keyset_model.specs.Keyset.{Keys, primary_of}
 use Rattle.keyset_model.specs.declared.record.Record.{Record}
@@ -62,17 +63,40 @@ ResealedDopens = (ad plain prefix : List ℕ) (first last : SealedText) (between
     → AreResealed (to_dreseal ad) first between last → prefix_of last.under' ≡ Some prefix
     → IsReadAnywhere HasSameKey (to_dopen ad) last.bytes plain last.under'
 
--- What was sealed in an envelope by one run, and whose data key was resealed by another, over a keyset in which
--- the first one's primary key is ENABLED and alone under its prefix, opens to its plaintext with its associated
--- data under each keyset that serves AEADs and in which the second one's primary key is so, whatever became of
--- the first key. The three templates make keys of one type, and each keyset lies in clear or under a master.
+-- A run of ereseal made the new envelope of the old one, by a template that makes keys of the same type as the
+-- data key, over a keyset in clear or under a master, in which the old one's key, which has a prefix, is ENABLED
+-- and alone under it.
+pub record IsEnvelopeResealed (template : List ℕ) (old new : SealedText) : Type 0 where
+  pub prefix : List ℕ
+  pub has : prefix_of old.under' ≡ Some prefix
+  pub lying : Lying
+  pub keys : Keys
+  pub lies : Lies lying keys
+  pub primary : primary_of keys ≡ Some new.under'
+  pub again : List ℕ
+  pub alike : MakeOneType template again
+  pub told : Told
+  pub was : WasEnveloped to_ereseal again lying told new.bytes
+  pub same : told.input ≡ old.bytes
+  pub there : HasSameKey old.under' keys
+
+-- each of these envelopes was made so of the one before it, the first of them of this one, and the last is that
+unfoldable pub AreEnvelopesResealed : (template : List ℕ) → (first : SealedText) → List SealedText
+    → (last : SealedText) → Type 0
+AreEnvelopesResealed template first [] last = first ≡ last
+AreEnvelopesResealed template first (next ∷ later) last =
+    IsEnvelopeResealed template first next × AreEnvelopesResealed template next later last
+
+-- What was sealed in an envelope, and whose data key was then resealed any number of times, opens to its
+-- plaintext with its associated data, by any template of its data key's type, under each keyset that serves
+-- AEADs and in which the key of the last resealing is ENABLED and alone under its prefix, whatever became of
+-- the keys before it. The keysets lie in clear or under masters.
 abbrev pub ResealedEnvelopesOpen : Type 0
-ResealedEnvelopesOpen = (before middle other : Lying) (old mid keys : Keys) (r m : Record)
-    (prefix again template second third ad sealed resealed : List ℕ) (told at : Told)
-    → Lies before old → primary_of old ≡ Some r → prefix_of r ≡ Some prefix
-    → WasEnveloped (to_eseal ad) template before told sealed
-    → Lies middle mid → primary_of mid ≡ Some m → prefix_of m ≡ Some again → HasSameKey r mid
-    → WasEnveloped to_ereseal second middle at resealed → at.input ≡ sealed
-    → MakeOneType template second → MakeOneType template third
-    → ServesEnvelopes other keys → HasSameKey m keys
-    → IsEnveloped (to_eopen ad) third other resealed told.input
+ResealedEnvelopesOpen = (before other : Lying) (old keys : Keys) (prefix template again ad : List ℕ)
+    (told : Told) (first last : SealedText) (between : List SealedText)
+    → Lies before old → primary_of old ≡ Some first.under'
+    → WasEnveloped (to_eseal ad) template before told first.bytes
+    → AreEnvelopesResealed template first between last → MakeOneType template again
+    → prefix_of last.under' ≡ Some prefix
+    → ServesEnvelopes other keys → HasSameKey last.under' keys
+    → IsEnveloped (to_eopen ad) again other last.bytes told.input

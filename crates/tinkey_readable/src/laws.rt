@@ -24,8 +24,8 @@ ghost use Rattle.tinkey_readable.specs.StreamRuns.{RunsOpenStream, RunsOpenStrea
 use keyset_json::laws::{json_back, json_is_stored};
 use keyset_model::laws::{binary_back, faultless_keysets, read_keysets_fit};
 use seal_wrap::laws::{
-    envelope_back, envelope_resealed, envelopes_fit, resealed_fit, sealings_fit,
-    standard_data_keys, text_hides_keys, wrap_back_bytes,
+    envelope_back, envelope_resealed, envelopes_fit, sealings_fit, standard_data_keys,
+    text_hides_keys, wrap_back_bytes,
 };
 use segment_stream::laws::{range_is_slice, resealed_back, stream_back};
 use tinkey_cmds::laws::edits_keep_keysets;
@@ -328,17 +328,16 @@ pub fn resealed_opens()
     kept_dopen();
 }
 
-/// What was sealed in an envelope by one run, and whose data key was resealed by another, over a
-/// keyset in which the first one's primary key is ENABLED and alone under its prefix, opens to its
-/// plaintext with its associated data over every keyset that is accepted for AEADs and in which the
-/// same holds for the second one's primary key. The first key may then be gone. The three templates
-/// make keys of the same type, and each keyset is in clear or under the lock of a master.
+/// What was sealed in an envelope, and whose data key was then resealed any number of times, opens
+/// to its plaintext with its associated data over every keyset that is accepted for AEADs and in
+/// which the primary key of the last resealing is ENABLED and alone under its prefix. Each
+/// resealing, by a run, was over a keyset in which the same held for the key of the envelope before
+/// it. The earlier keys may then be gone. The templates make keys of the same type, and each keyset
+/// is in clear or under the lock of a master.
 pub fn resealed_envelopes_open()
     ensures { ResealedEnvelopesOpen }
 {
     envelope_resealed();
-    envelopes_fit();
-    resealed_fit();
     standard_data_keys();
     read_keysets_fit();
 }
