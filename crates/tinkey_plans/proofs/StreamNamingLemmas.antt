@@ -230,14 +230,14 @@ names keys ad bytes r = (
         goes_on = c.goes_on;
       },
   λ o. front_found keys ad bytes ∙ chosen_found ad bytes keys.records r (record {
-        before = o.before;
-        behind = o.behind;
-        are = o.are;
-        key = o.key;
-        has = o.has;
-        passed = o.passed;
-        goes_on = o.goes_on;
-      }),
+    before = o.before;
+    behind = o.behind;
+    are = o.are;
+    key = o.key;
+    has = o.has;
+    passed = o.passed;
+    goes_on = o.goes_on;
+  }),
 )
 
 -- the keys that a keyset gives

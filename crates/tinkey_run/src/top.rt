@@ -150,9 +150,7 @@ fn dispatch<S: Source, K: Sink, E: Lookahead, D: Store>(
             kind,
             ad,
         } => {
-            let told = tell_keys(
-                alloc, managers, lock, keyset, form, kind, ad, source, store,
-            );
+            let told = tell_keys(alloc, managers, lock, keyset, form, kind, ad, source, store);
             finish_output(alloc, None, sink, store, told)
         }
         Request::ConvertKeyset {
