@@ -222,9 +222,12 @@ impl CommandName {
             _ => &[],
         }
     }
+
     /// The primitive of the keys that the command asks for, or none.
     pub fn primitive(self) -> Option<Primitive>
         ensures { result ≡ primitive_of self }
+    {
+        match self {
             CommandName::Seal => Some(Primitive::Aead),
             CommandName::Open => Some(Primitive::Aead),
             CommandName::Dseal => Some(Primitive::Daead),
@@ -244,6 +247,8 @@ impl CommandName {
             CommandName::Ereseal => Some(Primitive::Aead),
             CommandName::Srange => Some(Primitive::Stream),
             _ => None,
+        }
+    }
 }
 
 // What commands require or may have, named after the first one that it is so of.
