@@ -15,7 +15,7 @@ use Rattle.tinkey_plans.proofs.EachLemmas.{AreAll, IsClosed, IsOpen, dek_each, e
 use Rattle.tinkey_plans.specs.Commands.{asked_plan, command_plan, plan_of}
 use Rattle.tinkey_plans.specs.KeyOf.{key_of_answer, stream_record_line, tells_front, tells_keys}
 use Rattle.tinkey_plans.specs.Locks.{puts_under, writes_under}
-use Rattle.tinkey_plans.specs.Plan.{Of, Plan, ends, writes, creates, looks, allocates, loads, reads_all, reads_front, ranges, draws, pumps, exchanges, keysets}
+use Rattle.tinkey_plans.specs.Plan.{Of, Plan, ends, writes, creates, looks, allocates, loads, reads_all, reads_front, ranges, draws, pumps, collects, exchanges, keysets}
 use Rattle.tinkey_plans.specs.SelfTesting.{tells_counts}
 use Rattle.tinkey_plans.specs.Session.{finds_free, holds_session, saves_as}
 use Rattle.tinkey_plans.specs.Steps.{makes_keyset, puts}
@@ -46,6 +46,7 @@ IsDrawing (reads_front size next) = (front : List ℕ) → IsDrawing (next front
 IsDrawing (draws kind give next) =
     ((used : Step) × IsStep kind give used) × ((given : Result (Of kind) CmdFault) → IsDrawing (next given))
 IsDrawing (pumps part) = Unit {0}
+IsDrawing (collects part next) = (output : List ℕ) → IsDrawing (next output)
 IsDrawing (exchanges exchange next) =
     ((table : Table) × (keys : Keys) × (exchange ≡ talk table keys)) × ((keys : Keys) → IsDrawing (next keys))
 

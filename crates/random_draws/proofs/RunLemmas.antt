@@ -1,5 +1,5 @@
 -- The slices of a run, by its plan, and those of runs one after another.
-use Rattle.std.proofs.Common.{◌≡◌, ◌∙◌, inl, inr, refl, sym, ap, subst, ℕ, ◌+◌, ◌≤◌, List, [], ◌∷◌, ◌++◌, length, drop, Option, Some, arith}
+use Rattle.std.proofs.Common.{◌≡◌, ◌∙◌, inl, inr, refl, sym, ap, subst, ℕ, ◌+◌, ◌≤◌, List, [], ◌∷◌, ◌++◌, length, drop, Option, Some, arith, true}
 use Rattle.std.proofs.lemmas.List.{append_assoc, drop-drop, drop_at, length-append, length-drop}
 use Rattle.random_draws.proofs.MakeLemmas.{makes_of}
 use Rattle.random_draws.proofs.OrderLemmas.{order-append, order-placed, order-wider}
@@ -13,7 +13,7 @@ use Rattle.random_draws.specs.Steps.{step_fills}
 use Rattle.tink_spec.specs.Files.{Files}
 use Rattle.tink_spec.specs.Outside.{EntropyState}
 use Rattle.tinkey_plans.specs.Commands.{plan_of}
-use Rattle.tinkey_plans.specs.Plan.{Plan, ends, writes, creates, looks, allocates, loads, reads_all, reads_front, ranges, draws, pumps, exchanges}
+use Rattle.tinkey_plans.specs.Plan.{Plan, ends, writes, creates, looks, allocates, loads, reads_all, reads_front, ranges, draws, pumps, collects, exchanges}
 use Rattle.tinkey_plans.specs.Promises.{IsLeft, Moved}
 use Rattle.tinkey_plans.specs.declared.status.Status.{Status}
 use Rattle.tinkey_session.proofs.Options.{map_some}
@@ -81,6 +81,9 @@ slices_of settled is_turns (draws kind give next) drawing files s moved (inr on)
       end_of drawn on.1 moved.drawn place first later.0 on.3 order later.2,
     )
 slices_of settled is_turns (pumps part) drawing files s moved left stream rest place stands = ([], refl, none place _)
+slices_of settled is_turns (collects part next) drawing files s moved (inl here) stream rest place stands = ([], refl, none place _)
+slices_of settled is_turns (collects part next) drawing files s moved (inr on) stream rest place stands =
+    slices_of settled is_turns (next (part.output on.0 true)) (drawing (part.output on.0 true)) files s (record moved { taken = on.1 }) on.4 stream rest place stands
 slices_of settled is_turns (exchanges exchange next) drawing files s moved (inl here) stream rest place stands =
     let at = drawing.0 in
     let d = left_drew settled is_turns at.0 at.1 exchange at.2 stream rest place s moved stands here in

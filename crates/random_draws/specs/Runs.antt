@@ -15,7 +15,7 @@ use Rattle.tink_spec.specs.Files.{Files}
 use Rattle.tink_spec.specs.Outside.{EntropyState}
 use Rattle.tinkey_plans.specs.Commands.{plan_of}
 use Rattle.tinkey_plans.specs.Ends.{World}
-use Rattle.tinkey_plans.specs.Plan.{Plan, ends, writes, creates, looks, allocates, loads, reads_all, reads_front, ranges, draws, pumps, exchanges}
+use Rattle.tinkey_plans.specs.Plan.{Plan, ends, writes, creates, looks, allocates, loads, reads_all, reads_front, ranges, draws, pumps, collects, exchanges}
 use Rattle.tinkey_plans.specs.Promises.{IsLeft, Leaves, Moved}
 use Rattle.tinkey_plans.specs.declared.status.Status.{Status}
 use Rattle.tinkey_session.specs.Lines.{line_of}
@@ -101,6 +101,9 @@ HasDrawn stream place (draws kind give next) files s moved (inr on) mine =
     × HasDrawn stream (place + length on.0) (next on.2) files s (record moved { drawn = on.1 }) on.5
     later
 HasDrawn stream place (pumps part) files s moved left mine = mine ≡ []
+HasDrawn stream place (collects part next) files s moved (inl here) mine = mine ≡ []
+HasDrawn stream place (collects part next) files s moved (inr on) mine =
+    HasDrawn stream place (next (part.output on.0 true)) files s (record moved { taken = on.1 }) on.4 mine
 HasDrawn stream place (exchanges exchange next) files s moved (inl here) mine =
     (table : Table) × (keys : Keys) × (exchange ≡ talk table keys)
     × SessionDrew stream place table keys moved mine

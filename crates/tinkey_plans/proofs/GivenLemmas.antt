@@ -1,9 +1,9 @@
 -- How much was read of files, of every end of every plan; and so for srange.
-use Rattle.std.proofs.Common.{arith, ◌≡◌, inl, inr, refl, sym, ap, subst, ℕ, ◌+◌, length, Option}
+use Rattle.std.proofs.Common.{arith, ◌≡◌, inl, inr, refl, sym, ap, subst, ℕ, ◌+◌, length, Option, true}
 use Rattle.tink_spec.specs.Files.{Files, StoreState}
 use Rattle.tinkey_plans.specs.declared.status.Status.{Status}
-use Rattle.tinkey_plans.specs.Plan.{Plan, ends, writes, creates, looks, allocates, loads, reads_all, reads_front, ranges, draws, pumps, exchanges}
-use Rattle.tinkey_plans.specs.Ends.{World, Ends, GaveWithin, loaded, load_absent, load_long, load_failed, load_starved, ranged, range_absent, range_failed, range_starved, wrote, write_failed, made, name_taken, create_failed, create_starved, look_free, look_taken, look_failed, read, too_long, read_failed, read_starved, front_read, front_failed, settled, draw_failed, draw_starved, exchanged, exchange_ended}
+use Rattle.tinkey_plans.specs.Plan.{Plan, ends, writes, creates, looks, allocates, loads, reads_all, reads_front, ranges, draws, pumps, collects, exchanges}
+use Rattle.tinkey_plans.specs.Ends.{World, Ends, GaveWithin, loaded, load_absent, load_long, load_failed, load_starved, ranged, range_absent, range_failed, range_starved, wrote, write_failed, made, name_taken, create_failed, create_starved, look_free, look_taken, look_failed, read, too_long, read_failed, read_starved, front_read, front_failed, settled, draw_failed, draw_starved, collected, collect_refused, collect_unread, collect_unkept, exchanged, exchange_ended}
 use Rattle.tinkey_plans.specs.Promises.{MayGive, Reads}
 
 -- nothing was given
@@ -70,6 +70,11 @@ reads (draws kind give next) old s new (settled drawn entropy given drew stood s
 reads (draws kind give next) old s new (draw_failed is only out) = given_none _ old new (inl refl) (none_given _ _ only.store)
 reads (draws kind give next) old s new (draw_starved parts is only drawn drew stood few) = given_none _ old new (inl refl) (none_given _ _ only.store)
 reads (pumps part) old s new e = given_none _ old new refl (none_given _ _ e.only.store)
+reads (collects part next) old s new (collected all source store gave stood kept quiet given end none run) =
+    given_later _ (next (part.output all true)) old (record old { source = source; store = store }) new kept.files given (λ n may. inr (part.output all true, may)) (reads (next (part.output all true)) (record old { source = source; store = store }) s new run)
+reads (collects part next) old s new (collect_refused taken ended refusal is aside source store end decided lasting) = given_none _ old new (inl refl) aside.given
+reads (collects part next) old s new (collect_unread taken is aside rose store none) = given_none _ old new (inl refl) aside.given
+reads (collects part next) old s new (collect_unkept taken ended is aside source rose some) = given_none _ old new (inl refl) aside.given
 reads (exchanges exchange next) old s new (exchanged keys mid talk store steady run) =
     given_later _ (next keys) old mid new (store_same _ _ store) (none_given _ _ store) (λ n may. inr (keys, may)) (reads (next keys) mid s new run)
 reads (exchanges exchange next) old s new (exchange_ended fault is talk store steady) = given_none _ old new (inl refl) (none_given _ _ store)

@@ -22,7 +22,7 @@ use Rattle.tinkey_words.specs.declared.words.rows.Format.{Format}
 use Rattle.tinkey_words.specs.declared.words.rows.SealedForm.{SealedForm}
 use Rattle.tinkey_words.specs.declared.words.rows.SealedForm.TheVariants as sealed
 use Rattle.tinkey_plans.specs.Going.{DoneExactly, NoneRefuses}
-use Rattle.tinkey_plans.specs.Plan.{Answer, Of, Plan, Told, answer, create_answer, draw_answer, load_answer, look_answer, range_answer, pump_answer, refused, stream_status, talk_answer, limit_status, ends, writes, creates, looks, allocates, loads, reads_all, reads_front, ranges, draws, pumps, exchanges}
+use Rattle.tinkey_plans.specs.Plan.{Answer, Of, Plan, Told, answer, collect_answer, create_answer, draw_answer, load_answer, look_answer, range_answer, pump_answer, refused, stream_status, talk_answer, limit_status, ends, writes, creates, looks, allocates, loads, reads_all, reads_front, ranges, draws, pumps, collects, exchanges}
 use Rattle.tinkey_plans.specs.KeyOf.{key_of_answer, stream_record_line, tells_front, tells_keys}
 use Rattle.tinkey_plans.specs.Locks.{puts_under}
 use Rattle.tinkey_plans.specs.Steps.{makes_keyset, puts}
@@ -53,6 +53,7 @@ IsProper (reads_all limit long stated next) = (long ≢ status.Done) × ((all : 
 IsProper (reads_front size next) = (front : List ℕ) → IsProper (next front)
 IsProper (draws kind give next) = (given : Result (Of kind) CmdFault) → IsProper (next given)
 IsProper (pumps part) = Unit {0}
+IsProper (collects part next) = (output : List ℕ) → IsProper (next output)
 IsProper (exchanges exchange next) = (keys : Keys) → IsProper (next keys)
 
 -- ---- a step
@@ -125,6 +126,10 @@ pumped : (part : Part) (told : Told) (o : Option StreamRefusal) → IsDone (pump
 pumped part told None = (λ d. refl, λ e. refl)
 pumped part told (Some refusal) = (λ d. absurd (refusal_other refusal d), λ e. absurd (cc))
 
+gathered : (o : Option StreamRefusal) (told : Told) (next : Answer) (Then : Type 0) → (IsDone next ↔ Then) → IsDone (collect_answer o told next) ↔ ((o ≡ None) × Then)
+gathered None told next Then each = (λ d. (refl, each.0 d), λ x. each.1 x.1)
+gathered (Some refusal) told next Then each = (λ d. absurd (refusal_other refusal d), λ x. let e : Some refusal ≡ None = x.0 in absurd (cc))
+
 talked : (stop : Stop) (x : Talk) (told : Told) (next : Answer) (Then : Type 0) → (IsDone next ↔ Then) → IsDone (talk_answer stop x told next) ↔ ((stop ≡ goes) × Then)
 talked goes x told next Then each = (λ d. (refl, each.0 d), λ y. each.1 y.1)
 talked wants x told next Then each = (λ d. absurd (entropy_other d), λ y. let e : wants ≡ goes = y.0 in absurd (cc))
@@ -144,6 +149,8 @@ done_exactly (reads_all limit long stated next) told proper = read_in told.input
 done_exactly (reads_front size next) told proper = done_exactly (next (take size told.input)) (record told { input = drop size told.input }) (proper (take size told.input))
 done_exactly (draws kind give next) told proper = drawn_in (give told.random) told _ _ (λ drawn. done_exactly (next drawn.answer) (record told { random = drawn.left }) (proper drawn.answer))
 done_exactly (pumps part) told proper = pumped part told (part.refusal told.input true)
+done_exactly (collects part next) told proper =
+    gathered (part.refusal told.input true) told _ _ (done_exactly (next (part.output told.input true)) (record told { input = [] }) (proper (part.output told.input true)))
 done_exactly (exchanges exchange next) told proper =
     let x = exchange told.input told.random true in
     talked x.stop x told _ _ (done_exactly (next x.keys) (record told { input = []; random = x.random }) (proper x.keys))

@@ -22,12 +22,12 @@ use Rattle.tinkey_session.specs.declared.talk.TalkFault.{TalkFault}
 use Rattle.tinkey_session.specs.declared.talk.TalkFault.TheVariants as talk_faults
 use Rattle.tinkey_plans.specs.declared.status.Status.{Status}
 use Rattle.tinkey_plans.specs.declared.status.Status.TheVariants as status
-use Rattle.tinkey_plans.specs.Plan.{Plan, ends, writes, creates, looks, allocates, loads, reads_all, reads_front, ranges, draws, pumps, exchanges, Told, Answer, answer, refused, stream_status, limit_status, talk_answer, load_answer, range_answer, create_answer, look_answer, draw_answer, IsStated}
-use Rattle.tinkey_plans.specs.Ends.{World, Ends, Settles, IsLasting, OnlyStreams, pump_status, OnlySource, OnlySink, OnlyStore, loaded, load_absent, load_long, load_failed, load_starved, ranged, range_absent, range_failed, range_starved, wrote, write_failed, made, name_taken, create_failed, create_starved, look_free, look_taken, look_failed, read, too_long, read_failed, read_starved, front_read, front_failed, settled, draw_failed, draw_starved, talk_status, sides_of, exchanged, exchange_ended}
-use Rattle.tinkey_plans.specs.Promises.{Tells, IsAnswer, Answers, IsFront, Moved, nothing, IsPassLeft, pass_done, pass_refused, pass_unread, pass_unwritten, HasReplied, IsTalkLeft, talk_passed, talk_unread, talk_undrawn, talk_unwritten, talk_starved, then_moved, IsWhole, IsLeft, Leaves, IsTorn, Stands, Promised}
+use Rattle.tinkey_plans.specs.Plan.{Plan, ends, writes, creates, looks, allocates, loads, reads_all, reads_front, ranges, draws, pumps, collects, exchanges, Told, Answer, answer, collect_answer, refused, stream_status, limit_status, talk_answer, load_answer, range_answer, create_answer, look_answer, draw_answer, IsStated}
+use Rattle.tinkey_plans.specs.Ends.{World, Ends, Settles, IsLasting, OnlyStreams, pump_status, OnlySource, OnlySink, OnlyStore, loaded, load_absent, load_long, load_failed, load_starved, ranged, range_absent, range_failed, range_starved, wrote, write_failed, made, name_taken, create_failed, create_starved, look_free, look_taken, look_failed, read, too_long, read_failed, read_starved, front_read, front_failed, settled, draw_failed, draw_starved, talk_status, sides_of, KeptAside, collected, collect_refused, collect_unread, collect_unkept, exchanged, exchange_ended}
+use Rattle.tinkey_plans.specs.Promises.{Tells, IsAnswer, Answers, IsFront, Moved, nothing, IsPassLeft, pass_done, pass_refused, pass_unread, pass_unwritten, IsAsideLeft, aside_refused, aside_unread, aside_unkept, HasReplied, IsTalkLeft, talk_passed, talk_unread, talk_undrawn, talk_unwritten, talk_starved, then_moved, IsWhole, IsLeft, Leaves, IsTorn, Stands, Promised}
 use Rattle.tinkey_plans.specs.Stretch.{Opened, Stretch, HoldsStretch, stretch_in}
 use Rattle.tinkey_plans.proofs.GivenLemmas.{reads}
-use Rattle.tinkey_plans.proofs.FaultLemmas.{not_read_fault, not_write_fault, not_store_fault, not_entropy_fault, not_no_memory, of_result, of_refusal, of_fault, of_limit, went, Went, has_cause, shows_faults, completes}
+use Rattle.tinkey_plans.proofs.FaultLemmas.{not_read_fault, not_write_fault, not_store_fault, not_entropy_fault, not_no_memory, refusal_stated, of_result, of_refusal, of_fault, of_limit, went, Went, has_cause, shows_faults, completes}
 
 -- The stated answer.
 
@@ -224,6 +224,24 @@ pump_answers part result old s new lasting is only (pass.refused more out false 
 pump_answers part result old s new lasting is only (pass.unread more out r rose gave follows took o d) told tells ok = absurd (not_read_fault s ok (of_result s result (Err faults.ReadFault) is r))
 pump_answers part result old s new lasting is only (pass.unwritten more out rest ended r rose gave follows end took some o) told tells ok = absurd (not_write_fault s ok (of_result s result (Err faults.WriteFault) is r))
 
+-- the answer goes on with all of a pass's output
+collected_answer : (part : Part) (next : List ℕ → Plan) (told : Told) (all : List ℕ) → told.input ≡ all → part.refusal all true ≡ None → answer (collects part next) told ≡ answer (next (part.output all true)) (record told { input = [] })
+collected_answer part next told all is none =
+    ap (λ (l : List ℕ). collect_answer (part.refusal l true) told (answer (next (part.output l true)) (record told { input = [] }))) is
+    ∙ ap (λ (o : Option StreamRefusal). collect_answer o told (answer (next (part.output all true)) (record told { input = [] }))) none
+
+-- a pass of which nothing was given out was refused, by what the whole input decides
+refused_aside : (part : Part) (next : List ℕ → Plan) (told : Told) (taken : List ℕ) (refusal : StreamRefusal) (old : World) (s : Status) (new : World) → s ≡ stream_status refusal → KeptAside old new taken → Tells old told → part.refusal told.input true ≡ Some refusal → IsAnswer (answer (collects part next) told) old s new
+refused_aside part next told taken refusal old s new is aside tells decided =
+    let a = λ (o : Option StreamRefusal). collect_answer o told (answer (next (part.output told.input true)) (record told { input = [] })) in
+    subst (λ (a : Answer). IsAnswer a old s new) (sym (ap a decided)) (record {
+      status = is;
+      input = tt;
+      output = took_same old.sink new.sink aside.sink;
+      files = sym aside.kept.files ∙ tells.files;
+      random = random_told old new told tells aside.entropy;
+    })
+
 -- the answer from a session on
 abbrev talk_on : (next : Keys → Plan) → Told → Talk → Answer
 talk_on next told x = talk_answer x.stop x told (answer (next x.keys) (record told { input = []; random = x.random }))
@@ -362,6 +380,19 @@ answers_over (draws kind give next) old s new (settled drawn entropy given drew 
 answers_over (draws kind give next) old s new (draw_failed is only out) told tells ok = absurd (not_entropy_fault s ok is)
 answers_over (draws kind give next) old s new (draw_starved parts is only drawn drew stood none) told tells ok = absurd (not_no_memory s ok is)
 answers_over (pumps part) old s new e told tells ok = pump_answers part e.result old s new e.lasting e.status e.only e.pass told tells ok
+answers_over (collects part next) old s new (collected all source store gave stood kept quiet given end none run) told tells ok =
+    let whole = whole_input old.source source told.input all tells.input gave end in
+    let later = answers_over (next (part.output all true)) (record old { source = source; store = store }) s new run (record told { input = [] }) (record { input = whole.0; files = sym kept.files ∙ tells.files; random = tells.random }) ok in
+    subst (λ (a : Answer). IsAnswer a old s new) (sym (collected_answer part next told all whole.1 none))
+    (record { status = later.status; input = later.input; output = later.output; files = later.files; random = later.random })
+answers_over (collects part next) old s new (collect_refused taken true refusal is aside stood quiet end decided lasting) told tells ok =
+    let whole = whole_input old.source new.source told.input taken tells.input aside.gave (end refl) in
+    refused_aside part next told taken refusal old s new is aside tells (ap (λ (l : List ℕ). part.refusal l true) whole.1 ∙ decided)
+answers_over (collects part next) old s new (collect_refused taken false refusal is aside stood quiet end decided lasting) told tells ok =
+    let split = split_told new.source.left old.source.left told.input taken tells.input aside.gave.left in
+    refused_aside part next told taken refusal old s new is aside tells (ap (λ (l : List ℕ). part.refusal l true) split.2 ∙ (lasting.stays taken split.0 refusal decided).0)
+answers_over (collects part next) old s new (collect_unread taken is aside rose quiet undecided) told tells ok = absurd (not_read_fault s ok is)
+answers_over (collects part next) old s new (collect_unkept taken ended is aside stood rose some) told tells ok = absurd (not_store_fault s ok is)
 answers_over (exchanges exchange next) old s new (exchanged keys mid talk store steady run) told tells ok =
     let w = went exchange keys (sides_of old) (sides_of mid) talk in
     let after = is_told exchange next keys old mid told w store steady tells in
@@ -512,6 +543,14 @@ stands (exchanges exchange next) old s new (exchanged keys mid talk store steady
       last = λ whole. absurd whole;
     }
 stands (exchanges exchange next) old s new (exchange_ended fault is talk store steady) = record { files = λ done fault. same_files _ _ store; torn = λ h. inl (same_files _ _ store); kept = λ whole. absurd whole; front = λ whole. absurd whole; last = λ whole. absurd whole }
+stands (collects part next) old s new (collected all source store gave stood kept quiet given end none run) =
+    goes_on (collects part next) (next (part.output all true)) old (record old { source = source; store = store }) s new (λ whole. whole (part.output all true)) kept refl
+    (λ told tells. let whole = whole_input old.source source told.input all tells.input gave end in
+    (record told { input = [] }, record { input = whole.0; files = sym kept.files ∙ tells.files; random = tells.random }, refl, collected_answer part next told all whole.1 none))
+    (stands (next (part.output all true)) (record old { source = source; store = store }) s new run)
+stands (collects part next) old s new (collect_refused taken ended refusal is aside stood quiet end decided lasting) = untouched (collects part next) old s new (λ h. not_write_fault (stream_status refusal) (refusal_stated refusal) (sym is ∙ h)) aside.sink aside.kept
+stands (collects part next) old s new (collect_unread taken is aside rose quiet undecided) = untouched (collects part next) old s new (λ h. absurd (cc)) aside.sink aside.kept
+stands (collects part next) old s new (collect_unkept taken ended is aside stood rose some) = untouched (collects part next) old s new (λ h. absurd (cc)) aside.sink aside.kept
 stands (pumps part) old s new e = record { files = λ done fault. same_files _ _ e.only.store; torn = λ h. inl (same_files _ _ e.only.store); kept = λ whole. absurd whole; front = λ whole. absurd whole; last = λ whole. absurd whole }
 
 -- What was taken, drawn and written.
@@ -592,6 +631,17 @@ talk_leaves exchange next fault old s new is (talks.starved taken more drawn par
   is = inl (talk_starved taken more drawn part (of_fault s fault talk_faults.NoMemory is r) refl refl stop refl);
 }
 
+-- what a pass took of which nothing was given out
+taken_aside : (part : Part) (next : List ℕ → Plan) (old : World) (s : Status) (new : World) (taken : List ℕ) → KeptAside old new taken → IsAsideLeft part s taken → Leaves (collects part next) old s new
+taken_aside part next old s new taken aside is = record {
+  moved = record nothing { taken = taken };
+  gave = aside.gave;
+  gone = none_gone _ _ aside.entropy;
+  none_lost = λ other. refl;
+  took = took_same _ _ aside.sink;
+  is = inl (refl, is);
+}
+
 pub leaves : (p : Plan) (old : World) (s : Status) (new : World) → Ends p old s new → Leaves p old s new
 leaves (ends answered stated) old s new (is, same) = none_moved _ old s new same (is, refl)
 leaves (writes output) old s new (wrote is only stood took) = some_written _ old s new output took only (inl (is, refl))
@@ -635,6 +685,12 @@ leaves (draws kind give next) old s new (settled drawn entropy given drew stood 
     record { moved = record later.moved { drawn = drawn ++ later.moved.drawn }; gave = later.gave; gone = lost_later _ _ _ _ _ drew later.gone; none_lost = later.none_lost; took = later.took; is = inr (drawn, later.moved.drawn, given, refl, settles, later.is) }
 leaves (draws kind give next) old s new (draw_failed is only out) = record { moved = record nothing { drawn = out.drawn }; gave = gave_same _ _ only.source; gone = out.gone; none_lost = λ other. absurd (other is); took = took_same _ _ only.sink; is = inl (inl is, out.undecided, refl) }
 leaves (draws kind give next) old s new (draw_starved parts is only drawn drew stood none) = record { moved = record nothing { drawn = drawn }; gave = gave_same _ _ only.source; gone = lost_nothing _ _ drawn drew; none_lost = λ other. refl; took = took_same _ _ only.sink; is = inl (inr (is, parts), none, refl) }
+leaves (collects part next) old s new (collected all source store gave stood kept quiet given end none run) =
+    let later = leaves (next (part.output all true)) (record old { source = source; store = store }) s new run in
+    record { moved = record later.moved { taken = all ++ later.moved.taken }; gave = gave_more _ _ _ _ _ gave later.gave; gone = later.gone; none_lost = later.none_lost; took = later.took; is = inr (all, later.moved.taken, refl, none, subst (λ (f : Option Files). IsLeft (next (part.output all true)) f s later.moved) (sym kept.files) later.is) }
+leaves (collects part next) old s new (collect_refused taken ended refusal is aside stood quiet end decided lasting) = taken_aside part next old s new taken aside (aside_refused ended refusal is decided)
+leaves (collects part next) old s new (collect_unread taken is aside rose quiet undecided) = taken_aside part next old s new taken aside (aside_unread is undecided)
+leaves (collects part next) old s new (collect_unkept taken ended is aside stood rose some) = taken_aside part next old s new taken aside (aside_unkept ended is some)
 leaves (pumps part) old s new e = pump_leaves part e.result old s new e.status e.only e.pass
 leaves (exchanges exchange next) old s new (exchanged keys mid talk store steady run) =
     let w = went exchange keys (sides_of old) (sides_of mid) talk in

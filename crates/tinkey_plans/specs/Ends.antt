@@ -1,5 +1,5 @@
 -- How a run of a plan may end, whatever fails.
-use Rattle.std.specs.Prelude.{◌≡◌, ◌⊎◌, ℕ, ◌+◌, ◌<◌, ◌≤◌, List, [], ◌++◌, length, true, false, Some, None, Result, Ok, Err}
+use Rattle.std.specs.Prelude.{◌≡◌, ◌⊎◌, ℕ, ◌+◌, ◌<◌, ◌≤◌, List, [], ◌++◌, length, Bool, true, false, Some, None, Result, Ok, Err}
 use Rattle.tink_spec.specs.Files.{StoreState, KeptFiles, Holds, HoldsSome, HoldsLonger, Added, MayAdd}
 use Rattle.tink_spec.specs.Outside.{SourceState, SinkState, EntropyState, Rose, Stood, Gave, GaveUpTo, GaveCount, Took, TookPrefix, Drew, IsAtEnd}
 use Rattle.segment_stream.specs.Opening.{StreamRefusal}
@@ -17,7 +17,7 @@ use Rattle.tinkey_session.specs.declared.talk.TalkFault.TheVariants as talk_faul
 use Rattle.tinkey_plans.specs.Stretch.{Opened, Stretch, GivesAtMost, HoldsStretch, IsShortPast}
 use Rattle.tinkey_plans.specs.declared.status.Status.{Status}
 use Rattle.tinkey_plans.specs.declared.status.Status.TheVariants as status
-use Rattle.tinkey_plans.specs.Plan.{Plan, ends, writes, creates, looks, allocates, loads, reads_all, reads_front, ranges, draws, pumps, exchanges, Made, Of, IsMadeInParts}
+use Rattle.tinkey_plans.specs.Plan.{Plan, ends, writes, creates, looks, allocates, loads, reads_all, reads_front, ranges, draws, pumps, collects, exchanges, Made, Of, IsMadeInParts, stream_status}
 
 -- the outside objects at one moment
 pub record World : Type 0 where
@@ -222,6 +222,37 @@ pub record EndsPumping (part : Part) (old : World) (s : Status) (new : World) : 
   pub shown : ShowsFaults result old.source new.source old.sink new.sink
   pub lasting : IsLasting part
 
+-- Exactly these bytes were taken of the source. What they gave was kept aside: no file has changed, and sink and
+-- entropy are as before.
+pub record KeptAside (old new : World) (taken : List ℕ) : Type 0 where
+  pub sink : old.sink ≡ new.sink
+  pub entropy : old.entropy ≡ new.entropy
+  pub gave : Gave old.source new.source taken
+  pub kept : KeptFiles old.store new.store
+  pub given : GaveWithin old.store new.store 0
+
+-- The pass came to its end, and then it went on with all of its output. Or it was refused; or the source failed
+-- before that; or the store did, which keeps the output aside, with a byte of it still to come.
+pub data EndsCollecting (part : Part) (Then : List ℕ → World → Status → World → Type 0)
+    (old : World) (s : Status) (new : World) : Type 0 where
+  collected : (all : List ℕ) (source : SourceState) (store : StoreState) → Gave old.source source all →
+      Stood old.source.faults source.faults → KeptFiles old.store store →
+      Stood old.store.faults store.faults → GaveWithin old.store store 0 →
+      IsAtEnd source → part.refusal all true ≡ None →
+      Then (part.output all true) (record old { source = source; store = store }) s new →
+      EndsCollecting part Then old s new
+  collect_refused : (taken : List ℕ) (ended : Bool) (refusal : StreamRefusal) →
+      s ≡ stream_status refusal → KeptAside old new taken →
+      Stood old.source.faults new.source.faults → Stood old.store.faults new.store.faults →
+      (ended ≡ true → IsAtEnd new.source) → part.refusal taken ended ≡ Some refusal → IsLasting part →
+      EndsCollecting part Then old s new
+  collect_unread : (taken : List ℕ) → s ≡ status.ReadFault → KeptAside old new taken →
+      Rose old.source.faults new.source.faults → Stood old.store.faults new.store.faults →
+      part.refusal taken false ≡ None → EndsCollecting part Then old s new
+  collect_unkept : (taken : List ℕ) (ended : Bool) → s ≡ status.StoreFault → KeptAside old new taken →
+      Stood old.source.faults new.source.faults → Rose old.store.faults new.store.faults →
+      0 < length (part.output taken ended) → EndsCollecting part Then old s new
+
 -- the status of a session that ended before its input did
 abbrev pub talk_status : TalkFault → Status
 talk_status talk_faults.LineTooLong = status.LineTooLong
@@ -263,5 +294,7 @@ Ends (reads_front size next) old s new = EndsReadingFront size (λ front. Ends (
 Ends (draws kind give next) old s new =
     EndsDrawing kind give (λ given. Ends (next given)) old s new
 Ends (pumps part) old s new = EndsPumping part old s new
+Ends (collects part next) old s new =
+    EndsCollecting part (λ output. Ends (next output)) old s new
 Ends (exchanges exchange next) old s new =
     EndsExchanging exchange (λ keys. Ends (next keys)) old s new

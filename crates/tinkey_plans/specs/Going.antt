@@ -16,7 +16,7 @@ use Rattle.tinkey_plans.specs.declared.status.Status.TheVariants as status
 use Rattle.tinkey_plans.specs.Commands.{command_plan}
 use Rattle.tinkey_plans.specs.Laws.{IsFit}
 use Rattle.tinkey_plans.specs.Stretch.{stretch_in}
-use Rattle.tinkey_plans.specs.Plan.{Of, Plan, Told, answer, ends, writes, creates, looks, allocates, loads, reads_all, reads_front, ranges, draws, pumps, exchanges}
+use Rattle.tinkey_plans.specs.Plan.{Of, Plan, Told, answer, ends, writes, creates, looks, allocates, loads, reads_all, reads_front, ranges, draws, pumps, collects, exchanges}
 use Rattle.tinkey_words.specs.Words.{Asked}
 
 -- The end is Done; the name of a new file is free; a file to load is there, within its limit, and one to
@@ -42,6 +42,9 @@ NoneRefuses (draws kind give next) told =
     (drawn : Drawn (Of kind)) × (give told.random ≡ Some drawn)
     × NoneRefuses (next drawn.answer) (record told { random = drawn.left })
 NoneRefuses (pumps part) told = part.refusal told.input true ≡ None
+NoneRefuses (collects part next) told =
+    (part.refusal told.input true ≡ None)
+    × NoneRefuses (next (part.output told.input true)) (record told { input = [] })
 NoneRefuses (exchanges exchange next) told =
     let x = exchange told.input told.random true in
     (x.stop ≡ goes) × NoneRefuses (next x.keys) (record told { input = []; random = x.random })

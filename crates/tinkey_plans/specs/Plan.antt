@@ -70,6 +70,9 @@ pub data Plan : Type 0 where
   -- the source is read and the sink written in turn: what is settled is given out, and what is decided
   -- is the answer
   pumps : (part : Part) → Plan
+  -- the source is read in a pass of which nothing is given out before its end: all of its output goes on, and a
+  -- stream that is refused is answered so
+  collects : (part : Part) → (next : (output : List ℕ) → Plan) → Plan
   -- a session: each line of the source is answered in turn, of random bytes where it takes some,
   -- and the last keyset goes on; one that is past a limit is answered so
   exchanges : (exchange : Exchange) → (next : Keys → Plan) → Plan
@@ -115,6 +118,11 @@ pump_answer part told (Some refusal) = record (refused told (stream_status refus
   input = None;
   output = part.output told.input true;
 }
+
+-- the answer after a pass of which nothing is given out before its end
+abbrev pub collect_answer : Option StreamRefusal → Told → Answer → Answer
+collect_answer None told next = next
+collect_answer (Some refusal) told next = record (refused told (stream_status refusal)) { input = None }
 
 -- the status of a session that is past a limit
 abbrev pub limit_status : Limit → Status
@@ -188,6 +196,9 @@ answer (draws kind give next) told =
     draw_answer (give told.random) (refused told status.EntropyFault)
     (λ drawn. answer (next drawn.answer) (record told { random = drawn.left }))
 answer (pumps part) told = pump_answer part told (part.refusal told.input true)
+answer (collects part next) told =
+    collect_answer (part.refusal told.input true) told
+    (answer (next (part.output told.input true)) (record told { input = [] }))
 answer (exchanges exchange next) told =
     let x = exchange told.input told.random true in
     talk_answer x.stop x told (answer (next x.keys) (record told { input = []; random = x.random }))

@@ -10,7 +10,7 @@ use Rattle.tinkey_cmds.specs.declared.command.CmdFault.{CmdFault}
 use Rattle.tinkey_session.specs.Talking.{Exchange, Limit, Stop, goes, wants, passes}
 use Rattle.tinkey_plans.specs.declared.status.Status.{Status}
 use Rattle.tinkey_plans.specs.declared.status.Status.TheVariants as status
-use Rattle.tinkey_plans.specs.Plan.{Plan, ends, writes, creates, looks, allocates, loads, reads_all, reads_front, ranges, draws, pumps, exchanges, Of, IsMadeInParts, Told, Answer, answer, stream_status, limit_status, IsStated}
+use Rattle.tinkey_plans.specs.Plan.{Plan, ends, writes, creates, looks, allocates, loads, reads_all, reads_front, ranges, draws, pumps, collects, exchanges, Of, IsMadeInParts, Told, Answer, answer, stream_status, limit_status, IsStated}
 use Rattle.tinkey_plans.specs.Ends.{World, Ends, GaveWithin, Settles}
 use Rattle.tinkey_plans.specs.Stretch.{Opened, GivesAtMost, HoldsStretch, IsShortPast}
 
@@ -82,6 +82,15 @@ pub data IsPassLeft (part : Part) (s : Status) (taken written : List ℕ) : Type
       written ≡ part.output taken false → IsPassLeft part s taken written
   pass_unwritten : (ended : Bool) → s ≡ status.WriteFault → IsFront written (part.output taken ended) →
       IsPassLeft part s taken written
+
+-- A pass of which nothing is given out before its end is left where what was taken decides this status; where a
+-- read failed before that; or where the store failed, and a byte of its output was to be kept aside.
+pub data IsAsideLeft (part : Part) (s : Status) (taken : List ℕ) : Type 0 where
+  aside_refused : (ended : Bool) (refusal : StreamRefusal) → s ≡ stream_status refusal →
+      part.refusal taken ended ≡ Some refusal → IsAsideLeft part s taken
+  aside_unread : s ≡ status.ReadFault → part.refusal taken false ≡ None → IsAsideLeft part s taken
+  aside_unkept : (ended : Bool) → s ≡ status.StoreFault → 0 < length (part.output taken ended) →
+      IsAsideLeft part s taken
 
 -- Over the bytes taken, with all the random bytes drawn, the session stands so, and the replies to
 -- the lines among them were written.
@@ -167,6 +176,10 @@ IsLeft (draws kind give next) files s moved =
     × IsLeft (next given) files s (record moved { drawn = more }))
 IsLeft (pumps part) files s moved =
     (moved ≡ record moved { drawn = [] }) × IsPassLeft part s moved.taken moved.written
+IsLeft (collects part next) files s moved =
+    ((moved ≡ record nothing { taken = moved.taken }) × IsAsideLeft part s moved.taken)
+    ⊎ ((all : List ℕ) × (more : List ℕ) × (all ++ more ≡ moved.taken) × (part.refusal all true ≡ None)
+    × IsLeft (next (part.output all true)) files s (record moved { taken = more }))
 IsLeft (exchanges exchange next) files s moved =
     IsTalkLeft exchange s moved
     ⊎ ((first : Moved) × (later : Moved) × (then_moved first later ≡ moved)
@@ -186,6 +199,7 @@ IsWhole (reads_all limit long stated next) = (all : List ℕ) → IsWhole (next 
 IsWhole (reads_front size next) = (front : List ℕ) → IsWhole (next front)
 IsWhole (draws kind give next) = (given : Result (Of kind) CmdFault) → IsWhole (next given)
 IsWhole (pumps part) = ⊥
+IsWhole (collects part next) = (output : List ℕ) → IsWhole (next output)
 IsWhole (exchanges exchange next) = ⊥
 
 -- What was taken, drawn and written, whatever the status: a fault comes before each refusal that the
@@ -224,6 +238,8 @@ MayGive (reads_front size next) files given =
 MayGive (draws kind give next) files given =
     (given ≡ 0) ⊎ ((drawn : Result (Of kind) CmdFault) × MayGive (next drawn) files given)
 MayGive (pumps part) files given = given ≡ 0
+MayGive (collects part next) files given =
+    (given ≡ 0) ⊎ ((output : List ℕ) × MayGive (next output) files given)
 MayGive (exchanges exchange next) files given =
     (given ≡ 0) ⊎ ((keys : Keys) × MayGive (next keys) files given)
 

@@ -9,8 +9,8 @@ use Rattle.std.proofs.lemmas.Map.Lookups.{exact_bytes}
 use Rattle.std.proofs.lemmas.Option.{same_Some}
 use Rattle.tink_spec.specs.Files.{Added, Files, KeptFiles, MayAdd, StoreState}
 use Rattle.tinkey_session.proofs.Options.{clash, no_truth}
-use Rattle.tinkey_plans.specs.Ends.{Ends, World, wrote, write_failed, made, name_taken, create_failed, create_starved, look_free, look_taken, look_failed, loaded, load_absent, load_long, load_failed, load_starved, ranged, range_absent, range_failed, range_starved, read, too_long, read_failed, read_starved, front_read, front_failed, settled, draw_failed, draw_starved, exchanged, exchange_ended}
-use Rattle.tinkey_plans.specs.Plan.{Plan, ends, writes, creates, looks, allocates, loads, reads_all, reads_front, ranges, draws, pumps, exchanges}
+use Rattle.tinkey_plans.specs.Ends.{Ends, World, wrote, write_failed, made, name_taken, create_failed, create_starved, look_free, look_taken, look_failed, loaded, load_absent, load_long, load_failed, load_starved, ranged, range_absent, range_failed, range_starved, read, too_long, read_failed, read_starved, front_read, front_failed, settled, draw_failed, draw_starved, collected, collect_refused, collect_unread, collect_unkept, exchanged, exchange_ended}
+use Rattle.tinkey_plans.specs.Plan.{Plan, ends, writes, creates, looks, allocates, loads, reads_all, reads_front, ranges, draws, pumps, collects, exchanges}
 use Rattle.tinkey_plans.specs.declared.status.Status.{Status}
 use Rattle.tinkey_readable.specs.KeptRuns.{FilesStay, Has}
 
@@ -84,6 +84,10 @@ stays (draws kind give next) old s new name bytes (settled drawn entropy given d
 stays (draws kind give next) old s new name bytes (draw_failed is only out) has = same_has _ _ name bytes only.store has
 stays (draws kind give next) old s new name bytes (draw_starved parts is only drawn drew stood none) has = same_has _ _ name bytes only.store has
 stays (pumps part) old s new name bytes e has = same_has _ _ name bytes e.only.store has
+stays (collects part next) old s new name bytes (collected all source store gave stood kept quiet given end none run) has = stays (next (part.output all true)) (record old { source = source; store = store }) s new name bytes run (kept_has _ _ name bytes kept has)
+stays (collects part next) old s new name bytes (collect_refused taken ended refusal is aside source store end decided lasting) has = kept_has _ _ name bytes aside.kept has
+stays (collects part next) old s new name bytes (collect_unread taken is aside rose store none) has = kept_has _ _ name bytes aside.kept has
+stays (collects part next) old s new name bytes (collect_unkept taken ended is aside source rose some) has = kept_has _ _ name bytes aside.kept has
 stays (exchanges exchange next) old s new name bytes (exchanged keys mid talk store steady run) has = stays (next keys) mid s new name bytes run (same_has _ _ name bytes store has)
 stays (exchanges exchange next) old s new name bytes (exchange_ended fault is talk store steady) has = same_has _ _ name bytes store has
 
