@@ -294,7 +294,7 @@ ends replies "$replies" "listing $(shaped listing < "$files/gcm")"
 refuse session session --keyset gcm --keyset-format binary --out n --out-format binary
 session | takes
 ends same '' none
-status=4 line='tinkey: output file exists'
+status=4 line=$'tinkey: output file exists\ntinkey: no file is ever replaced: give --out another name'
 refuse taken session --keyset gcm --keyset-format binary --out gcm --out-format binary
 takes < /dev/null
 ends same "$(text 'lines 4 seals 3 opened 0 refused 0 edits 1 declined 0 lost 0')" none

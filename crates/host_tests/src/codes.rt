@@ -68,12 +68,12 @@ key_info {
 // `fails`, and memory is refused by the store where it is `no memory`.
 const RUNS: [&str; 9] = [
     "a listing | list-keyset --in-format binary | keyset | 0 | | listing",
-    "a tag of another length | verify --keyset k --keyset-format binary --tag-hex 00 | 61 | 1 | tinkey: verify failed |",
+    "a tag of another length | verify --keyset k --keyset-format binary --tag-hex 00 | 61 | 1 | tinkey: verify failed\ntinkey: no ENABLED key of the keyset makes this tag of this input |",
     "no such command | no-command | | 2 | tinkey: usage: word 0\ntinkey: no such command: see tinkey help |",
     "no protobuf | list-keyset --in-format binary | ff | 3 | tinkey: bad protobuf at byte 0 |",
     "no such file | tag --keyset n --keyset-format binary | 61 | 4 | tinkey: input file missing |",
     "a read that fails | list-keyset --in-format binary | fails | 5 | tinkey: read fault |",
-    "a byte too many | list-keyset --in-format binary | long | 6 | tinkey: keyset too long |",
+    "a byte too many | list-keyset --in-format binary | long | 6 | tinkey: keyset too long\ntinkey: a keyset has at most 1048576 bytes, and an encrypted one 4194304 |",
     "memory refused | tag --keyset k --keyset-format binary | no memory | 7 | tinkey: out of memory |",
     "a word that isn't UTF-8 | ff | | 8 | tinkey: usage: word 0\ntinkey: a word is UTF-8 text: see tinkey help |",
 ];

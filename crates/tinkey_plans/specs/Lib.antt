@@ -1,3 +1,4 @@
+pub mod Advice
 pub mod Commands
 pub mod Ends
 pub mod Envelopes

@@ -9,6 +9,7 @@ use Rattle.tinkey_cmds.specs.declared.command.CmdFault.TheVariants as edits
 use Rattle.tinkey_session.specs.declared.reply.LineRefusal.TheVariants as lines
 use Rattle.tinkey_session.specs.declared.reply.Refusal.TheVariants as refused
 use Rattle.tinkey_session.specs.Texts.{line_refusal_text, refusal_text}
+use Rattle.tinkey_plans.specs.Advice.{advice}
 use Rattle.tinkey_plans.specs.Help.{help_text}
 use Rattle.tinkey_plans.specs.Misfits.{misfit_line}
 use Rattle.tinkey_plans.specs.Sealers.{sealer_line}
@@ -127,7 +128,8 @@ in_clear_line = codes "tinkey: this is a keyset in clear: leave --master out\n"
 
 -- what stands behind the line: where there was no word, the list of the commands; where one was at fault, a
 -- second line that tells why; where no key opens a text, one that tells under which it was sealed; and where a
--- keyset in clear stands for an encrypted one, or the other way round, one that says so
+-- keyset in clear stands for an encrypted one, or the other way round, one that says so; some other statuses have a
+-- line of advice
 unfoldable pub behind_line : Status → List ℕ
 behind_line status.NoWords = help_text topics.Commands
 behind_line (status.Usage misuse) = misfit_line misuse.why
@@ -135,7 +137,7 @@ behind_line (status.OpenFailed what sealer) = sealer_line what sealer
 behind_line (status.ProtoLocked at) = locked_line
 behind_line (status.KeysetLocked fault) = locked_line
 behind_line status.KeysetInClear = in_clear_line
-behind_line other = []
+behind_line other = advice other
 
 -- these bytes were written, or the first of them where the count of faults rose
 pub data Wrote (bytes : List ℕ) (old new : SinkState) : Type 0 where

@@ -7,6 +7,7 @@ ghost use Rattle.tinkey_plans.specs.Status.{key_text, line_of, behind_line, lock
 ghost use Rattle.tinkey_cmds.specs.declared.command.CmdFault.TheVariants as edits;
 ghost use Rattle.tinkey_session.specs.declared.reply.Refusal.TheVariants as refused;
 
+use crate::advice::advice;
 use crate::misfit::misfit_line;
 use crate::sealer::sealer_line;
 use crate::{Status, help_text};
@@ -19,8 +20,9 @@ use tinkey_session::{LineRefusal, Refusal, ShortText, line_refusal_text, refusal
 use tinkey_words::Topic;
 
 /// Writes the line of a status, and what follows it: the list of the commands if there was no word,
-/// why a word is at fault, under which key a text that doesn't open was sealed, or that a keyset is
-/// in clear or encrypted but should be the other. A fault of `diag` changes no status.
+/// why a word is at fault, under which key a text that doesn't open was sealed, that a keyset is
+/// in clear or encrypted but should be the other, or what else may help. A fault of `diag` changes
+/// no status.
 pub fn report<G: Sink>(diag: &mut G, status: Status)
     ensures { Reports status (G.state diag.old) (G.state diag.new) }
 {
@@ -45,7 +47,7 @@ fn write_behind<G: Sink>(diag: &mut G, status: Status)
             write_text(diag, locked_line().as_slice());
         }
         Status::KeysetInClear => write_text(diag, in_clear_line().as_slice()),
-        _ => write_text(diag, &[]),
+        _ => write_text(diag, advice(status).as_bytes()),
     }
 }
 

@@ -8,6 +8,7 @@
 //! `proofs/PromiseLemmas.antt`).
 #![tactic(auto)]
 
+mod advice;
 mod diagnostic;
 mod help;
 pub mod laws;
