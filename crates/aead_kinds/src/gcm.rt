@@ -15,6 +15,10 @@ use ghash::{Ghash, HashKey};
 use mac_prf::blocks::same_bytes;
 use std::marker::Model;
 
+// Up to this many bytes of associated data and text GHASH makes no powers of the subkey, so no
+// memory is kept for them.
+const SHORT: usize = 256;
+
 /// AES-GCM under one key, for the segments of a stream: it keeps the expanded key and the powers of
 /// the hash subkey made so far. Contracts see the bytes of the key.
 ///
@@ -131,7 +135,8 @@ impl GcmKey {
         ensures text { body.new ≡ gcm_text self.now iv.now body.old }
         ensures tag { result ≡ gcm_tag self.now iv.now ad.now body.new }
     {
-        seal_with(&self.aes, &mut started(&self.aes, &self.hash), iv, ad, body)
+        crypt(&self.aes, iv, body);
+        self.tag_of(iv, ad, body)
     }
 
     /// Decrypts `body` in place, if the tag is the right one (SP 800-38D, 7.2), as
@@ -146,14 +151,23 @@ impl GcmKey {
         ensures opened { OnTrue result (body.new ≡ gcm_text self.now iv.now body.old) }
         ensures kept { OnFalse result (body.new ≡ body.old) }
     {
-        open_with(
-            &self.aes,
-            &mut started(&self.aes, &self.hash),
-            iv,
-            ad,
-            body,
-            tag,
-        )
+        let same = same_bytes(&self.tag_of(iv, ad, body), tag);
+        if same {
+            crypt(&self.aes, iv, body);
+        }
+        same
+    }
+
+    // The tag of associated data and ciphertext: without powers of the subkey where they are short.
+    fn tag_of(&self, iv: &[u8; 12], ad: &[u8], text: &[u8]) -> [u8; 16]
+        requires ad_bound { length ad.now ≤ 2 ^ 30 }
+        requires text_bound { length text.now ≤ 2 ^ 31 }
+        ensures { result ≡ gcm_tag self.now iv.now ad.now text.now }
+    {
+        if ad.len() + text.len() <= SHORT {
+            return short_tag_of(&self.aes, &self.hash, iv, ad, text);
+        }
+        tag_of(&self.aes, &mut started(&self.aes, &self.hash), iv, ad, text)
     }
 }
 
@@ -228,6 +242,20 @@ fn tag_of(aes: &Aes, hash: &mut Ghash, iv: &[u8; 12], ad: &[u8], text: &[u8]) ->
     hash.absorb(text);
     hash.absorb(&length_block(ad.len(), text.len()));
     let mut tag = hash.finish().to_be_bytes();
+    aes.ctr_xor(&counter_block(iv, 1), CtrKind::Low32, &mut tag);
+    tag
+}
+
+// The same of short ones, by the subkey alone.
+fn short_tag_of(aes: &Aes, key: &HashKey, iv: &[u8; 12], ad: &[u8], text: &[u8]) -> [u8; 16]
+    requires subkey { IsSubkey key.now (hash_subkey aes.now) }
+    requires ad_bound { length ad.now ≤ 2 ^ 30 }
+    requires text_bound { length text.now ≤ 2 ^ 31 }
+    ensures { result ≡ gcm_tag aes.now iv.now ad.now text.now }
+{
+    let front = key.absorbed(key.absorbed(0, ad), text);
+    let hashed = key.absorbed(front, &length_block(ad.len(), text.len()));
+    let mut tag = hashed.to_be_bytes();
     aes.ctr_xor(&counter_block(iv, 1), CtrKind::Low32, &mut tag);
     tag
 }

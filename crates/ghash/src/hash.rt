@@ -36,6 +36,21 @@ impl HashKey {
             factor: factor_of(h),
         }
     }
+
+    /// GHASH after the blocks of `body`, of any length, with zeros after it up to a whole block;
+    /// `so_far` is GHASH of the blocks before it, and 0 of none.
+    ///
+    /// It is for short messages: no power of the subkey is made, and no memory is kept for one.
+    pub fn absorbed(&self, so_far: u128, body: &[u8]) -> u128
+        ensures { (h : ℕ) (blocks : List ℕ) → IsSubkey self.now h → so_far ≡ ghash h blocks
+            → result ≡ ghash h (blocks ++ padded_blocks body.now) }
+    {
+        let mut y = so_far;
+        for part in body.chunks(16) {
+            y = multiply(&self.factor, y ^ block_of(part));
+        }
+        y
+    }
 }
 
 /// A running GHASH under one hash subkey: its powers H^8 to H as factors, and GHASH of the blocks
