@@ -1,6 +1,7 @@
 pub mod AnswerLemmas
 pub mod DrawLemmas
 pub mod EditLemmas
+pub mod FollowLemmas
 pub mod FewLemmas
 pub mod KeepLemmas
 pub mod KeptKeyLemmas

@@ -9,7 +9,8 @@ use Rattle.keyset_model.specs.Keyset.{IsShort, Keys}
 use Rattle.keyset_model.specs.declared.record.Record.{Record}
 use Rattle.managers.specs.Table.{Table}
 use Rattle.tink_spec.specs.Outside.{EntropyState}
-use Rattle.tinkey_cmds.specs.Edits.{EditOf, seen_edit}
+use Rattle.tinkey_cmds.specs.Edits.{Edit, EditOf, seen_edit}
+use Rattle.tinkey_cmds.specs.Laws.{LeavesOthers}
 use Rattle.tinkey_cmds.specs.declared.command.Command.{Command}
 use Rattle.tinkey_session.specs.Answered.{Serves}
 use Rattle.tinkey_session.specs.Lines.{Line, Seal, Dseal, Open, Dopen, Reseal, Dreseal, Tag, Verify, Derive}
@@ -21,6 +22,7 @@ use Rattle.tinkey_session.specs.declared.reply.Refusal.TheVariants as refusals
 use Rattle.tinkey_session.specs.declared.reply.Reply.{Reply}
 use Rattle.tinkey_session.specs.declared.reply.Reply.TheVariants as replies
 use Rattle.tinkey_session.specs.declared.session.LineFault.{LineFault}
+use Rattle.wrapped_prims.specs.Following.{BeginsWith}
 use Rattle.wrapped_prims.specs.Making.{IsOver}
 use Rattle.wrapped_prims.specs.declared.handle.HandleFault.{HandleFault}
 use Rattle.wrapped_prims.specs.declared.handle.HandleFault.TheVariants as faults
@@ -66,6 +68,12 @@ pub record IsKept (table own : Table) (primitive : Primitive) (keys : Keys) (hel
     : Type 0 where
   pub same : own ≡ table
   pub over : IsOver own primitive keys held
+
+-- Each record is as it was and in its place, whatever stands behind them and whichever is primary,
+-- after this edit of the keyset, if it is accepted.
+abbrev pub KeepsAll : Keys → Edit → Type 0
+KeepsAll keys edit = (edited : Keys) → LeavesOthers keys edit edited
+    → BeginsWith keys.records edited.records
 
 -- the edit that is asked for by the name of a template or an id was found, or is refused
 abbrev pub FindsEdit : EditOf (List ℕ) → Result (Command Template) Refusal → Type 0

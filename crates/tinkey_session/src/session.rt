@@ -5,14 +5,16 @@ ghost use Rattle.std.specs.List.{AllByRecursion};
 ghost use Rattle.key_msgs.specs.Templates.{seen};
 ghost use Rattle.key_msgs.specs.declared.primitive.Primitive.{Primitive};
 ghost use Rattle.key_msgs.specs.declared.primitive.Primitive.TheVariants.{Stream};
-ghost use Rattle.keyset_model.specs.Keyset.{IsShort};
-ghost use Rattle.tinkey_cmds.specs.Edits.{seen_by, seen_edit};
+ghost use Rattle.keyset_model.specs.Keyset.{IsShort, Keys};
+ghost use Rattle.tinkey_cmds.specs.Edits.{Enable, seen_by, seen_edit};
+ghost use Rattle.tinkey_cmds.specs.Laws.{LeavesOthers};
 ghost use Rattle.tinkey_session.specs.Answered.{Serves};
-ghost use Rattle.tinkey_session.specs.Keeping.{Asks, FindsEdit, IsKept, IsUnedited, needs, short-prop};
+ghost use Rattle.tinkey_session.specs.Keeping.{Asks, FindsEdit, IsKept, IsUnedited, KeepsAll, needs, short-prop};
 ghost use Rattle.tinkey_session.specs.Reading.{IsWithin, seen_line};
 ghost use Rattle.tinkey_session.specs.Serving.{edit_line, edited_reply, serve as served, template_of};
 ghost use Rattle.wrapped_prims.specs.Fitness.{unfit};
-ghost use Rattle.wrapped_prims.specs.Making.{IsFaultOf};
+ghost use Rattle.wrapped_prims.specs.Following.{BeginsWith};
+ghost use Rattle.wrapped_prims.specs.Making.{IsFaultOf, IsOver};
 
 use crate::answering::{answer, needs};
 use crate::line::Line;
@@ -21,7 +23,7 @@ use key_msgs::{Primitive, Template, TemplateFault, template_named};
 use keyset_model::Keyset;
 use managers::{KeyTable, Managers};
 use std::alloc::Global;
-use tink_base::Entropy;
+use tink_base::{ENABLED, Entropy};
 use tinkey_cmds::{CmdError, Command, apply};
 use wrapped_prims::{Handle, HandleFault};
 
@@ -34,8 +36,9 @@ pub enum LineFault {
     NoMemory,
 }
 
-/// A keyset, and the handle of its keys that a line needed last. An edit drops the handle; any
-/// other line keeps it.
+/// A keyset, and the handle of its keys that a line needed last. The handle follows an edit that
+/// leaves each record as it is, such as one that adds a key; any other edit drops it, and any other
+/// line keeps it.
 ///
 /// A record's URL and value together have at most 2^31 - 256 bytes.
 #[derive(Drop)]
@@ -67,8 +70,9 @@ impl<'m> Session<'m> {
     ///
     /// A line that needs keys makes a handle of them if none for its primitive is kept; while the
     /// keyset is unchanged, each later line for that primitive uses it. An accepted edit replaces
-    /// the keyset and drops the handle; any other line, even a refused one, keeps the keyset. An
-    /// edit that isn't accepted, for instance because its draw failed, also keeps the handle.
+    /// the keyset; the handle follows, or is dropped. Any other line, even a refused one, keeps the
+    /// keyset. An edit that isn't accepted, for instance because its draw failed, also keeps the
+    /// handle.
     /// `EntropyFault` comes only if the entropy failed, and the line needs more than was drawn.
     pub fn serve<E: Entropy>(
         &mut self,
@@ -187,8 +191,8 @@ impl<'m> Session<'m> {
         }
     }
 
-    /// Edits the keyset and drops the handle; or says why the edit is refused, and keeps the
-    /// handle.
+    /// Edits the keyset, and the handle follows or is dropped; or says why the edit is refused, and
+    /// keeps the handle.
     fn edit<E: Entropy>(
         &mut self,
         alloc: Global,
@@ -212,8 +216,7 @@ impl<'m> Session<'m> {
         match apply(alloc, &self.keyset, command, entropy) {
             Ok(edited) => {
                 let reply = edited_reply(command, &edited);
-                self.keyset = edited;
-                self.kept = None;
+                self.replace(alloc, command, edited);
                 Ok(reply)
             }
             Err(CmdError::Refused(fault)) => {
@@ -223,6 +226,72 @@ impl<'m> Session<'m> {
             Err(CmdError::EntropyFault) => Err(LineFault::EntropyFault),
             Err(CmdError::NoMemory) => Err(LineFault::NoMemory),
         }
+    }
+}
+
+impl<'m> Session<'m> {
+    /// Puts the edited keyset in place. If the edit left all records as they were, the handle goes
+    /// on with them and with those that were added. It is dropped if it can't, also for want of
+    /// memory, and after any other edit.
+    fn replace(&mut self, alloc: Global, command: &Command<Template>, edited: Keyset)
+        requires kept { IfSome self.old.kept (λ h. IsKept
+            (⟦<Managers as KeyTable>⟧.table self.old.managers.now)
+            (⟦<Managers as KeyTable>⟧.table h.managers.now) h.primitive self.old.keyset h.held) }
+        requires short { AllByRecursion IsShort edited.records }
+        requires edited { LeavesOthers self.old.keyset (seen_edit command.now) edited }
+        ensures keyset { self.new.keyset ≡ edited }
+        ensures kept { IfSome self.new.kept (λ h. IsKept
+            (⟦<Managers as KeyTable>⟧.table self.new.managers.now)
+            (⟦<Managers as KeyTable>⟧.table h.managers.now) h.primitive self.new.keyset h.held) }
+        ensures table { ⟦<Managers as KeyTable>⟧.table self.new.managers.now
+            ≡ ⟦<Managers as KeyTable>⟧.table self.old.managers.now }
+    {
+        let follows = keeps_all(command, &self.keyset);
+        let kept = self.kept.take();
+        self.keyset = edited;
+        if follows {
+            if let Some(handle) = kept {
+                self.kept = followed(alloc, handle, &self.keyset);
+            }
+        }
+    }
+}
+
+/// The handle of a keyset that begins with the records of the handle's own; `None` if there is
+/// none, or memory can't be allocated.
+fn followed<'m>(alloc: Global, handle: Handle<'m>, keyset: &Keyset) -> Option<Handle<'m>>
+    requires grows { (before : Keys) × BeginsWith before.records keyset.now.records
+        × IsOver (⟦<Managers as KeyTable>⟧.table handle.managers.now) handle.primitive before
+        handle.held }
+    ensures over { IfSome result (λ h. IsOver (⟦<Managers as KeyTable>⟧.table h.managers.now)
+        h.primitive keyset.now h.held) }
+    ensures table { IfSome result (λ h. ⟦<Managers as KeyTable>⟧.table h.managers.now
+        ≡ ⟦<Managers as KeyTable>⟧.table handle.entry.managers.now) }
+{
+    match handle.grown(alloc, keyset) {
+        Ok(grown) => Some(grown),
+        Err(_) => None,
+    }
+}
+
+/// Whether the edit, if it is accepted, leaves each record as it is and in its place.
+fn keeps_all(command: &Command<Template>, keyset: &Keyset) -> bool
+    ensures { IsTrue result → KeepsAll keyset.now (seen_edit command.now) }
+{
+    match command {
+        Command::Add(_) | Command::Rotate(_) | Command::Promote(_) => true,
+        Command::Enable(id) => is_enabled(keyset, *id),
+        Command::Disable(_) | Command::Destroy(_) | Command::Delete(_) => false,
+    }
+}
+
+/// Whether the first record with this id is ENABLED.
+fn is_enabled(keyset: &Keyset, id: u32) -> bool
+    ensures { IsTrue result → KeepsAll keyset.now (Enable id) }
+{
+    match keyset.find(id) {
+        Some(place) => keyset.record_at(place).status == ENABLED,
+        None => false,
     }
 }
 

@@ -149,7 +149,7 @@ kept_more table p keys i r old new slot was at keeping word added =
     }
 
 -- no record is held yet
-pub kept_first : (table : Table) (p : Primitive) (keys : Keys) (primary : ℕ) (held : Held) → IsOfNone primary held → slice_get keys.records primary ≡ primary_of keys → IsKept table p keys keys.records 0 held
+kept_first : (table : Table) (p : Primitive) (keys : Keys) (primary : ℕ) (held : Held) → IsOfNone primary held → slice_get keys.records primary ≡ primary_of keys → IsKept table p keys keys.records 0 held
 kept_first table p keys primary held none there = record {
   fit = refl;
   kept = ap (λ slots. slots ++ map (kept_of table p) keys.records) none.slots;
@@ -159,6 +159,12 @@ kept_first table p keys primary held none there = record {
   served = subst (AreServed table p) (sym none.slots) (λ i slot at. none_some slot at);
   words = λ words. words;
 }
+
+-- so the records to add are all
+pub kept_none : (table : Table) (p : Primitive) (keys : Keys) (primary : ℕ) (held : Held) → IsOfNone primary held → slice_get keys.records primary ≡ primary_of keys
+    → IsKept table p keys (drop (length held.slots.items) keys.records) (length held.slots.items) held
+kept_none table p keys primary held none there =
+    subst (λ n. IsKept table p keys (drop n keys.records) n held) (sym (ap length none.slots)) (kept_first table p keys primary held none there)
 
 -- all are
 pub kept_last : (table : Table) (p : Primitive) (keys : Keys) (n : ℕ) (held : Held) → fault_of keys ≡ None → length keys.records ≤ n → IsKept table p keys (drop n keys.records) n held → IsOver table p keys held

@@ -1,6 +1,7 @@
 pub mod KeepLemmas
 pub mod PlaceLemmas
 pub mod IndexLemmas
+pub mod FollowLemmas
 pub mod OpenLemmas
 pub mod OpenedSizes
 pub mod PrefixLemmas

@@ -3,6 +3,7 @@ pub mod Answers
 pub mod Candidates
 pub mod Deriving
 pub mod Fitness
+pub mod Following
 pub mod Held
 pub mod Laws
 pub mod Making

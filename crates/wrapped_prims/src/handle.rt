@@ -1,9 +1,10 @@
 //! Making a handle.
 
-ghost use Rattle.std.specs.Prelude.{◌≡◌, ◌<◌, ◌^◌, ◌≢◌, ℕ, length, Some, None, if◌then◌else◌, IfOk, IfErr, slice_get};
+ghost use Rattle.std.specs.Prelude.{◌≡◌, ◌<◌, ◌^◌, ◌≢◌, ℕ, drop, length, Some, None, if◌then◌else◌, IfOk, IfErr, slice_get};
 ghost use Rattle.key_msgs.specs.declared.primitive.Primitive.TheVariants.{Stream};
-ghost use Rattle.keyset_model.specs.Keyset.{Keys};
+ghost use Rattle.keyset_model.specs.Keyset.{Keys, fault_of};
 ghost use Rattle.managers.specs.Table.{entries_of};
+ghost use Rattle.wrapped_prims.specs.Adding.{IsKept};
 ghost use Rattle.wrapped_prims.specs.Fitness.{NotRaw, prefix_fault, unfit};
 ghost use Rattle.wrapped_prims.specs.Held.{IsServedBy};
 ghost use Rattle.wrapped_prims.specs.Making.{HasWordId, IsCheckedBy, IsFaultOf, IsKeeping, IsOver};
@@ -125,6 +126,29 @@ fn keep(
     }
 }
 
+/// Adds what is kept of the records that come after those that are held.
+pub(crate) fn fill(
+    managers: &Managers,
+    alloc: Global,
+    primitive: Primitive,
+    keyset: &Keyset,
+    mut held: Held,
+) -> Result<Held, HandleFault>
+    requires faultless { fault_of keyset.now ≡ None }
+    requires begun { IsKept (⟦<Managers as KeyTable>⟧.table managers.now) primitive keyset.now
+        (drop (length held.slots.items) keyset.now.records) (length held.slots.items) held }
+    ensures fault { IfErr result (IsFaultOf
+        (unfit keyset.now primitive (⟦<Managers as KeyTable>⟧.table managers.now))) }
+    ensures over { IfOk result (λ held. IsOver (⟦<Managers as KeyTable>⟧.table managers.now)
+        primitive keyset.now held) }
+{
+    for i in held.slots.len()..keyset.len() {
+        let slot = keep(managers, alloc, primitive, i, keyset.record_at(i))?;
+        held.add(alloc, i, slot)?;
+    }
+    Ok(held)
+}
+
 impl<'m> Handle<'m> {
     /// The handle of a keyset's keys for a primitive, which isn't Stream.
     ///
@@ -145,11 +169,8 @@ impl<'m> Handle<'m> {
             ≡ ⟦<Managers as KeyTable>⟧.table managers.now) }
         ensures primitive { IfOk result (λ h. h.primitive ≡ primitive) }
     {
-        let mut held = Held::new(alloc, keyset.primary_at());
-        for i in 0..keyset.len() {
-            let slot = keep(managers, alloc, primitive, i, keyset.record_at(i))?;
-            held.add(alloc, i, slot)?;
-        }
+        let none = Held::new(alloc, keyset.primary_at());
+        let held = fill(managers, alloc, primitive, keyset, none)?;
         Ok(Handle {
             managers,
             primitive,

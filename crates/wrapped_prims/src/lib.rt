@@ -2,6 +2,7 @@
 //! tags, verifies and derives with the keys of a keyset, each checked by a manager.
 #![tactic(auto)]
 
+mod following;
 mod handle;
 mod held;
 mod keys;

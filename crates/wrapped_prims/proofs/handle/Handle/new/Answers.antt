@@ -1,19 +1,5 @@
-use Rattle.std.proofs.Common.{arith}
-use Rattle.wrapped_prims.proofs.KeepLemmas.{fault_here, fault_refused, kept_first, kept_last, kept_more}
+use Rattle.wrapped_prims.proofs.KeepLemmas.{kept_none}
 use Rattle.wrapped_prims.proofs.handle.Handle.new.Goals as goal
 
-pub loop-i-init : goal.loop-i-init
-loop-i-init g c = kept_first _ c.args.primitive c.args.keyset.now _ _ c.new-held.ensures c.primary_at.ensures.primary
-
-pub loop-i-preserved : goal.loop-i-preserved
-loop-i-preserved g c =
-    kept_more _ c.args.primitive c.args.keyset.now c.loop-i.i c.record_at.result.now _ _ c.in_ok-slot.slot c.loop-i.invariant c.record_at.ensures.record_there c.in_ok-slot.ensures.keeping c.in_ok-slot.ensures.word c.in_ok-add.ensures
-
-pub returns-in_err-slot-clause-fault : goal.returns-in_err-slot-clause-fault
-returns-in_err-slot-clause-fault g c =
-    fault_refused _ _ _ c.from_residual.ensures.1
-    (fault_here _ c.args.primitive c.args.keyset.now c.loop-i.i c.record_at.result.now _ c.in_err-slot.field-0.0 c.loop-i.invariant c.record_at.ensures.record_there c.in_err-slot.ensures.keeping)
-
-pub returns-clause-over : goal.returns-clause-over
-returns-clause-over g c =
-    kept_last _ c.args.primitive c.args.keyset.now _ _ c.primary_at.ensures.faultless (omega (arith, c.len-i-end.ensures.count, c.loop-i-test.false)) c.loop-i.invariant
+pub fill-requires-clause-begun : goal.fill-requires-clause-begun
+fill-requires-clause-begun g c = kept_none _ c.args.primitive c.args.keyset.now _ _ c.new-none.ensures c.primary_at.ensures.primary

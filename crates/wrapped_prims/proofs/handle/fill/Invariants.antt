@@ -1,7 +1,7 @@
 use Rattle.std.proofs.Common.{drop}
 use Rattle.managers.specs.Table.{Table, entries_by}
 use Rattle.wrapped_prims.specs.Adding.{IsKept}
-use Rattle.wrapped_prims.proofs.handle.Handle.new.Given as goal
+use Rattle.wrapped_prims.proofs.handle.fill.Given as goal
 
 abbrev pub invariant-loop-i : goal.invariant-loop-i
 invariant-loop-i g l =
