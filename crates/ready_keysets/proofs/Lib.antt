@@ -1,3 +1,4 @@
 pub mod DrawnLemmas
 pub mod ReadyLemmas
+pub mod StreamLemmas
 pub mod UnwrapLemmas

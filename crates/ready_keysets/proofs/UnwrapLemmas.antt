@@ -9,7 +9,8 @@ use Rattle.seal_wrap.specs.Wrapping.{IsRefusal}
 use Rattle.seal_wrap.specs.declared.unwrapping.UnwrapFault.{UnwrapFault}
 use Rattle.seal_wrap.specs.declared.unwrapping.UnwrapFault.TheVariants as faults
 use Rattle.wrapped_prims.specs.Fitness.{Unfit}
-use Rattle.ready_keysets.specs.Unwrapping.{IsLacking, IsNotInside, Lack, of_fit, refusal_of}
+use Rattle.ready_keysets.specs.Streaming.{IsUnfitForStreams}
+use Rattle.ready_keysets.specs.Unwrapping.{IsLacking, IsNoStreamsInside, IsNotInside, Lack, of_fit, refusal_of}
 use Rattle.ready_keysets.specs.Working.{IsUnfit}
 use Rattle.ready_keysets.specs.declared.refusal.Refusal.{Refusal}
 use Rattle.ready_keysets.specs.declared.refusal.Refusal.TheVariants as refusals
@@ -44,6 +45,35 @@ unfit_inside primitive encrypted master read keys refusals.FewRandomBytes is unf
 unfit_inside primitive encrypted master read keys refusals.Refused is unfit = absurd unfit
 unfit_inside primitive encrypted master read keys refusals.NoRoom is unfit = absurd unfit
 unfit_inside primitive encrypted master read keys refusals.NoMemory is unfit = tt
+
+-- the same of keys for streams
+pub lacking_streams : (encrypted master : ℕ) (read : Result Keys Lack) (refusal : Refusal)
+    → IsLacking read refusal → IsNoStreamsInside encrypted master read refusal
+lacking_streams encrypted master read refusals.NoMaster lacks = lacks
+lacking_streams encrypted master read refusals.UnfitMaster lacks = lacks
+lacking_streams encrypted master read refusals.NoWrapped lacks = lacks
+lacking_streams encrypted master read refusals.NoKeyset lacks = lacks
+lacking_streams encrypted master read refusals.UnfitKey lacks = absurd lacks
+lacking_streams encrypted master read refusals.OtherPrimitive lacks = absurd lacks
+lacking_streams encrypted master read refusals.TooLong lacks = absurd lacks
+lacking_streams encrypted master read refusals.FewRandomBytes lacks = absurd lacks
+lacking_streams encrypted master read refusals.Refused lacks = lacks
+lacking_streams encrypted master read refusals.NoRoom lacks = absurd lacks
+lacking_streams encrypted master read refusals.NoMemory lacks = tt
+
+pub unfit_streams : (encrypted master : ℕ) (read : Result Keys Lack) (keys : Keys) (refusal : Refusal)
+    → read ≡ Ok keys → IsUnfitForStreams keys refusal → IsNoStreamsInside encrypted master read refusal
+unfit_streams encrypted master read keys refusals.NoMaster is unfit = absurd unfit
+unfit_streams encrypted master read keys refusals.UnfitMaster is unfit = absurd unfit
+unfit_streams encrypted master read keys refusals.NoWrapped is unfit = absurd unfit
+unfit_streams encrypted master read keys refusals.NoKeyset is unfit = absurd unfit
+unfit_streams encrypted master read keys refusals.UnfitKey is unfit = record { keys = keys; keyset = is; unfit = unfit }
+unfit_streams encrypted master read keys refusals.OtherPrimitive is unfit = absurd unfit
+unfit_streams encrypted master read keys refusals.TooLong is unfit = absurd unfit
+unfit_streams encrypted master read keys refusals.FewRandomBytes is unfit = absurd unfit
+unfit_streams encrypted master read keys refusals.Refused is unfit = absurd unfit
+unfit_streams encrypted master read keys refusals.NoRoom is unfit = absurd unfit
+unfit_streams encrypted master read keys refusals.NoMemory is unfit = tt
 
 -- what is unwrapped under a master that can serve
 pub unwrapped_by_fit : (fault : Option (ℕ × Unfit)) (read : Result Keys unwrapped.Refusal) (keys : Keys)

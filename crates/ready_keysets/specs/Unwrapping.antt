@@ -6,7 +6,7 @@
 --   inside_under    what an encrypted text gives under a master
 --   keyset_inside   what the two texts give
 --   IsLacking       what a refusal says of that
---   IsNotInside     why no keyset was made ready
+--   IsNotInside, IsNoStreamsInside   why no keyset was made ready
 use Rattle.std.specs.Prelude.{◌≡◌, ◌<◌, ◌⊎◌, ℕ, Bool, List, if◌then◌else◌, Option, Some, None, Result, Ok, Err}
 use Rattle.std.specs.Result.{result_ok}
 use Rattle.key_msgs.specs.declared.primitive.Primitive.{Primitive}
@@ -21,6 +21,7 @@ use Rattle.seal_wrap.specs.Unwrapped as unwrapped
 use Rattle.seal_wrap.specs.declared.unwrapping.UnwrapFault.{UnwrapFault}
 use Rattle.seal_wrap.specs.declared.unwrapping.UnwrapFault.TheVariants as faults
 use Rattle.wrapped_prims.specs.Fitness.{Unfit, unfit}
+use Rattle.ready_keysets.specs.Streaming.{ReadNoStreams}
 use Rattle.ready_keysets.specs.Tables.{table_of}
 use Rattle.ready_keysets.specs.Texts.{ReadUnfit}
 use Rattle.ready_keysets.specs.declared.refusal.Refusal.{Refusal}
@@ -125,3 +126,10 @@ IsNotInside primitive encrypted_size master_size read refusals.TooLong =
     (encrypted_limit < encrypted_size) ⊎ (master_limit < master_size)
 IsNotInside primitive encrypted_size master_size read refusals.UnfitKey = ReadUnfit primitive read
 IsNotInside primitive encrypted_size master_size read refusal = IsLacking read refusal
+
+-- why none was made ready for streams
+abbrev pub IsNoStreamsInside : (encrypted_size master_size : ℕ) → Result Keys Lack → Refusal → Type 0
+IsNoStreamsInside encrypted_size master_size read refusals.TooLong =
+    (encrypted_limit < encrypted_size) ⊎ (master_limit < master_size)
+IsNoStreamsInside encrypted_size master_size read refusals.UnfitKey = ReadNoStreams read
+IsNoStreamsInside encrypted_size master_size read refusal = IsLacking read refusal

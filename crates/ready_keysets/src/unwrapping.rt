@@ -4,11 +4,12 @@ ghost use Rattle.std.specs.Prelude.{◌≡◌, ◌≢◌, ◌≤◌, length, ℕ
 ghost use Rattle.key_msgs.specs.declared.primitive.Primitive.TheVariants.{Aead, Stream};
 ghost use Rattle.keyset_model.specs.Keyset.{Keys};
 ghost use Rattle.wrapped_prims.specs.Making.{IsOver};
+ghost use Rattle.ready_keysets.specs.Streaming.{IsStreamsOf};
 ghost use Rattle.ready_keysets.specs.Tables.{table_of};
 ghost use Rattle.ready_keysets.specs.Texts.{IsOf};
-ghost use Rattle.ready_keysets.specs.Unwrapping.{GivesInside, GivesMaster, IsNotInside, inside_under, keyset_inside, master_in, refusal_of};
+ghost use Rattle.ready_keysets.specs.Unwrapping.{GivesInside, GivesMaster, IsNoStreamsInside, IsNotInside, inside_under, keyset_inside, master_in, refusal_of};
 
-use crate::{ReadyKeyset, Refusal, aead};
+use crate::{ReadyKeyset, Refusal, StreamKeyset, aead};
 use key_msgs::Primitive;
 use keyset_json::{JsonError, read_json};
 use keyset_model::{Keyset, ReadError, read_binary};
@@ -52,6 +53,36 @@ impl ReadyKeyset {
         }
         match keyset_inside(alloc, encrypted, encrypted_json, master, master_json) {
             Ok(keyset) => ReadyKeyset::new(alloc, keyset, primitive),
+            Err(refusal) => Err(refusal),
+        }
+    }
+}
+
+impl StreamKeyset {
+    /// Makes the keyset sealed in an encrypted text ready for streams. The texts, and what is
+    /// refused in which order, are those of `ReadyKeyset::of_wrapped`.
+    #[tactic(auto, using(crate::proofs::UnwrapLemmas::lacking_streams, crate::proofs::UnwrapLemmas::unfit_streams))]
+    pub fn of_wrapped(
+        alloc: Global,
+        encrypted: &[u8],
+        encrypted_json: bool,
+        master: &[u8],
+        master_json: bool,
+    ) -> Result<StreamKeyset, Refusal>
+        ensures made { IfOk result (IsStreamsOf
+            (keyset_inside encrypted.now encrypted_json master.now master_json)) }
+        ensures none { IfErr result (IsNoStreamsInside (length encrypted.now) (length master.now)
+            (keyset_inside encrypted.now encrypted_json master.now master_json)) }
+    {
+        if encrypted.len() > ENCRYPTED_LIMIT {
+            return Err(Refusal::TooLong);
+        }
+        if master.len() > MASTER_LIMIT {
+            return Err(Refusal::TooLong);
+        }
+        let inside = keyset_inside(alloc, encrypted, encrypted_json, master, master_json);
+        match inside {
+            Ok(keyset) => StreamKeyset::new(alloc, keyset),
             Err(refusal) => Err(refusal),
         }
     }
