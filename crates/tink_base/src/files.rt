@@ -1,13 +1,14 @@
 //! A store in memory that fails exactly at the calls it is told to fail.
 
-ghost use Rattle.std.specs.Prelude.{◌≡◌, ◌↔◌, ◌<◌, ◌^◌, length, drop, IfOk, IfSome, OnOk, OnErr, IsErr, IsErrOf, IsTrue, true, false, Contains, option_map};
+ghost use Rattle.std.specs.Prelude.{◌≡◌, ◌↔◌, ◌<◌, ◌≤◌, ◌^◌, length, take, drop, None, IfOk, IfSome, IsSome, OnOk, OnErr, IsErr, IsErrOf, IsTrue, true, false, Contains, option_map};
 ghost use Rattle.std.specs.FinMap as map;
 ghost use Rattle.tink_spec.specs.Outside.{Rose, RoseOnce, Stood, next};
 ghost use Rattle.tink_spec.specs.Files.{HoldsLonger, KeptFiles, MayAdd};
-ghost use Rattle.tink_base.specs.Memory.{told_store};
+ghost use Rattle.tink_base.specs.Memory.{told_store, told_draft};
+ghost use Rattle.tink_base.specs.Pieces.{Begins, Finishes, MayFinish, longer_draft};
 ghost use Rattle.tink_base.specs.Store.{Loads, Creates, HasSize, IsTaken, ReadsAt, GivenByLoad, given_by_read};
 
-use crate::{Bytes, Created, Failed, Loaded, NoMemory, Store, StoreError, Text};
+use crate::{Begun, Bytes, Created, Failed, Loaded, NoMemory, PieceStore, Store, StoreError, Text};
 use std::alloc::Global;
 use std::marker::Model;
 
@@ -20,33 +21,50 @@ pub struct MemStore {
     alloc: Global,
     // the newest first
     files: Vec<(Text, Bytes)>,
+    draft: Option<MemDraft>,
     fails: Vec<u64>,
     calls: u64,
     faults: u64,
     given: u64,
 }
 
+/// A new file before it has its name.
+#[derive(Drop)]
+pub(crate) struct MemDraft {
+    pub(crate) name: Text,
+    pub(crate) bytes: Vec<u8>,
+}
+
 impl Model for MemStore {
     ghost use Rattle.std.specs.FinMap as map;
+    ghost use Rattle.std.specs.Prelude.{option_map};
     ghost use Rattle.tink_base.specs.Memory.{StoreInMemory, store_code};
 
     ghost Value = { StoreInMemory };
 
     ghost coded = { store_code };
 
-    ghost view = { λ s. record { files = map.from_entries s.files.items; fails = s.fails.items; calls = s.calls; faults = s.faults; given = s.given } };
+    ghost view = { λ s. record { files = map.from_entries s.files.items; draft = option_map (λ d. (d.name, d.bytes.items)) s.draft; fails = s.fails.items; calls = s.calls; faults = s.faults; given = s.given } };
 }
 
 impl MemStore {
-    /// An empty store. A call of a `Store` method fails if and only if its number, counted from 1,
-    /// is in `fails`; then it changes nothing.
+    /// An empty store, without a draft. A call of a `Store` method, or of `begin` or `finish`,
+    /// fails if and only if its number, counted from 1, is in `fails`; then no file changes. An
+    /// `append` fails then, and also if memory can't be allocated. `give_up` isn't counted.
     pub fn new(alloc: Global, fails: Vec<u64>) -> MemStore
-        ensures { result ≡
-            record { files = map.empty; fails = fails.items; calls = 0; faults = 0; given = 0 } }
+        ensures { result ≡ record {
+          files = map.empty;
+          draft = None;
+          fails = fails.items;
+          calls = 0;
+          faults = 0;
+          given = 0;
+        } }
     {
         MemStore {
             alloc,
             files: Vec::new(alloc),
+            draft: None,
             fails,
             calls: 0,
             faults: 0,
@@ -62,10 +80,27 @@ impl MemStore {
     {
         let name = Text::copy(self.alloc, name)?;
         let bytes = Bytes::copy(self.alloc, bytes)?;
+        self.add(name, bytes)
+    }
+
+    /// Sets the file of this name. After `NoMemory` no file has changed.
+    fn add(&mut self, name: Text, bytes: Bytes) -> Result<(), NoMemory>
+        ensures set { OnOk result (self.new ≡
+            record self.old { files = map.insert self.old.files name bytes }) }
+        ensures kept { OnErr result (self.new ≡ self.old) }
+    {
         match self.files.insert(0, (name, bytes)) {
             Ok(()) => Ok(()),
             Err(_) => Err(NoMemory),
         }
+    }
+
+    /// Takes the draft out.
+    pub(crate) fn take_draft(&mut self) -> Option<MemDraft>
+        ensures taken { option_map (λ d. (d.name, d.bytes.items)) result ≡ self.old.draft }
+        ensures rest { self.new ≡ record self.old { draft = None } }
+    {
+        self.draft.take()
     }
 
     /// Lends the bytes of the file of this name, if there is one.
@@ -270,5 +305,135 @@ impl Store for MemStore {
                 Err(_) => Err(StoreError::NoMemory),
             },
         }
+    }
+}
+
+impl PieceStore for MemStore {
+    ghost draft = { λ s. told_draft s.draft };
+
+    fn begin(&mut self, alloc: Global, name: &str) -> Result<Begun, StoreError>
+        requires none { told_draft self.old.draft ≡ None }
+        ensures begins { IfOk result (λ begun.
+            Begins (told_store self.old) name.now (told_draft self.new.draft) begun) }
+        ensures none { IsErr result → told_draft self.new.draft ≡ None }
+        ensures kept { KeptFiles (told_store self.old) (told_store self.new) }
+        ensures no_fault { (IsErrOf result StoreError.Failed → ⊥) →
+            Stood self.old.faults self.new.faults }
+        ensures failed { IsErrOf result StoreError.Failed → Rose self.old.faults self.new.faults }
+        ensures once { IsErrOf result StoreError.Failed →
+            RoseOnce self.old.faults self.new.faults }
+        ensures given { self.new.given ≡ self.old.given }
+
+        // Exactly when it fails.
+        ensures listed { IsErrOf result StoreError.Failed ↔
+            Contains self.old.fails (next self.old.calls) }
+        ensures faultless { (IsErrOf result StoreError.Failed → ⊥) → self.new ≡
+            record self.old { draft = self.new.draft; calls = next self.old.calls } }
+        ensures faulty { IsErrOf result StoreError.Failed → self.new ≡
+            record self.old { calls = next self.old.calls; faults = next self.old.faults } }
+    {
+        if self.fails_now() {
+            return Err(StoreError::Failed);
+        }
+        match self.get(name) {
+            Some(_) => Ok(Begun::Exists),
+            None => match Text::copy(alloc, name) {
+                Ok(name) => {
+                    let bytes = Vec::new(alloc);
+                    self.draft = Some(MemDraft { name, bytes });
+                    Ok(Begun::Empty)
+                }
+                Err(_) => Err(StoreError::NoMemory),
+            },
+        }
+    }
+
+    fn append(&mut self, piece: &[u8]) -> Result<usize, Failed>
+        requires begun { IsSome (told_draft self.old.draft) }
+        ensures bound { IfOk result (λ n. n ≤ length piece.now) }
+        ensures some { IfOk result (λ n. 0 < length piece.now → 0 < n) }
+        ensures appends { IfOk result (λ n. told_draft self.new.draft ≡
+            option_map (λ d. longer_draft d (take n piece.now)) (told_draft self.old.draft)) }
+        ensures unchanged { OnErr result (told_draft self.new.draft ≡ told_draft self.old.draft) }
+        ensures kept { KeptFiles (told_store self.old) (told_store self.new) }
+        ensures no_fault { OnOk result (Stood self.old.faults self.new.faults) }
+        ensures failed { OnErr result (Rose self.old.faults self.new.faults) }
+        ensures once { OnErr result (RoseOnce self.old.faults self.new.faults) }
+        ensures given { self.new.given ≡ self.old.given }
+
+        // When it fails, and that it takes all bytes otherwise.
+        ensures listed { Contains self.old.fails (next self.old.calls) → IsErr result }
+        ensures whole { IfOk result (λ n. n ≡ length piece.now) }
+        ensures faultless { OnOk result (self.new ≡
+            record self.old { draft = self.new.draft; calls = next self.old.calls }) }
+        ensures faulty { OnErr result (self.new ≡
+            record self.old { calls = next self.old.calls; faults = next self.old.faults }) }
+    {
+        if self.fails_now() {
+            return Err(Failed);
+        }
+        match &mut self.draft {
+            Some(draft) => match draft.bytes.extend_from_slice(piece) {
+                Ok(()) => Ok(piece.len()),
+                Err(_) => {
+                    self.faults = self.faults.saturating_add(1);
+                    Err(Failed)
+                }
+            },
+            None => unreachable!(),
+        }
+    }
+
+    fn finish(&mut self) -> Result<Created, StoreError>
+        requires begun { IsSome (told_draft self.old.draft) }
+        ensures finishes { IfOk result (λ made.
+            Finishes (told_store self.old) (told_store self.new) (told_draft self.old.draft) made) }
+        ensures may_finish { IsErrOf result StoreError.Failed →
+            MayFinish (told_store self.old) (told_store self.new) (told_draft self.old.draft) }
+        ensures no_memory { IsErrOf result StoreError.NoMemory →
+            KeptFiles (told_store self.old) (told_store self.new) }
+        ensures none { told_draft self.new.draft ≡ None }
+        ensures no_fault { (IsErrOf result StoreError.Failed → ⊥) →
+            Stood self.old.faults self.new.faults }
+        ensures failed { IsErrOf result StoreError.Failed → Rose self.old.faults self.new.faults }
+        ensures once { IsErrOf result StoreError.Failed →
+            RoseOnce self.old.faults self.new.faults }
+        ensures given { self.new.given ≡ self.old.given }
+
+        // Exactly when it fails, and that it changes no file then.
+        ensures listed { IsErrOf result StoreError.Failed ↔
+            Contains self.old.fails (next self.old.calls) }
+        ensures faultless { (IsErrOf result StoreError.Failed → ⊥) → self.new ≡
+            record self.old
+            { files = self.new.files; draft = None; calls = next self.old.calls } }
+        ensures faulty { IsErrOf result StoreError.Failed → self.new ≡ record self.old
+            { draft = None; calls = next self.old.calls; faults = next self.old.faults } }
+    {
+        let fails = self.fails_now();
+        let Some(MemDraft { name, bytes }) = self.take_draft() else {
+            unreachable!()
+        };
+        if fails {
+            return Err(StoreError::Failed);
+        }
+        match self.get(name.as_str()) {
+            Some(_taken) => Ok(Created::Exists),
+            None => match self.add(name, Bytes::own(bytes)) {
+                Ok(()) => Ok(Created::Made),
+                Err(_) => Err(StoreError::NoMemory),
+            },
+        }
+    }
+
+    fn give_up(&mut self)
+        ensures none { told_draft self.new.draft ≡ None }
+        ensures kept { KeptFiles (told_store self.old) (told_store self.new) }
+        ensures no_fault { Stood self.old.faults self.new.faults }
+        ensures given { self.new.given ≡ self.old.given }
+
+        // Nothing else changes.
+        ensures rest { self.new ≡ record self.old { draft = None } }
+    {
+        let _ = self.take_draft();
     }
 }

@@ -1,7 +1,7 @@
 use Rattle.std.proofs.Common.{◌≡◌, take, drop, inr, sym, ap, ◌∙◌, arith, Some}
 use Rattle.std.proofs.lemmas.List.{take-append-drop}
 use Rattle.tink_base.specs.Memory.{TornInMemory}
-use Rattle.tink_base.proofs.torn.TornStoreStore.create.Goals as goal
+use Rattle.tink_base.proofs.torn.TornStore.break_off.Goals as goal
 
 -- the first bytes of the file are left
 pub returns-in-Ok-clause-may_add : goal.returns-in-Ok-clause-may_add
