@@ -4,3 +4,4 @@ pub mod FillingSlices
 pub mod DrawnAhead
 pub mod KeptNames
 pub mod DeviceLemmas
+pub mod Copies

@@ -7,8 +7,11 @@ use Rattle.std.specs.declared.fs.attrs.Metadata.{Metadata}
 use Rattle.std.specs.declared.io.ErrorKind.{ErrorKind}
 use Rattle.std.specs.declared.io.ErrorKind.TheVariants as kind
 use Rattle.real_objects.specs.declared.folder.DirStore.{DirStore}
+use Rattle.real_objects.specs.declared.named.Aside.{Aside}
+use Rattle.real_objects.specs.Named.{left_path}
 use Rattle.real_objects.specs.Streams.{untold_store}
 use Rattle.tink_spec.specs.Files.{StoreState}
+use Rattle.tink_base.specs.Pieces.{Draft}
 use Rattle.tink_base.specs.declared.store.Loaded.{Loaded}
 use Rattle.tink_base.specs.declared.store.Loaded.TheVariants as loaded
 
@@ -19,6 +22,14 @@ told_files files = untold_store files.faults files.given
 -- the path that the files keep of one which was made under a name aside that couldn't be removed
 abbrev pub kept_path : DirStore → Option (List ℕ)
 kept_path files = option_map string_bytes files.left
+
+-- the path that they keep once a file was made under this name aside: its own, if the name couldn't be removed
+abbrev pub last_path : Option (List ℕ) → Aside → Option (List ℕ)
+last_path kept made = elim (left_path made) [ None ↦ kept | Some path ↦ Some path ]
+
+-- the draft, of which its name alone is told
+abbrev pub drafted : DirStore → Option Draft
+drafted files = option_map (λ draft. record { name = string_bytes draft.name; bytes = None }) files.draft
 
 -- what a load finds of a file of these bytes under this limit
 abbrev pub IsLoaded : List ℕ → ℕ → Loaded → Type 0

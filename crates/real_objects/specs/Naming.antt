@@ -2,7 +2,7 @@
 --
 --   held, lasted   what a file held when it got the name, and whether it lasted then, where files tell that
 --   fresh          what a file holds that was just made, where files tell that
-use Rattle.std.specs.Prelude.{◌≡◌, ◌⊎◌, ℕ, List, Bool, IsTrue, Option, IfSome, Result, Ok, Err}
+use Rattle.std.specs.Prelude.{◌≡◌, ◌⊎◌, ℕ, List, Bool, IsTrue, Option, None, IfSome, IsSome, Result, Ok, Err, IfOk, IfErr}
 use Rattle.std.specs.Io.KnownBytes.{Appends}
 use Rattle.std.specs.declared.io.ErrorKind.{ErrorKind}
 use Rattle.std.specs.declared.io.ErrorKind.TheVariants as kind
@@ -80,3 +80,19 @@ EndsAs fresh bytes result Linkless = ⊥
 EndsAs fresh bytes result (Linked held lasted) = IsWhole fresh bytes held lasted × (result ≡ Err error.Failed)
 EndsAs fresh bytes result Opened = result ≡ Err error.Failed
 EndsAs fresh bytes result (Kept held lasted) = IsWhole fresh bytes held lasted × (result ≡ Ok created.Made)
+
+-- what a file that was to be begun is told as, by how far its name came: it is begun where a file of ours stands under
+-- a name aside and its owner is let in, and memory is wanting only where a call said so before a file was made
+abbrev pub BeginsAs : {F : Type 0} → Result (Option F) StoreError → Stage → Type 0
+BeginsAs result Free = result ≡ Err error.Failed
+BeginsAs result Starved = result ≡ Err error.NoMemory
+BeginsAs result Begun = IfOk result (λ file. IsSome file) × IfErr result (λ e. e ≡ error.Failed)
+BeginsAs result Taken = result ≡ Ok None
+BeginsAs result Linkless = ⊥
+BeginsAs result (Linked held lasted) = ⊥
+BeginsAs result Opened = ⊥
+BeginsAs result (Kept held lasted) = ⊥
+
+-- all bytes of a file were added to another, where it tells its bytes
+abbrev pub CopiesTo : (from old new : Option (List ℕ)) → Type 0
+CopiesTo from old new = IfSome from (λ all. Appends old new all)

@@ -2,22 +2,23 @@
 //! functions that read and fill one file are about the file's bytes, if it reports them. How a new
 //! file gets its name is in `naming`, and reading at an offset in `placed`.
 
-ghost use Rattle.std.specs.Prelude.{◌≡◌, ◌≢◌, ◌^◌, ◌≤◌, Bool, Option, true, false, None, [], min, IfOk, IfErr, IsOk, IsErr, IsOkAnd, IsErrOf, IfSome, OnOk, option_map};
+ghost use Rattle.std.specs.Prelude.{◌≡◌, ◌≢◌, ◌^◌, ◌<◌, ◌≤◌, Bool, Option, true, false, None, [], length, take, drop, min, IfOk, IfErr, IsOk, IsErr, IsOkAnd, IsErrOf, IfSome, OnOk, option_map};
 ghost use Rattle.std.specs.Io.KnownBytes.{Appends, Keeps};
 ghost use Rattle.std.specs.IoError.{error_kind};
 ghost use Rattle.tink_base.specs.Store.{GivenByLoad, Loads};
-ghost use Rattle.real_objects.specs.Folder.{IsLoaded, IsMissing, kept_path, told_files};
+ghost use Rattle.real_objects.specs.Folder.{IsLoaded, IsMissing, drafted, kept_path, last_path, told_files};
 ghost use Rattle.real_objects.specs.Naming.{Lasts};
 ghost use Rattle.real_objects.specs.Streams.{untold_store};
 
+use crate::drafting::{append_piece, begin_file, finish_file, give_up_file};
 use crate::named::{DirName, free_place};
 use crate::naming::make_file;
-use crate::placed::{read_opened, size_of};
+use crate::placed::{placed_through_signals, read_opened, size_of};
 use std::alloc::Global;
 use std::fs::{self, File, OpenFile, Permissions};
 use std::io::{self, ErrorKind, Read, Write};
 use std::os::unix::fs::{MetadataExt, PermissionsExt};
-use tink_base::{Bytes, Created, Failed, Loaded, Store, StoreError};
+use tink_base::{Begun, Bytes, Created, Failed, Loaded, PieceStore, Store, StoreError};
 
 /// The most bytes that a load returns; longer files count as too long under any limit.
 const MOST: usize = 1 << 30;
@@ -32,12 +33,26 @@ pub struct DirStore<'a> {
     faults: u64,
     given: u64,
     left: Option<String>,
+    draft: Option<DirDraft>,
+}
+
+/// A new file that is written in pieces, under a temporary name.
+#[derive(Drop)]
+struct DirDraft {
+    // for the call that goes on with the name
+    alloc: Global,
+    name: String,
+    // the folder, if it may be read
+    folder: Option<File>,
+    aside: String,
+    file: File,
 }
 
 impl<'a> DirStore<'a> {
     /// The files, before the first call.
     pub fn new(rt: &'a HostRuntime) -> DirStore<'a>
         ensures none_left { kept_path result ≡ None }
+        ensures no_draft { drafted result ≡ None }
         ensures new { told_files result ≡ untold_store 0 0 }
     {
         DirStore {
@@ -45,6 +60,7 @@ impl<'a> DirStore<'a> {
             faults: 0,
             given: 0,
             left: None,
+            draft: None,
         }
     }
 
@@ -55,6 +71,18 @@ impl<'a> DirStore<'a> {
         match &self.left {
             Some(path) => Some(path.as_str()),
             None => None,
+        }
+    }
+
+    /// Keeps the path of a file whose temporary name couldn't be removed, if there is one.
+    fn keep_left(&mut self, place: DirName<'_>)
+        ensures left { kept_path self.new ≡ last_path (kept_path self.old) place.entry.aside }
+        ensures drafted { drafted self.new ≡ drafted self.old }
+        ensures faults { self.new.faults ≡ self.old.faults }
+        ensures given { self.new.given ≡ self.old.given }
+    {
+        if let Some(path) = place.into_left() {
+            self.left = Some(path);
         }
     }
 }
@@ -125,6 +153,96 @@ impl Store for DirStore<'_> {
                 Err(error)
             }
         }
+    }
+}
+
+impl PieceStore for DirStore<'_> {
+    ghost draft = { λ s. drafted s };
+
+    /// Memory is taken for the paths. The file is made under a temporary name in the name's folder,
+    /// and stays there if the program is killed.
+    fn begin(&mut self, alloc: Global, name: &str) -> Result<Begun, StoreError> {
+        let Ok(copy) = String::from_str(alloc, name) else {
+            return Err(StoreError::NoMemory);
+        };
+        let mut place = DirName::new(alloc, self.rt, name);
+        match begin_file(&mut place) {
+            Ok(Some(file)) => {
+                let (folder, aside) = place.into_begun();
+                self.draft = Some(DirDraft {
+                    alloc,
+                    name: copy,
+                    folder,
+                    aside,
+                    file,
+                });
+                Ok(Begun::Empty)
+            }
+            Ok(None) => Ok(Begun::Exists),
+            Err(error) => {
+                self.keep_left(place);
+                if error == StoreError::Failed {
+                    self.faults = self.faults.saturating_add(1);
+                }
+                Err(error)
+            }
+        }
+    }
+
+    fn append(&mut self, piece: &[u8]) -> Result<usize, Failed> {
+        let Some(mut draft) = self.draft.take() else {
+            unreachable!()
+        };
+        let appended = append_piece(&mut draft.file, piece);
+        self.draft = Some(draft);
+        match appended {
+            Ok(n) => Ok(n),
+            Err(_) => {
+                self.faults = self.faults.saturating_add(1);
+                Err(Failed)
+            }
+        }
+    }
+
+    fn finish(&mut self) -> Result<Created, StoreError> {
+        let Some(draft) = self.draft.take() else {
+            unreachable!()
+        };
+        let DirDraft {
+            alloc,
+            name,
+            folder,
+            aside,
+            mut file,
+        } = draft;
+        let mut place = DirName::begun(alloc, self.rt, &name, folder, aside);
+        let made = finish_file(&mut place, &mut file);
+        self.keep_left(place);
+        match made {
+            Ok(created) => Ok(created),
+            Err(error) => {
+                if error == StoreError::Failed {
+                    self.faults = self.faults.saturating_add(1);
+                }
+                Err(error)
+            }
+        }
+    }
+
+    fn give_up(&mut self) {
+        let Some(draft) = self.draft.take() else {
+            return;
+        };
+        let DirDraft {
+            alloc,
+            name,
+            folder,
+            aside,
+            ..
+        } = draft;
+        let mut place = DirName::begun(alloc, self.rt, &name, folder, aside);
+        give_up_file(&mut place);
+        self.keep_left(place);
     }
 }
 
@@ -237,6 +355,15 @@ pub trait NewFile: Write {
     fn put_away(&mut self) -> io::Result<()>
         ensures lasts { OnOk result (Lasts (lasts self.new)) }
         ensures kept { Keeps (Self.contents self.old) (Self.contents self.new) };
+
+    /// Reads bytes that were written, from offset `at` on, at most as many as `out` has: none only
+    /// at the end.
+    fn read_back(&self, at: u64, out: &mut [u8]) -> io::Result<usize>
+        ensures bound { IfOk result (λ n. n ≤ length out.new) }
+        ensures reads { IfOk result (λ n. IfSome (Self.contents self.now) (λ all.
+            take n out.new ≡ take n (drop at all))) }
+        ensures end { IfOk result (λ n. n ≡ 0 → 0 < length out.old →
+            IfSome (Self.contents self.now) (λ all. length all ≤ at)) };
 }
 
 impl NewFile for File {
@@ -252,6 +379,10 @@ impl NewFile for File {
 
     fn put_away(&mut self) -> io::Result<()> {
         self.sync_all()
+    }
+
+    fn read_back(&self, at: u64, out: &mut [u8]) -> io::Result<usize> {
+        placed_through_signals(self, at, out)
     }
 }
 

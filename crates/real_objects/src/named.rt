@@ -1,7 +1,7 @@
 //! The path of a new file, and the temporary paths in its folder. Each call looks the path up
 //! again: there are no calls relative to an open folder.
 
-ghost use Rattle.std.specs.Prelude.{◌≡◌, ◌≢◌, Option, None, IfOk, IfErr, IsOk, OnOk, OnErr, option_map, string_bytes};
+ghost use Rattle.std.specs.Prelude.{◌≡◌, ◌≢◌, Option, Some, None, IfOk, IfErr, IsOk, OnOk, OnErr, option_map, string_bytes};
 ghost use Rattle.std.specs.IoError.{error_kind};
 ghost use Rattle.real_objects.specs.Folder.{IsFolder};
 ghost use Rattle.real_objects.specs.Named.{left_path, place_of, there_path};
@@ -50,6 +50,39 @@ impl<'a> DirName<'a> {
             name,
             folder: None,
             aside: Aside::Gone,
+        }
+    }
+
+    /// The path of a file that was begun under a temporary path, with its folder, if that may be
+    /// read.
+    pub(crate) fn begun(
+        alloc: Global,
+        rt: &'a HostRuntime,
+        name: &'a str,
+        folder: Option<File>,
+        aside: String,
+    ) -> DirName<'a>
+        ensures there { place_of result.aside ≡ There }
+        ensures path { there_path result.aside ≡ Some (string_bytes aside) }
+    {
+        DirName {
+            rt,
+            alloc,
+            name,
+            folder,
+            aside: Aside::There(aside),
+        }
+    }
+
+    /// The folder, if it may be read, and the temporary path of the file that was begun.
+    pub(crate) fn into_begun(self) -> (Option<File>, String)
+        requires there { place_of self.aside ≡ There }
+        ensures path { there_path self.entry.aside ≡ Some (string_bytes result.1) }
+    {
+        let DirName { folder, aside, .. } = self;
+        match aside {
+            Aside::There(path) => (folder, path),
+            Aside::Gone | Aside::Left(_) => unreachable!(),
         }
     }
 
@@ -220,9 +253,13 @@ pub fn folder_of(name: &str) -> &str
     }
 }
 
-/// Opens a new file of this path. An existing one isn't replaced.
+/// Opens a new file of this path, which may be read back. An existing one isn't replaced.
 fn open_new(rt: &HostRuntime, name: &str) -> io::Result<File> {
     let mut options = OpenOptions::new();
-    options.write(true).create_new(true).mode(OWNER_ALONE);
+    options
+        .read(true)
+        .write(true)
+        .create_new(true)
+        .mode(OWNER_ALONE);
     options.open(rt, name)
 }

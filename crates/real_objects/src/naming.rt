@@ -130,7 +130,7 @@ pub fn make_file<N: NewName>(name: &mut N, bytes: &[u8]) -> Result<Created, Stor
 }
 
 /// Makes a new file under a temporary name that is free.
-fn open_aside<N: NewName>(name: &mut N) -> io::Result<N::File>
+pub(crate) fn open_aside<N: NewName>(name: &mut N) -> io::Result<N::File>
     requires free { IsAt (N.stage name.old) Free }
     ensures fresh { IfOk result (λ file. Keeps N.fresh (N.File.contents file)) }
     ensures begun { OnOk result (IsAt (N.stage name.new) Begun) }
@@ -175,7 +175,7 @@ fn give_name<N: NewName>(name: &mut N, file: &N::File, bytes: &[u8]) -> Result<C
 
 /// Gives the name to a file. If linking fails but the file has the name, for instance because a
 /// server got the call twice, it counts as linked.
-fn link_file<N: NewName>(name: &mut N, file: &N::File) -> io::Result<()>
+pub(crate) fn link_file<N: NewName>(name: &mut N, file: &N::File) -> io::Result<()>
     requires begun { IsAt (N.stage name.old) Begun }
     requires there { N.aside name.old ≡ There }
     ensures linked { OnOk result (IsAt (N.stage name.new)
@@ -217,7 +217,7 @@ fn fill_named<N: NewName>(name: &mut N, bytes: &[u8]) -> Result<Created, StoreEr
 }
 
 /// Waits until the file's name is stored.
-fn keep_name<N: NewName>(name: &mut N, file: &N::File) -> Result<Created, StoreError>
+pub(crate) fn keep_name<N: NewName>(name: &mut N, file: &N::File) -> Result<Created, StoreError>
     ensures made { IfOk result (λ made. (made ≡ Created.Made) × (N.stage name.new ≡ option_map
         (kept_as (N.File.contents file.now) (N.File.lasts file.now)) (N.stage name.old))) }
     ensures failed { IfErr result (λ error. (error ≡ StoreError.Failed) ×

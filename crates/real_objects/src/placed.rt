@@ -88,7 +88,11 @@ pub fn read_opened<F: PlacedFile + Drop>(
 }
 
 /// One read at an offset, tried again if a signal interrupted it.
-fn placed_through_signals<F: PlacedFile>(file: &F, at: u64, out: &mut [u8]) -> io::Result<usize>
+pub(crate) fn placed_through_signals<F: PlacedFile>(
+    file: &F,
+    at: u64,
+    out: &mut [u8],
+) -> io::Result<usize>
     ensures bound { IfOk result (λ n. n ≤ length out.new) }
     ensures reads { IfOk result (λ n. IfSome (F.bytes file.now) (λ all.
         take n out.new ≡ take n (drop at all))) }

@@ -1,5 +1,8 @@
 //! Files of the file system, in the folder where the test runs.
 
+ghost use Rattle.std.specs.Prelude.{◌≡◌, ◌≢◌, None, IsSome, OnOk};
+ghost use Rattle.real_objects.specs.Folder.{drafted};
+
 use real_objects::{DirName, DirStore, NewName};
 use std::alloc::Global;
 use std::fs::{self, DirEntry, File};
@@ -7,7 +10,7 @@ use std::io::{self, ErrorKind, Write};
 use std::os::unix::fs::{MetadataExt, symlink};
 use std::test::Fail;
 use test_words::{cell, counting, create_word, load_word, number_in, same_bytes, same_text};
-use tink_base::Store;
+use tink_base::{Begun, PieceStore, Store, StoreError, append_all};
 
 /// Loads a file under this limit, which is to have these bytes.
 fn loads(
@@ -421,4 +424,96 @@ fn tells_a_name_aside_that_stays(rt: HostRuntime) -> Result<(), Fail> {
     let left = name.into_left().ok_or("a path")?;
     same_text("stays", "what is left", &path, &left)?;
     Ok(fs::remove_dir_all(&rt, "stays")?)
+}
+
+/// Begins a draft, which is answered so.
+fn begins(
+    store: &mut DirStore<'_>,
+    alloc: Global,
+    name: &str,
+    want: Result<Begun, StoreError>,
+) -> Result<(), Fail>
+    requires none { drafted store.old ≡ None }
+    ensures begun { OnOk result (want ≡ Ok Begun.Empty → IsSome (drafted store.new)) }
+    ensures unbegun { OnOk result (want ≢ Ok Begun.Empty → drafted store.new ≡ None) }
+{
+    let found = store.begin(alloc, name);
+    if found != want {
+        return Err(Fail::new(format_args!("{name}: {found:?}, and not {want:?}")));
+    }
+    Ok(())
+}
+
+/// Finishes a draft of these two pieces, which is answered so.
+fn finishes(store: &mut DirStore<'_>, name: &str, want: &str) -> Result<(), Fail>
+    requires begun { IsSome (drafted store.old) }
+    ensures none { OnOk result (drafted store.new ≡ None) }
+{
+    let first = append_all(store, b"by");
+    let second = append_all(store, b"tes");
+    let answer = store.finish();
+    if first.is_err() || second.is_err() {
+        return Err("an append failed".into());
+    }
+    same_text(name, "the finish", want, create_word(&answer))
+}
+
+// The name isn't there before the finish, and the file is whole and its owner's alone afterwards.
+#[test]
+fn writes_a_file_in_pieces(rt: HostRuntime) -> Result<(), Fail> {
+    make_empty(&rt, "pieces")?;
+    let mut store = DirStore::new(&rt);
+    begins(&mut store, rt.alloc(), "pieces/k", Ok(Begun::Empty))?;
+    is_absent(&rt, "pieces/k")?;
+    has_aside(&rt, "pieces", 1)?;
+    finishes(&mut store, "pieces/k", "made")?;
+    holds(&rt, "pieces/k", "bytes")?;
+    is_private(&rt, "pieces/k")?;
+    has_aside(&rt, "pieces", 0)?;
+    begins(&mut store, rt.alloc(), "pieces/k", Ok(Begun::Exists))?;
+    has_aside(&rt, "pieces", 0)?;
+    begins(
+        &mut store,
+        rt.alloc(),
+        "pieces/none/k",
+        Err(StoreError::Failed),
+    )?;
+    Ok(fs::remove_dir_all(&rt, "pieces")?)
+}
+
+// A name that is taken meanwhile stays as it is, and a folder that is gone is a fault.
+#[test]
+fn finishes_no_file_whose_place_is_gone(rt: HostRuntime) -> Result<(), Fail> {
+    make_empty(&rt, "meanwhile")?;
+    let mut store = DirStore::new(&rt);
+    begins(&mut store, rt.alloc(), "meanwhile/k", Ok(Begun::Empty))?;
+    fs::write(&rt, "meanwhile/k", "theirs")?;
+    finishes(&mut store, "meanwhile/k", "exists")?;
+    holds(&rt, "meanwhile/k", "theirs")?;
+    has_aside(&rt, "meanwhile", 0)?;
+    begins(&mut store, rt.alloc(), "meanwhile/l", Ok(Begun::Empty))?;
+    fs::remove_dir_all(&rt, "meanwhile")?;
+    finishes(&mut store, "meanwhile/l", "failed")?;
+    is_absent(&rt, "meanwhile")
+}
+
+/// Begins a draft and drops its store.
+fn drop_draft(rt: &HostRuntime, name: &str) -> Result<(), Fail> {
+    let mut store = DirStore::new(rt);
+    begins(&mut store, rt.alloc(), name, Ok(Begun::Empty))
+}
+
+// A draft that is given up leaves nothing. One that is dropped leaves its name aside, as a killed run does.
+#[test]
+fn a_draft_that_is_not_finished_has_no_name(rt: HostRuntime) -> Result<(), Fail> {
+    make_empty(&rt, "unfinished")?;
+    let mut store = DirStore::new(&rt);
+    begins(&mut store, rt.alloc(), "unfinished/k", Ok(Begun::Empty))?;
+    store.give_up();
+    is_absent(&rt, "unfinished/k")?;
+    has_aside(&rt, "unfinished", 0)?;
+    drop_draft(&rt, "unfinished/k")?;
+    is_absent(&rt, "unfinished/k")?;
+    has_aside(&rt, "unfinished", 1)?;
+    Ok(fs::remove_dir_all(&rt, "unfinished")?)
 }

@@ -5,12 +5,13 @@ ghost use Rattle.real_objects.specs.Naming.{Free, HasNoLinks, kept_as};
 ghost use Rattle.host_tests.specs.Names.{stage_of, place_of};
 
 use crate::folder::came::{Came, Stands};
-use crate::folder::opened::Page;
-use real_objects::{NewName, make_file};
+use crate::folder::opened::{NOT_BACK, Page};
+use real_objects::{NewName, append_piece, begin_file, finish_file, give_up_file, make_file};
 use std::alloc::Global;
 use std::io::{self, ErrorKind};
 use std::test::Fail;
 use test_words::{cell, create_word, same_text};
+use tink_base::{Created, Failed, StoreError};
 
 /// A name that tells its calls, and refuses those that a text names, each with its error.
 #[derive(Drop)]
@@ -66,12 +67,15 @@ impl Traced<'_> {
         refusal(self.refused, call)
     }
 
-    /// A new file, of whose calls the first lets its owner in, and the second writes.
+    /// A new file, of whose calls the first lets its owner in, and the second writes. It may refuse to be
+    /// read back.
     fn page(&self) -> Page {
         let fails = if refusal(self.refused, "admit").is_err() {
             1
         } else if refusal(self.refused, "write").is_err() {
             2
+        } else if refusal(self.refused, "back").is_err() {
+            NOT_BACK
         } else {
             0
         };
@@ -309,5 +313,70 @@ fn gives_up_where_each_name_aside_is_taken(rt: HostRuntime) -> Result<(), Fail> 
     let answer = make_file(&mut name, b"x");
     same_text("all taken", "the answer", "failed", create_word(&answer))?;
     assert_eq!(rt; name.calls.len(), "look aside".len() + 99 * " again".len());
+    Ok(())
+}
+
+// The same of a draft: each stage that fails, and where the file aside is in the end. `back` reads the file
+// back, to copy it where there are no links.
+const DRAFTS: [&str; 18] = [
+    "a new file | | made | look aside link clear put | gone",
+    "the name is taken | look exists | exists | look | gone",
+    "there is no folder | look missing | failed | look | gone",
+    "there is no memory | look memory | no memory | look | gone",
+    "no file can be made | aside denied | failed | look aside | gone",
+    "no memory for a name aside | aside memory | no memory | look aside | gone",
+    "the owner isn't let in | admit denied | failed | look aside clear | gone",
+    "a write fails, and it is given up | write full | failed | look aside clear | gone",
+    "the name was taken since | link exists | exists | look aside link ours clear | gone",
+    "another failure of the link | link full | failed | look aside link ours clear | gone",
+    "a link lost on its way | link full, ours so | made | look aside link ours clear put | gone",
+    "links aren't supported | link unsupported | made | look aside link ours clear open put | gone",
+    "taken, and no links | link denied, open exists | exists | look aside link ours clear open | gone",
+    "no memory, and no links | link denied, open memory | failed | look aside link ours clear open | gone",
+    "not read back, and no links | link denied, back so | failed | look aside link ours clear open | gone",
+    "the name isn't put away | put full | failed | look aside link clear put | gone",
+    "the name aside stays | clear denied | made | look aside link clear put | left",
+    "it stays behind one given up | write full, clear denied | failed | look aside clear | left",
+];
+
+/// Writes ten bytes to a new file, piece by piece.
+fn write_pieces(file: &mut Page) -> Result<(), Failed> {
+    for piece in [b"ten", b" by", b"tes", b".\n\n"] {
+        append_piece(file, piece)?;
+    }
+    Ok(())
+}
+
+/// Writes a draft of ten bytes under a name, and gives it up where a write fails.
+fn write_draft(name: &mut Traced<'_>) -> Result<Created, StoreError>
+    requires { stage_of name.old.came ≡ Free }
+{
+    let Some(mut file) = begin_file(name)? else {
+        return Ok(Created::Exists);
+    };
+    match write_pieces(&mut file) {
+        Ok(()) => finish_file(name, &mut file),
+        Err(_) => {
+            give_up_file(name);
+            Err(StoreError::Failed)
+        }
+    }
+}
+
+/// Writes the draft of a row.
+fn assert_draft(alloc: Global, row: &str) -> Result<(), Fail> {
+    let mut name = named_by(alloc, cell(row, 1)?);
+    let answer = write_draft(&mut name);
+    same_text(row, "the answer", cell(row, 2)?, create_word(&answer))?;
+    same_text(row, "the calls", cell(row, 3)?, &name.calls)?;
+    let stands = stands_word(name.stands);
+    same_text(row, "the name aside", cell(row, 4)?, stands)
+}
+
+#[test]
+fn links_a_draft_once_it_is_whole_and_lasts(rt: HostRuntime) -> Result<(), Fail> {
+    for row in &DRAFTS {
+        assert_draft(rt.alloc(), row)?;
+    }
     Ok(())
 }

@@ -8,6 +8,9 @@ use std::io::{self, ErrorKind, Read, Write};
 use std::test::Fail;
 use test_words::{create_word, load_word, same_bytes, same_text};
 
+/// The number of no call, for a page that can't be read back.
+pub(crate) const NOT_BACK: u32 = u32::MAX;
+
 /// A file in memory, of which one call moves some bytes at the most. The call of this number fails,
 /// from 1.
 #[derive(Drop)]
@@ -90,6 +93,23 @@ impl NewFile for Page {
         self.call()?;
         self.put_away = true;
         Ok(())
+    }
+
+    /// A page that fails at no call but this one isn't read back.
+    fn read_back(&self, at: u64, buf: &mut [u8]) -> io::Result<usize> {
+        if self.fails == NOT_BACK {
+            return Err(io::Error::from(ErrorKind::Other));
+        }
+        let mut n = 0usize;
+        let mut place = 0u64;
+        for byte in &self.bytes {
+            if place >= at && n < self.piece && n < buf.len() {
+                buf[n] = *byte;
+                n += 1;
+            }
+            place = place.wrapping_add(1);
+        }
+        Ok(n.min(buf.len()))
     }
 }
 

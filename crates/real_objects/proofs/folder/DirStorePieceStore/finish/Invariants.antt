@@ -1,0 +1,6 @@
+use Rattle.std.proofs.Common.{[]}
+use Rattle.real_objects.proofs.folder.DirStorePieceStore.finish.Given as goal
+
+-- a file of the system tells no bytes, so that any do
+abbrev pub ghost-finish_file : goal.ghost-finish_file
+ghost-finish_file a = []
