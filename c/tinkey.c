@@ -26,6 +26,7 @@ MAKERS(aead)
 MAKERS(daead)
 MAKERS(mac)
 MAKERS(prf)
+MAKERS(streaming)
 
 int32_t tinkey_core_seal(struct shared_keys *, const uint8_t *random, size_t, const uint8_t *plain, size_t,
                          const uint8_t *ad, size_t, uint8_t *out, size_t, size_t *size);
@@ -41,10 +42,27 @@ int32_t tinkey_core_derive(struct shared_keys *, const uint8_t *input, size_t, s
                            uint8_t *out, size_t, size_t *size);
 void tinkey_core_free(struct shared_keys *);
 
+/* Keys for streams, and streams, lie at such a place too. */
+int32_t tinkey_core_stream_begin_sealing(struct shared_keys *, const uint8_t *random, size_t, const uint8_t *ad, size_t,
+                                         struct shared_keys *sealing);
+int32_t tinkey_core_stream_begin_opening(struct shared_keys *, const uint8_t *ad, size_t, struct shared_keys *opening);
+int32_t tinkey_core_stream_seal(struct shared_keys *, const uint8_t *plain, size_t, uint8_t *out, size_t, size_t *size);
+int32_t tinkey_core_stream_seal_last(struct shared_keys *, uint8_t *out, size_t, size_t *size);
+int32_t tinkey_core_stream_open(struct shared_keys *, const uint8_t *bytes, size_t, uint8_t *out, size_t, size_t *size);
+int32_t tinkey_core_stream_open_last(struct shared_keys *, uint8_t *out, size_t, size_t *size);
+size_t tinkey_core_stream_waiting(struct shared_keys *);
+void tinkey_core_stream_free(struct shared_keys *);
+
 /* ---- What is passed on. */
 
 /* As many random bytes as the longest IV takes, which is EAX's, and as many again. */
 enum { RANDOM = 32 };
+
+/* As many as the longest salt and nonce prefix of a stream take. */
+enum { STREAM_RANDOM = 39 };
+
+/* The bytes that a pass over a stream reads at once, and the room for what they give to begin with. */
+enum { PIECE = 65536, PIECE_ROOM = 2 * PIECE };
 
 /* More bytes than any AEAD adds: 5 of prefix, 16 of IV and 64 of tag. AES-SIV adds 5 and 16. The longest tag has 64
  * bytes behind 5. */
@@ -91,9 +109,13 @@ static int is_new_enough(void) {
 #endif
 }
 
-/* ---- Handles: the same behind each of the four types. */
+/* ---- Handles: the same behind each of the types. */
+
+/* What a handle holds, so that one of another kind is refused. The primitive of keys is tested by the exports. */
+enum kind { KEYS, STREAM_KEYS, SEALING, OPENING };
 
 struct handle {
+    enum kind kind;
     struct shared_keys keys;
     pthread_mutex_t one_call;
 };
@@ -101,17 +123,18 @@ struct handle {
 typedef int32_t maker(const uint8_t *, size_t, struct shared_keys *);
 typedef int32_t unwrapper(const uint8_t *, size_t, bool, const uint8_t *, size_t, bool, struct shared_keys *);
 
-/* A handle without keys, or NULL. */
-static struct handle *blank(void) {
+/* A handle that holds nothing yet, or NULL. */
+static struct handle *blank(enum kind kind) {
     struct handle *made = calloc(1, sizeof *made);
     if (made && pthread_mutex_init(&made->one_call, NULL)) {
         free(made);
         made = NULL;
     }
+    if (made) made->kind = kind;
     return made;
 }
 
-/* Gives a handle out if its keys were made, and else lets it go. */
+/* Gives a handle out if what it holds was made, and else lets it go. */
 static tinkey_status give(struct handle *made, int32_t status, void **out) {
     if (!status) {
         *out = made;
@@ -122,12 +145,12 @@ static tinkey_status give(struct handle *made, int32_t status, void **out) {
     return (tinkey_status)status;
 }
 
-static tinkey_status make(maker *core, const void *text, size_t len, void **out) {
+static tinkey_status make(enum kind kind, maker *core, const void *text, size_t len, void **out) {
     if (!out || is_missing(text, len)) return TINKEY_BAD_CALL;
     if (is_huge(len)) return TINKEY_TOO_LONG;
     if (!is_new_enough()) return TINKEY_OLD_PROCESSOR;
     int before = errno;
-    struct handle *made = blank();
+    struct handle *made = blank(kind);
     tinkey_status status = give(made, made ? core(at(text, len), len, &made->keys) : TINKEY_NO_MEMORY, out);
     errno = before;
     return status;
@@ -135,14 +158,14 @@ static tinkey_status make(maker *core, const void *text, size_t len, void **out)
 
 static int is_form(tinkey_form form) { return form == TINKEY_JSON || form == TINKEY_BINARY; }
 
-static tinkey_status unwrap(unwrapper *core, const void *text, size_t len, tinkey_form form, const void *master,
-                            size_t master_len, tinkey_form master_form, void **out) {
+static tinkey_status unwrap(enum kind kind, unwrapper *core, const void *text, size_t len, tinkey_form form,
+                            const void *master, size_t master_len, tinkey_form master_form, void **out) {
     if (!out || is_missing(text, len) || is_missing(master, master_len) || !is_form(form) || !is_form(master_form))
         return TINKEY_BAD_CALL;
     if (is_huge(len) || is_huge(master_len)) return TINKEY_TOO_LONG;
     if (!is_new_enough()) return TINKEY_OLD_PROCESSOR;
     int before = errno;
-    struct handle *made = blank();
+    struct handle *made = blank(kind);
     tinkey_status status = give(made, made ? core(at(text, len), len, form == TINKEY_JSON, at(master, master_len),
                                                   master_len, master_form == TINKEY_JSON, &made->keys)
                                            : TINKEY_NO_MEMORY, out);
@@ -153,7 +176,7 @@ static tinkey_status unwrap(unwrapper *core, const void *text, size_t len, tinke
 static void let_go(struct handle *handle) {
     if (!handle) return;
     int before = errno;
-    if (handle->keys.at) tinkey_core_free(&handle->keys);
+    if (handle->keys.at) (handle->kind == KEYS ? tinkey_core_free : tinkey_core_stream_free)(&handle->keys);
     pthread_mutex_destroy(&handle->one_call);
     free(handle);
     errno = before;
@@ -187,11 +210,12 @@ static tinkey_status fault(const void *handle, const struct call *call) {
 typedef int32_t worker(struct shared_keys *, const uint8_t *, size_t, const uint8_t *, size_t,
                        uint8_t *, size_t, size_t *);
 
-static tinkey_status run(void *which, worker *core, const struct call *call) {
+static tinkey_status run(void *which, enum kind kind, worker *core, const struct call *call) {
     tinkey_status bad = fault(which, call);
     if (bad) return bad;
     int before = errno;
     struct handle *handle = which;
+    if (handle->kind != kind) return TINKEY_OTHER_PRIMITIVE;
     pthread_mutex_lock(&handle->one_call);
     int32_t status = core(&handle->keys, at(call->first, call->first_len), call->first_len,
                           at(call->second, call->second_len), call->second_len,
@@ -232,10 +256,10 @@ static int32_t derive_all(struct shared_keys *keys, const uint8_t *input, size_t
 
 /* ---- What the header names. */
 
-#define HANDLES(primitive)                                                                                    \
+#define HANDLES(primitive, kind)                                                                              \
     tinkey_status tinkey_##primitive##_new(const void *json, size_t json_len, tinkey_##primitive **handle) {  \
         void *made = NULL;                                                                                    \
-        tinkey_status status = handle ? make(tinkey_core_##primitive##_of_json, json, json_len, &made)        \
+        tinkey_status status = handle ? make(kind, tinkey_core_##primitive##_of_json, json, json_len, &made)  \
                                       : TINKEY_BAD_CALL;                                                      \
         if (!status) *handle = made;                                                                          \
         return status;                                                                                        \
@@ -243,8 +267,8 @@ static int32_t derive_all(struct shared_keys *keys, const uint8_t *input, size_t
     tinkey_status tinkey_##primitive##_new_binary(const void *bytes, size_t bytes_len,                        \
                                                   tinkey_##primitive **handle) {                              \
         void *made = NULL;                                                                                    \
-        tinkey_status status = handle ? make(tinkey_core_##primitive##_of_binary, bytes, bytes_len, &made)    \
-                                      : TINKEY_BAD_CALL;                                                      \
+        tinkey_status status = handle ? make(kind, tinkey_core_##primitive##_of_binary, bytes, bytes_len,     \
+                                             &made) : TINKEY_BAD_CALL;                                        \
         if (!status) *handle = made;                                                                          \
         return status;                                                                                        \
     }                                                                                                         \
@@ -252,7 +276,7 @@ static int32_t derive_all(struct shared_keys *keys, const uint8_t *input, size_t
                                                    tinkey_form form, const void *master, size_t master_len,   \
                                                    tinkey_form master_form, tinkey_##primitive **handle) {    \
         void *made = NULL;                                                                                    \
-        tinkey_status status = handle ? unwrap(tinkey_core_##primitive##_of_wrapped, encrypted,               \
+        tinkey_status status = handle ? unwrap(kind, tinkey_core_##primitive##_of_wrapped, encrypted,         \
                                                encrypted_len, form, master, master_len, master_form, &made)   \
                                       : TINKEY_BAD_CALL;                                                      \
         if (!status) *handle = made;                                                                          \
@@ -260,10 +284,11 @@ static int32_t derive_all(struct shared_keys *keys, const uint8_t *input, size_t
     }                                                                                                         \
     void tinkey_##primitive##_free(tinkey_##primitive *handle) { let_go((struct handle *)handle); }
 
-HANDLES(aead)
-HANDLES(daead)
-HANDLES(mac)
-HANDLES(prf)
+HANDLES(aead, KEYS)
+HANDLES(daead, KEYS)
+HANDLES(mac, KEYS)
+HANDLES(prf, KEYS)
+HANDLES(streaming, STREAM_KEYS)
 
 size_t tinkey_aead_seal_room(size_t plain_len) { return sum(plain_len, AEAD_MORE); }
 size_t tinkey_aead_open_room(size_t sealed_len) { return sealed_len; }
@@ -276,45 +301,197 @@ size_t tinkey_mac_tag_room(void) { return TAG_MOST; }
 tinkey_status tinkey_aead_seal(tinkey_aead *handle, const void *plain, size_t plain_len, const void *ad,
                                size_t ad_len, void *out, size_t out_room, size_t *out_len) {
     struct call call = {plain, ad, plain_len, ad_len, out, least(out_room, tinkey_aead_seal_room(plain_len)), out_len};
-    return run(handle, seal_freshly, &call);
+    return run(handle, KEYS, seal_freshly, &call);
 }
 
 tinkey_status tinkey_aead_open(tinkey_aead *handle, const void *sealed, size_t sealed_len, const void *ad,
                                size_t ad_len, void *out, size_t out_room, size_t *out_len) {
     struct call call = {sealed, ad, sealed_len, ad_len, out, least(out_room, sealed_len), out_len};
-    return run(handle, tinkey_core_open, &call);
+    return run(handle, KEYS, tinkey_core_open, &call);
 }
 
 tinkey_status tinkey_daead_seal(tinkey_daead *handle, const void *plain, size_t plain_len, const void *ad,
                                 size_t ad_len, void *out, size_t out_room, size_t *out_len) {
     struct call call = {plain, ad, plain_len, ad_len, out, least(out_room, tinkey_daead_seal_room(plain_len)), out_len};
-    return run(handle, tinkey_core_dseal, &call);
+    return run(handle, KEYS, tinkey_core_dseal, &call);
 }
 
 tinkey_status tinkey_daead_open(tinkey_daead *handle, const void *sealed, size_t sealed_len, const void *ad,
                                 size_t ad_len, void *out, size_t out_room, size_t *out_len) {
     struct call call = {sealed, ad, sealed_len, ad_len, out, least(out_room, sealed_len), out_len};
-    return run(handle, tinkey_core_dopen, &call);
+    return run(handle, KEYS, tinkey_core_dopen, &call);
 }
 
 tinkey_status tinkey_mac_tag(tinkey_mac *handle, const void *body, size_t body_len, void *out, size_t out_room,
                              size_t *out_len) {
     struct call call = {body, NULL, body_len, 0, out, least(out_room, TAG_MOST), out_len};
-    return run(handle, tag_alone, &call);
+    return run(handle, KEYS, tag_alone, &call);
 }
 
 tinkey_status tinkey_mac_verify(tinkey_mac *handle, const void *tag, size_t tag_len, const void *body,
                                 size_t body_len) {
     size_t unused = 0;
     struct call call = {tag, body, tag_len, body_len, NULL, 0, &unused};
-    return run(handle, verify_both, &call);
+    return run(handle, KEYS, verify_both, &call);
 }
 
 tinkey_status tinkey_prf_derive(tinkey_prf *handle, const void *input, size_t input_len, void *out, size_t count) {
     size_t made = 0;
     if (is_huge(count)) return handle ? TINKEY_TOO_LONG : TINKEY_BAD_CALL;
     struct call call = {input, NULL, input_len, 0, out, count, &made};
-    return run(handle, derive_all, &call);
+    return run(handle, KEYS, derive_all, &call);
+}
+
+/* ---- Streams. */
+
+typedef int32_t beginner(struct shared_keys *, const uint8_t *ad, size_t, struct shared_keys *stream);
+
+/* A stream begun under keys, whose calls are kept one at a time meanwhile. */
+static tinkey_status begin(void *keys, enum kind kind, beginner *core, const void *ad, size_t ad_len, void **out) {
+    if (!keys || !out || is_missing(ad, ad_len)) return TINKEY_BAD_CALL;
+    if (is_huge(ad_len)) return TINKEY_TOO_LONG;
+    struct handle *of = keys;
+    if (of->kind != STREAM_KEYS) return TINKEY_OTHER_PRIMITIVE;
+    int before = errno;
+    struct handle *made = blank(kind);
+    int32_t status = TINKEY_NO_MEMORY;
+    if (made) {
+        pthread_mutex_lock(&of->one_call);
+        status = core(&of->keys, at(ad, ad_len), ad_len, &made->keys);
+        pthread_mutex_unlock(&of->one_call);
+    }
+    status = give(made, status, out);
+    errno = before;
+    return (tinkey_status)status;
+}
+
+static int32_t begin_freshly(struct shared_keys *keys, const uint8_t *ad, size_t ad_len, struct shared_keys *stream) {
+    uint8_t random[STREAM_RANDOM];
+    if (!draw(random, sizeof random)) return TINKEY_NO_RANDOM;
+    return tinkey_core_stream_begin_sealing(keys, random, sizeof random, ad, ad_len, stream);
+}
+
+tinkey_status tinkey_sealing_new(tinkey_streaming *keys, const void *ad, size_t ad_len, tinkey_sealing **handle) {
+    void *made = NULL;
+    tinkey_status status = handle ? begin(keys, SEALING, begin_freshly, ad, ad_len, &made) : TINKEY_BAD_CALL;
+    if (!status) *handle = made;
+    return status;
+}
+
+tinkey_status tinkey_opening_new(tinkey_streaming *keys, const void *ad, size_t ad_len, tinkey_opening **handle) {
+    void *made = NULL;
+    tinkey_status status = handle ? begin(keys, OPENING, tinkey_core_stream_begin_opening, ad, ad_len, &made)
+                                  : TINKEY_BAD_CALL;
+    if (!status) *handle = made;
+    return status;
+}
+
+void tinkey_sealing_free(tinkey_sealing *handle) { let_go((struct handle *)handle); }
+void tinkey_opening_free(tinkey_opening *handle) { let_go((struct handle *)handle); }
+
+#define STEPS(work, kind, core)                                                                                     \
+    static int32_t work##_more(struct shared_keys *stream, const uint8_t *bytes, size_t len, const uint8_t *none,   \
+                               size_t no_len, uint8_t *out, size_t room, size_t *size) {                            \
+        (void)none;                                                                                                 \
+        (void)no_len;                                                                                               \
+        return core(stream, bytes, len, out, room, size);                                                           \
+    }                                                                                                               \
+    static int32_t work##_end(struct shared_keys *stream, const uint8_t *none, size_t no_len, const uint8_t *empty, \
+                              size_t empty_len, uint8_t *out, size_t room, size_t *size) {                          \
+        (void)none;                                                                                                 \
+        (void)no_len;                                                                                               \
+        (void)empty;                                                                                                \
+        (void)empty_len;                                                                                            \
+        return core##_last(stream, out, room, size);                                                                \
+    }                                                                                                               \
+    tinkey_status tinkey_##work##_update(tinkey_##work *handle, const void *bytes, size_t len, void *out,           \
+                                         size_t out_room, size_t *out_len) {                                        \
+        struct call call = {bytes, NULL, len, 0, out, out_room, out_len};                                           \
+        return is_huge(out_room) ? TINKEY_BAD_CALL : run(handle, kind, work##_more, &call);                         \
+    }                                                                                                               \
+    tinkey_status tinkey_##work##_finish(tinkey_##work *handle, void *out, size_t out_room, size_t *out_len) {      \
+        struct call call = {NULL, NULL, 0, 0, out, out_room, out_len};                                              \
+        return is_huge(out_room) ? TINKEY_BAD_CALL : run(handle, kind, work##_end, &call);                          \
+    }                                                                                                               \
+    size_t tinkey_##work##_waiting(tinkey_##work *handle) { return waiting((struct handle *)handle, kind); }
+
+/* How many bytes of a stream are kept for want of room. */
+static size_t waiting(struct handle *handle, enum kind kind) {
+    if (!handle || handle->kind != kind) return 0;
+    int before = errno;
+    pthread_mutex_lock(&handle->one_call);
+    size_t count = tinkey_core_stream_waiting(&handle->keys);
+    pthread_mutex_unlock(&handle->one_call);
+    errno = before;
+    return count;
+}
+
+STEPS(sealing, SEALING, tinkey_core_stream_seal)
+STEPS(opening, OPENING, tinkey_core_stream_open)
+
+/* ---- Passes over a stream: what a caller reads is taken, and what it gives is written, in one buffer each. */
+
+struct pass {
+    tinkey_reader *read;
+    tinkey_writer *write;
+    void *reading, *writing;
+    uint8_t *piece, *out;
+    size_t room;
+};
+
+/* One step of a stream. Where the room is too small, the bytes were taken, and what is kept is asked for again. */
+static tinkey_status step(struct pass *pass, struct handle *stream, worker *core, size_t len, size_t *made) {
+    struct call call = {pass->piece, NULL, len, 0, pass->out, pass->room, made};
+    tinkey_status status = run(stream, stream->kind, core, &call);
+    if (status != TINKEY_NO_ROOM) return status;
+    size_t room = waiting(stream, stream->kind);
+    uint8_t *larger = realloc(pass->out, room);
+    if (!larger) return TINKEY_NO_MEMORY;
+    pass->out = larger;
+    pass->room = room;
+    call = (struct call){NULL, NULL, 0, 0, larger, room, made};
+    return run(stream, stream->kind, core, &call);
+}
+
+static tinkey_status go_through(struct pass *pass, struct handle *stream, worker *more, worker *last) {
+    for (;;) {
+        ptrdiff_t got = pass->read(pass->reading, pass->piece, PIECE);
+        if (got < 0 || got > PIECE) return TINKEY_CALLBACK;
+        size_t made = 0;
+        tinkey_status status = step(pass, stream, got ? more : last, (size_t)got, &made);
+        if (status) return status;
+        if (made && pass->write(pass->writing, pass->out, made)) return TINKEY_CALLBACK;
+        if (!got) return TINKEY_OK;
+    }
+}
+
+static tinkey_status pass_through(void *stream, worker *more, worker *last, tinkey_reader *read, void *reading,
+                                  tinkey_writer *write, void *writing) {
+    struct pass pass = {read, write, reading, writing, malloc(PIECE), malloc(PIECE_ROOM), PIECE_ROOM};
+    tinkey_status status = pass.piece && pass.out ? go_through(&pass, stream, more, last) : TINKEY_NO_MEMORY;
+    free(pass.piece);
+    free(pass.out);
+    return status;
+}
+
+tinkey_status tinkey_stream_seal(tinkey_streaming *keys, const void *ad, size_t ad_len, tinkey_reader *read,
+                                 void *reading, tinkey_writer *write, void *writing) {
+    tinkey_sealing *sealing = NULL;
+    if (!read || !write) return TINKEY_BAD_CALL;
+    tinkey_status status = tinkey_sealing_new(keys, ad, ad_len, &sealing);
+    if (!status) status = pass_through(sealing, sealing_more, sealing_end, read, reading, write, writing);
+    tinkey_sealing_free(sealing);
+    return status;
+}
+
+tinkey_status tinkey_stream_open(tinkey_streaming *keys, const void *ad, size_t ad_len, tinkey_reader *read,
+                                 void *reading, tinkey_writer *write, void *writing) {
+    tinkey_opening *opening = NULL;
+    if (!read || !write) return TINKEY_BAD_CALL;
+    tinkey_status status = tinkey_opening_new(keys, ad, ad_len, &opening);
+    if (!status) status = pass_through(opening, opening_more, opening_end, read, reading, write, writing);
+    tinkey_opening_free(opening);
+    return status;
 }
 
 const char *tinkey_status_text(tinkey_status status) {
@@ -333,6 +510,8 @@ const char *tinkey_status_text(tinkey_status status) {
     case TINKEY_NO_MASTER: return "the text of the master is no keyset";
     case TINKEY_UNFIT_MASTER: return "a key of the master can't serve as an AEAD";
     case TINKEY_NO_WRAPPED: return "the text is no encrypted keyset";
+    case TINKEY_ENDED: return "the stream has ended, or a call of it has failed";
+    case TINKEY_CALLBACK: return "reading or writing failed";
     }
     return "no such status";
 }

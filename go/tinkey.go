@@ -100,8 +100,8 @@ import (
 // An Error is a status of the library other than TINKEY_OK, by its number. Compare it with [errors.Is].
 type Error int
 
-// The statuses. [ErrOtherPrimitive], [ErrNoRoom] and [ErrBadCall] can't come from the calls of this package, except for
-// a [Form] that isn't one.
+// The statuses. [ErrOtherPrimitive], [ErrNoRoom], [ErrBadCall], [ErrEnded] and [ErrCallback] can't come from the calls of
+// this package, except for a [Form] that isn't one.
 const (
 	ErrRefused        Error = C.TINKEY_REFUSED         // nothing opens the bytes or the encrypted keyset, or the tag isn't the body's
 	ErrNoKeyset       Error = C.TINKEY_NO_KEYSET       // the text, or what was encrypted, isn't a keyset in that form
@@ -116,6 +116,8 @@ const (
 	ErrNoMaster       Error = C.TINKEY_NO_MASTER       // the text of the master isn't a keyset in that form
 	ErrUnfitMaster    Error = C.TINKEY_UNFIT_MASTER    // an ENABLED key of the master can't serve as an AEAD
 	ErrNoWrapped      Error = C.TINKEY_NO_WRAPPED      // the text isn't an encrypted keyset in that form
+	ErrEnded          Error = C.TINKEY_ENDED           // a stream has ended
+	ErrCallback       Error = C.TINKEY_CALLBACK        // a function for reading or writing failed
 )
 
 // ErrClosed is the error of a call on a handle that is closed.

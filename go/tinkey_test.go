@@ -309,7 +309,8 @@ func TestAClosedHandleDoesNothing(t *testing.T) {
 func TestEachErrorHasATextOfItsOwn(t *testing.T) {
 	seen := map[string]bool{}
 	for _, err := range []error{ErrRefused, ErrNoKeyset, ErrUnfitKey, ErrOtherPrimitive, ErrNoRoom, ErrTooLong,
-		ErrNoRandom, ErrNoMemory, ErrBadCall, ErrOldProcessor, ErrNoMaster, ErrUnfitMaster, ErrNoWrapped, ErrClosed} {
+		ErrNoRandom, ErrNoMemory, ErrBadCall, ErrOldProcessor, ErrNoMaster, ErrUnfitMaster, ErrNoWrapped, ErrEnded,
+		ErrCallback, ErrClosed} {
 		if seen[err.Error()] || !strings.HasPrefix(err.Error(), "tinkey: ") {
 			t.Error(err)
 		}

@@ -37,20 +37,23 @@ extern "C" {
 typedef enum tinkey_status {
     TINKEY_OK = 0,
     TINKEY_REFUSED = 1,         /* nothing opens the bytes with this associated data, no key of the master opens the
-                                   encrypted keyset, or the tag isn't the body's */
+                                   encrypted keyset, the tag isn't the body's, or the bytes are no whole stream */
     TINKEY_NO_KEYSET = 2,       /* the text is no keyset of that form, or what was encrypted is no keyset */
     TINKEY_UNFIT_KEY = 3,       /* an ENABLED key of the keyset can't serve for the primitive */
     TINKEY_OTHER_PRIMITIVE = 4, /* the handle is one of another primitive */
-    TINKEY_NO_ROOM = 5,         /* `out` is shorter than the answer */
+    TINKEY_NO_ROOM = 5,         /* `out` is shorter than the answer, which a stream keeps */
     TINKEY_TOO_LONG = 6,        /* an input has more than 2^30 bytes, an encrypted keyset more than 4,194,304 or its
-                                   master more than 1,048,576, or the key derives fewer bytes */
+                                   master more than 1,048,576, the key derives fewer bytes, or a stream has more
+                                   than 2^32 segments */
     TINKEY_NO_RANDOM = 7,       /* the system gives no random bytes */
     TINKEY_NO_MEMORY = 8,
     TINKEY_BAD_CALL = 9,        /* a null pointer, an unknown form, or an output that overlaps something else */
     TINKEY_OLD_PROCESSOR = 10,  /* the processor lacks what the library is built for */
     TINKEY_NO_MASTER = 11,      /* the text of the master is no keyset of that form */
     TINKEY_UNFIT_MASTER = 12,   /* an ENABLED key of the master can't serve as an AEAD */
-    TINKEY_NO_WRAPPED = 13      /* the text is no encrypted keyset of that form */
+    TINKEY_NO_WRAPPED = 13,     /* the text is no encrypted keyset of that form */
+    TINKEY_ENDED = 14,          /* the stream has ended, or a call of it has failed */
+    TINKEY_CALLBACK = 15        /* the caller's own function for reading or writing failed */
 } tinkey_status;
 
 /* A line of English for a status. */
@@ -61,6 +64,12 @@ typedef struct tinkey_aead tinkey_aead;
 typedef struct tinkey_daead tinkey_daead;
 typedef struct tinkey_mac tinkey_mac;
 typedef struct tinkey_prf tinkey_prf;
+typedef struct tinkey_streaming tinkey_streaming;
+
+/* A stream that is being sealed, and one that is being opened. Its handle owns what it needs, so that the keys may be
+ * freed before it. */
+typedef struct tinkey_sealing tinkey_sealing;
+typedef struct tinkey_opening tinkey_opening;
 
 /* ---- A handle of a keyset in Tink's JSON, and one of a keyset in the binary form.
  *
@@ -74,6 +83,9 @@ TINKEY_CHECKED tinkey_status tinkey_mac_new(const void *json, size_t json_len, t
 TINKEY_CHECKED tinkey_status tinkey_mac_new_binary(const void *bytes, size_t bytes_len, tinkey_mac **handle);
 TINKEY_CHECKED tinkey_status tinkey_prf_new(const void *json, size_t json_len, tinkey_prf **handle);
 TINKEY_CHECKED tinkey_status tinkey_prf_new_binary(const void *bytes, size_t bytes_len, tinkey_prf **handle);
+TINKEY_CHECKED tinkey_status tinkey_streaming_new(const void *json, size_t json_len, tinkey_streaming **handle);
+TINKEY_CHECKED tinkey_status tinkey_streaming_new_binary(const void *bytes, size_t bytes_len,
+                                                         tinkey_streaming **handle);
 
 /* ---- A handle of a keyset that is encrypted under another one, its master: Tink's `EncryptedKeyset`, of at most
  * 4,194,304 bytes, as Tink and `tinkey wrap-keyset` write it, and the master in clear, of at most 1,048,576. Each
@@ -96,12 +108,18 @@ TINKEY_CHECKED tinkey_status tinkey_mac_new_wrapped(const void *encrypted, size_
 TINKEY_CHECKED tinkey_status tinkey_prf_new_wrapped(const void *encrypted, size_t encrypted_len, tinkey_form form,
                                                     const void *master, size_t master_len, tinkey_form master_form,
                                                     tinkey_prf **handle);
+TINKEY_CHECKED tinkey_status tinkey_streaming_new_wrapped(const void *encrypted, size_t encrypted_len, tinkey_form form,
+                                                          const void *master, size_t master_len,
+                                                          tinkey_form master_form, tinkey_streaming **handle);
 
 /* Lets a handle go. NULL is let be. */
 void tinkey_aead_free(tinkey_aead *handle);
 void tinkey_daead_free(tinkey_daead *handle);
 void tinkey_mac_free(tinkey_mac *handle);
 void tinkey_prf_free(tinkey_prf *handle);
+void tinkey_streaming_free(tinkey_streaming *handle);
+void tinkey_sealing_free(tinkey_sealing *handle);
+void tinkey_opening_free(tinkey_opening *handle);
 
 /* ---- The room that an output needs at the most; SIZE_MAX where that is more than a size_t holds. */
 
@@ -147,6 +165,56 @@ TINKEY_CHECKED tinkey_status tinkey_mac_verify(tinkey_mac *handle, const void *t
 /* Derives `count` bytes from the input under the primary key. TINKEY_TOO_LONG where it gives fewer. */
 TINKEY_CHECKED tinkey_status tinkey_prf_derive(tinkey_prf *handle, const void *input, size_t input_len,
                                                void *out, size_t count);
+
+/* ---- Streams: Tink's streaming AEADs, AES-GCM-HKDF and AES-CTR-HMAC, of any length.
+ *
+ * A stream takes its input in pieces of any size, by `update`, and then `finish`. What these calls write, one after
+ * another, is the stream of the whole plaintext, or the plaintext of the whole stream, however the input was cut. An
+ * `update` with few bytes may write none: a segment is written once a byte follows it.
+ *
+ * TINKEY_NO_ROOM is answered in another way than elsewhere: the input was taken, and what it gives is kept. `waiting`
+ * says how many bytes that are, and another `update` with no input, or another `finish`, writes them. `out` and
+ * `*out_len` are as they were meanwhile, as after every other status than TINKEY_OK.
+ *
+ * Opening writes no byte of a segment before the segment has authenticated in its place, and a byte follows it or
+ * `finish` was called. Only `finish` says that the stream is whole, with TINKEY_OK: a stream that was cut off anywhere
+ * is refused there. TINKEY_REFUSED comes from `update` as soon as the bytes decide it. After TINKEY_REFUSED,
+ * TINKEY_TOO_LONG (a stream has at most 2^32 segments) and TINKEY_NO_MEMORY the stream has ended, and after that every
+ * call answers TINKEY_ENDED. Plaintext that was written by then is right, and isn't all. */
+
+/* Begins to seal a stream under the primary key, with a fresh salt and nonce prefix. */
+TINKEY_CHECKED tinkey_status tinkey_sealing_new(tinkey_streaming *keys, const void *ad, size_t ad_len,
+                                                tinkey_sealing **handle);
+TINKEY_CHECKED tinkey_status tinkey_sealing_update(tinkey_sealing *handle, const void *plain, size_t plain_len,
+                                                   void *out, size_t out_room, size_t *out_len);
+TINKEY_CHECKED tinkey_status tinkey_sealing_finish(tinkey_sealing *handle, void *out, size_t out_room,
+                                                   size_t *out_len);
+size_t tinkey_sealing_waiting(tinkey_sealing *handle);
+
+/* Begins to open a stream under the first ENABLED key that opens its first segment. */
+TINKEY_CHECKED tinkey_status tinkey_opening_new(tinkey_streaming *keys, const void *ad, size_t ad_len,
+                                                tinkey_opening **handle);
+TINKEY_CHECKED tinkey_status tinkey_opening_update(tinkey_opening *handle, const void *sealed, size_t sealed_len,
+                                                   void *out, size_t out_room, size_t *out_len);
+TINKEY_CHECKED tinkey_status tinkey_opening_finish(tinkey_opening *handle, void *out, size_t out_room,
+                                                   size_t *out_len);
+size_t tinkey_opening_waiting(tinkey_opening *handle);
+
+/* Reads at most `room` bytes into `bytes`, and says how many: 0 only at the end, and a negative number where reading
+ * failed. Writes all of the bytes, and answers 0, or another number where writing failed. `state` is what the caller
+ * of the pass gave. They may call the library. */
+typedef ptrdiff_t tinkey_reader(void *state, void *bytes, size_t room);
+typedef int tinkey_writer(void *state, const void *bytes, size_t len);
+
+/* One pass: seals what is read and writes the stream, or opens the stream that is read and writes its plaintext. It is
+ * a loop in C over the calls above, so no proof covers it. TINKEY_CALLBACK where reading or writing failed. What was
+ * written where the status isn't TINKEY_OK is a part of the answer, and to be thrown away. */
+TINKEY_CHECKED tinkey_status tinkey_stream_seal(tinkey_streaming *keys, const void *ad, size_t ad_len,
+                                                tinkey_reader *read, void *reading,
+                                                tinkey_writer *write, void *writing);
+TINKEY_CHECKED tinkey_status tinkey_stream_open(tinkey_streaming *keys, const void *ad, size_t ad_len,
+                                                tinkey_reader *read, void *reading,
+                                                tinkey_writer *write, void *writing);
 
 #ifdef __cplusplus
 }

@@ -15,9 +15,10 @@ makes its own handles.
 import ctypes
 import os
 import threading
-from typing import Any, Optional, Sequence, Type, TypeVar, Union
+from typing import Any, BinaryIO, Optional, Sequence, Type, TypeVar, Union
 
 Buffer = Union[bytes, bytearray, memoryview]
+Own = TypeVar("Own", bound="_Owned")
 Self = TypeVar("Self", bound="_Handle")
 
 _library = ctypes.CDLL(os.environ.get("TINKEY_LIBRARY", "libtinkey.so.0"))
@@ -113,6 +114,18 @@ class NoWrapped(TinkeyError):
     status = 13
 
 
+class Ended(TinkeyError):
+    """The stream has ended, or a call of it has failed."""
+
+    status = 14
+
+
+class Callback(TinkeyError):
+    """The caller's own function for reading or writing failed."""
+
+    status = 15
+
+
 _ERRORS = {it.status: it for it in TinkeyError.__subclasses__()}
 
 
@@ -138,8 +151,8 @@ _TEXT = (ctypes.c_char_p, _size, ctypes.c_int)
 _OUTPUT = (ctypes.c_char_p, _size, ctypes.POINTER(_size))
 
 
-class _Handle:
-    """The keys of a keyset for one primitive."""
+class _Owned:
+    """What the library holds for this module, and lets go once."""
 
     _name = ""
 
@@ -150,6 +163,33 @@ class _Handle:
         function = _function(f"tinkey_{self._name}_{new}", *types, ctypes.POINTER(_pointer))
         _check(function(*words, ctypes.byref(made)))
         self._at = made.value
+
+    def close(self) -> None:
+        """Lets it go. What is closed may be closed again, and does nothing else."""
+        with self._lock:
+            at, self._at = self._at, None
+            if at:
+                _function(f"tinkey_{self._name}_free", _pointer, gives=None)(at)
+
+    def __enter__(self: Own) -> Own:
+        return self
+
+    def __exit__(self, *_: Any) -> None:
+        self.close()
+
+    def __del__(self) -> None:
+        if getattr(self, "_at", None):
+            self.close()
+
+    def _call(self, function: Any, *arguments: Any) -> Any:
+        with self._lock:
+            if not self._at:
+                raise ValueError("the handle is closed")
+            return function(self._at, *arguments)
+
+
+class _Handle(_Owned):
+    """The keys of a keyset for one primitive."""
 
     @classmethod
     def from_json(cls: Type[Self], text: Buffer) -> Self:
@@ -170,29 +210,6 @@ class _Handle:
         text, key = _bytes(encrypted), _bytes(master)
         return cls("new_wrapped", _TEXT + _TEXT,
                    (text, len(text), _FORMS[form], key, len(key), _FORMS[master_form]))
-
-    def close(self) -> None:
-        """Lets the keys go. A handle that is closed may be closed again, and does nothing else."""
-        with self._lock:
-            at, self._at = self._at, None
-            if at:
-                _function(f"tinkey_{self._name}_free", _pointer, gives=None)(at)
-
-    def __enter__(self: Self) -> Self:
-        return self
-
-    def __exit__(self, *_: Any) -> None:
-        self.close()
-
-    def __del__(self) -> None:
-        if getattr(self, "_at", None):
-            self.close()
-
-    def _call(self, function: Any, *arguments: Any) -> int:
-        with self._lock:
-            if not self._at:
-                raise ValueError("the handle is closed")
-            return function(self._at, *arguments)
 
     def _made(self, function: Any, room: int, *inputs: bytes) -> bytes:
         """What a function writes from these inputs into an output with that room."""
@@ -271,3 +288,105 @@ class Prf(_Handle):
         given, out = _bytes(data), ctypes.create_string_buffer(output_length or 1)
         _check(self._call(_prf_derive, given, len(given), out, output_length))
         return ctypes.string_at(out, output_length)
+
+
+_sealing_update = _function("tinkey_sealing_update", _pointer, *_INPUT, *_OUTPUT)
+_sealing_finish = _function("tinkey_sealing_finish", _pointer, *_OUTPUT)
+_sealing_waiting = _function("tinkey_sealing_waiting", _pointer, gives=_size)
+_opening_update = _function("tinkey_opening_update", _pointer, *_INPUT, *_OUTPUT)
+_opening_finish = _function("tinkey_opening_finish", _pointer, *_OUTPUT)
+_opening_waiting = _function("tinkey_opening_waiting", _pointer, gives=_size)
+_PIECE, _MORE = 65536, 4096
+
+
+class _Stream(_Owned):
+    """A stream under way: `update` for each piece of its input, and `finish`. It doesn't need its keys any more."""
+
+    _update: Any
+    _finish: Any
+    _waiting: Any
+
+    def _given(self, at: int, function: Any, data: bytes, none: Sequence[Any], *inputs: Any) -> bytes:
+        """What a call gives. Where there was too little room the input was taken, and what waits is asked for."""
+        room, size = len(data) + _MORE, _size()
+        out = ctypes.create_string_buffer(room)
+        status = function(at, *inputs, out, room, ctypes.byref(size))
+        if status == NoRoom.status:
+            room = self._waiting(at)
+            out = ctypes.create_string_buffer(room)
+            status = function(at, *none, out, room, ctypes.byref(size))
+        _check(status)
+        return ctypes.string_at(out, size.value)
+
+    def update(self, data: Buffer) -> bytes:
+        """Takes the next bytes, any number of them, and gives what they settle, which may be nothing."""
+        given = _bytes(data)
+        return self._call(self._given, self._update, given, (b"", 0), given, len(given))
+
+    def finish(self) -> bytes:
+        """Ends the input, and gives the rest."""
+        return self._call(self._given, self._finish, b"", ())
+
+
+class Sealing(_Stream):
+    """A stream that is being sealed. What its calls give, one after another, is the stream."""
+
+    _name = "sealing"
+    _update = staticmethod(_sealing_update)
+    _finish = staticmethod(_sealing_finish)
+    _waiting = staticmethod(_sealing_waiting)
+
+
+class Opening(_Stream):
+    """A stream that is being opened. What its calls give, one after another, is the plaintext.
+
+    Each byte that `update` gives has authenticated in its place. Only `finish` says that the stream is whole: it raises
+    `Refused` for one that was cut off. `update` raises `Refused` as soon as a segment doesn't authenticate.
+    """
+
+    _name = "opening"
+    _update = staticmethod(_opening_update)
+    _finish = staticmethod(_opening_finish)
+    _waiting = staticmethod(_opening_waiting)
+
+
+def _write_all(destination: BinaryIO, data: bytes) -> None:
+    """Writes bytes to a file that may take only some of them at once."""
+    left = memoryview(data)
+    while left:
+        count = destination.write(left)
+        left = left[len(left) if count is None else count:]
+
+
+def _pass(stream: _Stream, source: BinaryIO, destination: BinaryIO) -> None:
+    with stream:
+        for piece in iter(lambda: source.read(_PIECE), b""):
+            _write_all(destination, stream.update(piece))
+        _write_all(destination, stream.finish())
+
+
+class Streaming(_Handle):
+    """Streaming authenticated encryption with associated data: streams of any length, in pieces."""
+
+    _name = "streaming"
+
+    def sealing(self, associated_data: Buffer = b"") -> Sealing:
+        """Begins to seal a stream under the primary key, with fresh random bytes."""
+        data = _bytes(associated_data)
+        return self._call(lambda at: Sealing("new", (_pointer, *_INPUT), (at, data, len(data))))
+
+    def opening(self, associated_data: Buffer = b"") -> Opening:
+        """Begins to open a stream under the first ENABLED key that opens its first segment."""
+        data = _bytes(associated_data)
+        return self._call(lambda at: Opening("new", (_pointer, *_INPUT), (at, data, len(data))))
+
+    def encrypt_file(self, source: BinaryIO, destination: BinaryIO, associated_data: Buffer = b"") -> None:
+        """Seals what one binary file has left, and writes the stream to another."""
+        _pass(self.sealing(associated_data), source, destination)
+
+    def decrypt_file(self, source: BinaryIO, destination: BinaryIO, associated_data: Buffer = b"") -> None:
+        """Opens the stream that one binary file has left, and writes its plaintext to another.
+
+        Where it raises `Refused`, what was written by then is only a part, and to be thrown away.
+        """
+        _pass(self.opening(associated_data), source, destination)

@@ -88,6 +88,10 @@ errors! {
     UnfitMaster = 12,
     /// The text isn't an encrypted keyset in that form.
     NoWrapped = 13,
+    /// A stream has ended, which no call of this crate can report.
+    Ended = 14,
+    /// A function for reading or writing failed, which no call of this crate can report.
+    Callback = 15,
 }
 
 impl fmt::Display for Error {

@@ -1,1 +1,2 @@
 pub mod KeyValues
+pub mod StreamValues

@@ -49,7 +49,7 @@ SameKeys (Some old) None = ⊥
 
 -- ---- statuses
 
--- the number of a refusal; 0 is that there is none, and 9 and 10 are told outside
+-- the number of a refusal; 0 is that there is none, and 9, 10 and 15 are told outside, and 14 of streams
 abbrev pub number_of : Refusal → ℕ
 number_of refusals.Refused = 1
 number_of refusals.NoKeyset = 2

@@ -17,7 +17,7 @@ use std::alloc::Global;
 use std::mem::replace;
 
 /// The status of a refusal.
-fn status(refusal: Refusal) -> i32
+pub(crate) fn status(refusal: Refusal) -> i32
     ensures number { result ≡ pos (number_of refusal) }
     ensures some { result ≢ pos 0 }
 {
