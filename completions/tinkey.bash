@@ -44,9 +44,9 @@ _tinkey() {
             dopen) words='--keyset --keyset-format --ad --ad-hex --out --master --master-format --help' ;;
             reseal) words='--keyset --keyset-format --ad --ad-hex --out --master --master-format --help' ;;
             dreseal) words='--keyset --keyset-format --ad --ad-hex --out --master --master-format --help' ;;
-            sseal) words='--keyset --keyset-format --ad --ad-hex --master --master-format --help' ;;
-            sopen) words='--keyset --keyset-format --ad --ad-hex --master --master-format --help' ;;
-            sreseal) words='--keyset --keyset-format --ad --ad-hex --master --master-format --help' ;;
+            sseal) words='--keyset --keyset-format --ad --ad-hex --out --master --master-format --help' ;;
+            sopen) words='--keyset --keyset-format --ad --ad-hex --out --master --master-format --help' ;;
+            sreseal) words='--keyset --keyset-format --ad --ad-hex --out --master --master-format --help' ;;
             tag) words='--keyset --keyset-format --out --hex --master --master-format --help' ;;
             verify) words='--keyset --tag-hex --keyset-format --master --master-format --help' ;;
             derive) words='--keyset --length --keyset-format --out --hex --master --master-format --help' ;;

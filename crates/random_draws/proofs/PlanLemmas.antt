@@ -7,6 +7,7 @@ use Rattle.managers.specs.Table.{Table, scheme_at}
 use Rattle.random_draws.specs.Steps.{IsStep, Step, creation, edition, enveloping, heading, sealing, wrapping}
 use Rattle.seal_wrap.specs.Enveloping.{url_made}
 use Rattle.segment_stream.specs.KeysModel.{KeysForStreams}
+use Rattle.segment_stream.specs.Pumping.{Part}
 use Rattle.segment_stream.specs.StreamKeys as streams
 use Rattle.tinkey_cmds.specs.Draws.{Draw}
 use Rattle.tinkey_cmds.specs.Edits.{first, step}
@@ -88,11 +89,23 @@ stream_keys_drawing : (found : Option KeysForStreams) (next : KeysForStreams →
 stream_keys_drawing None next all = tt
 stream_keys_drawing (Some keys) next all = all keys
 
-stream_drawing : (keys : KeysForStreams) (ad : List ℕ) → IsDrawing (streaming.seals_stream keys ad)
-stream_drawing keys ad = ((heading (keys.primary.derived + 7), refl), λ made. made_each IsDrawing closed made _ (λ random. tt))
+-- a pass draws nothing, and nor does the look for the name of its new file
+passed_drawing : (out : Option (List ℕ)) (part : Part) → IsDrawing (streaming.passes_to out part)
+passed_drawing None part = tt
+passed_drawing (Some name) part = λ output. tt
 
-restream_drawing : (keys : KeysForStreams) (ad : List ℕ) → IsDrawing (streaming.reseals_stream keys ad)
-restream_drawing keys ad = ((heading (keys.primary.derived + 7), refl), λ made. made_each IsDrawing closed made _ (λ random. tt))
+begun_drawing : (out : Option (List ℕ)) (next : Plan) → IsDrawing next → IsDrawing (streaming.begins_file out next)
+begun_drawing None next all = all
+begun_drawing (Some name) next all = all
+
+stream_drawing : (keys : KeysForStreams) (ad : List ℕ) (out : Option (List ℕ)) → IsDrawing (streaming.begins_file out (streaming.seals_stream keys ad out))
+stream_drawing keys ad out = begun_drawing out (streaming.seals_stream keys ad out) ((heading (keys.primary.derived + 7), refl), λ made. made_each IsDrawing closed made _ (λ random. passed_drawing out _))
+
+unstream_drawing : (keys : KeysForStreams) (ad : List ℕ) (out : Option (List ℕ)) → IsDrawing (streaming.begins_file out (streaming.opens_stream keys ad out))
+unstream_drawing keys ad out = begun_drawing out (streaming.opens_stream keys ad out) (passed_drawing out _)
+
+restream_drawing : (keys : KeysForStreams) (ad : List ℕ) (out : Option (List ℕ)) → IsDrawing (streaming.begins_file out (streaming.reseals_stream keys ad out))
+restream_drawing keys ad out = begun_drawing out (streaming.reseals_stream keys ad out) ((heading (keys.primary.derived + 7), refl), λ made. made_each IsDrawing closed made _ (λ random. passed_drawing out _))
 
 saved_drawing : (table : Table) (master : Option Keys) (file : Option (List ℕ)) (form : Format) (keys : Keys) → IsDrawing (saves_as table master file form keys)
 saved_drawing table master None form keys = tt
@@ -122,9 +135,9 @@ commands_are_drawing table (convert_keyset lock new in' out) = lock_each IsDrawi
 commands_are_drawing table (list_key_templates primitive) = tt
 commands_are_drawing table (use_keyset lock name form work out) = loaded_each IsDrawing open_drawing table lock name form _ (λ keys. fit_each IsDrawing closed (unfit keys (primitive_for work) table) _ (λ input. work_each IsDrawing closed table keys work input (λ plain ad next all. ((sealing table keys plain ad, refl), all)) (puts_output out) (shown_drawing out.hex out.file)))
 commands_are_drawing table (use_envelope lock name form template work out) = dek_each IsDrawing closed template _ (λ row. loaded_each IsDrawing open_drawing table lock name form _ (λ keys. fit_each IsDrawing closed (unfit keys Aead table) _ (scheme_each IsDrawing closed (scheme_at table Aead (url_made row)) _ (λ scheme input. envelope_each IsDrawing closed table keys scheme row work input (λ ad next all. ((enveloping table keys scheme row input ad, refl), all)) (λ plain ad next all. ((sealing table keys plain ad, refl), all)) (puts out) (put_drawing out)))))
-commands_are_drawing table (seal_stream lock name form ad) = streams_drawing table lock name form _ (λ k. stream_drawing k ad)
-commands_are_drawing table (open_stream lock name form ad) = streams_drawing table lock name form _ (λ k. tt)
-commands_are_drawing table (reseal_stream lock name form ad) = streams_drawing table lock name form _ (λ k. restream_drawing k ad)
+commands_are_drawing table (seal_stream lock name form ad out) = streams_drawing table lock name form _ (λ k. stream_drawing k ad out)
+commands_are_drawing table (open_stream lock name form ad out) = streams_drawing table lock name form _ (λ k. unstream_drawing k ad out)
+commands_are_drawing table (reseal_stream lock name form ad out) = streams_drawing table lock name form _ (λ k. restream_drawing k ad out)
 commands_are_drawing table (open_range lock name form ad range out) = streams_drawing table lock name form _ (λ k opened. stretch_each IsDrawing closed opened _ (put_drawing out))
 commands_are_drawing table (self_test seed lines) = counts_drawing (trial.self_test table seed lines) lines
 commands_are_drawing table (session lock name form out) = lock_each IsDrawing open_drawing table lock _ (λ master. under_each IsDrawing open_drawing table master (record { file = Some name; form = form }) _ (session_drawing table master out))

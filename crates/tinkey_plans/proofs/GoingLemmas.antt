@@ -31,7 +31,7 @@ use Rattle.tinkey_selftest.specs.Trial as trial
 use Rattle.tinkey_selftest.specs.declared.counts.Counts.{Counts}
 use Rattle.tinkey_plans.specs.SelfTesting.{tells_counts}
 use Rattle.tinkey_plans.specs.Session.{finds_free, holds_session, saves_as}
-use Rattle.tinkey_plans.specs.Streaming.{keys_for, reseals_stream, seals_stream, with_keys}
+use Rattle.tinkey_plans.specs.Streaming.{begins_file, keys_for, opens_stream, passes_to, reseals_stream, seals_stream, with_keys}
 use Rattle.tinkey_plans.specs.Streaming as streaming
 use Rattle.tinkey_plans.specs.Stretch.{Opened, Stretch, stretch_in}
 use Rattle.tinkey_session.proofs.Options.{clash}
@@ -191,11 +191,23 @@ stream_keys_proper : (found : Option KeysForStreams) (next : KeysForStreams → 
 stream_keys_proper None next proper = tt
 stream_keys_proper (Some keys) next proper = proper keys
 
-seals_proper : (ad : List ℕ) (keys : KeysForStreams) → IsProper (seals_stream keys ad)
-seals_proper ad keys = λ made. made_each IsProper closed made _ (λ random. tt)
+-- the new file of a stream, or the sink
+passes_proper : (out : Option (List ℕ)) (part : Part) → IsProper (passes_to out part)
+passes_proper None part = tt
+passes_proper (Some name) part = λ output e. cc
 
-reseals_proper : (ad : List ℕ) (keys : KeysForStreams) → IsProper (reseals_stream keys ad)
-reseals_proper ad keys = λ made. made_each IsProper closed made _ (λ random. tt)
+begins_proper : (out : Option (List ℕ)) (next : Plan) → IsProper next → IsProper (begins_file out next)
+begins_proper None next proper = proper
+begins_proper (Some name) next proper = (λ e. cc, proper)
+
+seals_proper : (ad : List ℕ) (out : Option (List ℕ)) (keys : KeysForStreams) → IsProper (begins_file out (seals_stream keys ad out))
+seals_proper ad out keys = begins_proper out (seals_stream keys ad out) (λ made. made_each IsProper closed made _ (λ random. passes_proper out _))
+
+opens_proper : (ad : List ℕ) (out : Option (List ℕ)) (keys : KeysForStreams) → IsProper (begins_file out (opens_stream keys ad out))
+opens_proper ad out keys = begins_proper out (opens_stream keys ad out) (passes_proper out _)
+
+reseals_proper : (ad : List ℕ) (out : Option (List ℕ)) (keys : KeysForStreams) → IsProper (begins_file out (reseals_stream keys ad out))
+reseals_proper ad out keys = begins_proper out (reseals_stream keys ad out) (λ made. made_each IsProper closed made _ (λ random. passes_proper out _))
 
 saves_proper : (table : Table) (master : Option Keys) (file : Option (List ℕ)) (form : Format) (keys : Keys) → IsProper (saves_as table master file form keys)
 saves_proper table master None form keys = tt
@@ -219,9 +231,9 @@ commands_are_proper table (convert_keyset lock new in' out) = (lock_each IsPrope
 commands_are_proper table (list_key_templates primitive) = tt
 commands_are_proper table (use_keyset lock name form work out) = (loaded_each IsProper open' table lock name form _ (λ keys. fit_each IsProper closed (unfit keys (primitive_for work) table) _ (λ e. cc, λ input. work_each IsProper closed table keys work input (λ plain ad next all. all) (puts_output out) (shown_proper out.hex out.file))))
 commands_are_proper table (use_envelope lock name form template work out) = (dek_each IsProper closed template _ (λ row. loaded_each IsProper open' table lock name form _ (λ keys. fit_each IsProper closed (unfit keys Aead table) _ (scheme_each IsProper closed (scheme_at table Aead (url_made row)) _ (λ scheme. (λ e. cc, λ input. envelope_each IsProper closed table keys scheme row work input (λ ad next all. all) (λ plain ad next all. all) (puts out) (put_proper out)))))))
-commands_are_proper table (seal_stream lock name form ad) = loaded_each IsProper open' table lock name form _ (λ keys. stream_fit_proper (streams.stream_unfit keys) _ (stream_keys_proper (keys_for keys) _ (seals_proper ad)))
-commands_are_proper table (open_stream lock name form ad) = loaded_each IsProper open' table lock name form _ (λ keys. stream_fit_proper (streams.stream_unfit keys) _ (stream_keys_proper (keys_for keys) _ (λ k. tt)))
-commands_are_proper table (reseal_stream lock name form ad) = loaded_each IsProper open' table lock name form _ (λ keys. stream_fit_proper (streams.stream_unfit keys) _ (stream_keys_proper (keys_for keys) _ (reseals_proper ad)))
+commands_are_proper table (seal_stream lock name form ad out) = loaded_each IsProper open' table lock name form _ (λ keys. stream_fit_proper (streams.stream_unfit keys) _ (stream_keys_proper (keys_for keys) _ (seals_proper ad out)))
+commands_are_proper table (open_stream lock name form ad out) = loaded_each IsProper open' table lock name form _ (λ keys. stream_fit_proper (streams.stream_unfit keys) _ (stream_keys_proper (keys_for keys) _ (opens_proper ad out)))
+commands_are_proper table (reseal_stream lock name form ad out) = loaded_each IsProper open' table lock name form _ (λ keys. stream_fit_proper (streams.stream_unfit keys) _ (stream_keys_proper (keys_for keys) _ (reseals_proper ad out)))
 commands_are_proper table (open_range lock name form ad range out) = (loaded_each IsProper open' table lock name form _ (λ keys. stream_fit_proper (streams.stream_unfit keys) _ (stream_keys_proper (keys_for keys) _ (λ k. (λ e. cc, λ opened. stretch_each IsProper closed opened _ (put_proper out))))))
 commands_are_proper table (self_test seed lines) = (counts_proper (trial.self_test table seed lines) lines)
 commands_are_proper table (session lock name form out) = lock_each IsProper open' table lock _ (λ master. under_each IsProper open' table master (record { file = Some name; form = form }) (holds_session table master out) (λ keys. free_proper out.file _ (λ last. saves_proper table master out.file out.form last)))

@@ -247,7 +247,7 @@ keys_given keys those (Some key) is = ap (λ (k : KeysForStreams). k.keys) (sym 
 
 refuse_alike : (keys : Keys) (ad : List ℕ) (told : Told) (unfit : Option (ℕ × StreamUnfit)) (found : Option KeysForStreams) → keys_for keys ≡ found
     → ((answer (unless_unfit unfit (with_keys found (tells_front ad keys writes))) told).status ≡ status.NoKeyOf)
-    ↔ ((answer (unless_unfit unfit (with_keys found (λ those. opens_stream those ad))) told).status ≡ status.StreamFailed 0)
+    ↔ ((answer (unless_unfit unfit (with_keys found (λ those. opens_stream those ad None))) told).status ≡ status.StreamFailed 0)
 refuse_alike keys ad told (Some (i, not_stream)) found is = (λ e. absurd (cc), λ e. absurd (cc))
 refuse_alike keys ad told (Some (i, bad_key rule)) found is = (λ e. absurd (cc), λ e. absurd (cc))
 refuse_alike keys ad told None None is = (λ e. absurd (cc), λ e. absurd (cc))

@@ -385,13 +385,6 @@ options_of_eseal =
     ++ codes "\nOptional:\n"
     ++ keyset_format_31 ++ ad_31 ++ ad_hex_31 ++ out_31 ++ master_31 ++ master_format_31
 
-abbrev pub options_of_sseal : List ℕ
-options_of_sseal =
-    codes "\nRequired:\n"
-    ++ keyset_31
-    ++ codes "\nOptional:\n"
-    ++ keyset_format_31 ++ ad_31 ++ ad_hex_31 ++ master_31 ++ master_format_31
-
 abbrev pub read_by_sseal : List ℕ
 read_by_sseal =
     codes "\nReads  the keyset, and standard input as a stream\n"
@@ -695,18 +688,20 @@ command_text commands.Dreseal =
 command_text commands.Sseal =
     codes "tinkey sseal: seals a stream of any length, in one pass\n\n"
     ++ codes "  tinkey sseal --keyset FILE [--keyset-format json|binary] [--ad TEXT] [--ad-hex HEX]\n"
-    ++ codes "      [--master FILE] [--master-format json|binary]\n"
-    ++ options_of_sseal ++ read_by_sseal
-    ++ codes "Gives  the input sealed as a stream, on standard output, written while it is read\n"
+    ++ codes "      [--out FILE] [--master FILE] [--master-format json|binary]\n"
+    ++ options_of_seal ++ read_by_sseal
+    ++ codes "Gives  the input sealed as a stream; in a new file of --out, which is there only once it is\n"
+    ++ codes "       whole, or on standard output, written while it is read\n"
     ++ codes_012345678
     ++ codes "  tinkey create-keyset --key-template AES256_GCM_HKDF_1MB --out sseal.json\n"
     ++ codes "  echo 'Dear Ada' | tinkey sseal --keyset sseal.json > letter.stream\n"
 command_text commands.Sopen =
     codes "tinkey sopen: opens such a stream; it is complete only if the exit code is 0\n\n"
     ++ codes "  tinkey sopen --keyset FILE [--keyset-format json|binary] [--ad TEXT] [--ad-hex HEX]\n"
-    ++ codes "      [--master FILE] [--master-format json|binary]\n"
-    ++ options_of_sseal ++ read_by_sseal
-    ++ codes "Gives  the plaintext of the stream, on standard output, each segment once it is verified\n"
+    ++ codes "      [--out FILE] [--master FILE] [--master-format json|binary]\n"
+    ++ options_of_seal ++ read_by_sseal
+    ++ codes "Gives  the plaintext of the stream; in a new file of --out, which is there only once all of\n"
+    ++ codes "       it is verified, or on standard output, each segment once it is verified\n"
     ++ codes_012345678
     ++ codes "  tinkey create-keyset --key-template AES256_GCM_HKDF_1MB --out sopen.json\n"
     ++ codes "  echo 'Dear Ada' | tinkey sseal --keyset sopen.json > sopen.stream\n"
@@ -714,10 +709,10 @@ command_text commands.Sopen =
 command_text commands.Sreseal =
     codes "tinkey sreseal: opens such a stream, and seals it again under the primary key, in one pass\n\n"
     ++ codes "  tinkey sreseal --keyset FILE [--keyset-format json|binary] [--ad TEXT] [--ad-hex HEX]\n"
-    ++ codes "      [--master FILE] [--master-format json|binary]\n"
-    ++ options_of_sseal ++ read_by_sseal
-    ++ codes "Gives  the plaintext of the stream, sealed again as a stream, on standard output, written\n"
-    ++ codes "       while it is read\n"
+    ++ codes "      [--out FILE] [--master FILE] [--master-format json|binary]\n"
+    ++ options_of_seal ++ read_by_sseal
+    ++ codes "Gives  the plaintext of the stream, sealed again as a stream; in a new file of --out, which\n"
+    ++ codes "       is there only once it is whole, or on standard output, written while it is read\n"
     ++ codes_012345678
     ++ codes "  tinkey create-keyset --key-template AES256_GCM_HKDF_1MB --out former.json\n"
     ++ codes "  echo 'Dear Ada' | tinkey sseal --keyset former.json > former.stream\n"

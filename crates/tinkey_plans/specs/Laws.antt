@@ -56,11 +56,11 @@ pub record FitKeysetsAnswer : Type 0 where
   pub stream : (keys : Keys) → fault_of keys ≡ None → stream_unfit keys ≡ None
       → IsSome (keys_for keys)
 
--- a stream is asked for
+-- a stream is asked for, and no new file for it
 abbrev pub IsStream : Asked → Type 0
-IsStream (seal_stream lock keyset form ad) = Unit {0}
-IsStream (open_stream lock keyset form ad) = Unit {0}
-IsStream (reseal_stream lock keyset form ad) = Unit {0}
+IsStream (seal_stream lock keyset form ad None) = Unit {0}
+IsStream (open_stream lock keyset form ad None) = Unit {0}
+IsStream (reseal_stream lock keyset form ad None) = Unit {0}
 IsStream _ = ⊥
 
 -- a session is asked for

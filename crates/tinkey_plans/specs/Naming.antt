@@ -90,7 +90,7 @@ pub record KeyOfStreamTells : Type 0 where
       ↔ (decides (ciphers_of ad (stream_keys keys)) bytes true ≡ Some (failed 0))
   pub refused : (keys : Keys) (ad : List ℕ) (told : Told)
       → ((answer (tells_stream ad keys writes) told).status ≡ status.NoKeyOf)
-      ↔ ((answer (takes_stream_keys keys (λ those. opens_stream those ad)) told).status
+      ↔ ((answer (takes_stream_keys keys (λ those. opens_stream those ad None)) told).status
       ≡ status.StreamFailed 0)
 
 -- ---- bytes that no key opens

@@ -6,7 +6,7 @@ use Rattle.keyset_model.specs.Keyset.{Keys}
 use Rattle.keyset_model.specs.declared.keyset.KeysetFault.TheVariants as faults
 use Rattle.managers.specs.Table.{Table}
 use Rattle.segment_stream.specs.KeysModel.{KeysForStreams}
-use Rattle.segment_stream.specs.Pumping.{sealing, opening_any, resealing}
+use Rattle.segment_stream.specs.Pumping.{Part, sealing, opening_any, resealing}
 use Rattle.segment_stream.specs.Sealing.{header_of}
 use Rattle.segment_stream.specs.Segments.{cipher_of, ciphers_of}
 use Rattle.segment_stream.specs.StreamKeys.{StreamUnfit, not_stream, bad_key, stream_unfit, primary_key, stream_keys}
@@ -17,7 +17,7 @@ use Rattle.tinkey_session.specs.declared.reply.Refusal.TheVariants as refused
 use Rattle.tinkey_plans.specs.declared.status.Status.{Status}
 use Rattle.tinkey_plans.specs.declared.status.Status.TheVariants as status
 use Rattle.tinkey_words.specs.declared.words.rows.Format.{Format}
-use Rattle.tinkey_plans.specs.Plan.{Plan, ends, allocates, draws, sealings, pumps}
+use Rattle.tinkey_plans.specs.Plan.{Plan, ends, allocates, collects, creates, draws, looks, sealings, pumps}
 use Rattle.tinkey_plans.specs.Locks.{loads_locked}
 use Rattle.tinkey_plans.specs.Steps.{with_made}
 use Rattle.tinkey_words.specs.Words.{Lock}
@@ -49,25 +49,37 @@ abbrev pub loads_stream_keys : Table → Lock → List ℕ → Format → (KeysF
 loads_stream_keys table lock name form next =
     loads_locked table lock name form (λ keys. takes_stream_keys keys next)
 
+-- the output of a pass goes to the sink as it comes; or where a new file is named, it is kept aside until all of
+-- it is there, and becomes that file
+abbrev pub passes_to : (out : Option (List ℕ)) → Part → Plan
+passes_to None part = pumps part
+passes_to (Some name) part = collects part (λ output. creates name output status.OutExists tt)
+
+-- The name of a new file is free, where one is named. It is looked up before a random byte is drawn and a byte of
+-- the input taken.
+abbrev pub begins_file : (out : Option (List ℕ)) → Plan → Plan
+begins_file None next = next
+begins_file (Some name) next = allocates (looks name status.OutExists tt next)
+
 -- the input sealed under the primary key, behind a header of random bytes: salt and nonce prefix
-abbrev pub seals_stream : KeysForStreams → (ad : List ℕ) → Plan
-seals_stream keys ad =
+abbrev pub seals_stream : KeysForStreams → (ad : List ℕ) → (out : Option (List ℕ)) → Plan
+seals_stream keys ad out =
     let cipher = cipher_of ad keys.primary in
     allocates (draws sealings (fill (keys.primary.derived + 7))
-    (λ made. with_made made (λ random. pumps (sealing cipher (header_of cipher random)))))
+    (λ made. with_made made (λ random. passes_to out (sealing cipher (header_of cipher random)))))
 
 -- the input opened under the first key whose first segment opens
-abbrev pub opens_stream : KeysForStreams → (ad : List ℕ) → Plan
-opens_stream keys ad = allocates (pumps (opening_any (ciphers_of ad keys.keys)))
+abbrev pub opens_stream : KeysForStreams → (ad : List ℕ) → (out : Option (List ℕ)) → Plan
+opens_stream keys ad out = allocates (passes_to out (opening_any (ciphers_of ad keys.keys)))
 
 -- the input opened under the first key whose first segment opens, and its plaintext sealed under the primary
 -- key, behind a header of random bytes, both with these associated data
-abbrev pub reseals_stream : KeysForStreams → (ad : List ℕ) → Plan
-reseals_stream keys ad =
+abbrev pub reseals_stream : KeysForStreams → (ad : List ℕ) → (out : Option (List ℕ)) → Plan
+reseals_stream keys ad out =
     let cipher = cipher_of ad keys.primary in
     allocates (draws sealings (fill (keys.primary.derived + 7))
     (λ made. with_made made (λ random.
-    pumps (resealing (ciphers_of ad keys.keys) cipher (header_of cipher random)))))
+    passes_to out (resealing (ciphers_of ad keys.keys) cipher (header_of cipher random)))))
 
 -- the status of a keyset that gives no keys for streams, and of want of memory
 abbrev pub stream_keys_refusal : StreamKeysFault → Status

@@ -182,13 +182,6 @@ Required:
 Optional:
 " keyset_format_31 ad_31 ad_hex_31 out_31 master_31 master_format_31 $($rest)*)
     };
-    ([$($said:literal)*] options_of_sseal $($rest:tt)*) => {
-        text!([$($said)*] "
-Required:
-" keyset_31 "
-Optional:
-" keyset_format_31 ad_31 ad_hex_31 master_31 master_format_31 $($rest)*)
-    };
     ([$($said:literal)*] read_by_sseal $($rest:tt)*) => {
         text!([$($said)* "
 Reads  the keyset, and standard input as a stream
@@ -818,9 +811,10 @@ Gives  as reseal, without an IV, in a new file of --out, or on standard output i
 tinkey sseal: seals a stream of any length, in one pass
 
   tinkey sseal --keyset FILE [--keyset-format json|binary] [--ad TEXT] [--ad-hex HEX]
-      [--master FILE] [--master-format json|binary]
-" options_of_sseal read_by_sseal "\
-Gives  the input sealed as a stream, on standard output, written while it is read
+      [--out FILE] [--master FILE] [--master-format json|binary]
+" options_of_seal read_by_sseal "\
+Gives  the input sealed as a stream; in a new file of --out, which is there only once it is
+       whole, or on standard output, written while it is read
 " codes_012345678 "  tinkey create-keyset --key-template AES256_GCM_HKDF_1MB --out sseal.json
   echo 'Dear Ada' | tinkey sseal --keyset sseal.json > letter.stream
 "),
@@ -828,9 +822,10 @@ Gives  the input sealed as a stream, on standard output, written while it is rea
 tinkey sopen: opens such a stream; it is complete only if the exit code is 0
 
   tinkey sopen --keyset FILE [--keyset-format json|binary] [--ad TEXT] [--ad-hex HEX]
-      [--master FILE] [--master-format json|binary]
-" options_of_sseal read_by_sseal "\
-Gives  the plaintext of the stream, on standard output, each segment once it is verified
+      [--out FILE] [--master FILE] [--master-format json|binary]
+" options_of_seal read_by_sseal "\
+Gives  the plaintext of the stream; in a new file of --out, which is there only once all of
+       it is verified, or on standard output, each segment once it is verified
 " codes_012345678 "  tinkey create-keyset --key-template AES256_GCM_HKDF_1MB --out sopen.json
   echo 'Dear Ada' | tinkey sseal --keyset sopen.json > sopen.stream
   tinkey sopen --keyset sopen.json < sopen.stream > opened.txt && echo whole
@@ -839,10 +834,10 @@ Gives  the plaintext of the stream, on standard output, each segment once it is 
 tinkey sreseal: opens such a stream, and seals it again under the primary key, in one pass
 
   tinkey sreseal --keyset FILE [--keyset-format json|binary] [--ad TEXT] [--ad-hex HEX]
-      [--master FILE] [--master-format json|binary]
-" options_of_sseal read_by_sseal "\
-Gives  the plaintext of the stream, sealed again as a stream, on standard output, written
-       while it is read
+      [--out FILE] [--master FILE] [--master-format json|binary]
+" options_of_seal read_by_sseal "\
+Gives  the plaintext of the stream, sealed again as a stream; in a new file of --out, which
+       is there only once it is whole, or on standard output, written while it is read
 " codes_012345678 "  tinkey create-keyset --key-template AES256_GCM_HKDF_1MB --out former.json
   echo 'Dear Ada' | tinkey sseal --keyset former.json > former.stream
   tinkey rotate-keyset --key-template AES256_GCM_HKDF_1MB --in former.json --out sreseal.json

@@ -112,9 +112,9 @@ IsValue forms.Flag value = value ≡ []
 abbrev pub NeedsKeys : Asked → Primitive → Type 0
 NeedsKeys (use_keyset lock name form work out) primitive = primitive_for work ≡ primitive
 NeedsKeys (use_envelope lock name form template work out) primitive = Aead ≡ primitive
-NeedsKeys (seal_stream lock name form ad) primitive = Stream ≡ primitive
-NeedsKeys (open_stream lock name form ad) primitive = Stream ≡ primitive
-NeedsKeys (reseal_stream lock name form ad) primitive = Stream ≡ primitive
+NeedsKeys (seal_stream lock name form ad out) primitive = Stream ≡ primitive
+NeedsKeys (open_stream lock name form ad out) primitive = Stream ≡ primitive
+NeedsKeys (reseal_stream lock name form ad out) primitive = Stream ≡ primitive
 NeedsKeys (open_range lock name form ad range out) primitive = Stream ≡ primitive
 NeedsKeys (convert_keyset lock new in' out) primitive = Aead ≡ primitive
 NeedsKeys _ primitive = ⊥
@@ -123,9 +123,9 @@ NeedsKeys _ primitive = ⊥
 abbrev pub UsesKeys : Asked → Type 0
 UsesKeys (use_keyset lock name form work out) = Unit {0}
 UsesKeys (use_envelope lock name form template work out) = Unit {0}
-UsesKeys (seal_stream lock name form ad) = Unit {0}
-UsesKeys (open_stream lock name form ad) = Unit {0}
-UsesKeys (reseal_stream lock name form ad) = Unit {0}
+UsesKeys (seal_stream lock name form ad out) = Unit {0}
+UsesKeys (open_stream lock name form ad out) = Unit {0}
+UsesKeys (reseal_stream lock name form ad out) = Unit {0}
 UsesKeys (open_range lock name form ad range out) = Unit {0}
 UsesKeys _ = ⊥
 

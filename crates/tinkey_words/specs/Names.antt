@@ -58,9 +58,6 @@ abbrev pub seal_may : List OptionName
 seal_may = options.KeysetFormat ∷ options.Ad ∷ options.AdHex ∷ options.Out ∷ options.Master
     ∷ options.MasterFormat ∷ []
 
-abbrev pub sseal_may : List OptionName
-sseal_may = options.KeysetFormat ∷ options.Ad ∷ options.AdHex ∷ options.Master ∷ options.MasterFormat ∷ []
-
 abbrev pub tag_may : List OptionName
 tag_may = options.KeysetFormat ∷ options.Out ∷ options.Hex ∷ options.Master ∷ options.MasterFormat ∷ []
 
@@ -123,9 +120,9 @@ row_of commands.Dseal = row (codes "dseal") seal_requires seal_may
 row_of commands.Dopen = row (codes "dopen") seal_requires seal_may
 row_of commands.Reseal = row (codes "reseal") seal_requires seal_may
 row_of commands.Dreseal = row (codes "dreseal") seal_requires seal_may
-row_of commands.Sseal = row (codes "sseal") seal_requires sseal_may
-row_of commands.Sopen = row (codes "sopen") seal_requires sseal_may
-row_of commands.Sreseal = row (codes "sreseal") seal_requires sseal_may
+row_of commands.Sseal = row (codes "sseal") seal_requires seal_may
+row_of commands.Sopen = row (codes "sopen") seal_requires seal_may
+row_of commands.Sreseal = row (codes "sreseal") seal_requires seal_may
 row_of commands.Tag = row (codes "tag") seal_requires tag_may
 row_of commands.Verify = row (codes "verify") verify_requires verify_may
 row_of commands.Derive = row (codes "derive") derive_requires tag_may

@@ -155,11 +155,15 @@ pub data Asked : Type 0 where
   -- the same by data keys, which are of the template of this name, under such keys
   use_envelope : (lock : Lock) (keyset : List ℕ) (form : Format) (template : List ℕ)
       (work : AskedEnvelope) (out : Option (List ℕ)) → Asked
-  -- the input as a stream, sealed or opened by such a keyset, with this associated data
-  seal_stream : (lock : Lock) (keyset : List ℕ) (form : Format) (ad : List ℕ) → Asked
-  open_stream : (lock : Lock) (keyset : List ℕ) (form : Format) (ad : List ℕ) → Asked
+  -- the input as a stream, sealed or opened by such a keyset, with this associated data, and the new file
+  -- that it becomes, whole or not at all
+  seal_stream : (lock : Lock) (keyset : List ℕ) (form : Format) (ad : List ℕ) (out : Option (List ℕ))
+      → Asked
+  open_stream : (lock : Lock) (keyset : List ℕ) (form : Format) (ad : List ℕ) (out : Option (List ℕ))
+      → Asked
   -- the same, opened, and the plaintext sealed, both with this associated data
-  reseal_stream : (lock : Lock) (keyset : List ℕ) (form : Format) (ad : List ℕ) → Asked
+  reseal_stream : (lock : Lock) (keyset : List ℕ) (form : Format) (ad : List ℕ) (out : Option (List ℕ))
+      → Asked
   -- a range of the stream in a file, opened by such a keyset, with this associated data, and the new file
   -- that it becomes
   open_range : (lock : Lock) (keyset : List ℕ) (form : Format) (ad : List ℕ) (range : AskedRange)
@@ -345,13 +349,13 @@ asked_with commands.Reseal values = worked (to_reseal (ad values)) values
 asked_with commands.Dreseal values = worked (to_dreseal (ad values)) values
 asked_with commands.Sseal values =
     seal_stream (lock values) (text (values options.Keyset)) (form_in (values options.KeysetFormat))
-    (ad values)
+    (ad values) (values options.Out)
 asked_with commands.Sopen values =
     open_stream (lock values) (text (values options.Keyset)) (form_in (values options.KeysetFormat))
-    (ad values)
+    (ad values) (values options.Out)
 asked_with commands.Sreseal values =
     reseal_stream (lock values) (text (values options.Keyset)) (form_in (values options.KeysetFormat))
-    (ad values)
+    (ad values) (values options.Out)
 asked_with commands.Tag values = worked to_tag values
 asked_with commands.Verify values =
     worked (to_verify (datum_of_hex (text (values options.TagHex)))) values
@@ -703,12 +707,12 @@ seen_command (asks.ConvertKeyset lock new input output) =
 seen_command (asks.ListKeyTemplates primitive) = list_key_templates primitive
 seen_command (asks.UseKeyset lock keyset form work output) =
     use_keyset (seen_lock lock) keyset.now form (seen_work work) (seen_output output)
-seen_command (asks.SealStream lock keyset form ad) =
-    seal_stream (seen_lock lock) keyset.now form (seen_datum ad)
-seen_command (asks.OpenStream lock keyset form ad) =
-    open_stream (seen_lock lock) keyset.now form (seen_datum ad)
-seen_command (asks.ResealStream lock keyset form ad) =
-    reseal_stream (seen_lock lock) keyset.now form (seen_datum ad)
+seen_command (asks.SealStream lock keyset form ad output) =
+    seal_stream (seen_lock lock) keyset.now form (seen_datum ad) (seen_name output)
+seen_command (asks.OpenStream lock keyset form ad output) =
+    open_stream (seen_lock lock) keyset.now form (seen_datum ad) (seen_name output)
+seen_command (asks.ResealStream lock keyset form ad output) =
+    reseal_stream (seen_lock lock) keyset.now form (seen_datum ad) (seen_name output)
 seen_command (asks.OpenRange lock keyset form ad range output) =
     open_range (seen_lock lock) keyset.now form (seen_datum ad) (seen_range range) (seen_name output)
 seen_command (asks.Session lock keyset form output) =

@@ -115,6 +115,8 @@ pub enum Request<'a> {
         form: Format,
         /// The associated data.
         ad: Datum<'a>,
+        /// The new file for the stream, there once it is whole, or none for standard output.
+        output: Option<&'a str>,
     },
     /// Open the input as a stream.
     OpenStream {
@@ -126,6 +128,8 @@ pub enum Request<'a> {
         form: Format,
         /// The associated data.
         ad: Datum<'a>,
+        /// The new file for the plaintext, there once it is whole, or none for standard output.
+        output: Option<&'a str>,
     },
     /// Open the input as a stream, and seal the plaintext, both with this associated data.
     ResealStream {
@@ -137,6 +141,8 @@ pub enum Request<'a> {
         form: Format,
         /// The associated data.
         ad: Datum<'a>,
+        /// The new file for the stream, there once it is whole, or none for standard output.
+        output: Option<&'a str>,
     },
     /// Open a range of the stream in a file.
     OpenRange {
@@ -497,18 +503,21 @@ fn command_with<'a>(command: CommandName, given: &Options<'a>) -> Request<'a>
             keyset: given.text(OptionName::Keyset),
             form: given.form(OptionName::KeysetFormat),
             ad: given.ad(),
+            output: given.value(OptionName::Out),
         },
         CommandName::Sopen => Request::OpenStream {
             lock: given.lock(),
             keyset: given.text(OptionName::Keyset),
             form: given.form(OptionName::KeysetFormat),
             ad: given.ad(),
+            output: given.value(OptionName::Out),
         },
         CommandName::Sreseal => Request::ResealStream {
             lock: given.lock(),
             keyset: given.text(OptionName::Keyset),
             form: given.form(OptionName::KeysetFormat),
             ad: given.ad(),
+            output: given.value(OptionName::Out),
         },
         CommandName::Tag => given.worked(Work::Tag),
         CommandName::Verify => given.worked(Work::Verify(Datum::Hex(given.text(

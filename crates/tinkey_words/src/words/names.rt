@@ -191,9 +191,9 @@ impl CommandName {
             CommandName::Dopen => row("dopen", &SEAL_REQUIRES, &SEAL_MAY),
             CommandName::Reseal => row("reseal", &SEAL_REQUIRES, &SEAL_MAY),
             CommandName::Dreseal => row("dreseal", &SEAL_REQUIRES, &SEAL_MAY),
-            CommandName::Sseal => row("sseal", &SEAL_REQUIRES, &SSEAL_MAY),
-            CommandName::Sopen => row("sopen", &SEAL_REQUIRES, &SSEAL_MAY),
-            CommandName::Sreseal => row("sreseal", &SEAL_REQUIRES, &SSEAL_MAY),
+            CommandName::Sseal => row("sseal", &SEAL_REQUIRES, &SEAL_MAY),
+            CommandName::Sopen => row("sopen", &SEAL_REQUIRES, &SEAL_MAY),
+            CommandName::Sreseal => row("sreseal", &SEAL_REQUIRES, &SEAL_MAY),
             CommandName::Tag => row("tag", &SEAL_REQUIRES, &TAG_MAY),
             CommandName::Verify => row("verify", &VERIFY_REQUIRES, &VERIFY_MAY),
             CommandName::Derive => row("derive", &DERIVE_REQUIRES, &TAG_MAY),
@@ -299,14 +299,6 @@ const SEAL_MAY: [OptionName; 6] = [
     OptionName::Ad,
     OptionName::AdHex,
     OptionName::Out,
-    OptionName::Master,
-    OptionName::MasterFormat,
-];
-
-const SSEAL_MAY: [OptionName; 5] = [
-    OptionName::KeysetFormat,
-    OptionName::Ad,
-    OptionName::AdHex,
     OptionName::Master,
     OptionName::MasterFormat,
 ];
