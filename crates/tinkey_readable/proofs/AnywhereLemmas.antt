@@ -41,7 +41,7 @@ use Rattle.tinkey_plans.specs.Laws.{FitKeysetsAnswer}
 use Rattle.tinkey_plans.specs.Plan.{Answer, Plan, Told, answer, writes}
 use Rattle.tinkey_plans.specs.Ranging.{opens_stretch}
 use Rattle.tinkey_plans.specs.Steps.{input_limit, puts, puts_keyset, sealed_limit}
-use Rattle.tinkey_plans.specs.Streaming.{loads_stream_keys, opens_stream, seals_stream}
+use Rattle.tinkey_plans.specs.Streaming.{begins_file, loads_stream_keys, opens_stream, seals_stream}
 use Rattle.tinkey_plans.specs.Handles.{handles, unless_unfit}
 use Rattle.tinkey_plans.specs.Using.{limit_for}
 use Rattle.tinkey_plans.specs.Wrapping.{is_json, unwraps}
@@ -254,9 +254,9 @@ pub record MadeStream (r : Record) (ad stream plain : List ℕ) : Type 0 where
 
 pub stream_maker : StreamBack → (before : Lying) (old : Keys) (r : Record) (ad stream : List ℕ) (told : Told) → Lies before old → primary_of old ≡ Some r → WasSealed ad before told stream → MadeStream r ad stream told.input
 stream_maker back before old r ad stream told lies primary was =
-    let u = keys_loaded standard_table (lock_in before.master was.lock) was.name before.text.form (λ k. seals_stream k ad) told was.done in
+    let u = keys_loaded standard_table (lock_in before.master was.lock) was.name before.text.form (λ k. begins_file was.out (seals_stream k ad was.out)) told was.done in
     let same = same_lying before old u.keys told was.lock was.name lies was.lies u.lies in
-    let s = stream_by (with_primary u.keys u.primary) ad told stream (ap (λ (a : Answer). a.status) (sym u.goes_on) ∙ was.done) (ap (λ (a : Answer). a.output) (sym u.goes_on) ∙ was.gave) in
+    let s = stream_by (with_primary u.keys u.primary) ad was.out told stream _ u.goes_on was.done was.gave in
     let gives : stream_key_of r ≡ Ok u.primary = primary_gives old r u.primary primary (ap primary_key (sym same) ∙ u.there) in
     record { key = u.primary; gives = gives; alone = opens_alone back u.primary ad told stream (sound_key r u.primary gives) s }
 
@@ -278,10 +278,8 @@ pub opens_made : ReadKeysFit → (other : Lying) (keys : Keys) (r : Record) (ad 
 opens_made fit other keys r ad stream plain m serves has only =
     let p = primary_there fit other keys serves in
     let opens = opens_under keys r m.key ad stream plain has m.gives only m.alone in
-    λ t lock name there input.
-    let reached' = served_reached other keys p.0 (λ k. opens_stream k ad) t lock name serves p.1 there in
-    let g = opened_so (with_primary keys p.0) ad t stream plain input opens.answer in
-    (ap (λ (a : Answer). a.status) reached' ∙ g.0, ap (λ (a : Answer). a.output) reached' ∙ g.1)
+    λ t lock name out there input free.
+    opened_so (with_primary keys p.0) ad out t stream plain _ (served_reached other keys p.0 (λ k. begins_file out (opens_stream k ad out)) t lock name serves p.1 there) input free opens.answer
 
 pub opens_stream_anywhere : StreamBack → ReadKeysFit → OpensStreamAnywhere
 opens_stream_anywhere back fit before other old keys r ad stream told lies primary was serves has only =
@@ -297,9 +295,9 @@ opens_first_anywhere back fit before other old keys r ad stream told lies primar
       place = f.place;
       there = f.there;
       first = f.first;
-      answers = λ t lock name there input.
-          served_reached other keys p.0 (λ k. opens_stream k ad) t lock name serves p.1 there
-          ∙ chosen_so (with_primary keys p.0) f.key ad t stream input f.choice;
+      answers = λ t lock name out there input free.
+          served_reached other keys p.0 (λ k. begins_file out (opens_stream k ad out)) t lock name serves p.1 there
+          ∙ chosen_so (with_primary keys p.0) f.key ad out t stream input free f.choice;
     }
 
 pub opens_range_anywhere : StreamBack → RangeIsSlice → ReadKeysFit → OpensRangeAnywhere

@@ -12,7 +12,7 @@ use Rattle.tinkey_session.specs.SessionLaws.{SessionIsEdits}
 use Rattle.wrapped_prims.specs.Fitness.{unfit}
 use Rattle.tinkey_plans.specs.Plan.{Told}
 use Rattle.tinkey_plans.specs.Steps.{keyset_limit, puts}
-use Rattle.tinkey_plans.specs.Streaming.{seals_stream}
+use Rattle.tinkey_plans.specs.Streaming.{begins_file, seals_stream}
 use Rattle.tinkey_readable.proofs.EnvelopeRunLemmas.{used_done}
 use Rattle.tinkey_readable.proofs.LyingLemmas.{clear_lies, clear_taken, clear_within, same_lying}
 use Rattle.tinkey_readable.proofs.RunLemmas.{done_within, lead_ends, started, still_fit}
@@ -45,7 +45,7 @@ served_after p usable l runs before after r within x fit =
 
 streams_after : RunLaws → (runs : List Passage) (before after : Written) (r : Record) (ad stream : List ℕ) (told : Told) (x : LeadOn runs before after r) → WasSealed ad (clear before) told stream → ServesStreams (clear after) x.new
 streams_after l runs before after r ad stream told x was =
-    let u = keys_loaded standard_table None was.name before.form (λ k. seals_stream k ad) told was.done in
+    let u = keys_loaded standard_table None was.name before.form (λ k. begins_file was.out (seals_stream k ad was.out)) told was.done in
     let same : u.keys ≡ x.old = same_lying (clear before) x.old u.keys told was.lock was.name (clear_lies before x.old x.read) was.lies u.lies in
     let within = clear_within standard_table was.name before told u.keys was.lies.lies u.lies in
     let e = lead_ends l.fit l.run l.wrap l.sessions runs before after r within x in

@@ -21,6 +21,7 @@ pub mod LockedHidingExamples
 pub mod LockedHidingLemmas
 pub mod LockedRunLemmas
 pub mod LyingLemmas
+pub mod PassLemmas
 pub mod PutLemmas
 pub mod ReachLemmas
 pub mod ReadableLemmas
@@ -31,6 +32,7 @@ pub mod ReadBytesLemmas
 pub mod ReadIdLemmas
 pub mod RangeRunLemmas
 pub mod StreamKeyLemmas
+pub mod StreamFileLemmas
 pub mod StreamRunLemmas
 pub mod TemplateLemmas
 pub mod WrappedRunLemmas

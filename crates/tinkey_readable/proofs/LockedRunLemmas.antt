@@ -303,9 +303,9 @@ step_by l (key_of lock name form kind ad) told master text put after over old x 
 step_by l (list_key_templates primitive) told master text put after over old x e w = clash e
 step_by l (use_keyset lock name form work out) told master text put after over old x e w = clash e
 step_by l (use_envelope lock name form template work out) told master text put after over old x e w = clash e
-step_by l (seal_stream lock name form ad) told master text put after over old x e w = clash e
-step_by l (open_stream lock name form ad) told master text put after over old x e w = clash e
-step_by l (reseal_stream lock name form ad) told master text put after over old x e w = clash e
+step_by l (seal_stream lock name form ad out) told master text put after over old x e w = clash e
+step_by l (open_stream lock name form ad out) told master text put after over old x e w = clash e
+step_by l (reseal_stream lock name form ad out) told master text put after over old x e w = clash e
 step_by l (open_range lock name form ad range out) told master text put after over old x e w = clash e
 step_by l (self_test seed lines) told master text put after over old x e w = clash e
 step_by l (help topic) told master text put after over old x e w = clash e

@@ -1,30 +1,30 @@
 -- Streams that were sealed before runs, and opened after them.
-use Rattle.std.proofs.Common.{arith, ◌≡◌, ◌∙◌, sym, refl, ap, ℕ, ◌+◌, ◌≤◌, Bool, true, false, List, [], ◌∷◌, length, take, drop, Option, Some, None, Ok}
-use Rattle.std.specs.Prelude.{nat_lt, option_map, if◌then◌else◌}
-use Rattle.std.proofs.lemmas.Bool.Decides.{nat_tests}
+use Rattle.std.proofs.Common.{arith, ◌≡◌, ◌∙◌, sym, refl, ap, ℕ, ◌+◌, true, List, [], ◌∷◌, length, take, Option, Some, None}
+use Rattle.std.specs.Prelude.{option_map}
 use Rattle.std.proofs.lemmas.List.{length-take-le}
+use Rattle.std.proofs.lemmas.Option.{same_Some}
 use Rattle.keyset_model.specs.Keyset.{Keys}
 use Rattle.managers.specs.Table.{Table}
 use Rattle.segment_stream.proofs.CipherLemmas.{cipher_of-is_cipher}
-use Rattle.segment_stream.specs.Cipher.{SegmentCipher}
 use Rattle.segment_stream.specs.KeysModel.{KeysForStreams}
 use Rattle.segment_stream.specs.Laws.{StreamBack}
-use Rattle.segment_stream.specs.Opening.{Choice, StreamRefusal, choose, chosen, decides, decides_by, failed, released, released_by, stream_answer, too_many}
-use Rattle.segment_stream.specs.Pumping.{opening_any, opening_under, sealing}
-use Rattle.segment_stream.specs.Sealing.{header_of, many_plain, seal_decides, sealed}
+use Rattle.segment_stream.specs.Opening.{Choice, StreamRefusal, choose, chosen, decides, decides_by, released, released_by, stream_answer}
+use Rattle.segment_stream.specs.Pumping.{Part, opening_any, opening_under, sealing}
+use Rattle.segment_stream.specs.Sealing.{header_of, seal_decides, sealed}
 use Rattle.segment_stream.specs.Segments.{IsSound, cipher_of, ciphers_of}
 use Rattle.segment_stream.specs.StreamKeys.{StreamUnfit, bad_key, not_stream, primary_key, stream_keys, stream_unfit}
 use Rattle.segment_stream.specs.declared.key.StreamKey.{StreamKey}
-use Rattle.tinkey_cmds.specs.Draws.{Drawn}
 use Rattle.tinkey_session.proofs.Options.{map_some}
 use Rattle.tinkey_plans.specs.declared.status.Status.TheVariants as status
 use Rattle.tinkey_words.specs.declared.words.rows.Format.{Format}
-use Rattle.tinkey_plans.specs.Plan.{Answer, Plan, Told, allocates, answer, draw_answer, pump_answer, pumps, refused, stream_status}
-use Rattle.tinkey_plans.specs.Steps.{with_made}
-use Rattle.tinkey_plans.specs.Streaming.{keys_for, loads_stream_keys, opens_stream, seals_stream, unless_unfit, with_keys}
+use Rattle.tinkey_plans.specs.Plan.{Answer, Plan, Told, allocates, answer, collect_answer, pump_answer, refused, stream_status}
+use Rattle.tinkey_plans.specs.Steps.{puts}
+use Rattle.tinkey_plans.specs.Streaming.{begins_file, keys_for, loads_stream_keys, opens_stream, passes_to, seals_stream, unless_unfit, with_keys}
 use Rattle.tinkey_words.specs.Words.{Lock}
 use Rattle.tinkey_readable.specs.Lying.{LiesBehind}
+use Rattle.tinkey_readable.specs.Runs.{IsFree, bytes_at}
 use Rattle.tinkey_readable.proofs.LyingLemmas.{loads_reached, loads_there}
+use Rattle.tinkey_readable.proofs.PassLemmas.{IsPutAt, begins_reached, passed, passes_done, passes_put, was_passed}
 use Rattle.tinkey_readable.proofs.ReachLemmas.{IsDoneAnswer}
 
 -- ---- the keys of a keyset
@@ -91,35 +91,21 @@ pub record SealedStream (key : StreamKey) (ad : List ℕ) (told : Told) (stream 
   few : seal_decides (cipher_of ad key) random told.input ≡ None
   is : sealed (cipher_of ad key) random told.input true ≡ stream
 
-pub sealed_by : (keys : KeysForStreams) (ad : List ℕ) (told : Told) (stream : List ℕ) → IsDoneAnswer (answer (seals_stream keys ad) told) → (answer (seals_stream keys ad) told).output ≡ stream → SealedStream keys.primary ad told stream
-sealed_by keys ad told stream done gave = by (nat_lt (length told.random) n) refl done gave
-  where
-    n : ℕ
-    n = keys.primary.derived + 7
+-- a pass that seals, behind its header
+abbrev pub seal_part : KeysForStreams → (ad random : List ℕ) → Part
+seal_part keys ad random = sealing (cipher_of ad keys.primary) (header_of (cipher_of ad keys.primary) random)
 
-    cipher : SegmentCipher
-    cipher = cipher_of ad keys.primary
-
-    random : List ℕ
-    random = take n told.random
-
-    pumped : Option StreamRefusal → Answer
-    pumped o = pump_answer (sealing cipher (header_of cipher random)) (record told { random = drop n told.random }) o
-
-    a : Bool → Answer
-    a b = draw_answer (if b then None else Some (record { answer = Ok random; left = drop n told.random })) (refused told status.EntropyFault)
-        (λ (d : Drawn (List ℕ)). answer (with_made d.answer (λ r. pumps (sealing cipher (header_of cipher r)))) (record told { random = d.left }))
-
-    by_pass : (o : Option StreamRefusal) → length random ≡ n → many_plain cipher (header_of cipher random) told.input ≡ o → IsDoneAnswer (pumped o) → (pumped o).output ≡ stream → SealedStream keys.primary ad told stream
-    by_pass None whole few done gave = record { random = random; whole = whole; few = few; is = gave }
-    by_pass (Some too_many) whole few done gave = absurd (cc)
-    by_pass (Some (failed number)) whole few done gave = absurd (cc)
-
-    by : (b : Bool) → nat_lt (length told.random) n ≡ b → IsDoneAnswer (a b) → (a b).output ≡ stream → SealedStream keys.primary ad told stream
-    by true short done gave = absurd (cc)
-    by false long done gave =
-        let enough : n ≤ length told.random = grind (arith, nat_tests, long) in
-        by_pass (many_plain cipher (header_of cipher random) told.input) (length-take-le n told.random enough) refl done gave
+pub sealed_by : (keys : KeysForStreams) (ad : List ℕ) (out : Option (List ℕ)) (told : Told) (stream : List ℕ) (a : Answer) → a ≡ answer (begins_file out (seals_stream keys ad out)) told
+    → IsDoneAnswer a → IsPutAt out a stream → SealedStream keys.primary ad told stream
+sealed_by keys ad out told stream a is done put =
+    let n = keys.primary.derived + 7 in
+    let w = was_passed n (seal_part keys ad) out told (ap (λ (a : Answer). a.status) (sym is) ∙ done) in
+    record {
+      random = take n told.random;
+      whole = length-take-le n told.random w.enough;
+      few = w.none;
+      is = same_Some _ _ (sym w.put ∙ ap (λ (a : Answer). bytes_at out a.files a.output) (sym is) ∙ put);
+    }
 
 -- it opens under the key that sealed it
 pub opens_alone : StreamBack → (key : StreamKey) (ad : List ℕ) (told : Told) (stream : List ℕ) → IsSound key → SealedStream key ad told stream → stream_answer (cipher_of ad key ∷ []) stream ≡ (told.input, None)
@@ -127,27 +113,38 @@ opens_alone back key ad told stream sound s =
     ap (stream_answer (cipher_of ad key ∷ [])) (sym s.is)
     ∙ back (cipher_of ad key) s.random told.input (cipher_of-is_cipher ad key sound) (omega (arith, s.whole)) s.few
 
--- a pass that opens it is Done, with its plaintext
-pub opened_so : (keys : KeysForStreams) (ad : List ℕ) (told : Told) (stream plain : List ℕ) → told.input ≡ stream → stream_answer (ciphers_of ad keys.keys) stream ≡ (plain, None) → (IsDoneAnswer (answer (opens_stream keys ad) told)) × ((answer (opens_stream keys ad) told).output ≡ plain)
-opened_so keys ad told stream plain same is =
-    let all : stream_answer (ciphers_of ad keys.keys) told.input ≡ (plain, None) = ap (stream_answer (ciphers_of ad keys.keys)) same ∙ is in
+-- a pass that opens it is Done, and puts its plaintext, where the name of a new file is free
+pub opened_so : (keys : KeysForStreams) (ad : List ℕ) (out : Option (List ℕ)) (told : Told) (stream plain : List ℕ) (a : Answer) → a ≡ answer (begins_file out (opens_stream keys ad out)) told
+    → told.input ≡ stream → IsFree out told.files → stream_answer (ciphers_of ad keys.keys) stream ≡ (plain, None) → (IsDoneAnswer a) × IsPutAt out a plain
+opened_so keys ad out told stream plain a is same free opens =
+    let part = opening_any (ciphers_of ad keys.keys) in
+    let all : stream_answer (ciphers_of ad keys.keys) told.input ≡ (plain, None) = ap (stream_answer (ciphers_of ad keys.keys)) same ∙ opens in
     let none : decides (ciphers_of ad keys.keys) told.input true ≡ None = ap (λ (x : List ℕ × Option StreamRefusal). x.1) all in
-    let out : released (ciphers_of ad keys.keys) told.input true ≡ plain = ap (λ (x : List ℕ × Option StreamRefusal). x.0) all in
-    let e : answer (opens_stream keys ad) told ≡ pump_answer (opening_any (ciphers_of ad keys.keys)) told None = ap (pump_answer (opening_any (ciphers_of ad keys.keys)) told) none in
-    (ap (λ (a : Answer). a.status) e, ap (λ (a : Answer). a.output) e ∙ out)
+    let whole : released (ciphers_of ad keys.keys) told.input true ≡ plain = ap (λ (x : List ℕ × Option StreamRefusal). x.0) all in
+    let e = is ∙ begins_reached out (opens_stream keys ad out) told free in
+    let done = passes_done out part told none free in
+    (ap (λ (a : Answer). a.status) e ∙ done, ap (λ (a : Answer). bytes_at out a.files a.output) e ∙ passes_put out part told done ∙ ap Some whole)
+
+-- passes of one output and one refusal are answered alike
+same_pass : (out : Option (List ℕ)) (one other : Part) (told : Told) → one.refusal told.input true ≡ other.refusal told.input true → one.output told.input true ≡ other.output told.input true
+    → answer (passes_to out one) told ≡ answer (passes_to out other) told
+same_pass None one other told refusal output = by (one.refusal told.input true) (other.refusal told.input true) refusal
+  where
+    by : (a b : Option StreamRefusal) → a ≡ b → pump_answer one told a ≡ pump_answer other told b
+    by None None e = ap (λ (l : List ℕ). record (refused told status.Done) { input = Some []; output = l }) output
+    by (Some a) (Some b) e =
+        ap (λ (l : List ℕ). record (refused told (stream_status a)) { input = None; output = l }) output
+        ∙ ap (λ o. pump_answer other told o) e
+    by None (Some b) e = absurd (cc)
+    by (Some a) None e = absurd (cc)
+same_pass (Some name) one other told refusal output =
+    ap (λ o. collect_answer o told (passed (Some name) one told)) refusal
+    ∙ ap (λ (l : List ℕ). collect_answer (other.refusal told.input true) told (answer (puts (Some name) l) (record told { input = [] }))) output
 
 -- a pass goes as under the key chosen alone
-pub chosen_so : (keys : KeysForStreams) (key : StreamKey) (ad : List ℕ) (told : Told) (stream : List ℕ) → told.input ≡ stream → choose (ciphers_of ad keys.keys) stream true ≡ chosen (cipher_of ad key) → answer (opens_stream keys ad) told ≡ answer (pumps (opening_under (cipher_of ad key))) told
-chosen_so keys key ad told stream same is =
+pub chosen_so : (keys : KeysForStreams) (key : StreamKey) (ad : List ℕ) (out : Option (List ℕ)) (told : Told) (stream : List ℕ) → told.input ≡ stream → IsFree out told.files → choose (ciphers_of ad keys.keys) stream true ≡ chosen (cipher_of ad key)
+    → answer (begins_file out (opens_stream keys ad out)) told ≡ answer (passes_to out (opening_under (cipher_of ad key))) told
+chosen_so keys key ad out told stream same free is =
     let here : choose (ciphers_of ad keys.keys) told.input true ≡ chosen (cipher_of ad key) = ap (λ (l : List ℕ). choose (ciphers_of ad keys.keys) l true) same ∙ is in
-    by_refusal (decides_by (chosen (cipher_of ad key)) told.input true) (ap (λ (c : Choice). decides_by c told.input true) here) (ap (λ (c : Choice). released_by c told.input true) here)
-  where
-    -- an answer by a refusal, and by what was put out
-    by_refusal : (o : Option StreamRefusal) → decides (ciphers_of ad keys.keys) told.input true ≡ o → released (ciphers_of ad keys.keys) told.input true ≡ released_by (chosen (cipher_of ad key)) told.input true
-        → pump_answer (opening_any (ciphers_of ad keys.keys)) told (decides (ciphers_of ad keys.keys) told.input true) ≡ pump_answer (opening_under (cipher_of ad key)) told o
-    by_refusal None refusal out =
-        ap (pump_answer (opening_any (ciphers_of ad keys.keys)) told) refusal
-        ∙ ap (λ (l : List ℕ). record (refused told status.Done) { input = Some []; output = l }) out
-    by_refusal (Some why) refusal out =
-        ap (pump_answer (opening_any (ciphers_of ad keys.keys)) told) refusal
-        ∙ ap (λ (l : List ℕ). record (refused told (stream_status why)) { input = None; output = l }) out
+    begins_reached out (opens_stream keys ad out) told free
+    ∙ same_pass out (opening_any (ciphers_of ad keys.keys)) (opening_under (cipher_of ad key)) told (ap (λ (c : Choice). decides_by c told.input true) here) (ap (λ (c : Choice). released_by c told.input true) here)

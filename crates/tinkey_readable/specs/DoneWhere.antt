@@ -138,10 +138,10 @@ WorksDone = (table : Table) (lock : Lock) (name : List ℕ) (form : Format) (wor
 -- ---- streams
 
 -- A keyset lies in the file of this name, behind its lock, each ENABLED record of which gives a key for
--- streams; the random bytes suffice for salt and nonce prefix of the primary one; and the input is no more
--- than 2^32 segments.
+-- streams; the random bytes suffice for salt and nonce prefix of the primary one; the input is no more than 2^32
+-- segments; and the name of a new file is free.
 pub record StreamSeals (table : Table) (lock : Lock) (name : List ℕ) (form : Format) (ad : List ℕ)
-    (told : Told) : Type 0 where
+    (out : Option (List ℕ)) (told : Told) : Type 0 where
   pub keys : Keys
   pub lies : LiesBehind table lock (record { file = Some name; form = form }) told keys
   pub fit : stream_unfit keys ≡ None
@@ -150,22 +150,24 @@ pub record StreamSeals (table : Table) (lock : Lock) (name : List ℕ) (form : F
   pub enough : primary.derived + 7 ≤ length told.random
   pub few : seal_decides (cipher_of ad primary) (take (primary.derived + 7) told.random) told.input
       ≡ None
+  pub free : IsFree out told.files
 
--- The same of the keyset; and under the first of its keys that opens the first segment, each segment opens
--- in its place, the final one as the last.
+-- The same of the keyset and of the name; and under the first of its keys that opens the first segment, each
+-- segment opens in its place, the final one as the last.
 pub record StreamOpens (table : Table) (lock : Lock) (name : List ℕ) (form : Format) (ad : List ℕ)
-    (told : Told) : Type 0 where
+    (out : Option (List ℕ)) (told : Told) : Type 0 where
   pub keys : Keys
   pub lies : LiesBehind table lock (record { file = Some name; form = form }) told keys
   pub fit : stream_unfit keys ≡ None
   pub primary : StreamKey
   pub there : streams.primary_key keys ≡ Some primary
   pub opens : decides (ciphers_of ad (stream_keys keys)) told.input true ≡ None
+  pub free : IsFree out told.files
 
 -- Both of that: each segment opens in its place, and of what it opens to the primary key seals no more than
 -- 2^32 segments.
 pub record StreamReseals (table : Table) (lock : Lock) (name : List ℕ) (form : Format) (ad : List ℕ)
-    (told : Told) : Type 0 where
+    (out : Option (List ℕ)) (told : Told) : Type 0 where
   pub keys : Keys
   pub lies : LiesBehind table lock (record { file = Some name; form = form }) told keys
   pub fit : stream_unfit keys ≡ None
@@ -175,18 +177,22 @@ pub record StreamReseals (table : Table) (lock : Lock) (name : List ℕ) (form :
   pub opens : decides (ciphers_of ad (stream_keys keys)) told.input true ≡ None
   pub few : seal_decides (cipher_of ad primary) (take (primary.derived + 7) told.random)
       (released (ciphers_of ad (stream_keys keys)) told.input true) ≡ None
+  pub free : IsFree out told.files
 
 -- a stream is sealed, opened, and resealed, to its end exactly where that is so
 pub record StreamsDone : Type 0 where
-  pub sealed : (table : Table) (lock : Lock) (name : List ℕ) (form : Format) (ad : List ℕ) (told : Told)
-      → ((answer (command_plan table (seal_stream lock name form ad)) told).status ≡ status.Done)
-      ↔ StreamSeals table lock name form ad told
-  pub opened : (table : Table) (lock : Lock) (name : List ℕ) (form : Format) (ad : List ℕ) (told : Told)
-      → ((answer (command_plan table (open_stream lock name form ad)) told).status ≡ status.Done)
-      ↔ StreamOpens table lock name form ad told
-  pub resealed : (table : Table) (lock : Lock) (name : List ℕ) (form : Format) (ad : List ℕ) (told : Told)
-      → ((answer (command_plan table (reseal_stream lock name form ad)) told).status ≡ status.Done)
-      ↔ StreamReseals table lock name form ad told
+  pub sealed : (table : Table) (lock : Lock) (name : List ℕ) (form : Format) (ad : List ℕ)
+      (out : Option (List ℕ)) (told : Told)
+      → ((answer (command_plan table (seal_stream lock name form ad out)) told).status ≡ status.Done)
+      ↔ StreamSeals table lock name form ad out told
+  pub opened : (table : Table) (lock : Lock) (name : List ℕ) (form : Format) (ad : List ℕ)
+      (out : Option (List ℕ)) (told : Told)
+      → ((answer (command_plan table (open_stream lock name form ad out)) told).status ≡ status.Done)
+      ↔ StreamOpens table lock name form ad out told
+  pub resealed : (table : Table) (lock : Lock) (name : List ℕ) (form : Format) (ad : List ℕ)
+      (out : Option (List ℕ)) (told : Told)
+      → ((answer (command_plan table (reseal_stream lock name form ad out)) told).status ≡ status.Done)
+      ↔ StreamReseals table lock name form ad out told
 
 -- ---- ranges
 

@@ -16,5 +16,6 @@ pub mod Resealing
 pub mod ResealedStreams
 pub mod Runs
 pub mod ServingTemplates
+pub mod StreamFiles
 pub mod StreamRuns
 pub mod NamedRuns

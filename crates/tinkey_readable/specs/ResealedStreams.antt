@@ -5,7 +5,7 @@
 --   WasStreamResealed     a run of sreseal was Done, and put out this stream
 --   AreStreamsResealed    streams, each of which was made of the one before it
 --   ResealedStreamsOpen   the law
-use Rattle.std.specs.Prelude.{◌≡◌, ℕ, List, [], ◌∷◌, Some}
+use Rattle.std.specs.Prelude.{◌≡◌, ℕ, List, [], ◌∷◌, Option, Some}
 use Rattle.keyset_model.specs.Keyset.{Keys, primary_of}
 use Rattle.keyset_model.specs.declared.record.Record.{Record}
 use Rattle.managers.specs.Standard.{standard_table}
@@ -17,23 +17,27 @@ use Rattle.tinkey_words.specs.Words.{reseal_stream}
 use Rattle.tinkey_readable.specs.Anywhere.{ServesStreams}
 use Rattle.tinkey_readable.specs.Lying.{Lies, LiesAs, Lying, lock_in}
 use Rattle.tinkey_readable.specs.Resealing.{SealedText}
+use Rattle.tinkey_readable.specs.Runs.{bytes_at}
 use Rattle.tinkey_readable.specs.StreamRuns.{IsOpened, NoOtherBefore, WasSealed}
 
 -- the answer of sreseal, by the keys of the keyset that lies in the file of this name, under the master, if
 -- there is one, that lies in the file of the lock
-abbrev pub sreseal_answer : (ad : List ℕ) → Lying → (lock name : List ℕ) → Told → Answer
-sreseal_answer ad lying lock name told =
+abbrev pub sreseal_answer : (ad : List ℕ) → (out : Option (List ℕ)) → Lying → (lock name : List ℕ) → Told
+    → Answer
+sreseal_answer ad out lying lock name told =
     answer (command_plan standard_table
-    (reseal_stream (lock_in lying.master lock) name lying.text.form ad)) told
+    (reseal_stream (lock_in lying.master lock) name lying.text.form ad out)) told
 
--- a run of sreseal over a keyset was answered Done, and put out this stream
+-- a run of sreseal over a keyset was answered Done, and put this stream, to standard output or into a new file
 pub record WasStreamResealed (ad : List ℕ) (lying : Lying) (told : Told) (stream : List ℕ) : Type 0
   where
     pub lock : List ℕ
     pub name : List ℕ
+    pub out : Option (List ℕ)
     pub lies : LiesAs lying told lock name
-    pub done : (sreseal_answer ad lying lock name told).status ≡ status.Done
-    pub gave : (sreseal_answer ad lying lock name told).output ≡ stream
+    pub done : (sreseal_answer ad out lying lock name told).status ≡ status.Done
+    pub gave : let a = sreseal_answer ad out lying lock name told in
+        bytes_at out a.files a.output ≡ Some stream
 
 -- A run of sreseal made the new stream of the old one, over a keyset in clear or under a master, in which the
 -- old one's key is ENABLED and no other key before it opens the old one's first segment.

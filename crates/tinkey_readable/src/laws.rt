@@ -19,6 +19,7 @@ ghost use Rattle.tinkey_readable.specs.Resealing.{ResealedDopens, ResealedEnvelo
 ghost use Rattle.tinkey_readable.specs.ResealedStreams.{ResealedStreamsOpen};
 ghost use Rattle.tinkey_readable.specs.Runs.{LocksStep, ReadIsStored, RunStep, RunsDopen, RunsDopenPresent, RunsOpen, RunsOpenPresent, RunsUnwrap, RunsVerify, WrapStep};
 ghost use Rattle.tinkey_readable.specs.ServingTemplates.{StreamTemplatesServe, TemplatesServe};
+ghost use Rattle.tinkey_readable.specs.StreamFiles.{StreamsWholeOrAbsent};
 ghost use Rattle.tinkey_readable.specs.StreamRuns.{RunsOpenStream, RunsOpenStreamPresent};
 
 use keyset_json::laws::{json_back, json_is_stored};
@@ -29,7 +30,7 @@ use seal_wrap::laws::{
 };
 use segment_stream::laws::{range_is_slice, resealed_back, stream_back};
 use tinkey_cmds::laws::edits_keep_keysets;
-use tinkey_plans::laws::{done_exactly, fit_keysets_answer};
+use tinkey_plans::laws::{commands_are_whole, done_exactly, fit_keysets_answer};
 use tinkey_session::laws::{
     edited_kept, kept_dopen, kept_dopen_present, kept_open, kept_open_present, kept_tag,
     session_dopens, session_dopens_present, session_is_edits, session_opens, session_opens_present,
@@ -510,15 +511,27 @@ pub fn works_done()
 }
 
 /// A stream is sealed to its end, and answered Done, if and only if the keyset is there, each
-/// ENABLED record gives a key for streams, the random bytes suffice for salt and nonce prefix, and
-/// there are at most 2^32 segments. One is opened to its end, and answered Done, if and only if
-/// under such a keyset's first key that opens the first segment each segment opens in its place,
-/// the final one as the last. One is resealed to its end, and answered Done, if and only if it
-/// opens, the random bytes suffice, and its plaintext makes at most 2^32 segments under the primary
-/// key.
+/// ENABLED record gives a key for streams, the name of a new file is free, the random bytes suffice
+/// for salt and nonce prefix, and there are at most 2^32 segments. One is opened to its end, and
+/// answered Done, if and only if under such a keyset's first key that opens the first segment each
+/// segment opens in its place, the final one as the last, and the name of a new file is free. One
+/// is resealed to its end, and answered Done, if and only if it opens so, the random bytes suffice,
+/// and its plaintext makes at most 2^32 segments under the primary key.
 pub fn streams_done()
     ensures { StreamsDone }
 {}
+
+/// A stream in a new file is whole or absent. If the stated answer of `sseal`, `sopen` or `sreseal`
+/// with a new file is Done, its name was free, the answer without it is Done too, and the file has
+/// exactly what that one puts out; otherwise no file has changed. Nothing goes to standard output.
+/// What stands after a fault is part `stands` of `run`, as for each command that writes only at its
+/// end.
+pub fn streams_whole_or_absent()
+    ensures { StreamsWholeOrAbsent }
+{
+    commands_are_whole();
+    streams_done();
+}
 
 /// A range of a stream is opened, and answered Done, if and only if such a keyset and the stream
 /// are there, the final segment and those that cover the range open under the first key that opens

@@ -100,6 +100,7 @@ pub use tinkey_readable::laws::run_step;
 pub use tinkey_readable::laws::sessions_are_readable;
 pub use tinkey_readable::laws::sessions_done;
 pub use tinkey_readable::laws::streams_done;
+pub use tinkey_readable::laws::streams_whole_or_absent;
 pub use tinkey_readable::laws::templates_serve;
 pub use tinkey_readable::laws::texts_stay_readable;
 pub use tinkey_readable::laws::works_done;
