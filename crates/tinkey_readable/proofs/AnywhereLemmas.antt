@@ -68,6 +68,7 @@ use Rattle.tinkey_readable.specs.EnvelopeRuns.{IsEnveloped, MakeOneType, WasEnve
 use Rattle.tinkey_readable.specs.LineRuns.{asks, done_reply}
 use Rattle.tinkey_readable.specs.LockedRuns.{IsDoneUnder}
 use Rattle.tinkey_readable.specs.Lying.{Lies, LiesAs, Lying, lock_in}
+use Rattle.tinkey_readable.specs.RangeRuns.{IsRanged}
 use Rattle.tinkey_readable.specs.Runs.{IsDone, IsFree, ReadIsStored, bytes_at}
 use Rattle.tinkey_readable.specs.StreamRuns.{IsOpened, NoOtherBefore, WasSealed}
 use Rattle.tinkey_words.specs.Words.{AskedEnvelope, AskedWork, primitive_for, to_dopen, to_dseal, to_eopen, to_eseal, to_open, to_seal, to_tag, to_verify}
@@ -300,23 +301,26 @@ opens_first_anywhere back fit before other old keys r ad stream told lies primar
           ∙ chosen_so (with_primary keys p.0) f.key ad out t stream input free f.choice;
     }
 
-pub opens_range_anywhere : StreamBack → RangeIsSlice → ReadKeysFit → OpensRangeAnywhere
-opens_range_anywhere back slice fit before other old keys r ad stream told lies primary was serves has only =
-    let m = stream_maker back before old r ad stream told lies primary was in
+pub ranges_made : RangeIsSlice → ReadKeysFit → (other : Lying) (keys : Keys) (r : Record) (ad stream plain : List ℕ) → MadeStream r ad stream plain → ServesStreams other keys → (has : HasKey r keys) → NoOtherBefore r has.place ad stream keys → IsRanged ad other stream plain
+ranges_made slice fit other keys r ad stream plain m serves has only =
     let p = primary_there fit other keys serves in
-    let opens = opens_under keys r m.key ad stream told.input has m.gives only m.alone in
+    let opens = opens_under keys r m.key ad stream plain has m.gives only m.alone in
     let with' = with_primary keys p.0 in
     record {
       within = λ t lock name range out lie free within.
           let reached' = served_reached other keys p.0 (λ k. opens_stretch k ad range (puts out)) t lock name serves p.1 lie.keyset in
-          let plain : List ℕ = take range.size (drop range.from told.input) in
-          let e = reached' ∙ stretch_reached with' ad stream range out t (Ok plain) lie.sealed (range_within slice keys ad stream told.input range.from range.size opens within) in
-          let done = puts_reached out plain t free in
-          (ap (λ (a : Answer). a.status) e ∙ done, ap (λ (a : Answer). bytes_at out a.files a.output) e ∙ bytes_put out plain t done);
+          let part : List ℕ = take range.size (drop range.from plain) in
+          let e = reached' ∙ stretch_reached with' ad stream range out t (Ok part) lie.sealed (range_within slice keys ad stream plain range.from range.size opens within) in
+          let done = puts_reached out part t free in
+          (ap (λ (a : Answer). a.status) e ∙ done, ap (λ (a : Answer). bytes_at out a.files a.output) e ∙ bytes_put out part t done);
       past = λ t lock name range out lie behind'.
           let reached' = served_reached other keys p.0 (λ k. opens_stretch k ad range (puts out)) t lock name serves p.1 lie.keyset in
-          reached' ∙ stretch_reached with' ad stream range out t (Err past_end) lie.sealed (range_past slice keys ad stream told.input range.from range.size opens behind');
+          reached' ∙ stretch_reached with' ad stream range out t (Err past_end) lie.sealed (range_past slice keys ad stream plain range.from range.size opens behind');
     }
+
+pub opens_range_anywhere : StreamBack → RangeIsSlice → ReadKeysFit → OpensRangeAnywhere
+opens_range_anywhere back slice fit before other old keys r ad stream told lies primary was serves has only =
+    ranges_made slice fit other keys r ad stream told.input (stream_maker back before old r ad stream told lies primary was) serves has only
 
 -- ---- envelopes
 

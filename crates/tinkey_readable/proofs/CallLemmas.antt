@@ -45,12 +45,12 @@ master_read formats.Json text over read = read
 master_read formats.Binary text over read = read
 
 -- what the two texts give, by what the encrypted one gives under the master
-inside_is : (master text : Written) (over keys : Keys) → keyset_of master ≡ Some over → GivesUnder over text keys → inside_of master text ≡ of_fit (unfit over Aead (table_of Aead)) (Ok keys)
+pub inside_is : (master text : Written) (over keys : Keys) → keyset_of master ≡ Some over → GivesUnder over text keys → inside_of master text ≡ of_fit (unfit over Aead (table_of Aead)) (Ok keys)
 inside_is master text over keys read gives =
     ap (inside_by text.bytes (is_json text.form)) (master_read master.form master.bytes over read)
     ∙ ap (of_fit (unfit over Aead (table_of Aead))) gives
 
-fit_keys : (fault : Option (ℕ × Unfit)) (keys got : Keys) → of_fit fault (Ok keys) ≡ Ok got → got ≡ keys
+pub fit_keys : (fault : Option (ℕ × Unfit)) (keys got : Keys) → of_fit fault (Ok keys) ≡ Ok got → got ≡ keys
 fit_keys None keys got e = let same : keys ≡ got = cc in sym same
 fit_keys (Some fault) keys got e = absurd (cc)
 
@@ -213,13 +213,13 @@ own_fault Mac r = refl
 own_fault Prf r = refl
 own_fault Stream r = refl
 
-own_unfit : (primitive : Primitive) (place : ℕ) (records : List Record) → unfit_from place (table_of primitive) primitive records ≡ unfit_from place standard_table primitive records
+pub own_unfit : (primitive : Primitive) (place : ℕ) (records : List Record) → unfit_from place (table_of primitive) primitive records ≡ unfit_from place standard_table primitive records
 own_unfit primitive place [] = refl
 own_unfit primitive place (r ∷ records) =
     ap (λ f. or_later place f (unfit_from (place + 1) (table_of primitive) primitive records)) (own_fault primitive r)
     ∙ ap (or_later place (fault_of_record standard_table primitive r)) (own_unfit primitive (place + 1) records)
 
-ok_same : {X : Type 0} (read : Result Keys X) (a b : Keys) → read ≡ Ok a → read ≡ Ok b → a ≡ b
+pub ok_same : {X : Type 0} (read : Result Keys X) (a b : Keys) → read ≡ Ok a → read ≡ Ok b → a ≡ b
 ok_same (Ok got) a b is other = let first : got ≡ a = cc in let second : got ≡ b = cc in sym first ∙ second
 ok_same (Err why) a b is other = absurd (cc)
 
@@ -232,7 +232,7 @@ not_unfit primitive read keys is fit why =
     no_truth (subst (λ (o : Option (ℕ × Unfit)). IsSome o) served some)
 
 -- nor is a result without an error one with an error
-not_failed : {X P : Type 0} (read : Result Keys X) (keys : Keys) → read ≡ Ok keys → IsErr read → P
+pub not_failed : {X P : Type 0} (read : Result Keys X) (keys : Keys) → read ≡ Ok keys → IsErr read → P
 not_failed (Ok got) keys is failed = no_truth failed
 not_failed (Err why) keys is failed = absurd (cc)
 
@@ -249,7 +249,7 @@ read_made primitive size read keys refusals.Refused is fit within why = absurd w
 read_made primitive size read keys refusals.NoRoom is fit within why = absurd why
 read_made primitive size read keys refusals.NoMemory is fit within why = refl
 
-ok_read : {X : Type 0} (read : Result Keys X) (keys : Keys) → result_ok read ≡ Some keys → read ≡ Ok keys
+pub ok_read : {X : Type 0} (read : Result Keys X) (keys : Keys) → result_ok read ≡ Some keys → read ≡ Ok keys
 ok_read (Ok got) keys is = ap Ok (same_Some _ _ is)
 ok_read (Err why) keys is = clash is
 

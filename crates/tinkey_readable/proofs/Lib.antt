@@ -13,6 +13,7 @@ pub mod FileLemmas
 pub mod HidingLemmas
 pub mod KeptRunLemmas
 pub mod KeptTextLemmas
+pub mod LibraryStreamLemmas
 pub mod LibraryTextLemmas
 pub mod LineCaseLemmas
 pub mod LineRunLemmas

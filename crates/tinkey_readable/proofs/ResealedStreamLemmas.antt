@@ -65,7 +65,7 @@ stream_next back ad plain old new m x =
     let is : sealed cipher s.random plain true ≡ new.bytes = sym (ap (λ (y : List ℕ × Option StreamRefusal). y.0) b.0) ∙ s.is in
     record { key = u.primary; gives = gives; alone = ap (stream_answer (cipher ∷ [])) (sym is) ∙ b.1 }
 
-stream_all : ResealedBack → (ad plain : List ℕ) (between : List SealedText) (first last : SealedText) → MadeStream first.under' ad first.bytes plain → AreStreamsResealed ad first between last → MadeStream last.under' ad last.bytes plain
+pub stream_all : ResealedBack → (ad plain : List ℕ) (between : List SealedText) (first last : SealedText) → MadeStream first.under' ad first.bytes plain → AreStreamsResealed ad first between last → MadeStream last.under' ad last.bytes plain
 unfolding AreStreamsResealed
 stream_all back ad plain [] first last m are = subst (λ (t : SealedText). MadeStream t.under' ad t.bytes plain) are m
 stream_all back ad plain (next ∷ later) first last m are = stream_all back ad plain later next last (stream_next back ad plain first next m are.0) are.1

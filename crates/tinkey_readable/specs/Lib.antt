@@ -5,6 +5,7 @@ pub mod EnvelopeRuns
 pub mod Hiding
 pub mod KeptRuns
 pub mod KeptTexts
+pub mod LibraryStreams
 pub mod LibraryTexts
 pub mod LineRuns
 pub mod LockedHiding

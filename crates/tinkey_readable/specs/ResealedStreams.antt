@@ -7,7 +7,6 @@
 --   ResealedStreamsOpen   the law
 use Rattle.std.specs.Prelude.{◌≡◌, ℕ, List, [], ◌∷◌, Option, Some}
 use Rattle.keyset_model.specs.Keyset.{Keys, primary_of}
-use Rattle.keyset_model.specs.declared.record.Record.{Record}
 use Rattle.managers.specs.Standard.{standard_table}
 use Rattle.wrapped_prims.specs.Laws.{HasKey}
 use Rattle.tinkey_plans.specs.declared.status.Status.TheVariants as status

@@ -9,6 +9,7 @@ ghost use Rattle.tinkey_readable.specs.EnvelopeRuns.{RunsOpenEnvelope};
 ghost use Rattle.tinkey_readable.specs.Hiding.{ListedAlike, ListingHidesKeys, ReportsGoByStatus};
 ghost use Rattle.tinkey_readable.specs.KeptRuns.{CommandIdsStayDistinct, CreatedIdsAreDistinct, DataStaysByCommands, FilesStay, GivenBackByEnable, KeptByCommands, KeptByItsIdAlone};
 ghost use Rattle.tinkey_readable.specs.KeptTexts.{ReadsAfterCommands, ReadsByItsIdAlone};
+ghost use Rattle.tinkey_readable.specs.LibraryStreams.{LibraryStreamsOpen, StreamHandlesAreMade, StreamHandlesServe, WrappedStreamHandlesAreMade};
 ghost use Rattle.tinkey_readable.specs.LibraryTexts.{HandlesAreMade, HandlesServe, LibraryTagsVerify, LibraryTextsDopen, LibraryTextsOpen, WrappedHandlesAreMade};
 ghost use Rattle.tinkey_readable.specs.LineRuns.{MadeDopens, MadeDopensPresent, MadeOpens, MadeOpensPresent, MadeVerifies};
 ghost use Rattle.tinkey_readable.specs.LockedHiding.{LockedRunsPut, LockedSessionsSave, SealedAlike};
@@ -28,7 +29,9 @@ use seal_wrap::laws::{
     envelope_back, envelope_resealed, envelopes_fit, sealings_fit, standard_data_keys,
     text_hides_keys, wrap_back_bytes,
 };
-use segment_stream::laws::{range_is_slice, resealed_back, stream_back};
+use segment_stream::laws::{
+    decided_stays, range_is_slice, released_prefix, resealed_back, stream_back,
+};
 use tinkey_cmds::laws::edits_keep_keysets;
 use tinkey_plans::laws::{commands_are_whole, done_exactly, fit_keysets_answer};
 use tinkey_session::laws::{
@@ -311,6 +314,34 @@ pub fn library_texts_open()
     kept_dopen();
     kept_tag();
     kept_anywhere();
+}
+
+/// What calls of the library sealed as a stream, in pieces of whatever sizes, or a run of `sseal`
+/// put out, and runs of `sreseal` then resealed any number of times or not at all, opens to its
+/// plaintext with its associated data: by runs of `sopen`, and in ranges by runs of `srange`, over
+/// every keyset that is accepted for streams; and by calls over every keyset of which there is a
+/// handle for streams, in pieces of whatever sizes. In each of them the last key that sealed must
+/// be ENABLED, and no other key before it may open the first segment.
+///
+/// No call with a piece of such a stream is refused. What was given after some pieces are the first
+/// bytes of the plaintext, and the call at the end gives the rest; or the caller's bytes are fewer
+/// than that, or memory couldn't be allocated.
+///
+/// A handle for streams is made of every keyset that `sseal` and `sopen` accept, in clear or under
+/// a master, unless memory can't be allocated; and each ENABLED record of a handle's keyset gives a
+/// key for streams.
+pub fn library_streams_open()
+    ensures opens { LibraryStreamsOpen }
+    ensures made { StreamHandlesAreMade }
+    ensures made_wrapped { WrappedStreamHandlesAreMade }
+    ensures serve { StreamHandlesServe }
+{
+    stream_back();
+    resealed_back();
+    range_is_slice();
+    decided_stays();
+    released_prefix();
+    read_keysets_fit();
 }
 
 /// What was sealed, and then resealed any number of times, opens to its plaintext with its
