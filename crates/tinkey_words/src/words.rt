@@ -381,7 +381,7 @@ fn unmet_none<'a>(
     }
 }
 
-/// The command with its options, where none is for a stream that isn't there.
+/// The command with its options, if none of them is for a stream that isn't there.
 fn idle_none<'a>(
     command: CommandName,
     count: usize,
@@ -396,7 +396,7 @@ fn idle_none<'a>(
     }
 }
 
-/// The first of these options, which mean something for a stream alone, that is given where there is none.
+/// The first of these options, which mean something for a stream alone, that is given without one.
 fn idle(names: &[OptionName], given: &Options<'_>) -> Option<OptionName>
     ensures { result ≡ idle (is_stream (sealed_in ((seen_options given.now).values As))) names.now
         (seen_options given.now) }
@@ -654,7 +654,7 @@ impl<'a> Options<'a> {
         }
     }
 
-    /// The primitive of the keys that the command asks for that is named for templates, where one is.
+    /// The primitive of the keys that the command named for templates asks for, if one is named.
     fn served(&self) -> Option<Primitive>
         ensures { result ≡ served (seen_options self.now).values }
     {
