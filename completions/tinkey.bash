@@ -24,7 +24,7 @@ _tinkey() {
         if [ "$COMP_CWORD" -eq 1 ]; then
             words='create-keyset add-key rotate-keyset promote-key enable-key disable-key destroy-key delete-key list-keyset convert-keyset list-key-templates seal open dseal dopen reseal dreseal sseal sopen sreseal tag verify derive session selftest wrap-keyset unwrap-keyset eseal eopen ereseal srange key-of help version'
         elif [ "$COMP_CWORD" -eq 2 ] && [ "$before" = help ]; then
-            words='create-keyset add-key rotate-keyset promote-key enable-key disable-key destroy-key delete-key list-keyset convert-keyset list-key-templates seal open dseal dopen reseal dreseal sseal sopen sreseal tag verify derive session selftest wrap-keyset unwrap-keyset eseal eopen ereseal srange key-of exit'
+            words='create-keyset add-key rotate-keyset promote-key enable-key disable-key destroy-key delete-key list-keyset convert-keyset list-key-templates seal open dseal dopen reseal dreseal sseal sopen sreseal tag verify derive session selftest wrap-keyset unwrap-keyset eseal eopen ereseal srange key-of exit help version'
         else
             case "${COMP_WORDS[1]}" in
             create-keyset) words='--key-template --out --out-format --master --master-format --help' ;;

@@ -22,7 +22,7 @@ list_text =
     ++ codes "  delete-key          removes a key for good: what it sealed never opens again\n\n"
     ++ codes "Look at a keyset, and keep it:\n"
     ++ codes "  list-keyset         lists a keyset without key material\n"
-    ++ codes "  key-of              tells which keys may have made a sealed text, tag, envelope or stream\n"
+    ++ codes "  key-of              shows which keys may have made a sealed text, tag, envelope or stream\n"
     ++ codes "  list-key-templates  lists the names of the templates for new keys\n"
     ++ codes "  convert-keyset      writes a keyset in another form, or under another master\n"
     ++ codes "  wrap-keyset         seals a keyset under another one, the master\n"
@@ -40,10 +40,9 @@ list_text =
     ++ codes "  reseal              opens, and seals again under the primary key\n"
     ++ codes "  dreseal             as reseal, of what dseal sealed\n"
     ++ codes "  sseal               seals a stream of any length, in one pass\n"
-    ++ codes "  sopen               opens such a stream; it is complete only if the exit code is 0\n"
-    ++ codes "  sreseal             opens such a stream, and seals it again under the primary key, in one\n"
-    ++ codes "                      pass\n"
-    ++ codes "  srange              opens a range of such a stream in a file\n\n"
+    ++ codes "  sopen               opens a stream; it is complete only if the exit code is 0\n"
+    ++ codes "  sreseal             opens a stream, and seals it again under the primary key, in one pass\n"
+    ++ codes "  srange              opens a range of a stream in a file\n\n"
     ++ codes "Tag, verify and derive:\n"
     ++ codes "  tag                 tags standard input under the primary key\n"
     ++ codes "  verify              says whether a tag is valid under any enabled key\n"
@@ -140,10 +139,11 @@ exit_text =
     ++ codes "     them with the tool that made the keyset.\n\n"
     ++ codes "3  key {key} has no manager for this command\n"
     ++ codes "     The key is of a kind that this command doesn't use: keys for AEAD are for seal, open,\n"
-    ++ codes "     eseal and eopen, AES-SIV for dseal and dopen, HMAC and CMAC for tag and verify, PRFs\n"
-    ++ codes "     for derive, streaming keys for sseal, sopen and srange. The keys of a master are for\n"
-    ++ codes "     AEAD. One ENABLED key of another kind is enough for this: disable it (if it is the\n"
-    ++ codes "     primary, make another key the primary first), or keep it in a keyset of its own.\n\n"
+    ++ codes "     reseal, eseal, eopen and ereseal, AES-SIV for dseal, dopen and dreseal, HMAC and CMAC\n"
+    ++ codes "     for tag and verify, PRFs for derive, streaming keys for sseal, sopen, sreseal and\n"
+    ++ codes "     srange. The keys of a master are for AEAD. One ENABLED key of another kind is enough\n"
+    ++ codes "     for this: disable it (if it is the primary, make another key the primary first), or\n"
+    ++ codes "     keep it in a keyset of its own.\n\n"
     ++ codes "3  key {key} is not valid: {rule}\n"
     ++ codes "     The key breaks this rule, for example with a size that its kind doesn't have. Another\n"
     ++ codes "     tool made it: disable it (if it is the primary, make another key the primary first).\n\n"
@@ -195,8 +195,9 @@ exit_text =
     ++ codes "     A keyset has at most 1,048,576 bytes when it is read and when it is written; JSON is\n"
     ++ codes "     longer than the binary form. An encrypted keyset has at most 4,194,304.\n\n"
     ++ codes "6  input too long\n"
-    ++ codes "     The command takes 16,777,216 bytes, and open, dopen and eopen take everything that was\n"
-    ++ codes "     sealed from that many. Seal longer inputs with sseal, under a streaming key.\n\n"
+    ++ codes "     The command takes 16,777,216 bytes, and a command that opens or reseals takes\n"
+    ++ codes "     everything that was sealed from that many. Seal longer inputs with sseal, under a\n"
+    ++ codes "     streaming key.\n\n"
     ++ codes "6  too many segments\n"
     ++ codes "     The input of a stream is too long for its segments: use a template with larger ones.\n\n"
     ++ codes "6  line too long\n"
@@ -216,8 +217,8 @@ exit_text =
     ++ codes "     build for plain x86-64 that it may advise is refused here.\n"
 
 -- Parts that commands share: an option's lines, named after it and the column at which they tell what
--- it is; a command's options, what it reads and what it gives, named after the first one; and exit codes,
--- by their numbers.
+-- it is; a command's options, what it reads, what it gives and its note, named after the first one; and
+-- exit codes, by their numbers.
 
 abbrev pub key_template_31 : List ℕ
 key_template_31 =
@@ -237,7 +238,7 @@ out_format_31 =
 
 abbrev pub master_31 : List ℕ
 master_31 =
-    codes "  --master FILE                the file of the master, the keyset under which this one lies\n"
+    codes "  --master FILE                the file of the master, the keyset under which this one is\n"
     ++ codes "                               encrypted: a file's name, of one byte or more, and not -\n"
 
 abbrev pub master_format_31 : List ℕ
@@ -310,14 +311,18 @@ read_by_add_key =
 
 abbrev pub given_by_add_key : List ℕ
 given_by_add_key =
-    codes "Gives  the keyset after that edit (no file is replaced: to edit one in place, mv the new\n"
-    ++ codes "       file over it), in a new file of --out, or on standard output if there is no --out\n"
+    codes "Gives  the keyset after that edit, in a new file of --out, or on standard output if there is\n"
+    ++ codes "       no --out\n"
+
+abbrev pub note_of_add_key : List ℕ
+note_of_add_key =
+    codes "Note   no file is replaced; to change k in place: --in k --out k.new && mv k.new k\n"
 
 abbrev pub codes_012345678 : List ℕ
 codes_012345678 =
     codes "\nExit codes:\n"
     ++ code_0
-    ++ codes "  1  what was given doesn't open, doesn't verify, is no whole stream, or is of no key\n"
+    ++ codes "  1  what was given doesn't open or verify, isn't a whole stream, or no key made it\n"
     ++ code_2 ++ code_3 ++ code_4 ++ code_5 ++ code_6 ++ code_7 ++ code_8
     ++ codes "\nExample:\n"
 
@@ -338,6 +343,12 @@ abbrev pub keyset_format_31 : List ℕ
 keyset_format_31 =
     codes "  --keyset-format json|binary  the form of that keyset: json or binary, in upper or lower\n"
     ++ codes "                               case; json if it isn't given\n"
+
+abbrev pub codes_02578 : List ℕ
+codes_02578 =
+    codes "\nExit codes:\n"
+    ++ code_0 ++ code_2 ++ code_5 ++ code_7 ++ code_8
+    ++ codes "\nExample:\n"
 
 abbrev pub options_of_wrap_keyset : List ℕ
 options_of_wrap_keyset =
@@ -416,7 +427,7 @@ command_text commands.AddKey =
     codes "tinkey add-key: adds a new key\n\n"
     ++ codes "  tinkey add-key --key-template NAME [--in FILE] [--in-format json|binary] [--out FILE]\n"
     ++ codes "      [--out-format json|binary] [--master FILE] [--master-format json|binary]\n"
-    ++ options_of_add_key ++ read_by_add_key ++ given_by_add_key
+    ++ options_of_add_key ++ read_by_add_key ++ given_by_add_key ++ note_of_add_key
     ++ codes_012345678
     ++ codes "  tinkey create-keyset --key-template AES256_GCM --out one.json\n"
     ++ codes "  tinkey add-key --key-template AES256_GCM --in one.json --out two.json\n"
@@ -424,7 +435,7 @@ command_text commands.RotateKeyset =
     codes "tinkey rotate-keyset: adds a new key, and makes it the primary\n\n"
     ++ codes "  tinkey rotate-keyset --key-template NAME [--in FILE] [--in-format json|binary]\n"
     ++ codes "      [--out FILE] [--out-format json|binary] [--master FILE] [--master-format json|binary]\n"
-    ++ options_of_add_key ++ read_by_add_key ++ given_by_add_key
+    ++ options_of_add_key ++ read_by_add_key ++ given_by_add_key ++ note_of_add_key
     ++ codes_012345678
     ++ codes "  tinkey create-keyset --key-template AES256_GCM --out old.json\n"
     ++ codes "  tinkey rotate-keyset --key-template AES256_GCM --in old.json --out rotated.json\n"
@@ -432,7 +443,7 @@ command_text commands.PromoteKey =
     codes "tinkey promote-key: makes an enabled key the primary\n\n"
     ++ codes "  tinkey promote-key --key-id N [--in FILE] [--in-format json|binary] [--out FILE]\n"
     ++ codes "      [--out-format json|binary] [--master FILE] [--master-format json|binary]\n"
-    ++ options_of_promote_key ++ read_by_add_key ++ given_by_add_key
+    ++ options_of_promote_key ++ read_by_add_key ++ given_by_add_key ++ note_of_add_key
     ++ codes_012345678
     ++ codes "  tinkey create-keyset --key-template AES256_GCM |\n"
     ++ codes "      tinkey rotate-keyset --key-template AES256_GCM --out both.json\n"
@@ -442,7 +453,7 @@ command_text commands.EnableKey =
     codes "tinkey enable-key: makes a key ENABLED\n\n"
     ++ codes "  tinkey enable-key --key-id N [--in FILE] [--in-format json|binary] [--out FILE]\n"
     ++ codes "      [--out-format json|binary] [--master FILE] [--master-format json|binary]\n"
-    ++ options_of_promote_key ++ read_by_add_key ++ given_by_add_key
+    ++ options_of_promote_key ++ read_by_add_key ++ given_by_add_key ++ note_of_add_key
     ++ codes_012345678
     ++ codes "  tinkey create-keyset --key-template AES256_GCM |\n"
     ++ codes "      tinkey rotate-keyset --key-template AES256_GCM --out ready.json\n"
@@ -453,7 +464,7 @@ command_text commands.DisableKey =
     codes "tinkey disable-key: makes a key DISABLED: it isn't used, and can be enabled again\n\n"
     ++ codes "  tinkey disable-key --key-id N [--in FILE] [--in-format json|binary] [--out FILE]\n"
     ++ codes "      [--out-format json|binary] [--master FILE] [--master-format json|binary]\n"
-    ++ options_of_promote_key ++ read_by_add_key ++ given_by_add_key
+    ++ options_of_promote_key ++ read_by_add_key ++ given_by_add_key ++ note_of_add_key
     ++ codes_012345678
     ++ codes "  tinkey create-keyset --key-template AES256_GCM |\n"
     ++ codes "      tinkey rotate-keyset --key-template AES256_GCM --out busy.json\n"
@@ -463,7 +474,7 @@ command_text commands.DestroyKey =
     codes "tinkey destroy-key: destroys a key's material for good: what it sealed never opens again\n\n"
     ++ codes "  tinkey destroy-key --key-id N [--in FILE] [--in-format json|binary] [--out FILE]\n"
     ++ codes "      [--out-format json|binary] [--master FILE] [--master-format json|binary]\n"
-    ++ options_of_promote_key ++ read_by_add_key ++ given_by_add_key
+    ++ options_of_promote_key ++ read_by_add_key ++ given_by_add_key ++ note_of_add_key
     ++ codes_012345678
     ++ codes "  tinkey create-keyset --key-template AES256_GCM |\n"
     ++ codes "      tinkey rotate-keyset --key-template AES256_GCM --out full.json\n"
@@ -473,7 +484,7 @@ command_text commands.DeleteKey =
     codes "tinkey delete-key: removes a key for good: what it sealed never opens again\n\n"
     ++ codes "  tinkey delete-key --key-id N [--in FILE] [--in-format json|binary] [--out FILE]\n"
     ++ codes "      [--out-format json|binary] [--master FILE] [--master-format json|binary]\n"
-    ++ options_of_promote_key ++ read_by_add_key ++ given_by_add_key
+    ++ options_of_promote_key ++ read_by_add_key ++ given_by_add_key ++ note_of_add_key
     ++ codes_012345678
     ++ codes "  tinkey create-keyset --key-template AES256_GCM |\n"
     ++ codes "      tinkey rotate-keyset --key-template AES256_GCM --out many.json\n"
@@ -490,7 +501,7 @@ command_text commands.ListKeyset =
     ++ codes "  tinkey create-keyset --key-template AES256_GCM --out listed.json\n"
     ++ codes "  tinkey list-keyset --in listed.json\n"
 command_text commands.KeyOf =
-    codes "tinkey key-of: tells which keys may have made a sealed text, tag, envelope or stream\n\n"
+    codes "tinkey key-of: shows which keys may have made a sealed text, tag, envelope or stream\n\n"
     ++ codes "  tinkey key-of --keyset FILE [--keyset-format json|binary] [--ad TEXT] [--ad-hex HEX]\n"
     ++ codes "      [--master FILE] [--master-format json|binary] [--as text|envelope|stream]\n\n"
     ++ codes "Required:\n"
@@ -508,9 +519,9 @@ command_text commands.KeyOf =
     ++ codes "                               text if it isn't given\n\n"
     ++ codes "Reads  the keyset, and the first 5 bytes of standard input, the first 9 with --as envelope,\n"
     ++ codes "       or with --as stream one byte more than the largest segment under the keyset's keys\n"
-    ++ codes "Gives  a line for each key, of any status, whose output prefix stands in front, and one that\n"
-    ++ codes "       counts the keys without one; with --as stream the line of the key under which sopen\n"
-    ++ codes "       opens the stream; on standard output\n"
+    ++ codes "Gives  a line for each key, of any status, whose output prefix the input begins with, and\n"
+    ++ codes "       one that counts the keys without a prefix; with --as stream the line of the key under\n"
+    ++ codes "       which sopen opens the stream; on standard output\n"
     ++ codes_012345678
     ++ codes "  tinkey create-keyset --key-template AES256_GCM --out sealer.json\n"
     ++ codes "  echo 'Dear Ada' | tinkey seal --keyset sealer.json --out sealed.text\n"
@@ -523,10 +534,8 @@ command_text commands.ListKeyTemplates =
     ++ codes "                 that seals, opens, reseals, tags, verifies, derives, wraps or unwraps\n"
     ++ read_by_create_keyset
     ++ codes "Gives  the names of the templates, or with --for of those whose keys serve that command, one\n"
-    ++ codes "       a line, on standard output\n\n"
-    ++ codes "Exit codes:\n"
-    ++ code_0 ++ code_2 ++ code_5 ++ code_7 ++ code_8
-    ++ codes "\nExample:\n"
+    ++ codes "       a line, on standard output\n"
+    ++ codes_02578
     ++ codes "  tinkey list-key-templates --for dseal\n"
 command_text commands.ConvertKeyset =
     codes "tinkey convert-keyset: writes a keyset in another form, or under another master\n\n"
@@ -545,8 +554,8 @@ command_text commands.ConvertKeyset =
     ++ codes "  --out-format json|binary         the form of the keyset to write: json or binary, in upper\n"
     ++ codes "                                   or lower case; json if it isn't given\n"
     ++ codes "  --master FILE                    the file of the master, the keyset under which this one\n"
-    ++ codes "                                   lies encrypted: a file's name, of one byte or more, and\n"
-    ++ codes "                                   not -\n"
+    ++ codes "                                   is encrypted: a file's name, of one byte or more, and not\n"
+    ++ codes "                                   -\n"
     ++ codes "  --master-format json|binary      the form of the master: json or binary, in upper or lower\n"
     ++ codes "                                   case; json if it isn't given\n"
     ++ codes "  --new-master FILE                the file of the master that the keyset is put under: a\n"
@@ -555,6 +564,7 @@ command_text commands.ConvertKeyset =
     ++ codes "                                   lower case; json if it isn't given\n"
     ++ read_by_add_key
     ++ codes "Gives  the same keyset, in a new file of --out, or on standard output if there is no --out\n"
+    ++ note_of_add_key
     ++ codes_012345678
     ++ codes "  tinkey create-keyset --key-template AES256_GCM --out text.json\n"
     ++ codes "  tinkey convert-keyset --in text.json --out keyset.bin --out-format binary\n"
@@ -569,6 +579,7 @@ command_text commands.WrapKeyset =
     ++ codes "       standard input if there is no --in\n"
     ++ codes "Gives  the keyset as an encrypted keyset, sealed under the master's primary key, in the form\n"
     ++ codes "       of --out-format, in a new file of --out, or on standard output if there is no --out\n"
+    ++ codes "Keys   of the master, of templates that tinkey list-key-templates --for wrap-keyset lists\n"
     ++ codes_02345678
     ++ codes "  tinkey create-keyset --key-template AES256_GCM --out master.json\n"
     ++ codes "  tinkey create-keyset --key-template AES256_GCM |\n"
@@ -581,6 +592,7 @@ command_text commands.UnwrapKeyset =
     ++ codes "\nReads  the master, and an encrypted keyset in the form of --in-format, from the file of\n"
     ++ codes "       --in, or from standard input if there is no --in\n"
     ++ codes "Gives  the keyset inside, in a new file of --out, or on standard output if there is no --out\n"
+    ++ codes "Keys   of the master, of templates that tinkey list-key-templates --for unwrap-keyset lists\n"
     ++ codes_012345678
     ++ codes "  tinkey create-keyset --key-template AES256_GCM --out lock.json\n"
     ++ codes "  tinkey create-keyset --key-template AES256_GCM |\n"
@@ -593,6 +605,7 @@ command_text commands.Seal =
     ++ options_of_seal ++ read_by_seal
     ++ codes "Gives  the input sealed under the primary key, in a new file of --out, or on standard output\n"
     ++ codes "       if there is no --out\n"
+    ++ codes "Keys   of templates that tinkey list-key-templates --for seal lists\n"
     ++ codes_012345678
     ++ codes "  tinkey create-keyset --key-template AES256_GCM --out seal.json\n"
     ++ codes "  echo 'Dear Ada' | tinkey seal --keyset seal.json --ad 'to Ada' --out letter.sealed\n"
@@ -601,6 +614,7 @@ command_text commands.Open =
     ++ codes "  tinkey open --keyset FILE [--keyset-format json|binary] [--ad TEXT] [--ad-hex HEX]\n"
     ++ codes "      [--out FILE] [--master FILE] [--master-format json|binary]\n"
     ++ options_of_seal ++ read_by_seal ++ given_by_open
+    ++ codes "Keys   of templates that tinkey list-key-templates --for open lists\n"
     ++ codes_012345678
     ++ codes "  tinkey create-keyset --key-template AES256_GCM --out open.json\n"
     ++ codes "  echo 'Dear Ada' | tinkey seal --keyset open.json --ad 'to Ada' --out open.sealed\n"
@@ -612,6 +626,7 @@ command_text commands.Eseal =
     ++ options_of_eseal ++ read_by_seal
     ++ codes "Gives  an envelope of the input, under a fresh data key of the template of --dek-template,\n"
     ++ codes "       in a new file of --out, or on standard output if there is no --out\n"
+    ++ codes "Keys   of templates that tinkey list-key-templates --for eseal lists\n"
     ++ codes_012345678
     ++ codes "  tinkey create-keyset --key-template AES256_GCM --out eseal.json\n"
     ++ codes "  echo 'Dear Ada' | tinkey eseal --keyset eseal.json --dek-template AES128_GCM --out envelope\n"
@@ -622,6 +637,7 @@ command_text commands.Eopen =
     ++ options_of_eseal ++ read_by_seal
     ++ codes "Gives  what the envelope opens to, in a new file of --out, or on standard output if there is\n"
     ++ codes "       no --out\n"
+    ++ codes "Keys   of templates that tinkey list-key-templates --for eopen lists\n"
     ++ codes_012345678
     ++ codes "  tinkey create-keyset --key-template AES256_GCM --out eopen.json\n"
     ++ codes "  echo 'Dear Ada' | tinkey eseal --keyset eopen.json --dek-template AES128_GCM --out eopen.sealed\n"
@@ -634,9 +650,10 @@ command_text commands.Ereseal =
     ++ keyset_31 ++ dek_template_31
     ++ codes "\nOptional:\n"
     ++ keyset_format_31 ++ out_31 ++ master_31 ++ master_format_31 ++ read_by_seal
-    ++ codes "Gives  the envelope with its data key sealed again under the primary key; the payload behind\n"
-    ++ codes "       it stays as it is, and isn't opened, in a new file of --out, or on standard output if\n"
-    ++ codes "       there is no --out\n"
+    ++ codes "Gives  the envelope with its data key sealed again under the primary key; its payload stays\n"
+    ++ codes "       as it is, and isn't opened, in a new file of --out, or on standard output if there is\n"
+    ++ codes "       no --out\n"
+    ++ codes "Keys   of templates that tinkey list-key-templates --for ereseal lists\n"
     ++ codes_012345678
     ++ codes "  tinkey create-keyset --key-template AES256_GCM --out outer.json\n"
     ++ codes "  echo 'Dear Ada' | tinkey eseal --keyset outer.json --dek-template AES128_GCM --out outer.sealed\n"
@@ -649,6 +666,7 @@ command_text commands.Dseal =
     ++ options_of_seal ++ read_by_seal
     ++ codes "Gives  the input sealed under the primary key, without an IV, in a new file of --out, or on\n"
     ++ codes "       standard output if there is no --out\n"
+    ++ codes "Keys   of templates that tinkey list-key-templates --for dseal lists\n"
     ++ codes_012345678
     ++ codes "  tinkey create-keyset --key-template AES256_SIV --out dseal.json\n"
     ++ codes "  echo 'Dear Ada' | tinkey dseal --keyset dseal.json --out same.sealed\n"
@@ -657,6 +675,7 @@ command_text commands.Dopen =
     ++ codes "  tinkey dopen --keyset FILE [--keyset-format json|binary] [--ad TEXT] [--ad-hex HEX]\n"
     ++ codes "      [--out FILE] [--master FILE] [--master-format json|binary]\n"
     ++ options_of_seal ++ read_by_seal ++ given_by_open
+    ++ codes "Keys   of templates that tinkey list-key-templates --for dopen lists\n"
     ++ codes_012345678
     ++ codes "  tinkey create-keyset --key-template AES256_SIV --out dopen.json\n"
     ++ codes "  echo 'Dear Ada' | tinkey dseal --keyset dopen.json --out dopen.sealed\n"
@@ -668,6 +687,7 @@ command_text commands.Reseal =
     ++ options_of_seal ++ read_by_seal
     ++ codes "Gives  what the input opens to, sealed again under the primary key, in a new file of --out,\n"
     ++ codes "       or on standard output if there is no --out\n"
+    ++ codes "Keys   of templates that tinkey list-key-templates --for reseal lists\n"
     ++ codes_012345678
     ++ codes "  tinkey create-keyset --key-template AES256_GCM --out before.json\n"
     ++ codes "  echo 'Dear Ada' | tinkey seal --keyset before.json --ad 'to Ada' --out reseal.sealed\n"
@@ -680,6 +700,7 @@ command_text commands.Dreseal =
     ++ options_of_seal ++ read_by_seal
     ++ codes "Gives  as reseal, without an IV, in a new file of --out, or on standard output if there is\n"
     ++ codes "       no --out\n"
+    ++ codes "Keys   of templates that tinkey list-key-templates --for dreseal lists\n"
     ++ codes_012345678
     ++ codes "  tinkey create-keyset --key-template AES256_SIV --out earlier.json\n"
     ++ codes "  echo 'Dear Ada' | tinkey dseal --keyset earlier.json --out dreseal.sealed\n"
@@ -692,34 +713,37 @@ command_text commands.Sseal =
     ++ options_of_seal ++ read_by_sseal
     ++ codes "Gives  the input sealed as a stream; in a new file of --out, which is there only once it is\n"
     ++ codes "       whole, or on standard output, written while it is read\n"
+    ++ codes "Keys   of templates that tinkey list-key-templates --for sseal lists\n"
     ++ codes_012345678
     ++ codes "  tinkey create-keyset --key-template AES256_GCM_HKDF_1MB --out sseal.json\n"
     ++ codes "  echo 'Dear Ada' | tinkey sseal --keyset sseal.json > letter.stream\n"
 command_text commands.Sopen =
-    codes "tinkey sopen: opens such a stream; it is complete only if the exit code is 0\n\n"
+    codes "tinkey sopen: opens a stream; it is complete only if the exit code is 0\n\n"
     ++ codes "  tinkey sopen --keyset FILE [--keyset-format json|binary] [--ad TEXT] [--ad-hex HEX]\n"
     ++ codes "      [--out FILE] [--master FILE] [--master-format json|binary]\n"
     ++ options_of_seal ++ read_by_sseal
     ++ codes "Gives  the plaintext of the stream; in a new file of --out, which is there only once all of\n"
     ++ codes "       it is verified, or on standard output, each segment once it is verified\n"
+    ++ codes "Keys   of templates that tinkey list-key-templates --for sopen lists\n"
     ++ codes_012345678
     ++ codes "  tinkey create-keyset --key-template AES256_GCM_HKDF_1MB --out sopen.json\n"
     ++ codes "  echo 'Dear Ada' | tinkey sseal --keyset sopen.json > sopen.stream\n"
     ++ codes "  tinkey sopen --keyset sopen.json < sopen.stream > opened.txt && echo whole\n"
 command_text commands.Sreseal =
-    codes "tinkey sreseal: opens such a stream, and seals it again under the primary key, in one pass\n\n"
+    codes "tinkey sreseal: opens a stream, and seals it again under the primary key, in one pass\n\n"
     ++ codes "  tinkey sreseal --keyset FILE [--keyset-format json|binary] [--ad TEXT] [--ad-hex HEX]\n"
     ++ codes "      [--out FILE] [--master FILE] [--master-format json|binary]\n"
     ++ options_of_seal ++ read_by_sseal
     ++ codes "Gives  the plaintext of the stream, sealed again as a stream; in a new file of --out, which\n"
     ++ codes "       is there only once it is whole, or on standard output, written while it is read\n"
+    ++ codes "Keys   of templates that tinkey list-key-templates --for sreseal lists\n"
     ++ codes_012345678
     ++ codes "  tinkey create-keyset --key-template AES256_GCM_HKDF_1MB --out former.json\n"
     ++ codes "  echo 'Dear Ada' | tinkey sseal --keyset former.json > former.stream\n"
     ++ codes "  tinkey rotate-keyset --key-template AES256_GCM_HKDF_1MB --in former.json --out sreseal.json\n"
     ++ codes "  tinkey sreseal --keyset sreseal.json < former.stream > sresealed && echo whole\n"
 command_text commands.Srange =
-    codes "tinkey srange: opens a range of such a stream in a file\n\n"
+    codes "tinkey srange: opens a range of a stream in a file\n\n"
     ++ codes "  tinkey srange --keyset FILE --file FILE --from N --length N [--keyset-format json|binary]\n"
     ++ codes "      [--ad TEXT] [--ad-hex HEX] [--out FILE] [--master FILE] [--master-format json|binary]\n\n"
     ++ codes "Required:\n"
@@ -734,6 +758,7 @@ command_text commands.Srange =
     ++ codes "\nReads  the keyset, and the stream in the file of --file\n"
     ++ codes "Gives  as many bytes of the stream's plaintext as --length says, from the offset of --from\n"
     ++ codes "       on, counted from 0; in a new file of --out, or on standard output\n"
+    ++ codes "Keys   of templates that tinkey list-key-templates --for srange lists\n"
     ++ codes_012345678
     ++ codes "  tinkey create-keyset --key-template AES256_GCM_HKDF_1MB --out srange.json\n"
     ++ codes "  echo 'Dear Ada' | tinkey sseal --keyset srange.json > srange.stream\n"
@@ -748,6 +773,7 @@ command_text commands.Tag =
     ++ keyset_format_31 ++ out_31 ++ hex_31 ++ master_31 ++ master_format_31 ++ read_by_seal
     ++ codes "Gives  the tag of the input under the primary key, in a new file of --out, or on standard\n"
     ++ codes "       output if there is no --out\n"
+    ++ codes "Keys   of templates that tinkey list-key-templates --for tag lists\n"
     ++ codes_012345678
     ++ codes "  tinkey create-keyset --key-template HMAC_SHA256_128BITTAG --out tag.json\n"
     ++ codes "  echo 'Dear Ada' | tinkey tag --keyset tag.json --hex --out letter.tag\n"
@@ -762,6 +788,7 @@ command_text commands.Verify =
     ++ codes "Optional:\n"
     ++ keyset_format_31 ++ master_31 ++ master_format_31 ++ read_by_seal
     ++ codes "Gives  nothing; the status says whether the tag is one of the keyset's\n"
+    ++ codes "Keys   of templates that tinkey list-key-templates --for verify lists\n"
     ++ codes_012345678
     ++ codes "  tinkey create-keyset --key-template HMAC_SHA256_128BITTAG --out verify.json\n"
     ++ codes "  tag=$(echo 'Dear Ada' | tinkey tag --keyset verify.json --hex)\n"
@@ -776,6 +803,7 @@ command_text commands.Derive =
     ++ keyset_format_31 ++ out_31 ++ hex_31 ++ master_31 ++ master_format_31 ++ read_by_seal
     ++ codes "Gives  as many bytes as --length says, derived from the input by the primary key, in a new\n"
     ++ codes "       file of --out, or on standard output if there is no --out\n"
+    ++ codes "Keys   of templates that tinkey list-key-templates --for derive lists\n"
     ++ codes_012345678
     ++ codes "  tinkey create-keyset --key-template HKDF_SHA256 --out derive.json\n"
     ++ codes "  echo 'Dear Ada' | tinkey derive --keyset derive.json --length 32 --hex\n"
@@ -815,10 +843,42 @@ command_text commands.Selftest =
     ++ codes "\nExample:\n"
     ++ codes "  tinkey selftest --seed 1 --lines 1000\n"
 
+-- how help is asked for, and which topics there are
+unfoldable pub help_on_help : List ℕ
+help_on_help =
+    codes "tinkey help: lists the commands, or prints the help on a topic\n\n"
+    ++ codes "  tinkey help [TOPIC]\n"
+    ++ codes "  tinkey --help\n"
+    ++ codes "  tinkey COMMAND --help\n\n"
+    ++ codes "Without a topic the commands are listed. -h is --help.\n\n"
+    ++ codes "Topics:\n"
+    ++ codes "  COMMAND  its options, what it reads and gives, its exit codes, an example\n"
+    ++ codes "  exit     the diagnostic lines: what each means, and what to do next\n"
+    ++ codes "  help     how help is asked for, and which topics there are\n"
+    ++ codes "  version  what tinkey version prints\n"
+    ++ read_by_create_keyset
+    ++ codes "Gives  the text that is asked for, on standard output\n"
+    ++ codes_02578
+    ++ codes "  tinkey help seal\n"
+
+-- what `tinkey version` prints
+unfoldable pub help_on_version : List ℕ
+help_on_version =
+    codes "tinkey version: prints the version\n\n"
+    ++ codes "  tinkey version\n"
+    ++ codes "  tinkey --version\n"
+    ++ read_by_create_keyset
+    ++ codes "Gives  two lines, on standard output: the program's version, and the number of the logic\n"
+    ++ codes "       that it is proved in\n"
+    ++ codes_02578
+    ++ codes "  tinkey version\n"
+
 -- what a topic has to say
 abbrev pub help_text : Topic → List ℕ
 help_text topics.Commands = list_text
 help_text topics.Exit = exit_text
+help_text topics.Help = help_on_help
+help_text topics.Version = help_on_version
 help_text (topics.Command command) = command_text command
 
 -- the version

@@ -1,7 +1,7 @@
 //! What help and version print; made by tools/words of words.table.
 
 ghost use Rattle.std.specs.Prelude.{◌≡◌};
-ghost use Rattle.tinkey_plans.specs.Help.{command_text, exit_text, help_text, list_text, version_text};
+ghost use Rattle.tinkey_plans.specs.Help.{command_text, exit_text, help_on_help, help_on_version, help_text, list_text, version_text};
 
 use tinkey_words::{CommandName, Topic};
 
@@ -30,7 +30,7 @@ macro_rules! text {
 "] $($rest)*)
     };
     ([$($said:literal)*] master_31 $($rest:tt)*) => {
-        text!([$($said)* "  --master FILE                the file of the master, the keyset under which this one lies
+        text!([$($said)* "  --master FILE                the file of the master, the keyset under which this one is
                                encrypted: a file's name, of one byte or more, and not -
 "] $($rest)*)
     };
@@ -103,14 +103,19 @@ Reads  a keyset, from the file of --in, or from standard input if there is no --
     };
     ([$($said:literal)*] given_by_add_key $($rest:tt)*) => {
         text!([$($said)* "\
-Gives  the keyset after that edit (no file is replaced: to edit one in place, mv the new
-       file over it), in a new file of --out, or on standard output if there is no --out
+Gives  the keyset after that edit, in a new file of --out, or on standard output if there is
+       no --out
+"] $($rest)*)
+    };
+    ([$($said:literal)*] note_of_add_key $($rest:tt)*) => {
+        text!([$($said)* "\
+Note   no file is replaced; to change k in place: --in k --out k.new && mv k.new k
 "] $($rest)*)
     };
     ([$($said:literal)*] codes_012345678 $($rest:tt)*) => {
         text!([$($said)*] "
 Exit codes:
-" code_0 "  1  what was given doesn't open, doesn't verify, is no whole stream, or is of no key
+" code_0 "  1  what was given doesn't open or verify, isn't a whole stream, or no key made it
 " code_2 code_3 code_4 code_5 code_6 code_7 code_8 "
 Example:
 " $($rest)*)
@@ -133,6 +138,13 @@ Optional:
         text!([$($said)* "  --keyset-format json|binary  the form of that keyset: json or binary, in upper or lower
                                case; json if it isn't given
 "] $($rest)*)
+    };
+    ([$($said:literal)*] codes_02578 $($rest:tt)*) => {
+        text!([$($said)*] "
+Exit codes:
+" code_0 code_2 code_5 code_7 code_8 "
+Example:
+" $($rest)*)
     };
     ([$($said:literal)*] options_of_wrap_keyset $($rest:tt)*) => {
         text!([$($said)*] "
@@ -205,6 +217,8 @@ pub fn help_text(topic: Topic) -> &'static str
     match topic {
         Topic::Commands => list_text(),
         Topic::Exit => exit_text(),
+        Topic::Help => help_on_help(),
+        Topic::Version => help_on_version(),
         Topic::Command(command) => command_text(command),
     }
 }
@@ -242,7 +256,7 @@ Make and change a keyset:
 
 Look at a keyset, and keep it:
   list-keyset         lists a keyset without key material
-  key-of              tells which keys may have made a sealed text, tag, envelope or stream
+  key-of              shows which keys may have made a sealed text, tag, envelope or stream
   list-key-templates  lists the names of the templates for new keys
   convert-keyset      writes a keyset in another form, or under another master
   wrap-keyset         seals a keyset under another one, the master
@@ -261,10 +275,9 @@ Seal and open:
   reseal              opens, and seals again under the primary key
   dreseal             as reseal, of what dseal sealed
   sseal               seals a stream of any length, in one pass
-  sopen               opens such a stream; it is complete only if the exit code is 0
-  sreseal             opens such a stream, and seals it again under the primary key, in one
-                      pass
-  srange              opens a range of such a stream in a file
+  sopen               opens a stream; it is complete only if the exit code is 0
+  sreseal             opens a stream, and seals it again under the primary key, in one pass
+  srange              opens a range of a stream in a file
 
 Tag, verify and derive:
   tag                 tags standard input under the primary key
@@ -394,10 +407,11 @@ A command that fails prints a line on standard error and ends with an exit code.
 
 3  key {key} has no manager for this command
      The key is of a kind that this command doesn't use: keys for AEAD are for seal, open,
-     eseal and eopen, AES-SIV for dseal and dopen, HMAC and CMAC for tag and verify, PRFs
-     for derive, streaming keys for sseal, sopen and srange. The keys of a master are for
-     AEAD. One ENABLED key of another kind is enough for this: disable it (if it is the
-     primary, make another key the primary first), or keep it in a keyset of its own.
+     reseal, eseal, eopen and ereseal, AES-SIV for dseal, dopen and dreseal, HMAC and CMAC
+     for tag and verify, PRFs for derive, streaming keys for sseal, sopen, sreseal and
+     srange. The keys of a master are for AEAD. One ENABLED key of another kind is enough
+     for this: disable it (if it is the primary, make another key the primary first), or
+     keep it in a keyset of its own.
 
 3  key {key} is not valid: {rule}
      The key breaks this rule, for example with a size that its kind doesn't have. Another
@@ -470,8 +484,9 @@ A command that fails prints a line on standard error and ends with an exit code.
      longer than the binary form. An encrypted keyset has at most 4,194,304.
 
 6  input too long
-     The command takes 16,777,216 bytes, and open, dopen and eopen take everything that was
-     sealed from that many. Seal longer inputs with sseal, under a streaming key.
+     The command takes 16,777,216 bytes, and a command that opens or reseals takes
+     everything that was sealed from that many. Seal longer inputs with sseal, under a
+     streaming key.
 
 6  too many segments
      The input of a stream is too long for its segments: use a template with larger ones.
@@ -522,7 +537,7 @@ tinkey add-key: adds a new key
 
   tinkey add-key --key-template NAME [--in FILE] [--in-format json|binary] [--out FILE]
       [--out-format json|binary] [--master FILE] [--master-format json|binary]
-" options_of_add_key read_by_add_key given_by_add_key codes_012345678 "  tinkey create-keyset --key-template AES256_GCM --out one.json
+" options_of_add_key read_by_add_key given_by_add_key note_of_add_key codes_012345678 "  tinkey create-keyset --key-template AES256_GCM --out one.json
   tinkey add-key --key-template AES256_GCM --in one.json --out two.json
 "),
         CommandName::RotateKeyset => text!([] "\
@@ -530,7 +545,7 @@ tinkey rotate-keyset: adds a new key, and makes it the primary
 
   tinkey rotate-keyset --key-template NAME [--in FILE] [--in-format json|binary]
       [--out FILE] [--out-format json|binary] [--master FILE] [--master-format json|binary]
-" options_of_add_key read_by_add_key given_by_add_key codes_012345678 "  tinkey create-keyset --key-template AES256_GCM --out old.json
+" options_of_add_key read_by_add_key given_by_add_key note_of_add_key codes_012345678 "  tinkey create-keyset --key-template AES256_GCM --out old.json
   tinkey rotate-keyset --key-template AES256_GCM --in old.json --out rotated.json
 "),
         CommandName::PromoteKey => text!([] "\
@@ -538,7 +553,7 @@ tinkey promote-key: makes an enabled key the primary
 
   tinkey promote-key --key-id N [--in FILE] [--in-format json|binary] [--out FILE]
       [--out-format json|binary] [--master FILE] [--master-format json|binary]
-" options_of_promote_key read_by_add_key given_by_add_key codes_012345678 "  tinkey create-keyset --key-template AES256_GCM |
+" options_of_promote_key read_by_add_key given_by_add_key note_of_add_key codes_012345678 "  tinkey create-keyset --key-template AES256_GCM |
       tinkey rotate-keyset --key-template AES256_GCM --out both.json
   id=$(tinkey list-keyset --in both.json | sed -n 's/^  key_id: //p' | head -n 1)
   tinkey promote-key --key-id $id --in both.json --out promoted.json
@@ -548,7 +563,7 @@ tinkey enable-key: makes a key ENABLED
 
   tinkey enable-key --key-id N [--in FILE] [--in-format json|binary] [--out FILE]
       [--out-format json|binary] [--master FILE] [--master-format json|binary]
-" options_of_promote_key read_by_add_key given_by_add_key codes_012345678 "  tinkey create-keyset --key-template AES256_GCM |
+" options_of_promote_key read_by_add_key given_by_add_key note_of_add_key codes_012345678 "  tinkey create-keyset --key-template AES256_GCM |
       tinkey rotate-keyset --key-template AES256_GCM --out ready.json
   id=$(tinkey list-keyset --in ready.json | sed -n 's/^  key_id: //p' | head -n 1)
   tinkey disable-key --key-id $id --in ready.json --out off.json
@@ -559,7 +574,7 @@ tinkey disable-key: makes a key DISABLED: it isn't used, and can be enabled agai
 
   tinkey disable-key --key-id N [--in FILE] [--in-format json|binary] [--out FILE]
       [--out-format json|binary] [--master FILE] [--master-format json|binary]
-" options_of_promote_key read_by_add_key given_by_add_key codes_012345678 "  tinkey create-keyset --key-template AES256_GCM |
+" options_of_promote_key read_by_add_key given_by_add_key note_of_add_key codes_012345678 "  tinkey create-keyset --key-template AES256_GCM |
       tinkey rotate-keyset --key-template AES256_GCM --out busy.json
   id=$(tinkey list-keyset --in busy.json | sed -n 's/^  key_id: //p' | head -n 1)
   tinkey disable-key --key-id $id --in busy.json --out disabled.json
@@ -569,7 +584,7 @@ tinkey destroy-key: destroys a key's material for good: what it sealed never ope
 
   tinkey destroy-key --key-id N [--in FILE] [--in-format json|binary] [--out FILE]
       [--out-format json|binary] [--master FILE] [--master-format json|binary]
-" options_of_promote_key read_by_add_key given_by_add_key codes_012345678 "  tinkey create-keyset --key-template AES256_GCM |
+" options_of_promote_key read_by_add_key given_by_add_key note_of_add_key codes_012345678 "  tinkey create-keyset --key-template AES256_GCM |
       tinkey rotate-keyset --key-template AES256_GCM --out full.json
   id=$(tinkey list-keyset --in full.json | sed -n 's/^  key_id: //p' | head -n 1)
   tinkey destroy-key --key-id $id --in full.json --out destroyed.json
@@ -579,7 +594,7 @@ tinkey delete-key: removes a key for good: what it sealed never opens again
 
   tinkey delete-key --key-id N [--in FILE] [--in-format json|binary] [--out FILE]
       [--out-format json|binary] [--master FILE] [--master-format json|binary]
-" options_of_promote_key read_by_add_key given_by_add_key codes_012345678 "  tinkey create-keyset --key-template AES256_GCM |
+" options_of_promote_key read_by_add_key given_by_add_key note_of_add_key codes_012345678 "  tinkey create-keyset --key-template AES256_GCM |
       tinkey rotate-keyset --key-template AES256_GCM --out many.json
   id=$(tinkey list-keyset --in many.json | sed -n 's/^  key_id: //p' | head -n 1)
   tinkey delete-key --key-id $id --in many.json --out fewer.json
@@ -595,7 +610,7 @@ Optional:
   tinkey list-keyset --in listed.json
 "),
         CommandName::KeyOf => text!([] "\
-tinkey key-of: tells which keys may have made a sealed text, tag, envelope or stream
+tinkey key-of: shows which keys may have made a sealed text, tag, envelope or stream
 
   tinkey key-of --keyset FILE [--keyset-format json|binary] [--ad TEXT] [--ad-hex HEX]
       [--master FILE] [--master-format json|binary] [--as text|envelope|stream]
@@ -614,9 +629,9 @@ Optional:
 
 Reads  the keyset, and the first 5 bytes of standard input, the first 9 with --as envelope,
        or with --as stream one byte more than the largest segment under the keyset's keys
-Gives  a line for each key, of any status, whose output prefix stands in front, and one that
-       counts the keys without one; with --as stream the line of the key under which sopen
-       opens the stream; on standard output
+Gives  a line for each key, of any status, whose output prefix the input begins with, and
+       one that counts the keys without a prefix; with --as stream the line of the key under
+       which sopen opens the stream; on standard output
 " codes_012345678 "  tinkey create-keyset --key-template AES256_GCM --out sealer.json
   echo 'Dear Ada' | tinkey seal --keyset sealer.json --out sealed.text
   tinkey key-of --keyset sealer.json < sealed.text
@@ -632,12 +647,7 @@ Optional:
 " read_by_create_keyset "\
 Gives  the names of the templates, or with --for of those whose keys serve that command, one
        a line, on standard output
-
-Exit codes:
-" code_0 code_2 code_5 code_7 code_8 "
-Example:
-  tinkey list-key-templates --for dseal
-"),
+" codes_02578 "  tinkey list-key-templates --for dseal\n"),
         CommandName::ConvertKeyset => text!([] "\
 tinkey convert-keyset: writes a keyset in another form, or under another master
 
@@ -657,8 +667,8 @@ Optional:
   --out-format json|binary         the form of the keyset to write: json or binary, in upper
                                    or lower case; json if it isn't given
   --master FILE                    the file of the master, the keyset under which this one
-                                   lies encrypted: a file's name, of one byte or more, and
-                                   not -
+                                   is encrypted: a file's name, of one byte or more, and not
+                                   -
   --master-format json|binary      the form of the master: json or binary, in upper or lower
                                    case; json if it isn't given
   --new-master FILE                the file of the master that the keyset is put under: a
@@ -667,7 +677,7 @@ Optional:
                                    lower case; json if it isn't given
 " read_by_add_key "\
 Gives  the same keyset, in a new file of --out, or on standard output if there is no --out
-" codes_012345678 "  tinkey create-keyset --key-template AES256_GCM --out text.json
+" note_of_add_key codes_012345678 "  tinkey create-keyset --key-template AES256_GCM --out text.json
   tinkey convert-keyset --in text.json --out keyset.bin --out-format binary
   tinkey create-keyset --key-template AES256_GCM --out other.json
   tinkey convert-keyset --in text.json --new-master other.json --out hidden.json
@@ -682,6 +692,7 @@ Reads  the master in the file of --master, and a keyset, from the file of --in, 
        standard input if there is no --in
 Gives  the keyset as an encrypted keyset, sealed under the master's primary key, in the form
        of --out-format, in a new file of --out, or on standard output if there is no --out
+Keys   of the master, of templates that tinkey list-key-templates --for wrap-keyset lists
 " codes_02345678 "  tinkey create-keyset --key-template AES256_GCM --out master.json
   tinkey create-keyset --key-template AES256_GCM |
       tinkey wrap-keyset --master master.json --out wrapped.json
@@ -695,6 +706,7 @@ tinkey unwrap-keyset: opens a keyset that was wrapped
 Reads  the master, and an encrypted keyset in the form of --in-format, from the file of
        --in, or from standard input if there is no --in
 Gives  the keyset inside, in a new file of --out, or on standard output if there is no --out
+Keys   of the master, of templates that tinkey list-key-templates --for unwrap-keyset lists
 " codes_012345678 "  tinkey create-keyset --key-template AES256_GCM --out lock.json
   tinkey create-keyset --key-template AES256_GCM |
       tinkey wrap-keyset --master lock.json --out locked.json
@@ -708,6 +720,7 @@ tinkey seal: seals standard input under the primary key
 " options_of_seal read_by_seal "\
 Gives  the input sealed under the primary key, in a new file of --out, or on standard output
        if there is no --out
+Keys   of templates that tinkey list-key-templates --for seal lists
 " codes_012345678 "  tinkey create-keyset --key-template AES256_GCM --out seal.json
   echo 'Dear Ada' | tinkey seal --keyset seal.json --ad 'to Ada' --out letter.sealed
 "),
@@ -716,7 +729,9 @@ tinkey open: opens what any enabled key sealed
 
   tinkey open --keyset FILE [--keyset-format json|binary] [--ad TEXT] [--ad-hex HEX]
       [--out FILE] [--master FILE] [--master-format json|binary]
-" options_of_seal read_by_seal given_by_open codes_012345678 "  tinkey create-keyset --key-template AES256_GCM --out open.json
+" options_of_seal read_by_seal given_by_open "\
+Keys   of templates that tinkey list-key-templates --for open lists
+" codes_012345678 "  tinkey create-keyset --key-template AES256_GCM --out open.json
   echo 'Dear Ada' | tinkey seal --keyset open.json --ad 'to Ada' --out open.sealed
   tinkey open --keyset open.json --ad 'to Ada' < open.sealed
 "),
@@ -728,6 +743,7 @@ tinkey eseal: seals under a fresh data key, and that key under the keyset: an en
 " options_of_eseal read_by_seal "\
 Gives  an envelope of the input, under a fresh data key of the template of --dek-template,
        in a new file of --out, or on standard output if there is no --out
+Keys   of templates that tinkey list-key-templates --for eseal lists
 " codes_012345678 "  tinkey create-keyset --key-template AES256_GCM --out eseal.json
   echo 'Dear Ada' | tinkey eseal --keyset eseal.json --dek-template AES128_GCM --out envelope
 "),
@@ -739,6 +755,7 @@ tinkey eopen: opens an envelope
 " options_of_eseal read_by_seal "\
 Gives  what the envelope opens to, in a new file of --out, or on standard output if there is
        no --out
+Keys   of templates that tinkey list-key-templates --for eopen lists
 " codes_012345678 "  tinkey create-keyset --key-template AES256_GCM --out eopen.json
   echo 'Dear Ada' | tinkey eseal --keyset eopen.json --dek-template AES128_GCM --out eopen.sealed
   tinkey eopen --keyset eopen.json --dek-template AES128_GCM < eopen.sealed
@@ -753,9 +770,10 @@ Required:
 " keyset_31 dek_template_31 "
 Optional:
 " keyset_format_31 out_31 master_31 master_format_31 read_by_seal "\
-Gives  the envelope with its data key sealed again under the primary key; the payload behind
-       it stays as it is, and isn't opened, in a new file of --out, or on standard output if
-       there is no --out
+Gives  the envelope with its data key sealed again under the primary key; its payload stays
+       as it is, and isn't opened, in a new file of --out, or on standard output if there is
+       no --out
+Keys   of templates that tinkey list-key-templates --for ereseal lists
 " codes_012345678 "  tinkey create-keyset --key-template AES256_GCM --out outer.json
   echo 'Dear Ada' | tinkey eseal --keyset outer.json --dek-template AES128_GCM --out outer.sealed
   tinkey rotate-keyset --key-template AES256_GCM --in outer.json --out ereseal.json
@@ -769,6 +787,7 @@ tinkey dseal: seals deterministically: equal texts give equal bytes
 " options_of_seal read_by_seal "\
 Gives  the input sealed under the primary key, without an IV, in a new file of --out, or on
        standard output if there is no --out
+Keys   of templates that tinkey list-key-templates --for dseal lists
 " codes_012345678 "  tinkey create-keyset --key-template AES256_SIV --out dseal.json
   echo 'Dear Ada' | tinkey dseal --keyset dseal.json --out same.sealed
 "),
@@ -777,7 +796,9 @@ tinkey dopen: opens what dseal sealed
 
   tinkey dopen --keyset FILE [--keyset-format json|binary] [--ad TEXT] [--ad-hex HEX]
       [--out FILE] [--master FILE] [--master-format json|binary]
-" options_of_seal read_by_seal given_by_open codes_012345678 "  tinkey create-keyset --key-template AES256_SIV --out dopen.json
+" options_of_seal read_by_seal given_by_open "\
+Keys   of templates that tinkey list-key-templates --for dopen lists
+" codes_012345678 "  tinkey create-keyset --key-template AES256_SIV --out dopen.json
   echo 'Dear Ada' | tinkey dseal --keyset dopen.json --out dopen.sealed
   tinkey dopen --keyset dopen.json < dopen.sealed
 "),
@@ -789,6 +810,7 @@ tinkey reseal: opens, and seals again under the primary key
 " options_of_seal read_by_seal "\
 Gives  what the input opens to, sealed again under the primary key, in a new file of --out,
        or on standard output if there is no --out
+Keys   of templates that tinkey list-key-templates --for reseal lists
 " codes_012345678 "  tinkey create-keyset --key-template AES256_GCM --out before.json
   echo 'Dear Ada' | tinkey seal --keyset before.json --ad 'to Ada' --out reseal.sealed
   tinkey rotate-keyset --key-template AES256_GCM --in before.json --out reseal.json
@@ -802,6 +824,7 @@ tinkey dreseal: as reseal, of what dseal sealed
 " options_of_seal read_by_seal "\
 Gives  as reseal, without an IV, in a new file of --out, or on standard output if there is
        no --out
+Keys   of templates that tinkey list-key-templates --for dreseal lists
 " codes_012345678 "  tinkey create-keyset --key-template AES256_SIV --out earlier.json
   echo 'Dear Ada' | tinkey dseal --keyset earlier.json --out dreseal.sealed
   tinkey rotate-keyset --key-template AES256_SIV --in earlier.json --out dreseal.json
@@ -815,36 +838,39 @@ tinkey sseal: seals a stream of any length, in one pass
 " options_of_seal read_by_sseal "\
 Gives  the input sealed as a stream; in a new file of --out, which is there only once it is
        whole, or on standard output, written while it is read
+Keys   of templates that tinkey list-key-templates --for sseal lists
 " codes_012345678 "  tinkey create-keyset --key-template AES256_GCM_HKDF_1MB --out sseal.json
   echo 'Dear Ada' | tinkey sseal --keyset sseal.json > letter.stream
 "),
         CommandName::Sopen => text!([] "\
-tinkey sopen: opens such a stream; it is complete only if the exit code is 0
+tinkey sopen: opens a stream; it is complete only if the exit code is 0
 
   tinkey sopen --keyset FILE [--keyset-format json|binary] [--ad TEXT] [--ad-hex HEX]
       [--out FILE] [--master FILE] [--master-format json|binary]
 " options_of_seal read_by_sseal "\
 Gives  the plaintext of the stream; in a new file of --out, which is there only once all of
        it is verified, or on standard output, each segment once it is verified
+Keys   of templates that tinkey list-key-templates --for sopen lists
 " codes_012345678 "  tinkey create-keyset --key-template AES256_GCM_HKDF_1MB --out sopen.json
   echo 'Dear Ada' | tinkey sseal --keyset sopen.json > sopen.stream
   tinkey sopen --keyset sopen.json < sopen.stream > opened.txt && echo whole
 "),
         CommandName::Sreseal => text!([] "\
-tinkey sreseal: opens such a stream, and seals it again under the primary key, in one pass
+tinkey sreseal: opens a stream, and seals it again under the primary key, in one pass
 
   tinkey sreseal --keyset FILE [--keyset-format json|binary] [--ad TEXT] [--ad-hex HEX]
       [--out FILE] [--master FILE] [--master-format json|binary]
 " options_of_seal read_by_sseal "\
 Gives  the plaintext of the stream, sealed again as a stream; in a new file of --out, which
        is there only once it is whole, or on standard output, written while it is read
+Keys   of templates that tinkey list-key-templates --for sreseal lists
 " codes_012345678 "  tinkey create-keyset --key-template AES256_GCM_HKDF_1MB --out former.json
   echo 'Dear Ada' | tinkey sseal --keyset former.json > former.stream
   tinkey rotate-keyset --key-template AES256_GCM_HKDF_1MB --in former.json --out sreseal.json
   tinkey sreseal --keyset sreseal.json < former.stream > sresealed && echo whole
 "),
         CommandName::Srange => text!([] "\
-tinkey srange: opens a range of such a stream in a file
+tinkey srange: opens a range of a stream in a file
 
   tinkey srange --keyset FILE --file FILE --from N --length N [--keyset-format json|binary]
       [--ad TEXT] [--ad-hex HEX] [--out FILE] [--master FILE] [--master-format json|binary]
@@ -860,6 +886,7 @@ Optional:
 Reads  the keyset, and the stream in the file of --file
 Gives  as many bytes of the stream's plaintext as --length says, from the offset of --from
        on, counted from 0; in a new file of --out, or on standard output
+Keys   of templates that tinkey list-key-templates --for srange lists
 " codes_012345678 "  tinkey create-keyset --key-template AES256_GCM_HKDF_1MB --out srange.json
   echo 'Dear Ada' | tinkey sseal --keyset srange.json > srange.stream
   tinkey srange --keyset srange.json --file srange.stream --from 5 --length 3
@@ -876,6 +903,7 @@ Optional:
 " keyset_format_31 out_31 hex_31 master_31 master_format_31 read_by_seal "\
 Gives  the tag of the input under the primary key, in a new file of --out, or on standard
        output if there is no --out
+Keys   of templates that tinkey list-key-templates --for tag lists
 " codes_012345678 "  tinkey create-keyset --key-template HMAC_SHA256_128BITTAG --out tag.json
   echo 'Dear Ada' | tinkey tag --keyset tag.json --hex --out letter.tag
 "),
@@ -892,6 +920,7 @@ Required:
 Optional:
 " keyset_format_31 master_31 master_format_31 read_by_seal "\
 Gives  nothing; the status says whether the tag is one of the keyset's
+Keys   of templates that tinkey list-key-templates --for verify lists
 " codes_012345678 "  tinkey create-keyset --key-template HMAC_SHA256_128BITTAG --out verify.json
   tag=$(echo 'Dear Ada' | tinkey tag --keyset verify.json --hex)
   echo 'Dear Ada' | tinkey verify --keyset verify.json --tag-hex $tag && echo verified
@@ -908,6 +937,7 @@ Optional:
 " keyset_format_31 out_31 hex_31 master_31 master_format_31 read_by_seal "\
 Gives  as many bytes as --length says, derived from the input by the primary key, in a new
        file of --out, or on standard output if there is no --out
+Keys   of templates that tinkey list-key-templates --for derive lists
 " codes_012345678 "  tinkey create-keyset --key-template HKDF_SHA256 --out derive.json
   echo 'Dear Ada' | tinkey derive --keyset derive.json --length 32 --hex
 "),
@@ -954,4 +984,40 @@ Example:
   tinkey selftest --seed 1 --lines 1000
 "),
     }
+}
+
+/// How help is asked for, and which topics there are.
+fn help_on_help() -> &'static str
+    ensures { result.now ≡ help_on_help }
+{
+    text!([] "\
+tinkey help: lists the commands, or prints the help on a topic
+
+  tinkey help [TOPIC]
+  tinkey --help
+  tinkey COMMAND --help
+
+Without a topic the commands are listed. -h is --help.
+
+Topics:
+  COMMAND  its options, what it reads and gives, its exit codes, an example
+  exit     the diagnostic lines: what each means, and what to do next
+  help     how help is asked for, and which topics there are
+  version  what tinkey version prints
+" read_by_create_keyset "Gives  the text that is asked for, on standard output\n" codes_02578 "  tinkey help seal\n")
+}
+
+/// What `tinkey version` prints.
+fn help_on_version() -> &'static str
+    ensures { result.now ≡ help_on_version }
+{
+    text!([] "\
+tinkey version: prints the version
+
+  tinkey version
+  tinkey --version
+" read_by_create_keyset "\
+Gives  two lines, on standard output: the program's version, and the number of the logic
+       that it is proved in
+" codes_02578 "  tinkey version\n")
 }

@@ -108,17 +108,23 @@ pub topic_found : (topic : Topic) (name : List ℕ) → IsNameOf topic name → 
 unfolding topic_of
 topic_found topics.Commands name named = absurd named
 topic_found topics.Exit name named = ap topic_of named
+topic_found topics.Help name named = ap topic_of named
+topic_found topics.Version name named = ap topic_of named
 topic_found (topics.Command command) name named =
-    ap topic_of named ∙ rw (unlike command (codes "exit") not_exit) (ap (option_map topics.Command) (command_found command))
+    ap topic_of named
+    ∙ rw (unlike command (codes "exit") not_exit, unlike command (codes "help") not_help, unlike command (codes "version") not_version)
+    (ap (option_map topics.Command) (command_found command))
 
-topic_test : (a : Bool) (o : Option CommandName) (name : List ℕ) (topic : Topic) → bytes_eq name (codes "exit") ≡ a → command_of name ≡ o → (if a then Some topics.Exit else option_map topics.Command o) ≡ Some topic → IsNameOf topic name
-topic_test true o name topic one two is = subst (λ (t : Topic). IsNameOf t name) (let ok : Some topics.Exit ≡ Some topic = is in let same : topics.Exit ≡ topic = cc in same) (same_text name (codes "exit") one)
-topic_test false (Some command) name topic one two is = subst (λ (t : Topic). IsNameOf t name) (let ok : Some (topics.Command command) ≡ Some topic = is in let same : topics.Command command ≡ topic = cc in same) (command_named name command two)
-topic_test false None name topic one two is = absurd (cc)
+topic_test : (a b c : Bool) (o : Option CommandName) (name : List ℕ) (topic : Topic) → bytes_eq name (codes "exit") ≡ a → bytes_eq name (codes "help") ≡ b → bytes_eq name (codes "version") ≡ c → command_of name ≡ o → (if a then Some topics.Exit else (if b then Some topics.Help else (if c then Some topics.Version else option_map topics.Command o))) ≡ Some topic → IsNameOf topic name
+topic_test true b c o name topic one two three four is = subst (λ (t : Topic). IsNameOf t name) (let ok : Some topics.Exit ≡ Some topic = is in let same : topics.Exit ≡ topic = cc in same) (same_text name (codes "exit") one)
+topic_test false true c o name topic one two three four is = subst (λ (t : Topic). IsNameOf t name) (let ok : Some topics.Help ≡ Some topic = is in let same : topics.Help ≡ topic = cc in same) (same_text name (codes "help") two)
+topic_test false false true o name topic one two three four is = subst (λ (t : Topic). IsNameOf t name) (let ok : Some topics.Version ≡ Some topic = is in let same : topics.Version ≡ topic = cc in same) (same_text name (codes "version") three)
+topic_test false false false (Some command) name topic one two three four is = subst (λ (t : Topic). IsNameOf t name) (let ok : Some (topics.Command command) ≡ Some topic = is in let same : topics.Command command ≡ topic = cc in same) (command_named name command four)
+topic_test false false false None name topic one two three four is = absurd (cc)
 
 pub topic_is : (name : List ℕ) (topic : Topic) → topic_of name ≡ Some topic → IsNameOf topic name
 unfolding topic_of
-topic_is name topic is = topic_test _ _ name topic refl refl is
+topic_is name topic is = topic_test _ _ _ _ name topic refl refl refl refl is
 
 -- The words of options don't ask for help.
 

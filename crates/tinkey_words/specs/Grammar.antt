@@ -221,10 +221,12 @@ IsHelpWord word = (word ≡ codes "help") ⊎ IsHelpFlag word
 abbrev pub IsVersionWord : List ℕ → Type 0
 IsVersionWord word = (word ≡ codes "version") ⊎ (word ≡ codes "--version")
 
--- the topic's name: `exit`, or a command's word; the list of the commands has none
+-- the topic's name: `exit`, `help`, `version`, or a command's word; the list of the commands has none
 abbrev pub IsNameOf : Topic → List ℕ → Type 0
 IsNameOf topics.Commands name = ⊥
 IsNameOf topics.Exit name = name ≡ codes "exit"
+IsNameOf topics.Help name = name ≡ codes "help"
+IsNameOf topics.Version name = name ≡ codes "version"
 IsNameOf (topics.Command command) name = name ≡ (row_of command).word
 
 -- the words ask for help or for the version

@@ -583,11 +583,13 @@ is_help_flag word = bytes_eq word (codes "--help") || bytes_eq word (codes "-h")
 abbrev pub is_version_word : List ℕ → Bool
 is_version_word word = bytes_eq word (codes "version") || bytes_eq word (codes "--version")
 
--- the topic of this name: `exit`, or a command by its word
+-- the topic of this name: `exit`, `help`, `version`, or a command by its word
 unfoldable pub topic_of : List ℕ → Option Topic
 topic_of name =
     if bytes_eq name (codes "exit") then Some topics.Exit
-    else option_map topics.Command (command_of name)
+    else (if bytes_eq name (codes "help") then Some topics.Help
+    else (if bytes_eq name (codes "version") then Some topics.Version
+    else option_map topics.Command (command_of name)))
 
 -- what the first word stands for
 unfoldable pub first_of : List ℕ → Option First

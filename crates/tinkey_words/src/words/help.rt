@@ -13,6 +13,10 @@ pub enum Topic {
     Commands,
     /// The diagnostic lines, with their exit codes.
     Exit,
+    /// How help is asked for, and its topics.
+    Help,
+    /// What the version is.
+    Version,
     /// A command.
     Command(CommandName),
 }
@@ -57,6 +61,12 @@ pub fn topic_named(name: &str) -> Option<Topic>
 {
     if name == "exit" {
         return Some(Topic::Exit);
+    }
+    if name == "help" {
+        return Some(Topic::Help);
+    }
+    if name == "version" {
+        return Some(Topic::Version);
     }
     match command_named(name) {
         Some(command) => Some(Topic::Command(command)),

@@ -106,7 +106,7 @@ pub enum OptionName {
     Seed,
     /// `--lines`, how many lines it has.
     Lines,
-    /// `--master`, the file of the master, the keyset under which this one lies encrypted.
+    /// `--master`, the file of the master, the keyset under which this one is encrypted.
     Master,
     /// `--master-format`, the form of the master.
     MasterFormat,
