@@ -85,16 +85,17 @@ install-lib:
 	sed 's|^prefix=.*|prefix=$(PREFIX)|' lib/tinkey.pc > $(LIB)/pkgconfig/tinkey.pc
 	install -D -m 644 docs/tinkey.3 $(SHARE)/man/man3/tinkey.3
 	install -D -m 644 python/tinkey.py $(SHARE)/tinkey/python/tinkey.py
-	install -D -m 644 -t $(SHARE)/tinkey/go go/go.mod go/tinkey.go
+	install -D -m 644 -t $(SHARE)/tinkey/go go/go.mod go/tinkey.go go/streaming.go
 	install -D -m 644 -t $(SHARE)/tinkey/rust rust/Cargo.toml rust/build.rs
-	install -D -m 644 -t $(SHARE)/tinkey/rust/src rust/src/lib.rs
+	install -D -m 644 -t $(SHARE)/tinkey/rust/src rust/src/lib.rs rust/src/streaming.rs
 
 # Removes the same files again.
 uninstall:
 	rm -f $(DESTDIR)$(PREFIX)/include/tinkey.h $(LIB)/libtinkey.a $(LIB)/libtinkey.so.0 $(LIB)/libtinkey.so \
 	    $(LIB)/pkgconfig/tinkey.pc $(SHARE)/man/man3/tinkey.3 $(SHARE)/tinkey/python/tinkey.py \
-	    $(SHARE)/tinkey/go/go.mod $(SHARE)/tinkey/go/tinkey.go \
-	    $(SHARE)/tinkey/rust/Cargo.toml $(SHARE)/tinkey/rust/build.rs $(SHARE)/tinkey/rust/src/lib.rs
+	    $(SHARE)/tinkey/go/go.mod $(SHARE)/tinkey/go/tinkey.go $(SHARE)/tinkey/go/streaming.go \
+	    $(SHARE)/tinkey/rust/Cargo.toml $(SHARE)/tinkey/rust/build.rs $(SHARE)/tinkey/rust/src/lib.rs \
+	    $(SHARE)/tinkey/rust/src/streaming.rs
 	@rmdir $(SHARE)/tinkey/python $(SHARE)/tinkey/go $(SHARE)/tinkey/rust/src $(SHARE)/tinkey/rust $(SHARE)/tinkey \
 	    2> /dev/null || true
 	rm -f $(BIN)/tinkey $(SHARE)/man/man1/tinkey.1 \

@@ -1,10 +1,13 @@
 package tinkey_test
 
 import (
+	"bytes"
 	"errors"
 	"fmt"
+	"io"
 	"log"
 	"os"
+	"strings"
 	"sync/atomic"
 
 	"tinkey"
@@ -33,6 +36,51 @@ func Example() {
 	// Output:
 	// 47 bytes, which open to "attack at dawn"
 	// true tinkey: nothing opens these bytes, or the tag isn't the body's
+}
+
+// A stream is sealed as it is written, and opened as it is read.
+func ExampleStreaming() {
+	text, err := os.ReadFile("../examples/streams.json")
+	if err != nil {
+		log.Fatal(err)
+	}
+	keys, err := tinkey.NewStreaming(text)
+	if err != nil {
+		log.Fatal(err)
+	}
+	defer keys.Close()
+
+	plain, sealed := strings.NewReader("attack at dawn"), &bytes.Buffer{}
+	writer, err := keys.NewEncryptingWriter(sealed, []byte("associated data"))
+	if err != nil {
+		log.Fatal(err)
+	}
+	if _, err := io.Copy(writer, plain); err != nil {
+		log.Fatal(err) // and no Close, so that this part of a stream doesn't open as a whole one
+	}
+	if err := writer.Close(); err != nil {
+		log.Fatal(err)
+	}
+	fmt.Println(sealed.Len(), "bytes")
+
+	cut := bytes.NewReader(sealed.Bytes()[:sealed.Len()-1])
+	reader, err := keys.NewDecryptingReader(sealed, []byte("associated data"))
+	if err != nil {
+		log.Fatal(err)
+	}
+	opened, err := io.ReadAll(reader)
+	fmt.Printf("%q, %v\n", opened, err)
+
+	reader, err = keys.NewDecryptingReader(cut, []byte("associated data"))
+	if err != nil {
+		log.Fatal(err)
+	}
+	_, err = io.ReadAll(reader)
+	fmt.Println(err)
+	// Output:
+	// 54 bytes
+	// "attack at dawn", <nil>
+	// tinkey: nothing opens these bytes, or the tag isn't the body's
 }
 
 // A service takes up a new keyset while others call: the old handle is freed after the last call on it.

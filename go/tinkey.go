@@ -1,12 +1,13 @@
 // Package tinkey has Tink's primitives over the keysets of Tink and of tinkey, by calls of the C library libtinkey.
 //
 // A handle has the keys of one keyset for one primitive. Its methods are those of Tink's interfaces for Go: an [Aead] is
-// a tink.AEAD, a [Daead] a tink.DeterministicAEAD, a [Mac] a tink.MAC and a [Prf] a prf.PRF. What is proved of the
-// library, and what isn't, is told at the head of its header, tinkey.h. This package is tested alone.
+// a tink.AEAD, a [Daead] a tink.DeterministicAEAD, a [Mac] a tink.MAC, a [Prf] a prf.PRF and a [Streaming] a
+// tink.StreamingAEAD. What is proved of the library, and what isn't, is told at the head of its header, tinkey.h. This
+// package is tested alone.
 //
 // Any goroutine may call a handle, and close it. Calls on one handle run one at a time, so give each busy goroutine a
-// handle of its own. An input isn't read after its call, and mustn't be written while it runs. An error is an [Error] or
-// [ErrClosed], and no result comes beside it.
+// handle of its own. An input isn't read after its call, and mustn't be written while it runs. An error of a handle is an
+// [Error] or [ErrClosed], and no result comes beside it.
 //
 // The package finds the library by pkg-config. PKG_CONFIG_PATH names the folder of a tinkey.pc that isn't installed.
 package tinkey
@@ -18,7 +19,7 @@ package tinkey
 // Bytes have a type of their own here: of a void * Go would look through all memory behind it for pointers.
 typedef const unsigned char *bytes;
 
-enum { AEAD, DAEAD, MAC, PRF };
+enum { AEAD, DAEAD, MAC, PRF, STREAMING, SEALING, OPENING };
 
 typedef struct {
 	tinkey_status status;
@@ -43,7 +44,8 @@ static made new_keys(int primitive, bytes text, size_t size, tinkey_form form) {
 	case AEAD: NEW(aead)
 	case DAEAD: NEW(daead)
 	case MAC: NEW(mac)
-	default: NEW(prf)
+	case PRF: NEW(prf)
+	default: NEW(streaming)
 	}
 }
 
@@ -53,7 +55,8 @@ static made new_wrapped_keys(int primitive, bytes text, size_t size, tinkey_form
 	case AEAD: NEW_WRAPPED(aead)
 	case DAEAD: NEW_WRAPPED(daead)
 	case MAC: NEW_WRAPPED(mac)
-	default: NEW_WRAPPED(prf)
+	case PRF: NEW_WRAPPED(prf)
+	default: NEW_WRAPPED(streaming)
 	}
 }
 
@@ -62,8 +65,19 @@ static void free_keys(int primitive, void *keys) {
 	case AEAD: tinkey_aead_free(keys); break;
 	case DAEAD: tinkey_daead_free(keys); break;
 	case MAC: tinkey_mac_free(keys); break;
-	default: tinkey_prf_free(keys);
+	case PRF: tinkey_prf_free(keys); break;
+	case STREAMING: tinkey_streaming_free(keys); break;
+	case SEALING: tinkey_sealing_free(keys); break;
+	default: tinkey_opening_free(keys);
 	}
+}
+
+static made begin(int stream, void *keys, bytes ad, size_t size) {
+	tinkey_sealing *sealing = NULL;
+	tinkey_opening *opening = NULL;
+	tinkey_status status = stream == SEALING ? tinkey_sealing_new(keys, ad, size, &sealing)
+		: tinkey_opening_new(keys, ad, size, &opening);
+	return (made){status, stream == SEALING ? (void *)sealing : (void *)opening};
 }
 
 enum { SEAL, OPEN, DSEAL, DOPEN, TAG, VERIFY, DERIVE };
@@ -87,11 +101,27 @@ static answer run(int call, void *keys, bytes a, size_t a_size, bytes b, size_t 
 	}
 	return (answer){status, size};
 }
+
+#define STEP(t) { \
+	tinkey_status status = ends ? tinkey_##t##_finish(at, out, room, &size) \
+		: tinkey_##t##_update(at, piece, piece_size, out, room, &size); \
+	return (answer){status, status == TINKEY_NO_ROOM ? tinkey_##t##_waiting(at) : size}; \
+}
+
+// With too little room, the size is how many bytes wait.
+static answer step(int stream, void *at, _Bool ends, bytes piece, size_t piece_size, unsigned char *out, size_t room) {
+	size_t size = 0;
+	switch (stream) {
+	case SEALING: STEP(sealing)
+	default: STEP(opening)
+	}
+}
 */
 import "C"
 
 import (
 	"errors"
+	"io"
 	"runtime"
 	"sync"
 	"unsafe"
@@ -101,14 +131,14 @@ import (
 type Error int
 
 // The statuses. [ErrOtherPrimitive], [ErrNoRoom], [ErrBadCall], [ErrEnded] and [ErrCallback] can't come from the calls of
-// this package, except for a [Form] that isn't one.
+// this package, except for a [Form] that isn't one: a stream that has failed goes on to return its first error.
 const (
-	ErrRefused        Error = C.TINKEY_REFUSED         // nothing opens the bytes or the encrypted keyset, or the tag isn't the body's
+	ErrRefused        Error = C.TINKEY_REFUSED         // nothing opens the bytes or the encrypted keyset, the tag isn't the body's, or the bytes are no whole stream
 	ErrNoKeyset       Error = C.TINKEY_NO_KEYSET       // the text, or what was encrypted, isn't a keyset in that form
 	ErrUnfitKey       Error = C.TINKEY_UNFIT_KEY       // an ENABLED key of the keyset can't serve for the primitive
 	ErrOtherPrimitive Error = C.TINKEY_OTHER_PRIMITIVE // the handle is for another primitive
 	ErrNoRoom         Error = C.TINKEY_NO_ROOM         // the output is shorter than the answer
-	ErrTooLong        Error = C.TINKEY_TOO_LONG        // an input or a text has too many bytes, or the key derives fewer
+	ErrTooLong        Error = C.TINKEY_TOO_LONG        // an input, a text or a stream is too long, or the key derives fewer bytes
 	ErrNoRandom       Error = C.TINKEY_NO_RANDOM       // the system gives no random bytes
 	ErrNoMemory       Error = C.TINKEY_NO_MEMORY       // memory was refused
 	ErrBadCall        Error = C.TINKEY_BAD_CALL        // a null pointer, an unknown form, or an output that overlaps something
@@ -120,7 +150,7 @@ const (
 	ErrCallback       Error = C.TINKEY_CALLBACK        // a function for reading or writing failed
 )
 
-// ErrClosed is the error of a call on a handle that is closed.
+// ErrClosed is the error of a call on a handle, a writer or a reader that is closed.
 var ErrClosed = errors.New("tinkey: the handle is closed")
 
 // Error returns the library's line of English for the status.
@@ -137,7 +167,7 @@ const (
 	Binary Form = C.TINKEY_BINARY
 )
 
-// A handle has keys, and lets them go once it is closed or nothing refers to it any longer.
+// A handle has keys or a stream, and lets them go once it is closed or nothing refers to it any longer.
 type handle struct {
 	mutex     sync.Mutex // so that a goroutine waits for another one's call, and no thread does
 	primitive C.int
@@ -199,6 +229,31 @@ func (h *handle) run(call C.int, first, second []byte, room C.size_t) ([]byte, e
 		return nil, Error(answer.status)
 	}
 	return out[:answer.size], nil
+}
+
+// begin returns the handle of a stream that begins under the keys.
+func (h *handle) begin(stream C.int, associatedData []byte) (*handle, error) {
+	h.mutex.Lock()
+	defer h.mutex.Unlock()
+	if h.keys == nil {
+		return nil, ErrClosed
+	}
+	return held(stream, C.begin(stream, h.keys, at(associatedData), C.size_t(len(associatedData))))
+}
+
+// step hands a stream the next bytes of its input, or says that it ends, and returns how much it writes into the output,
+// or with [ErrNoRoom] how much more it would write if it were asked again, without the bytes.
+func (h *handle) step(ends bool, piece, out []byte) (int, error) {
+	h.mutex.Lock()
+	defer h.mutex.Unlock()
+	if h.keys == nil {
+		return 0, ErrClosed
+	}
+	answer := C.step(h.primitive, h.keys, C._Bool(ends), at(piece), C.size_t(len(piece)), at(out), C.size_t(len(out)))
+	if answer.status != C.TINKEY_OK {
+		return int(answer.size), Error(answer.status)
+	}
+	return int(answer.size), nil
 }
 
 // An Aead seals and opens: authenticated encryption with associated data.
@@ -319,4 +374,56 @@ func prf(h *handle, err error) (*Prf, error) {
 // ComputePRF derives so many bytes from the input under the primary key. It returns [ErrTooLong] if the key gives fewer.
 func (p *Prf) ComputePRF(input []byte, outputLength uint32) ([]byte, error) {
 	return p.run(C.DERIVE, input, nil, C.size_t(outputLength))
+}
+
+// A Streaming seals and opens streams of any length: streaming authenticated encryption with associated data.
+type Streaming struct{ *handle }
+
+// NewStreaming returns the handle of a keyset in Tink's JSON.
+func NewStreaming(json []byte) (*Streaming, error) { return streaming(ofText(C.STREAMING, json, JSON)) }
+
+// NewStreamingBinary returns the handle of a keyset in the binary form.
+func NewStreamingBinary(data []byte) (*Streaming, error) {
+	return streaming(ofText(C.STREAMING, data, Binary))
+}
+
+// NewStreamingWrapped returns the handle of a keyset that is encrypted under a master keyset.
+func NewStreamingWrapped(encrypted []byte, form Form, master []byte, masterForm Form) (*Streaming, error) {
+	return streaming(ofWrapped(C.STREAMING, encrypted, form, master, masterForm))
+}
+
+func streaming(h *handle, err error) (*Streaming, error) {
+	if err != nil {
+		return nil, err
+	}
+	return &Streaming{h}, nil
+}
+
+// NewEncryptingWriter begins to seal a stream under the primary key, with fresh random bytes. It seals what is written to
+// the writer that it returns, and writes the stream to w. Close writes the end of the stream, and leaves w open; the
+// stream is whole only if Close has returned nil. So don't close a writer whose plaintext isn't all there, as when reading
+// it has failed: leave it, and nobody opens that stream to its end.
+//
+// An error of w is returned as it is. After an error, each further call returns it again and writes nothing. The keys may
+// be closed before the writer.
+func (s *Streaming) NewEncryptingWriter(w io.Writer, associatedData []byte) (io.WriteCloser, error) {
+	stream, err := s.begin(C.SEALING, associatedData)
+	if err != nil {
+		return nil, err
+	}
+	return &encryptingWriter{stream: stream, to: w, out: make([]byte, pieceRoom)}, nil
+}
+
+// NewDecryptingReader begins to open the stream that r reads, under the first ENABLED key that opens its first segment.
+// Each byte that the reader returns has authenticated in its place, and [io.EOF] says that the stream was whole; one that
+// was cut off, changed or reordered ends in [ErrRefused] instead.
+//
+// An error of r, other than [io.EOF], is returned as it is, and another Read goes on. The keys may be closed before the
+// reader, which is an [io.Closer] as well: Close frees the stream before its end.
+func (s *Streaming) NewDecryptingReader(r io.Reader, associatedData []byte) (io.Reader, error) {
+	stream, err := s.begin(C.OPENING, associatedData)
+	if err != nil {
+		return nil, err
+	}
+	return &decryptingReader{stream: stream, from: r, piece: make([]byte, pieceSize), out: make([]byte, pieceRoom)}, nil
 }

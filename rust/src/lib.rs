@@ -16,6 +16,21 @@
 //! Handles are `Send` and `Sync`. Calls on one handle run one at a time, so give each busy thread a handle of its own.
 //! The forked child of a process with threads makes its own handles.
 //!
+//! A stream of any length is sealed as it is written, and opened as it is read; it is whole only if `close` gave `Ok`:
+//!
+//! ```
+//! # use std::io::{Read, Write};
+//! # std::env::set_current_dir("../examples")?;
+//! let keys = tinkey::Streaming::from_json(&std::fs::read("streams.json")?)?;
+//! let mut writer = keys.new_encrypting_writer(Vec::new(), b"associated data")?;
+//! writer.write_all(b"attack at dawn")?;
+//! let stream = writer.close()?;
+//! let mut text = String::new();
+//! keys.new_decrypting_reader(&stream[..], b"associated data")?.read_to_string(&mut text)?;
+//! # assert_eq!(text, "attack at dawn");
+//! # Ok::<(), Box<dyn std::error::Error>>(())
+//! ```
+//!
 //! A service takes up a new keyset while other threads use the old one, which is freed after the last call on it:
 //!
 //! ```
@@ -31,6 +46,10 @@
 //!
 //! The library is linked from the folder that the environment variable `TINKEY_LIB_DIR` names, or else by pkg-config.
 #![warn(missing_docs)]
+
+mod streaming;
+
+pub use streaming::{DecryptingReader, EncryptingWriter};
 
 use std::ffi::CStr;
 use std::fmt;
@@ -62,7 +81,8 @@ macro_rules! errors {
 }
 
 errors! {
-    /// Nothing opens the bytes, no key of the master opens the encrypted keyset, or the tag isn't the body's.
+    /// Nothing opens the bytes, no key of the master opens the encrypted keyset, the tag isn't the body's, or the bytes are
+    /// no whole stream.
     Refused = 1,
     /// The text isn't a keyset in that form, or what was encrypted isn't a keyset.
     NoKeyset = 2,
@@ -72,7 +92,7 @@ errors! {
     OtherPrimitive = 4,
     /// The output is shorter than the answer, which no call of this crate can report.
     NoRoom = 5,
-    /// An input or a text has too many bytes, or the key derives fewer than were asked for.
+    /// An input, a text or a stream is too long, or the key derives fewer bytes than were asked for.
     TooLong = 6,
     /// The system gives no random bytes.
     NoRandom = 7,
@@ -88,7 +108,7 @@ errors! {
     UnfitMaster = 12,
     /// The text isn't an encrypted keyset in that form.
     NoWrapped = 13,
-    /// A stream has ended, which no call of this crate can report.
+    /// A stream has ended, which no call of this crate can report: its first error comes again.
     Ended = 14,
     /// A function for reading or writing failed, which no call of this crate can report.
     Callback = 15,
@@ -233,6 +253,11 @@ handles! {
 handles! {
     /// Pseudo-random functions.
     Prf: tinkey_prf_new, tinkey_prf_new_binary, tinkey_prf_new_wrapped, tinkey_prf_free
+}
+
+handles! {
+    /// Streaming authenticated encryption with associated data: streams of any length.
+    Streaming: tinkey_streaming_new, tinkey_streaming_new_binary, tinkey_streaming_new_wrapped, tinkey_streaming_free
 }
 
 extern "C" {
