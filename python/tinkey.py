@@ -135,8 +135,8 @@ def _check(status: int) -> None:
 
 
 def _bytes(data: Buffer) -> bytes:
-    """The bytes of a buffer: its own where it is `bytes`, and else a copy."""
-    return data if isinstance(data, bytes) else bytes(data)
+    """The bytes of a buffer: its own where it is `bytes`, and else a copy. What is no buffer is a TypeError."""
+    return data if isinstance(data, bytes) else bytes(memoryview(data))
 
 
 def _function(name: str, *arguments: Any, gives: Any = ctypes.c_int) -> Any:
@@ -150,6 +150,15 @@ _INPUT = (ctypes.c_char_p, _size)
 _TEXT = (ctypes.c_char_p, _size, ctypes.c_int)
 _OUTPUT = (ctypes.c_char_p, _size, ctypes.POINTER(_size))
 
+# The same where time counts: ctypes turns words of these types into C's in about half of the time. This module passes
+# `bytes`, a buffer or what `byref` gives for each such pointer, and nothing else.
+_FAST = (_pointer, _size)
+_FAST_OUTPUT = (_pointer, _size, _pointer)
+
+# An answer of at most so many bytes is written into memory that its handle keeps; and a call that adds to its input
+# adds less than half of that.
+_SHORT = 4096
+
 
 class _Owned:
     """What the library holds for this module, and lets go once."""
@@ -157,12 +166,12 @@ class _Owned:
     _name = ""
 
     def __init__(self, new: str, types: Sequence[Any], words: Sequence[Any]) -> None:
-        self._at: Optional[int] = None
+        self._at: Optional[ctypes.c_void_p] = None
         self._lock = threading.Lock()
         made = _pointer()
         function = _function(f"tinkey_{self._name}_{new}", *types, ctypes.POINTER(_pointer))
         _check(function(*words, ctypes.byref(made)))
-        self._at = made.value
+        self._at = made
 
     def close(self) -> None:
         """Lets it go. What is closed may be closed again, and does nothing else."""
@@ -191,6 +200,13 @@ class _Owned:
 class _Handle(_Owned):
     """The keys of a keyset for one primitive."""
 
+    def __init__(self, new: str, types: Sequence[Any], words: Sequence[Any]) -> None:
+        super().__init__(new, types, words)
+        # what each call needs, and only the one that holds the lock uses
+        self._first_size, self._second_size, self._made_size = _size(), _size(), _size()
+        self._made_at = ctypes.byref(self._made_size)
+        self._out, self._room = ctypes.create_string_buffer(_SHORT), _size(_SHORT)
+
     @classmethod
     def from_json(cls: Type[Self], text: Buffer) -> Self:
         """The handle of a keyset in Tink's JSON."""
@@ -211,24 +227,40 @@ class _Handle(_Owned):
         return cls("new_wrapped", _TEXT + _TEXT,
                    (text, len(text), _FORMS[form], key, len(key), _FORMS[master_form]))
 
-    def _made(self, function: Any, room: int, *inputs: bytes) -> bytes:
-        """What a function writes from these inputs into an output with that room."""
-        out, size = ctypes.create_string_buffer(room or 1), _size()
-        words = [word for it in inputs for word in (it, len(it))]
-        _check(self._call(function, *words, out, room, ctypes.byref(size)))
-        return ctypes.string_at(out, size.value)
+    def _made(self, function: Any, room: int, first: bytes, second: Optional[bytes] = None) -> bytes:
+        """What a function writes from one input or two into an output with that room, or with more."""
+        with self._lock:
+            if not self._at:
+                raise ValueError("the handle is closed")
+            out, most, size = self._out, self._room, self._first_size
+            if room > _SHORT:
+                out, most = ctypes.create_string_buffer(room), _size(room)
+            size.value = len(first)
+            if second is None:
+                status = function(self._at, first, size, out, most, self._made_at)
+            else:
+                self._second_size.value = len(second)
+                status = function(self._at, first, size, second, self._second_size, out, most, self._made_at)
+            if not status:
+                return out[:self._made_size.value]
+        raise _ERRORS.get(status, TinkeyError)()
 
 
-_aead_seal = _function("tinkey_aead_seal", _pointer, *_INPUT, *_INPUT, *_OUTPUT)
-_aead_open = _function("tinkey_aead_open", _pointer, *_INPUT, *_INPUT, *_OUTPUT)
+def _room(function: Any, size: int) -> int:
+    """The room of an answer that is as long as its input, and what the library adds."""
+    return _SHORT if 2 * size <= _SHORT else function(size)
+
+
+_aead_seal = _function("tinkey_aead_seal", _pointer, *_FAST, *_FAST, *_FAST_OUTPUT)
+_aead_open = _function("tinkey_aead_open", _pointer, *_FAST, *_FAST, *_FAST_OUTPUT)
 _aead_room = _function("tinkey_aead_seal_room", _size, gives=_size)
-_daead_seal = _function("tinkey_daead_seal", _pointer, *_INPUT, *_INPUT, *_OUTPUT)
-_daead_open = _function("tinkey_daead_open", _pointer, *_INPUT, *_INPUT, *_OUTPUT)
+_daead_seal = _function("tinkey_daead_seal", _pointer, *_FAST, *_FAST, *_FAST_OUTPUT)
+_daead_open = _function("tinkey_daead_open", _pointer, *_FAST, *_FAST, *_FAST_OUTPUT)
 _daead_room = _function("tinkey_daead_seal_room", _size, gives=_size)
-_mac_tag = _function("tinkey_mac_tag", _pointer, *_INPUT, *_OUTPUT)
-_mac_verify = _function("tinkey_mac_verify", _pointer, *_INPUT, *_INPUT)
-_mac_room = _function("tinkey_mac_tag_room", gives=_size)
-_prf_derive = _function("tinkey_prf_derive", _pointer, *_INPUT, ctypes.c_char_p, _size)
+_mac_tag = _function("tinkey_mac_tag", _pointer, *_FAST, *_FAST_OUTPUT)
+_mac_verify = _function("tinkey_mac_verify", _pointer, *_FAST, *_FAST)
+_MAC_ROOM = _function("tinkey_mac_tag_room", gives=_size)()
+_prf_derive = _function("tinkey_prf_derive", _pointer, *_FAST, *_FAST)
 
 
 class Aead(_Handle):
@@ -239,7 +271,7 @@ class Aead(_Handle):
     def encrypt(self, plaintext: Buffer, associated_data: Buffer = b"") -> bytes:
         """Seals under the primary key, with a fresh IV of the system's random bytes."""
         plain = _bytes(plaintext)
-        return self._made(_aead_seal, _aead_room(len(plain)), plain, _bytes(associated_data))
+        return self._made(_aead_seal, _room(_aead_room, len(plain)), plain, _bytes(associated_data))
 
     def decrypt(self, ciphertext: Buffer, associated_data: Buffer = b"") -> bytes:
         """Opens what an ENABLED key of the keyset sealed, or raises `Refused`."""
@@ -255,7 +287,7 @@ class DeterministicAead(_Handle):
     def encrypt_deterministically(self, plaintext: Buffer, associated_data: Buffer = b"") -> bytes:
         """Seals under the primary key."""
         plain = _bytes(plaintext)
-        return self._made(_daead_seal, _daead_room(len(plain)), plain, _bytes(associated_data))
+        return self._made(_daead_seal, _room(_daead_room, len(plain)), plain, _bytes(associated_data))
 
     def decrypt_deterministically(self, ciphertext: Buffer, associated_data: Buffer = b"") -> bytes:
         """Opens what an ENABLED key of the keyset sealed, or raises `Refused`."""
@@ -270,7 +302,7 @@ class Mac(_Handle):
 
     def compute_mac(self, data: Buffer) -> bytes:
         """The tag under the primary key, behind its output prefix."""
-        return self._made(_mac_tag, _mac_room(), _bytes(data))
+        return self._made(_mac_tag, _MAC_ROOM, _bytes(data))
 
     def verify_mac(self, mac: Buffer, data: Buffer) -> None:
         """Raises `Refused` where the tag isn't the data's under any ENABLED key."""
@@ -287,7 +319,7 @@ class Prf(_Handle):
         """So many bytes from the data under the primary key, or raises `TooLong`."""
         given, out = _bytes(data), ctypes.create_string_buffer(output_length or 1)
         _check(self._call(_prf_derive, given, len(given), out, output_length))
-        return ctypes.string_at(out, output_length)
+        return out[:output_length]
 
 
 _sealing_update = _function("tinkey_sealing_update", _pointer, *_INPUT, *_OUTPUT)
@@ -316,7 +348,7 @@ class _Stream(_Owned):
             out = ctypes.create_string_buffer(room)
             status = function(at, *none, out, room, ctypes.byref(size))
         _check(status)
-        return ctypes.string_at(out, size.value)
+        return out[:size.value]
 
     def update(self, data: Buffer) -> bytes:
         """Takes the next bytes, any number of them, and gives what they settle, which may be nothing."""
