@@ -6,6 +6,8 @@
  *     seal SIZE KEYSET               the library's, under a keyset in the binary form, in hexadecimal
  *     open SIZE KEYSET SEALER        of what the keyset SEALER seals
  *     new SIZE KEYSET                makes a handle and frees it; SIZE isn't used
+ *     sseal SIZE KEYSET              one pass over a stream, from memory to memory, under a keyset for streams
+ *     sopen SIZE KEYSET
  *     openssl-seal SIZE CIPHER KEY   OpenSSL's, for aes-128-gcm, aes-256-gcm, aes-128-ctr or aes-256-ctr; KEY is the
  *     openssl-open SIZE CIPHER KEY   cipher's, and behind that of a counter mode the key of HMAC with SHA-256
  *
@@ -24,7 +26,7 @@
 #include <openssl/rand.h>
 #endif
 
-enum { MOST = 1 << 20, MORE = 128, AD = 16, IV = 16, TAG = 32 };
+enum { MOST = 1 << 24, MORE = 1 << 18, AD = 16, IV = 16, TAG = 32 };
 
 static unsigned char plain[MOST], sealed[MOST + MORE], out[MOST + MORE], ad[AD];
 static size_t size, sealed_size, out_size;
@@ -101,6 +103,57 @@ static void library(const char *call, const char *text, const char *sealer, doub
     timed(!strcmp(call, "seal") ? seal : !strcmp(call, "open") ? open_sealed : new_and_free, least);
     tinkey_aead_free(keys);
     free(keyset);
+}
+
+/* ---- Its streams. */
+
+/* What is left to read of some bytes, or where more are written. */
+struct bytes {
+    unsigned char *at;
+    size_t left;
+};
+
+static tinkey_streaming *stream_keys;
+
+static ptrdiff_t reads(void *state, void *bytes, size_t room) {
+    struct bytes *from = state;
+    size_t count = from->left < room ? from->left : room;
+    memcpy(bytes, from->at, count);
+    from->at += count;
+    from->left -= count;
+    return (ptrdiff_t)count;
+}
+
+static int writes(void *state, const void *bytes, size_t len) {
+    struct bytes *to = state;
+    if (to->left < len) return 1;
+    memcpy(to->at, bytes, len);
+    to->at += len;
+    to->left -= len;
+    return 0;
+}
+
+static void stream_seal(void) {
+    struct bytes from = {plain, size}, to = {sealed, sizeof sealed};
+    must(tinkey_stream_seal(stream_keys, ad, AD, reads, &from, writes, &to) == TINKEY_OK, "sseal");
+    sealed_size = sizeof sealed - to.left;
+}
+
+static void stream_open(void) {
+    struct bytes from = {sealed, sealed_size}, to = {out, sizeof out};
+    must(tinkey_stream_open(stream_keys, ad, AD, reads, &from, writes, &to) == TINKEY_OK, "sopen");
+    out_size = sizeof out - to.left;
+}
+
+static void stream(int opens, const char *text, double least) {
+    unsigned char *bytes;
+    size_t count = unhex(text, &bytes);
+    must(tinkey_streaming_new_binary(bytes, count, &stream_keys) == TINKEY_OK, "a keyset for streams is refused");
+    if (opens) stream_seal();
+    timed(opens ? stream_open : stream_seal, least);
+    if (opens) must(out_size == size && !memcmp(out, plain, size), "a stream opens to something else");
+    tinkey_streaming_free(stream_keys);
+    free(bytes);
 }
 
 /* ---- OpenSSL's. */
@@ -186,7 +239,9 @@ int main(int count, char **words) {
         must(call && said && first, "a line is too short");
         size = strtoul(said, NULL, 10);
         must(size <= MOST, "a line asks for too many bytes");
-        if (strncmp(call, "openssl-", 8)) {
+        if (!strcmp(call, "sseal") || !strcmp(call, "sopen")) {
+            stream(call[1] == 'o', first, least);
+        } else if (strncmp(call, "openssl-", 8)) {
             library(call, first, second ? second : first, least);
         } else {
 #ifdef WITH_OPENSSL
