@@ -4,6 +4,7 @@
  *                          FORM is json or binary, and ROOM may be - for what the library says, and bytes to derive.
  *                          For an encrypted keyset FORM and KEYSET are two, with a + between them: first those of the
  *                          encrypted text, and then those of its master
+ *     library_test count   the same lines, each answered by how many allocations the call asked for, without its handle's
  *     library_test own     calls with null pointers, overlap, too little room and handles of others, and threads,
  *                          with an AEAD's keyset in the binary form as one such line on standard input
  *     library_test memory  calls with each of their allocations refused in turn, with a line KEYSET ENCRYPTED: an
@@ -21,6 +22,10 @@
 #include <tinkey.h>
 
 enum { FILL = 0xa5, BEHIND = 16 };
+
+/* How many allocations were asked for, and whether an answer is a count of them. */
+static long asked;
+static int counts;
 
 static int digit(char c) { return c <= '9' ? c - '0' : c - 'a' + 10; }
 
@@ -84,6 +89,7 @@ static void answer(char *line) {
     if (!out) exit(3);
     memset(out, FILL, room + BEHIND);
     int has_made = 1;
+    long before = asked;
     if (!status) {
         if (!strcmp(call, "seal")) status = tinkey_aead_seal(aead, first, m, second, n, out, room, &made);
         else if (!strcmp(call, "open")) status = tinkey_aead_open(aead, first, m, second, n, out, room, &made);
@@ -93,8 +99,11 @@ static void answer(char *line) {
         else if (!strcmp(call, "verify")) status = tinkey_mac_verify(mac, first, m, second, n), has_made = 0;
         else status = tinkey_prf_derive(prf, first, m, out, room), made = status ? 12345 : room;
     }
+    long took = asked - before;
     if (!has_made && !status) made = 0;
-    if (status ? !is_filled(out, room + BEHIND) || made != 12345
+    if (counts) {
+        printf("%ld\n", took);
+    } else if (status ? !is_filled(out, room + BEHIND) || made != 12345
                : made > room || !is_filled(out + made, room + BEHIND - made)) {
         printf("BROKEN\n");
     } else {
@@ -218,6 +227,7 @@ static long left = -1;
 static int was_refused;
 
 static int refuses(void) {
+    if (counts) asked++;
     if (left < 0 || left--) return 0;
     was_refused = 1;
     return 1;
@@ -275,6 +285,7 @@ static void memory(char *line) {
 
 int main(int count, char **words) {
     static char line[1 << 24];
+    counts = count > 1 && !strcmp(words[1], "count");
     while (fgets(line, sizeof line, stdin)) {
         if (count > 1 && !strcmp(words[1], "own")) own(line);
         else if (count > 1 && !strcmp(words[1], "memory")) memory(line);
