@@ -279,6 +279,10 @@ refuse sealed-stream sseal --keyset stream
 takes < "$work/sealed"
 ends same "$(zeros 4057 | shaped same)" none
 refuse opened-stream sopen --keyset stream
+ends same '' "same $(zeros 4057 | shaped same)"
+refuse opened-stream-in-a-file sopen --keyset stream --out n
+ends same '' 'size 4113'
+refuse resealed-stream-in-a-file sreseal --keyset stream --out n
 keys='key_id: 7 status: ENABLED output_prefix_type: RAW type_url: "type.googleapis.com/google.crypto.tink.AesGcmHkdfStreamingKey"'
 ends same "$(text "$keys")" none
 refuse key-of-segments key-of --as stream --keyset stream

@@ -9,7 +9,8 @@ use std::process::ExitCode;
 use std::test::Fail;
 use test_words::{bytes_of, cell, counting, unlike};
 use tink_base::{
-    Created, Failed, Loaded, MemEntropy, MemSink, MemSource, MemStore, Store, StoreError,
+    Begun, Created, Failed, Loaded, MemEntropy, MemSink, MemSource, MemStore, PieceStore, Store,
+    StoreError,
 };
 use tinkey_host::{obey, obey_listed, program};
 
@@ -44,6 +45,25 @@ impl Store for NoRoom {
     fn read_at(&mut self, _name: &str, _at: u64, _out: &mut [u8]) -> Result<usize, Failed> {
         Ok(1)
     }
+}
+
+impl PieceStore for NoRoom {
+    ghost draft = { λ _. None };
+
+    fn begin(&mut self, _alloc: Global, _name: &str) -> Result<Begun, StoreError> {
+        self.calls = self.calls.wrapping_add(1);
+        Err(StoreError::NoMemory)
+    }
+
+    fn append(&mut self, _piece: &[u8]) -> Result<usize, Failed> {
+        unreachable!()
+    }
+
+    fn finish(&mut self) -> Result<Created, StoreError> {
+        unreachable!()
+    }
+
+    fn give_up(&mut self) {}
 }
 
 /// A keyset after tink.proto: a key for AES-GCM of 16 zero bytes, TINK, whose id is 0x01020304.
@@ -147,7 +167,7 @@ fn has_lines(row: &str, written: &[u8]) -> Result<(), Fail> {
 }
 
 /// Obeys a row over this store, and compares the exit code, the output and the line.
-fn obey_over<D: Store>(alloc: Global, row: &str, store: &mut D) -> Result<(), Fail> {
+fn obey_over<D: PieceStore>(alloc: Global, row: &str, store: &mut D) -> Result<(), Fail> {
     let line = line_of(alloc, cell(row, 1)?)?;
     let mut source = source_of(alloc, cell(row, 2)?)?;
     let mut sink = sink_of(alloc)?;

@@ -11,7 +11,7 @@ use std::alloc::Global;
 use std::test::Fail;
 
 /// Runs over each proper prefix, over a changed bit in each byte, and over one more byte; each run
-/// ends as the row's cell says, without any output.
+/// ends as the row's cell says, without any output or new file.
 pub(crate) fn run_changed<R: Runner>(
     alloc: Global,
     runner: &R,
@@ -27,7 +27,8 @@ pub(crate) fn run_changed<R: Runner>(
     let refused = row
         .with(Column::Status, status)
         .with(Column::Line, line)
-        .with(Column::Output, "");
+        .with(Column::Output, "")
+        .with(Column::Made, "none");
     for place in 0..bytes.len() {
         let front = bytes.get(..place).ok_or("a front")?;
         run_with(alloc, runner, names, &refused, front, differences)?;

@@ -9,7 +9,7 @@ ghost use Rattle.tinkey_host.specs.Program.{start_plan, IsAnsweredInBytes};
 use crate::standard::start;
 use real_objects::{FileEntropy, Opens, ReadStream, StdSink, StdSource, WriteStream};
 use std::alloc::Global;
-use tink_base::{Sink, Store};
+use tink_base::{PieceStore, Sink};
 use tinkey_run::Status;
 
 /// Runs the words as `start` does, over a stream that is read ahead, one that is written, and a
@@ -19,7 +19,7 @@ use tinkey_run::Status;
 /// these: the input is the bytes read ahead and those left in the stream, the output is appended to
 /// what the written stream holds, and the random bytes are those drawn ahead and those left in the
 /// device.
-pub fn start_over_streams<R: ReadStream, W: WriteStream, G: Sink, O: Opens, D: Store>(
+pub fn start_over_streams<R: ReadStream, W: WriteStream, G: Sink, O: Opens, D: PieceStore>(
     alloc: Global,
     words: &[String],
     source: &mut StdSource<R>,

@@ -17,7 +17,7 @@ use managers::{
     PrfManager, PrfScheme, SameUrl, StandardAead, StandardDaead, StandardMac, StandardPrf,
 };
 use std::alloc::Global;
-use tink_base::{NoMemory, Sink, Source, Store};
+use tink_base::{NoMemory, PieceStore, Sink, Source};
 use tinkey_run::laws::sessions_are_readable;
 use tinkey_run::{Status, run, starve};
 
@@ -26,7 +26,7 @@ use tinkey_run::{Status, run, starve};
 ///
 /// The promises are `run`'s over the table of these managers, except that `NoMemory` may also come
 /// before any other step; `line` and `readable` are as for `run`.
-pub fn start<S: Source, K: Sink, G: Sink, E: Lookahead, D: Store>(
+pub fn start<S: Source, K: Sink, G: Sink, E: Lookahead, D: PieceStore>(
     alloc: Global,
     words: &[String],
     source: &mut S,
@@ -51,7 +51,7 @@ pub fn start<S: Source, K: Sink, G: Sink, E: Lookahead, D: Store>(
 }
 
 /// Makes the managers of AEADs and of MACs, and continues.
-fn run_standard<S: Source, K: Sink, G: Sink, E: Lookahead, D: Store>(
+fn run_standard<S: Source, K: Sink, G: Sink, E: Lookahead, D: PieceStore>(
     alloc: Global,
     words: &[String],
     source: &mut S,
@@ -78,7 +78,7 @@ fn run_standard<S: Source, K: Sink, G: Sink, E: Lookahead, D: Store>(
 }
 
 /// Makes the other managers, and runs over all of them.
-fn run_with_rest<S: Source, K: Sink, G: Sink, E: Lookahead, D: Store>(
+fn run_with_rest<S: Source, K: Sink, G: Sink, E: Lookahead, D: PieceStore>(
     alloc: Global,
     words: &[String],
     aead: Vec<Box<dyn AeadManager>>,
@@ -149,7 +149,7 @@ fn prf_manager(alloc: Global, scheme: PrfScheme) -> Result<Box<StandardPrf>, NoM
 }
 
 /// Runs over all these managers.
-fn run_over<S: Source, K: Sink, G: Sink, E: Lookahead, D: Store>(
+fn run_over<S: Source, K: Sink, G: Sink, E: Lookahead, D: PieceStore>(
     alloc: Global,
     words: &[String],
     aead: Vec<Box<dyn AeadManager>>,

@@ -16,7 +16,7 @@ use real_objects::{
 };
 use std::alloc::Global;
 use std::process::ExitCode;
-use tink_base::{Failed, Sink, Source, Store};
+use tink_base::{Failed, PieceStore, Sink, Source};
 use tinkey_plans::report;
 use tinkey_run::{Status, starve};
 
@@ -68,7 +68,7 @@ where
     W: WriteStream,
     G: Sink,
     E: Lookahead,
-    D: Store,
+    D: PieceStore,
     ensures ended { HasEnded (A.told from.now)
         (world (S.state source.old) (told_sink W.contents sink.old) (D.state store.old) (E.state entropy.old))
         (world (S.state source.new) (told_sink W.contents sink.new) (D.state store.new) (E.state entropy.new))
@@ -94,7 +94,7 @@ where
 /// If one of these words isn't UTF-8, the place of the first is reported on `diag`, and the exit
 /// code is 8. If memory for them can't be allocated, that is reported on `diag` as for a run, and
 /// the exit code is 7. Then nothing else is done. Otherwise the exit code is the run's.
-pub fn obey_listed<A: Arguments, S: Source, K: Sink, G: Sink, E: Lookahead, D: Store>(
+pub fn obey_listed<A: Arguments, S: Source, K: Sink, G: Sink, E: Lookahead, D: PieceStore>(
     from: &A,
     alloc: Global,
     source: &mut S,
@@ -121,7 +121,7 @@ pub fn obey_listed<A: Arguments, S: Source, K: Sink, G: Sink, E: Lookahead, D: S
 /// Runs the words over these objects: input comes from `source`, the output goes to `sink` and the
 /// diagnostic line to `diag`, random bytes come from `entropy`, and files are in `store`. Returns
 /// the exit code of the run's status.
-pub fn obey<S: Source, K: Sink, G: Sink, E: Lookahead, D: Store>(
+pub fn obey<S: Source, K: Sink, G: Sink, E: Lookahead, D: PieceStore>(
     alloc: Global,
     words: &[String],
     source: &mut S,

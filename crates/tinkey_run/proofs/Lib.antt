@@ -6,6 +6,7 @@ pub mod LockLemmas
 pub mod RangingLemmas
 pub mod SealerLemmas
 pub mod SelfTestLemmas
+pub mod StreamFileLemmas
 pub mod StreamKeyLemmas
 pub mod StreamLemmas
 pub mod TemplateLemmas

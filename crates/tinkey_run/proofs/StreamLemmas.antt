@@ -124,7 +124,7 @@ resealing_lasts keys key header all cipher = record { stays = λ taken more refu
 
 -- A pass that opens.
 
-pub opened_ends : (keys : KeysForStreams) (ad other : List ℕ) (result : Result (Unit {0}) OpenPumpFault) (s : Status) (old new : World) → AreSound keys → other ≡ ad → s ≡ pump_status result → OnlyStreams old new → Pumps (opening_any (ciphers_of other keys.keys)) [] [] false result old.source new.source old.sink new.sink → ShowsFaults result old.source new.source old.sink new.sink → Ends (opens_stream keys ad) old s new
+pub opened_ends : (keys : KeysForStreams) (ad other : List ℕ) (result : Result (Unit {0}) OpenPumpFault) (s : Status) (old new : World) → AreSound keys → other ≡ ad → s ≡ pump_status result → OnlyStreams old new → Pumps (opening_any (ciphers_of other keys.keys)) [] [] false result old.source new.source old.sink new.sink → ShowsFaults result old.source new.source old.sink new.sink → Ends (opens_stream keys ad None) old s new
 opened_ends keys ad other result s old new sound same is only run shown = inl (record {
   result = result;
   status = is;
@@ -146,7 +146,7 @@ fill_settles count random more whole =
     ∙ ap (λ (front : List ℕ). Some (record { answer = Ok front; left = drop count (random ++ more) })) (take_at random more count whole)
     ∙ ap (λ (rest : List ℕ). Some (record { answer = Ok random; left = rest })) (drop_at random more count whole)
 
-pub sealed_ends : (keys : KeysForStreams) (ad : List ℕ) (sealer : SealerState) (result : Result (Unit {0}) SealPumpFault) (s : Status) (old : World) (entropy : EntropyState) (new : World) → AreSound keys → IsMade keys ad old.entropy entropy sealer → Stood old.entropy.faults entropy.faults → s ≡ pump_status (pump_result result) → OnlyStreams (record old { entropy = entropy }) new → Pumps (sealing (cipher_of ad keys.primary) sealer.header) [] [] false (pump_result result) old.source new.source old.sink new.sink → ShowsFaults (pump_result result) old.source new.source old.sink new.sink → Ends (seals_stream keys ad) old s new
+pub sealed_ends : (keys : KeysForStreams) (ad : List ℕ) (sealer : SealerState) (result : Result (Unit {0}) SealPumpFault) (s : Status) (old : World) (entropy : EntropyState) (new : World) → AreSound keys → IsMade keys ad old.entropy entropy sealer → Stood old.entropy.faults entropy.faults → s ≡ pump_status (pump_result result) → OnlyStreams (record old { entropy = entropy }) new → Pumps (sealing (cipher_of ad keys.primary) sealer.header) [] [] false (pump_result result) old.source new.source old.sink new.sink → ShowsFaults (pump_result result) old.source new.source old.sink new.sink → Ends (seals_stream keys ad None) old s new
 sealed_ends keys ad sealer result s old entropy new sound made stood is only run shown =
     let cipher = cipher_of ad keys.primary in
     inl (settled made.random entropy (Ok made.random) made.drew stood (λ more. fill_settles (keys.primary.derived + 7) made.random more made.whole) (record {
@@ -159,13 +159,13 @@ sealed_ends keys ad sealer result s old entropy new sound made stood is only run
     }))
 
 -- the entropy failed at the header
-pub unsealed_ends : (keys : KeysForStreams) (ad : List ℕ) (old : World) (entropy : EntropyState) → RanShort old.entropy entropy (keys.primary.derived + 7) → Ends (seals_stream keys ad) old status.EntropyFault (record old { entropy = entropy })
+pub unsealed_ends : (keys : KeysForStreams) (ad : List ℕ) (old : World) (entropy : EntropyState) → RanShort old.entropy entropy (keys.primary.derived + 7) → Ends (seals_stream keys ad None) old status.EntropyFault (record old { entropy = entropy })
 unsealed_ends keys ad old entropy ran =
     inl (draw_failed refl (record { source = refl; sink = refl; store = refl }) (ran_out-fill old.entropy entropy (keys.primary.derived + 7) ran (omega arith)))
 
 -- A pass that opens and seals again.
 
-pub resealed_ends : (keys : KeysForStreams) (ad : List ℕ) (sealer : SealerState) (result : Result (Unit {0}) OpenPumpFault) (s : Status) (old : World) (entropy : EntropyState) (new : World) → AreSound keys → IsMade keys ad old.entropy entropy sealer → Stood old.entropy.faults entropy.faults → s ≡ pump_status result → OnlyStreams (record old { entropy = entropy }) new → Pumps (resealing (ciphers_of ad keys.keys) (cipher_of ad keys.primary) sealer.header) [] [] false result old.source new.source old.sink new.sink → ShowsFaults result old.source new.source old.sink new.sink → Ends (reseals_stream keys ad) old s new
+pub resealed_ends : (keys : KeysForStreams) (ad : List ℕ) (sealer : SealerState) (result : Result (Unit {0}) OpenPumpFault) (s : Status) (old : World) (entropy : EntropyState) (new : World) → AreSound keys → IsMade keys ad old.entropy entropy sealer → Stood old.entropy.faults entropy.faults → s ≡ pump_status result → OnlyStreams (record old { entropy = entropy }) new → Pumps (resealing (ciphers_of ad keys.keys) (cipher_of ad keys.primary) sealer.header) [] [] false result old.source new.source old.sink new.sink → ShowsFaults result old.source new.source old.sink new.sink → Ends (reseals_stream keys ad None) old s new
 resealed_ends keys ad sealer result s old entropy new sound made stood is only run shown =
     let cipher = cipher_of ad keys.primary in
     inl (settled made.random entropy (Ok made.random) made.drew stood (λ more. fill_settles (keys.primary.derived + 7) made.random more made.whole) (record {

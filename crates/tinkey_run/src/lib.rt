@@ -18,6 +18,7 @@ mod sealers;
 mod self_testing;
 mod session;
 mod steps;
+mod stream_file;
 mod stream_key;
 mod streaming;
 mod templates;

@@ -1,21 +1,34 @@
 //! sseal, sopen and sreseal: the input as a stream, in one pass.
 
-ghost use Rattle.std.specs.Prelude.{◌≡◌, IfOk};
+ghost use Rattle.std.specs.Prelude.{◌≡◌, IfOk, IsErrOf, None};
 ghost use Rattle.segment_stream.specs.KeysModel.{AreSound};
 ghost use Rattle.segment_stream.specs.PumpModels.{pump_result};
-ghost use Rattle.tinkey_plans.specs.Ends.{World, pump_status};
+ghost use Rattle.tinkey_plans.specs.Ends.{World, pump_status, world};
 ghost use Rattle.tinkey_plans.specs.Steps.{Finishes, Passes, status_of};
-ghost use Rattle.tinkey_plans.specs.Streaming.{loads_stream_keys, seals_stream, opens_stream, reseals_stream};
-ghost use Rattle.tinkey_words.specs.Words.{seen_datum, seen_lock};
+ghost use Rattle.tinkey_plans.specs.Streaming.{begins_file, loads_stream_keys, seals_stream, opens_stream, reseals_stream};
+ghost use Rattle.tinkey_run.specs.StreamFile.{stream_plan};
+ghost use Rattle.tinkey_words.specs.Words.{seen_datum, seen_lock, seen_name};
 
 use crate::locks::load_locked;
+use crate::stream_file::put_into_file;
 use crate::using::datum;
 use managers::{KeyTable, Managers};
 use segment_stream::{OpenPumpFault, Opener, SealPumpFault, Sealer, SealerFault, StreamKeys};
 use std::alloc::Global;
-use tink_base::{Entropy, Sink, Source, Store};
+use tink_base::{Entropy, PieceStore, Sink, Source, Store};
 use tinkey_plans::Status;
 use tinkey_words::{Datum, Format, Master};
+
+/// What is done with a stream.
+#[derive(Clone, Copy)]
+pub(crate) enum StreamWork {
+    /// It is sealed.
+    Seal,
+    /// It is opened.
+    Open,
+    /// It is opened, and its plaintext sealed.
+    Reseal,
+}
 
 /// The keys for streams of the keyset in the file of this name.
 #[inline(never)]
@@ -38,10 +51,37 @@ pub(crate) fn load_stream_keys<D: Store>(
     Ok(keys)
 }
 
-/// sseal: seals the input as a stream under the primary one of these keys.
-#[inline(never)]
-pub(crate) fn seal_stream<S: Source, K: Sink, E: Entropy>(
+/// Does the work on the input, and puts the output into a new file or, if none is named, to the
+/// sink.
+pub(crate) fn put_stream<S: Source, K: Sink, E: Entropy, D: PieceStore>(
     alloc: Global,
+    work: StreamWork,
+    keys: &StreamKeys,
+    ad: Datum<'_>,
+    out: Option<&str>,
+    source: &mut S,
+    sink: &mut K,
+    entropy: &mut E,
+    store: &mut D,
+) -> Result<(), Status>
+    requires sound { AreSound keys.now }
+    ensures { Finishes
+        (begins_file (seen_name out.entry)
+        (stream_plan work keys.now (seen_datum ad.entry) (seen_name out.entry)))
+        (world (S.state source.old) (K.state sink.old) (D.state store.old) (E.state entropy.old))
+        result
+        (world (S.state source.new) (K.state sink.new) (D.state store.new) (E.state entropy.new)) }
+{
+    match out {
+        Some(name) => put_into_file(alloc, work, keys, ad, name, source, entropy, store),
+        None => pass_stream(alloc, work, keys, ad, source, sink, entropy),
+    }
+}
+
+/// Does the work on the input, and writes the output to the sink.
+pub(crate) fn pass_stream<S: Source, K: Sink, E: Entropy>(
+    alloc: Global,
+    work: StreamWork,
     keys: &StreamKeys,
     ad: Datum<'_>,
     source: &mut S,
@@ -49,7 +89,8 @@ pub(crate) fn seal_stream<S: Source, K: Sink, E: Entropy>(
     entropy: &mut E,
 ) -> Result<(), Status>
     requires sound { AreSound keys.now }
-    ensures { (w : World) → Finishes (seals_stream keys.now (seen_datum ad.entry))
+    ensures finishes { (w : World) → Finishes
+        (stream_plan work keys.now (seen_datum ad.entry) None)
         (record w {
           source = S.state source.old;
           sink = K.state sink.old;
@@ -60,6 +101,39 @@ pub(crate) fn seal_stream<S: Source, K: Sink, E: Entropy>(
           sink = K.state sink.new;
           entropy = E.state entropy.new;
         }) }
+    ensures undone { IsErrOf result Status.Done → ⊥ }
+{
+    match work {
+        StreamWork::Seal => seal_stream(alloc, keys, ad, source, sink, entropy),
+        StreamWork::Open => open_stream(alloc, keys, ad, source, sink),
+        StreamWork::Reseal => reseal_stream(alloc, keys, ad, source, sink, entropy),
+    }
+}
+
+/// sseal: seals the input as a stream under the primary one of these keys.
+#[inline(never)]
+fn seal_stream<S: Source, K: Sink, E: Entropy>(
+    alloc: Global,
+    keys: &StreamKeys,
+    ad: Datum<'_>,
+    source: &mut S,
+    sink: &mut K,
+    entropy: &mut E,
+) -> Result<(), Status>
+    requires sound { AreSound keys.now }
+    ensures finishes { (w : World) → Finishes
+        (seals_stream keys.now (seen_datum ad.entry) None)
+        (record w {
+          source = S.state source.old;
+          sink = K.state sink.old;
+          entropy = E.state entropy.old;
+        }) result
+        (record w {
+          source = S.state source.new;
+          sink = K.state sink.new;
+          entropy = E.state entropy.new;
+        }) }
+    ensures undone { IsErrOf result Status.Done → ⊥ }
 {
     let Ok(ad) = datum(alloc, ad) else {
         return Err(Status::NoMemory);
@@ -73,7 +147,7 @@ pub(crate) fn seal_stream<S: Source, K: Sink, E: Entropy>(
 
 /// sopen: opens the input as a stream under these keys.
 #[inline(never)]
-pub(crate) fn open_stream<S: Source, K: Sink>(
+fn open_stream<S: Source, K: Sink>(
     alloc: Global,
     keys: &StreamKeys,
     ad: Datum<'_>,
@@ -81,9 +155,11 @@ pub(crate) fn open_stream<S: Source, K: Sink>(
     sink: &mut K,
 ) -> Result<(), Status>
     requires sound { AreSound keys.now }
-    ensures { (w : World) → Finishes (opens_stream keys.now (seen_datum ad.entry))
+    ensures finishes { (w : World) → Finishes
+        (opens_stream keys.now (seen_datum ad.entry) None)
         (record w { source = S.state source.old; sink = K.state sink.old }) result
         (record w { source = S.state source.new; sink = K.state sink.new }) }
+    ensures undone { IsErrOf result Status.Done → ⊥ }
 {
     let Ok(ad) = datum(alloc, ad) else {
         return Err(Status::NoMemory);
@@ -94,9 +170,10 @@ pub(crate) fn open_stream<S: Source, K: Sink>(
     }
 }
 
-/// sreseal: opens the input as a stream under these keys, and seals the plaintext under the primary one.
+/// sreseal: opens the input as a stream under these keys, and seals the plaintext under the primary
+/// one.
 #[inline(never)]
-pub(crate) fn reseal_stream<S: Source, K: Sink, E: Entropy>(
+fn reseal_stream<S: Source, K: Sink, E: Entropy>(
     alloc: Global,
     keys: &StreamKeys,
     ad: Datum<'_>,
@@ -105,7 +182,8 @@ pub(crate) fn reseal_stream<S: Source, K: Sink, E: Entropy>(
     entropy: &mut E,
 ) -> Result<(), Status>
     requires sound { AreSound keys.now }
-    ensures { (w : World) → Finishes (reseals_stream keys.now (seen_datum ad.entry))
+    ensures finishes { (w : World) → Finishes
+        (reseals_stream keys.now (seen_datum ad.entry) None)
         (record w {
           source = S.state source.old;
           sink = K.state sink.old;
@@ -116,6 +194,7 @@ pub(crate) fn reseal_stream<S: Source, K: Sink, E: Entropy>(
           sink = K.state sink.new;
           entropy = E.state entropy.new;
         }) }
+    ensures undone { IsErrOf result Status.Done → ⊥ }
 {
     let Ok(ad) = datum(alloc, ad) else {
         return Err(Status::NoMemory);
@@ -133,7 +212,8 @@ pub(crate) fn reseal_stream<S: Source, K: Sink, E: Entropy>(
 
 /// The status of a pass that seals.
 fn sealed(pass: Result<(), SealPumpFault>) -> Result<(), Status>
-    ensures { status_of result ≡ pump_status (pump_result pass) }
+    ensures told { status_of result ≡ pump_status (pump_result pass) }
+    ensures undone { IsErrOf result Status.Done → ⊥ }
 {
     match pass {
         Ok(()) => Ok(()),
@@ -145,7 +225,8 @@ fn sealed(pass: Result<(), SealPumpFault>) -> Result<(), Status>
 
 /// The status of a pass that opens.
 fn opened(pass: Result<(), OpenPumpFault>) -> Result<(), Status>
-    ensures { status_of result ≡ pump_status pass }
+    ensures told { status_of result ≡ pump_status pass }
+    ensures undone { IsErrOf result Status.Done → ⊥ }
 {
     match pass {
         Ok(()) => Ok(()),

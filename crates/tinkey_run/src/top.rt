@@ -19,13 +19,13 @@ use crate::output::{finish_output, shown, write_output};
 use crate::ranging::open_stretch;
 use crate::self_testing::tell_self_test;
 use crate::session::answer_lines;
-use crate::streaming::{load_stream_keys, open_stream, reseal_stream, seal_stream};
+use crate::streaming::{StreamWork, load_stream_keys, put_stream};
 use crate::templates::list_templates;
 use crate::using::use_keyset;
 use lookahead::Lookahead;
 use managers::{KeyTable, Managers};
 use std::alloc::Global;
-use tink_base::{Sink, Source, Store};
+use tink_base::{PieceStore, Sink, Source};
 use tinkey_plans::{Status, help_text, report, version_text};
 use tinkey_readable::laws::sessions_are_readable;
 use tinkey_words::{Misuse, Request, parse};
@@ -44,7 +44,7 @@ use tinkey_words::{Misuse, Request, parse};
 /// managers a later line opens what a line sealed under a key with an output prefix to its
 /// plaintext, with its associated data, while that key is ENABLED and alone under its prefix; while
 /// it is there, ENABLED, to some plaintext, whatever its prefix type, and a tag verifies.
-pub fn run<S: Source, K: Sink, G: Sink, E: Lookahead, D: Store>(
+pub fn run<S: Source, K: Sink, G: Sink, E: Lookahead, D: PieceStore>(
     alloc: Global,
     words: &[String],
     managers: &Managers,
@@ -71,7 +71,7 @@ pub fn run<S: Source, K: Sink, G: Sink, E: Lookahead, D: Store>(
 }
 
 /// Does what the words ask for.
-fn do_words<S: Source, K: Sink, E: Lookahead, D: Store>(
+fn do_words<S: Source, K: Sink, E: Lookahead, D: PieceStore>(
     alloc: Global,
     words: &[String],
     managers: &Managers,
@@ -109,7 +109,7 @@ fn unasked(words: &[String], misuse: Misuse) -> Status
 }
 
 /// Does the command.
-fn dispatch<S: Source, K: Sink, E: Lookahead, D: Store>(
+fn dispatch<S: Source, K: Sink, E: Lookahead, D: PieceStore>(
     alloc: Global,
     command: Request<'_>,
     managers: &Managers,
@@ -193,27 +193,60 @@ fn dispatch<S: Source, K: Sink, E: Lookahead, D: Store>(
             keyset,
             form,
             ad,
+            output,
         } => {
             let keys = load_stream_keys(alloc, managers, lock, keyset, form, store)?;
-            seal_stream(alloc, &keys, ad, source, sink, entropy)
+            put_stream(
+                alloc,
+                StreamWork::Seal,
+                &keys,
+                ad,
+                output,
+                source,
+                sink,
+                entropy,
+                store,
+            )
         }
         Request::OpenStream {
             lock,
             keyset,
             form,
             ad,
+            output,
         } => {
             let keys = load_stream_keys(alloc, managers, lock, keyset, form, store)?;
-            open_stream(alloc, &keys, ad, source, sink)
+            put_stream(
+                alloc,
+                StreamWork::Open,
+                &keys,
+                ad,
+                output,
+                source,
+                sink,
+                entropy,
+                store,
+            )
         }
         Request::ResealStream {
             lock,
             keyset,
             form,
             ad,
+            output,
         } => {
             let keys = load_stream_keys(alloc, managers, lock, keyset, form, store)?;
-            reseal_stream(alloc, &keys, ad, source, sink, entropy)
+            put_stream(
+                alloc,
+                StreamWork::Reseal,
+                &keys,
+                ad,
+                output,
+                source,
+                sink,
+                entropy,
+                store,
+            )
         }
         Request::OpenRange {
             lock,

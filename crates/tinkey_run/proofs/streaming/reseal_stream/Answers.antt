@@ -7,8 +7,8 @@ use Rattle.tinkey_words.specs.Words.{seen_datum}
 use Rattle.tinkey_run.proofs.StreamLemmas.{resealed_ends}
 use Rattle.tinkey_run.proofs.streaming.reseal_stream.Goals as goal
 
-pub returns-in-Ok-new-2 : goal.returns-in-Ok-new-2
-returns-in-Ok-new-2 g c = λ w.
+pub returns-in-Ok-new-2-clause-finishes : goal.returns-in-Ok-new-2-clause-finishes
+returns-in-Ok-new-2-clause-finishes g c = λ w.
     let old = record w { source = g.S.Source.state c.args.source.now; sink = g.K.Sink.state c.args.sink.now; entropy = g.E.Entropy.state c.args.entropy.now } in
     let entropy = g.E.Entropy.state c.new-2.new.entropy in
     let new = record old { source = g.S.Source.state c.reseal.new.source; sink = g.K.Sink.state c.reseal.new.sink; entropy = entropy } in
@@ -19,4 +19,4 @@ returns-in-Ok-new-2 g c = λ w.
     let run = subst (λ (a : List ℕ). Pumps (resealing (ciphers_of a keys.keys) cipher c.in-Ok-new-2.sealer.header) [] [] false c.reseal.result old.source new.source old.sink new.sink) same
     (subst (λ (o : OpenerState). Pumps (resealing (ciphers_of o.ad o.keys.keys) cipher c.in-Ok-new-2.sealer.header) [] [] false c.reseal.result old.source new.source old.sink new.sink) c.in-Ok-new.ensures
     (c.reseal.ensures.pumps cipher made.under)) in
-    resealed_ends keys (seen_datum c.args.ad) c.in-Ok-new-2.sealer c.reseal.result _ old entropy new c.requires.sound made c.in-Ok-new-2.ensures.no_fault c.opened.ensures (record { store = refl; entropy = refl }) run c.reseal.ensures.shown
+    resealed_ends keys (seen_datum c.args.ad) c.in-Ok-new-2.sealer c.reseal.result _ old entropy new c.requires.sound made c.in-Ok-new-2.ensures.no_fault c.opened.ensures.told (record { store = refl; entropy = refl }) run c.reseal.ensures.shown
