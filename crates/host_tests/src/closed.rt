@@ -10,7 +10,7 @@ use std::process::ExitCode;
 use std::test::Fail;
 use test_words::{bytes_of, cell, counting, same_bytes, unlike};
 use tink_base::{Loaded, MemEntropy, MemStore, Sink, Source, Store};
-use tinkey_host::obey_to_the_end;
+use tinkey_host::{Terminals, obey_to_the_end};
 
 /// How many bytes each read of a closed stream asks for.
 const SIZES: [usize; 4] = [1, 0, 4_096, 1];
@@ -145,6 +145,10 @@ fn run_over(alloc: Global, row: &str, store: &mut MemStore) -> Result<Ended, Fai
     let code = obey_to_the_end(
         &words,
         alloc,
+        Terminals {
+            input: false,
+            output: false,
+        },
         &mut source,
         &mut sink,
         &mut diag,

@@ -12,7 +12,7 @@ use tink_base::{
     Begun, Created, Failed, Loaded, MemEntropy, MemSink, MemSource, MemStore, PieceStore, Store,
     StoreError,
 };
-use tinkey_host::{obey, obey_listed, program};
+use tinkey_host::{Terminals, obey, obey_listed, program};
 
 /// A store whose calls find no memory.
 #[derive(Drop)]
@@ -85,17 +85,23 @@ key_info {
 ";
 
 // The codes and lines are those of the table in docs/SPECIFICATION.md. A read fails where the input is
-// `fails`, and memory is refused by the store where it is `no memory`.
-const RUNS: [&str; 9] = [
-    "a listing | list-keyset --in-format binary | keyset | 0 | | listing",
-    "a tag of another length | verify --keyset k --keyset-format binary --tag-hex 00 | 61 | 1 | tinkey: verify failed\ntinkey: no ENABLED key of the keyset makes this tag of this input |",
-    "no such command | no-command | | 2 | tinkey: usage: word 0\ntinkey: no such command: see tinkey help |",
-    "no protobuf | list-keyset --in-format binary | ff | 3 | tinkey: bad protobuf at byte 0 |",
-    "no such file | tag --keyset n --keyset-format binary | 61 | 4 | tinkey: input file missing |",
-    "a read that fails | list-keyset --in-format binary | fails | 5 | tinkey: read fault |",
-    "a byte too many | list-keyset --in-format binary | long | 6 | tinkey: keyset too long\ntinkey: a keyset has at most 1048576 bytes, and an encrypted one 4194304 |",
-    "memory refused | tag --keyset k --keyset-format binary | no memory | 7 | tinkey: out of memory |",
-    "a word that isn't UTF-8 | ff | | 8 | tinkey: usage: word 0\ntinkey: a word is UTF-8 text: see tinkey help |",
+// `fails`, and memory is refused by the store where it is `no memory`. The last cell says which of standard input
+// and output are terminals.
+const RUNS: [&str; 14] = [
+    "a listing | list-keyset --in-format binary | keyset | 0 | | listing |",
+    "a tag of another length | verify --keyset k --keyset-format binary --tag-hex 00 | 61 | 1 | tinkey: verify failed\ntinkey: no ENABLED key of the keyset makes this tag of this input | |",
+    "no such command | no-command | | 2 | tinkey: usage: word 0\ntinkey: no such command: see tinkey help | |",
+    "no protobuf | list-keyset --in-format binary | ff | 3 | tinkey: bad protobuf at byte 0 | |",
+    "no such file | tag --keyset n --keyset-format binary | 61 | 4 | tinkey: input file missing | |",
+    "a read that fails | list-keyset --in-format binary | fails | 5 | tinkey: read fault | |",
+    "a byte too many | list-keyset --in-format binary | long | 6 | tinkey: keyset too long\ntinkey: a keyset has at most 1048576 bytes, and an encrypted one 4194304 | |",
+    "memory refused | tag --keyset k --keyset-format binary | no memory | 7 | tinkey: out of memory | |",
+    "a word that isn't UTF-8 | ff | | 8 | tinkey: usage: word 0\ntinkey: a word is UTF-8 text: see tinkey help | |",
+    "a keyset in clear isn't for a terminal | create-keyset --key-template AES128_GCM | | 4 | tinkey: output is a terminal\ntinkey: this isn't for a screen: give --out FILE, or redirect the output | | out",
+    "nor is a tag | tag --keyset k --keyset-format binary | fails | 4 | tinkey: output is a terminal\ntinkey: this isn't for a screen: give --out FILE, or redirect the output | | both",
+    "a listing is, and a terminal is read | list-keyset --in-format binary | keyset | 0 | tinkey: reading from the terminal; Ctrl-D ends the input | listing | both",
+    "nothing is written | verify --keyset k --keyset-format binary --tag-hex 00 | 61 | 1 | tinkey: reading from the terminal; Ctrl-D ends the input\ntinkey: verify failed\ntinkey: no ENABLED key of the keyset makes this tag of this input | | both",
+    "a file is read | list-keyset --in n | fails | 4 | tinkey: input file missing | | both",
 ];
 
 /// The input of a row.
@@ -127,6 +133,15 @@ fn source_of(alloc: Global, input: &str) -> Result<MemSource, Fail> {
         fails.push(1)?;
     }
     Ok(MemSource::new(input_of(alloc, input)?, 4_096, fails))
+}
+
+/// The terminals of a row.
+fn terminals_of(row: &str) -> Result<Terminals, Fail> {
+    let named = cell(row, 6)?;
+    Ok(Terminals {
+        input: named == "in" || named == "both",
+        output: named == "out" || named == "both",
+    })
 }
 
 /// A sink that takes up to 64 bytes at once.
@@ -176,6 +191,7 @@ fn obey_over<D: PieceStore>(alloc: Global, row: &str, store: &mut D) -> Result<(
     let code = obey_listed(
         &line,
         alloc,
+        terminals_of(row)?,
         &mut source,
         &mut sink,
         &mut diag,
@@ -213,7 +229,7 @@ fn obeys_the_words_of_the_process(rt: HostRuntime) {
 
 /// A row over the real random bytes and files, as `program` has them.
 const REAL: &str =
-    "no command | | | 2 | tinkey: usage: word 0\ntinkey: no such command: see tinkey help |";
+    "no command | | | 2 | tinkey: usage: word 0\ntinkey: no such command: see tinkey help | |";
 
 #[test]
 fn tells_the_exit_code_of_a_run(rt: HostRuntime) -> Result<(), Fail> {
@@ -224,6 +240,7 @@ fn tells_the_exit_code_of_a_run(rt: HostRuntime) -> Result<(), Fail> {
     let code = obey(
         rt.alloc(),
         &words,
+        terminals_of(REAL)?,
         &mut source_of(rt.alloc(), "")?,
         &mut sink,
         &mut diag,

@@ -19,6 +19,8 @@ mod metered;
 #[cfg(test)]
 mod over_streams;
 #[cfg(test)]
+mod progress;
+#[cfg(test)]
 mod sessions;
 #[cfg(test)]
 mod streams;

@@ -9,7 +9,7 @@ use std::process::ExitCode;
 use std::test::Fail;
 use test_words::{bytes_of, counting, same_bytes};
 use tink_base::{MemSink, MemSource, MemStore};
-use tinkey_host::obey;
+use tinkey_host::{Terminals, obey};
 
 /// How many lines a session has, each of which adds a key.
 const LINES: usize = 60;
@@ -70,6 +70,10 @@ fn answered(alloc: Global, bytes: &[u8], objects: Objects) -> Result<Ended, Fail
     let code = obey(
         alloc,
         &words_of(alloc)?,
+        Terminals {
+            input: false,
+            output: false,
+        },
         &mut source,
         &mut sink,
         &mut diag,

@@ -1,3 +1,5 @@
 pub mod Left
 pub mod NotText
 pub mod Program
+pub mod Progress
+pub mod Terminals

@@ -17,7 +17,7 @@ pub(crate) fn report_not_text<G: Sink>(diag: &mut G, place: usize)
 }
 
 /// Writes lines.
-fn write_lines<G: Sink>(diag: &mut G, lines: &[u8])
+pub(crate) fn write_lines<G: Sink>(diag: &mut G, lines: &[u8])
     ensures { Wrote lines.now (G.state diag.old) (G.state diag.new) }
 {
     match write_all(diag, lines) {
