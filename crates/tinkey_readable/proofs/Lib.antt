@@ -2,6 +2,7 @@ pub mod AnywhereLemmas
 pub mod CallLemmas
 pub mod CaseLemmas
 pub mod DoneEnvelopeLemmas
+pub mod DoneKeyOfLemmas
 pub mod DoneRangeLemmas
 pub mod DoneSessionLemmas
 pub mod DoneStreamLemmas

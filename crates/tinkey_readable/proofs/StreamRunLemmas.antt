@@ -33,12 +33,12 @@ use Rattle.tinkey_readable.proofs.ReachLemmas.{IsDoneAnswer}
 abbrev behind_keyset : (KeysForStreams → Plan) → Keys → Plan
 behind_keyset next keys = allocates (unless_unfit (stream_unfit keys) (with_keys (keys_for keys) next))
 
-fit_done : (unfit : Option (ℕ × StreamUnfit)) (next : Plan) (told : Told) → IsDoneAnswer (answer (unless_unfit unfit next) told) → unfit ≡ None
+pub fit_done : (unfit : Option (ℕ × StreamUnfit)) (next : Plan) (told : Told) → IsDoneAnswer (answer (unless_unfit unfit next) told) → unfit ≡ None
 fit_done None next told done = refl
 fit_done (Some (i, not_stream)) next told done = absurd (cc)
 fit_done (Some (i, bad_key rule)) next told done = absurd (cc)
 
-keys_done : (found : Option KeysForStreams) (next : KeysForStreams → Plan) (told : Told) → IsDoneAnswer (answer (with_keys found next) told) → (keys : KeysForStreams) × (found ≡ Some keys)
+pub keys_done : (found : Option KeysForStreams) (next : KeysForStreams → Plan) (told : Told) → IsDoneAnswer (answer (with_keys found next) told) → (keys : KeysForStreams) × (found ≡ Some keys)
 keys_done (Some keys) next told done = (keys, refl)
 keys_done None next told done = absurd (cc)
 

@@ -5,18 +5,21 @@
 --   WorksDone   where work by keys on a whole input is
 --   StreamsDone where a stream is sealed, and where one is opened
 --   RangesDone, SessionsDone, EnvelopesDone   where those are
-use Rattle.std.specs.Prelude.{◌≡◌, ◌↔◌, ℕ, ◌+◌, ◌≤◌, true, List, length, take, Option, Some, None, Ok}
+--   KeyOfDone   where key-of finds a key under which the input stands
+use Rattle.std.specs.Prelude.{◌≡◌, ◌↔◌, ◌⊎◌, ℕ, ◌+◌, ◌≤◌, true, List, ◌++◌, length, take, Option, Some, None, Ok}
 use Rattle.std.specs.FinMap as map
+use Rattle.std.specs.List.{Contains}
 use Rattle.key_msgs.specs.Templates.{Row, row_named}
 use Rattle.key_msgs.specs.declared.key.KeyKind.{KeyKind}
 use Rattle.key_msgs.specs.declared.primitive.Primitive.TheVariants.{Aead}
 use Rattle.keyset_model.specs.Keyset.{Keys}
+use Rattle.keyset_model.specs.declared.record.Record.{Record}
 use Rattle.managers.specs.Schemes.{Scheme}
 use Rattle.managers.specs.Table.{Table, scheme_at}
 use Rattle.managers.specs.Uses.{iv_size}
 use Rattle.seal_wrap.specs.Enveloped.{envelope_of, open_envelope_of, reseal_envelope_of}
 use Rattle.seal_wrap.specs.Enveloping.{IsAead, url_made}
-use Rattle.segment_stream.specs.Opening.{decides, released}
+use Rattle.segment_stream.specs.Opening.{decides, fits, released}
 use Rattle.segment_stream.specs.Range.{range_of}
 use Rattle.segment_stream.specs.Sealing.{seal_decides}
 use Rattle.segment_stream.specs.Segments.{cipher_of, ciphers_of}
@@ -25,6 +28,7 @@ use Rattle.segment_stream.specs.StreamKeys as streams
 use Rattle.segment_stream.specs.declared.key.StreamKey.{StreamKey}
 use Rattle.tinkey_session.specs.Talking.{goes, talk}
 use Rattle.wrapped_prims.specs.Answers.{Sealed, derive_answer, dopen_answer, open_answer, primary_key, verify_answer}
+use Rattle.wrapped_prims.specs.Candidates.{is_raw, prefix_of}
 use Rattle.wrapped_prims.specs.Fitness.{unfit}
 use Rattle.tinkey_plans.specs.declared.status.Status.TheVariants as status
 use Rattle.tinkey_plans.specs.Commands.{command_plan}
@@ -32,7 +36,9 @@ use Rattle.tinkey_plans.specs.Envelopes.{envelope_limit}
 use Rattle.tinkey_plans.specs.Plan.{Told, answer}
 use Rattle.tinkey_plans.specs.Using.{limit_for}
 use Rattle.tinkey_words.specs.declared.words.rows.Format.{Format}
-use Rattle.tinkey_words.specs.Words.{AskedEdit, AskedEnvelope, AskedRange, AskedWork, Lock, NewLock, Output, Place, convert_keyset, create_keyset, edit_keyset, list_keyset, open_range, open_stream, reseal_stream, seal_stream, session, to_eopen, to_ereseal, to_eseal, use_envelope, use_keyset, to_seal, to_open, to_dseal, to_dopen, to_reseal, to_dreseal, to_tag, to_verify, to_derive, primitive_for}
+use Rattle.tinkey_words.specs.declared.words.rows.SealedForm.{SealedForm}
+use Rattle.tinkey_words.specs.declared.words.rows.SealedForm.TheVariants as forms
+use Rattle.tinkey_words.specs.Words.{AskedEdit, AskedEnvelope, AskedRange, AskedWork, Lock, NewLock, Output, Place, convert_keyset, create_keyset, edit_keyset, key_of, list_keyset, open_range, open_stream, reseal_stream, seal_stream, session, to_eopen, to_ereseal, to_eseal, use_envelope, use_keyset, to_seal, to_open, to_dseal, to_dopen, to_reseal, to_dreseal, to_tag, to_verify, to_derive, primitive_for}
 use Rattle.tinkey_readable.specs.Lying.{FitsThere, LiesBehind, LiesThere, OpensLock, OpensNewLock}
 use Rattle.tinkey_readable.specs.Runs.{IsCreated, IsEdit, IsFree}
 
@@ -285,3 +291,48 @@ EnvelopesDone = (table : Table) (lock : Lock) (name : List ℕ) (form : Format) 
     (work : AskedEnvelope) (out : Option (List ℕ)) (told : Told)
     → ((answer (command_plan table (use_envelope lock name form template work out)) told).status
     ≡ status.Done) ↔ EnvelopeIsDone table lock name form template work out told
+
+-- ---- the keys under which some bytes stand
+
+-- this output prefix stands in these bytes, behind so many others
+pub record StandsBehind (skipped : ℕ) (prefix bytes : List ℕ) : Type 0 where
+  pub first : List ℕ
+  pub size : length first ≡ skipped
+  pub rest : List ℕ
+  pub are : bytes ≡ first ++ prefix ++ rest
+
+-- A record of the keyset, whatever its status, may have made these bytes: its output prefix stands in them, behind
+-- so many others; or it is RAW, and so has no prefix.
+pub record OneMayHaveMade (skipped : ℕ) (keys : Keys) (bytes : List ℕ) : Type 0 where
+  pub r : Record
+  pub among : Contains keys.records r
+  pub stands : ((prefix : List ℕ) × (prefix_of r ≡ Some prefix) × StandsBehind skipped prefix bytes)
+      ⊎ (is_raw r ≡ true)
+
+-- each ENABLED record gives a key for streams, and under one of these keys the first segment opens
+pub record OneOpensFirst (keys : Keys) (ad bytes : List ℕ) : Type 0 where
+  pub fit : stream_unfit keys ≡ None
+  pub key : StreamKey
+  pub among : Contains (stream_keys keys) key
+  pub opens : fits (cipher_of ad key) bytes ≡ true
+
+-- what the input wants of the keys: a text and a tag begin with a prefix, and an envelope with the four bytes of a
+-- length and then a prefix; the first segment of a stream opens
+abbrev pub KeyOfGoes : SealedForm → (ad : List ℕ) → Keys → (input : List ℕ) → Type 0
+KeyOfGoes forms.Text ad keys input = OneMayHaveMade 0 keys input
+KeyOfGoes forms.Envelope ad keys input = OneMayHaveMade 4 keys input
+KeyOfGoes forms.Stream ad keys input = OneOpensFirst keys ad input
+
+-- A keyset lies in the file of this name, behind its lock, and the input stands under one of its keys.
+pub record KeyOfIsDone (table : Table) (lock : Lock) (name : List ℕ) (form : Format) (kind : SealedForm)
+    (ad : List ℕ) (told : Told) : Type 0 where
+  pub keys : Keys
+  pub lies : LiesBehind table lock (record { file = Some name; form = form }) told keys
+  pub goes : KeyOfGoes kind ad keys told.input
+
+-- key-of is answered Done exactly where that is so
+abbrev pub KeyOfDone : Type 0
+KeyOfDone = (table : Table) (lock : Lock) (name : List ℕ) (form : Format) (kind : SealedForm) (ad : List ℕ)
+    (told : Told)
+    → ((answer (command_plan table (key_of lock name form kind ad)) told).status ≡ status.Done)
+    ↔ KeyOfIsDone table lock name form kind ad told

@@ -4,7 +4,7 @@ ghost use Rattle.key_msgs.specs.declared.primitive.Primitive.TheVariants.{Aead, 
 ghost use Rattle.keyset_json.specs.Writing.{JsonBack};
 ghost use Rattle.keyset_model.specs.Writing.{BinaryBack};
 ghost use Rattle.tinkey_readable.specs.Anywhere.{CreatedServe, CreatedServeStreams, DopensAnywhere, DopensSomehowAnywhere, LocksServe, LocksServeStreams, OpensAnywhere, OpensEnvelopeAnywhere, OpensFirstAnywhere, OpensRangeAnywhere, OpensSomehowAnywhere, OpensStreamAnywhere, UnwrapsAnywhere, VerifiesAnywhere};
-ghost use Rattle.tinkey_readable.specs.DoneWhere.{EditsDone, EnvelopesDone, RangesDone, SessionsDone, StreamsDone, WorksDone};
+ghost use Rattle.tinkey_readable.specs.DoneWhere.{EditsDone, EnvelopesDone, KeyOfDone, RangesDone, SessionsDone, StreamsDone, WorksDone};
 ghost use Rattle.tinkey_readable.specs.EnvelopeRuns.{RunsOpenEnvelope};
 ghost use Rattle.tinkey_readable.specs.Hiding.{ListedAlike, ListingHidesKeys, ReportsGoByStatus};
 ghost use Rattle.tinkey_readable.specs.KeptRuns.{CommandIdsStayDistinct, CreatedIdsAreDistinct, DataStaysByCommands, FilesStay, GivenBackByEnable, KeptByCommands, KeptByItsIdAlone};
@@ -586,6 +586,16 @@ pub fn sessions_done()
 pub fn envelopes_done()
     ensures { EnvelopesDone }
 {}
+
+/// `key-of` is answered Done if and only if the keyset is there, and: for a text or a tag, the
+/// output prefix of one of its records, of any status, is in front of the input, or one of them is
+/// RAW; for an envelope, the same behind the first four bytes; for a stream, each ENABLED record
+/// gives a key for streams, and one of these opens the first segment.
+pub fn key_of_done()
+    ensures { KeyOfDone }
+{
+    fit_keysets_answer();
+}
 
 /// A listing doesn't depend on key messages and key material types: list-keyset prints the same for
 /// two keysets that differ only in these, each in clear or under a lock. Standard error depends

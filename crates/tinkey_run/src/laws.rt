@@ -85,6 +85,7 @@ pub use tinkey_readable::laws::kept_ranges;
 pub use tinkey_readable::laws::kept_runs;
 pub use tinkey_readable::laws::kept_streams;
 pub use tinkey_readable::laws::kept_wrapped;
+pub use tinkey_readable::laws::key_of_done;
 pub use tinkey_readable::laws::keys_are_named;
 pub use tinkey_readable::laws::library_streams_open;
 pub use tinkey_readable::laws::library_texts_open;
