@@ -1,5 +1,5 @@
 -- A key that is ENABLED and alone under its prefix stays so, over the runs that spare it.
-use Rattle.std.proofs.Common.{◌≡◌, ◌∙◌, inl, inr, refl, sym, ap, subst, ℕ, suc, List, [], ◌∷◌, ◌++◌, Option, Some, None, option_map, ◌<◌}
+use Rattle.std.proofs.Common.{◌≡◌, ◌⊎◌, ◌∙◌, inl, inr, refl, sym, ap, subst, ℕ, suc, List, [], ◌∷◌, ◌++◌, Option, Some, None, option_map, ◌<◌}
 use Rattle.std.specs.Prelude.{IfSome, slice_get}
 use Rattle.std.specs.FinMap as map
 use Rattle.std.specs.List.{AllByRecursion}
@@ -38,11 +38,11 @@ use Rattle.tinkey_plans.specs.Steps.{makes_keyset, puts_keyset}
 use Rattle.tinkey_plans.specs.declared.status.Status.{Status}
 use Rattle.tinkey_plans.specs.declared.status.Status.TheVariants as status
 use Rattle.tinkey_readable.proofs.FileLemmas.{files_stay, has_once}
-use Rattle.tinkey_readable.proofs.LockedRunLemmas.{EachUnder, StepLaws, locks_keep}
+use Rattle.tinkey_readable.proofs.LockedRunLemmas.{EachUnder, StepLaws, UnderSeal, created_first, locks_keep, one_more, wrapped_first}
 use Rattle.tinkey_readable.proofs.ReachLemmas.{found_row, made_done, put_done}
 use Rattle.tinkey_readable.proofs.RunLemmas.{each_of, hands_within, template_row, kept as keyset_written}
-use Rattle.tinkey_readable.specs.KeptRuns.{CommandIdsStayDistinct, CreatedIdsAreDistinct, DataStaysByCommands, Event, EventDraws, GivenBackByEnable, HaveLed, HasLed, IsPut, KeptByCommands, KeptByItsIdAlone, HavePassed, OfAsked, OfEvent, OfEvents, OfLocked, Passes, PassesOn, PassesUnder, PassesWrapped, StaysIn, TookPlace, passed_by, passed_on, passed_wrapped}
-use Rattle.tinkey_readable.specs.Runs.{AreLocked, Does, GoesLocked, Handing, Hands, HandsOn, HandsUnder, HoldsBytes, ReadIsStored, Run, RunStep, Written, bytes_at, keyset_of}
+use Rattle.tinkey_readable.specs.KeptRuns.{CommandIdsStayDistinct, CreatedIdsAreDistinct, CreatesFirst, DataStaysByCommands, Event, EventDraws, GivenBackByEnable, GivenBackUnderLock, HaveLed, HasLed, IsPut, KeptByCommands, KeptByItsIdAlone, HavePassed, OfAsked, OfEvent, OfEvents, OfLocked, Passes, PassesOn, PassesUnder, PassesWrapped, StaysIn, TookPlace, WrapsFirst, passed_by, passed_on, passed_wrapped}
+use Rattle.tinkey_readable.specs.Runs.{AreLocked, CreatesUnder, Does, DrawsBytes, GoesLocked, Handing, Hands, HandsOn, HandsUnder, HoldsBytes, ReadIsStored, Run, RunStep, Wraps, Written, bytes_at, keyset_of}
 use Rattle.tinkey_words.specs.declared.words.rows.Format.{Format}
 use Rattle.tinkey_words.specs.Words.{Asked, AskedEdit, Lock, Place, create_keyset, edit_keyset, list_keyset, key_of, convert_keyset, list_key_templates, use_keyset, use_envelope, seal_stream, open_stream, reseal_stream, open_range, self_test, session, help, version}
 
@@ -293,9 +293,9 @@ alone_is_there r keys key =
 
 -- ---- a key that was disabled
 
-enabled_by : (r : Record) (prefix : List ℕ) → prefix_of r ≡ Some prefix → (told : Told) (old new : Keys) (in' out : Place) → HasDistinctIds old → AllByRecursion HasWordId old.records → HasData r old
-    → Does standard_table told old new (edit_keyset None (edits.Enable r.id) in' out) → HasSameKey r new
-enabled_by r prefix has told old new in' out apart words h does =
+enabled_by : (r : Record) (prefix : List ℕ) → prefix_of r ≡ Some prefix → (told : Told) (old new : Keys) (lock : Lock) (in' out : Place) → HasDistinctIds old → AllByRecursion HasWordId old.records → HasData r old
+    → Does standard_table told old new (edit_keyset lock (edits.Enable r.id) in' out) → HasSameKey r new
+enabled_by r prefix has told old new lock in' out apart words h does =
     enable_gives_back old new r prefix told.random does.stepped apart words has h (ap (λ e. step old e told.random) (same_Ok _ _ does.is) ∙ does.steps) does.accepted
 
 pub given_back_by_enable : ReadIsStored → RunStep → GivenBackByEnable
@@ -305,8 +305,40 @@ given_back_by_enable stored law run before after old r prefix in' out asked pass
     record {
       keys = g.new;
       read = g.read;
-      key = enabled_by r prefix has run.told old g.new in' out apart (words_read stored run before after old hands holds is) h (subst (Does standard_table run.told old g.new) asked g.does);
+      key = enabled_by r prefix has run.told old g.new None in' out apart (words_read stored run before after old hands holds is) h (subst (Does standard_table run.told old g.new) asked g.does);
     }
+
+-- ids are distinct, and all that makes the key is there
+abbrev HasAll : Record → Keys → Type 0
+HasAll r keys = HasDistinctIds keys × HasData r keys
+
+all_done : (r : Record) (told : Told) (old : Keys) (asked : Asked) → HasAll r old → OfAsked (λ keys. SparesData r.id) old told asked → EachDone (HasAll r) standard_table told old asked
+all_done r told old asked h spares =
+    let ids = distinct_done told old asked h.0 in
+    let data' = data_done r told old asked h.1 spares in
+    record {
+      by_edit = λ lock edit in' out is e follows s steps. (ids.by_edit lock edit in' out is e follows s steps, data'.by_edit lock edit in' out is e follows s steps);
+      by_session = λ lock name form out is m left. (ids.by_session lock name form out is m left, data'.by_session lock name form out is m left);
+    }
+
+begun_under : FirstsAreKeysets → FirstsAreStored → StepLaws → (first : Run) (master begun : Written) (over old : Keys) → keyset_of master ≡ Some over → DrawsBytes first → WrapsFirst first master begun old ⊎ CreatesFirst first master begun old → UnderSeal master begun old
+begun_under firsts firsts_stored l first master begun over old read random (inl w) =
+    let wraps : Wraps standard_table first master w.before begun = record { name = w.name; lies = w.lies; handing = w.handing; asked = w.asked; handed = hands_of first w.handing w.before begun w.passes } in
+    wrapped_first l first master w.before begun over old wraps read w.read w.holds random
+begun_under firsts firsts_stored l first master begun over old read random (inr c) =
+    let is = answered_by first c.old status.Done c.new c.took tt in
+    let creates : CreatesUnder standard_table first c.template master begun = record { lock = c.lock; form = c.form; lies = c.lies; out = c.out; asked = c.asked; done = sym is.status; put_form = c.put_form; put = put_by c.out.file c.old c.new _ begun.bytes is c.put } in
+    created_first firsts firsts_stored first c.template master begun over old creates read c.created random
+
+pub given_back_under_lock : FirstsAreKeysets → FirstsAreStored → StepLaws → GivenBackUnderLock
+given_back_under_lock firsts firsts_stored l first locked run opening text put after later old r prefix lock in' out course asked passes random apart has h spares opens =
+    let seal = begun_under firsts firsts_stored l first course.master course.begun course.over old course.read course.bytes.0 course.begins in
+    let each = locked_keep (HasAll r) (λ keys. SparesData r.id) (λ run keys stored h spares. all_done r run.told keys run.asked h spares) locked course.master course.begun course.last text course.are spares in
+    let m = one_more (HasAll r) l locked run course.master course.begun course.last opening text put after later old (are_of locked course.master course.begun course.last text course.are) each (apart, h) course.bytes.1 seal course.opens (hands_under_of run opening text put after passes) random opens in (
+      m.new,
+      m.gives,
+      enabled_by r prefix has run.told m.old m.new (Some lock) in' out m.has.0 (words_stored m.old m.stored) m.has.1 (subst (Does standard_table run.told m.old m.new) asked m.does),
+    )
 
 -- ---- the first keyset
 

@@ -1,5 +1,5 @@
 -- Runs that take a keyset on under masters.
-use Rattle.std.proofs.Common.{◌≡◌, ◌∙◌, sym, refl, ap, subst, ℕ, ◌≤◌, List, [], ◌∷◌, ◌++◌, length, Option, Some, None, Ok}
+use Rattle.std.proofs.Common.{◌≡◌, ◌∙◌, sym, refl, ap, subst, ℕ, ◌≤◌, List, [], ◌∷◌, ◌++◌, length, Option, Some, None, Result, Ok}
 use Rattle.std.specs.Prelude.{option_and_then}
 use Rattle.std.specs.FinMap as map
 use Rattle.std.specs.List.{AllByRecursion}
@@ -22,6 +22,7 @@ use Rattle.tinkey_cmds.proofs.Fronts.{fronts-first, fronts-step}
 use Rattle.tinkey_cmds.specs.Draws.{Drawn}
 use Rattle.tinkey_cmds.specs.Edits.{Edit, first, step}
 use Rattle.tinkey_cmds.specs.Laws.{EditsKeepKeysets, FirstsAreKeysets}
+use Rattle.tinkey_cmds.specs.declared.command.CmdFault.{CmdFault}
 use Rattle.tinkey_session.proofs.DrawLemmas.{lines_draw_fronts}
 use Rattle.tinkey_session.proofs.Options.{clash, map_some}
 use Rattle.tinkey_session.proofs.TurnLemmas.{edited_on, named_template}
@@ -49,7 +50,7 @@ use Rattle.tinkey_readable.proofs.WrittenBytesLemmas.{written_bytes}
 use Rattle.tinkey_readable.proofs.StreamKeyLemmas.{fit_sound, sound_fit}
 use Rattle.tinkey_readable.specs.Anywhere.{CreatedServe, CreatedServeStreams, LocksServe, LocksServeStreams}
 use Rattle.tinkey_readable.specs.LockedRuns.{GivesUnder}
-use Rattle.tinkey_readable.specs.Runs.{AreLocked, CreatesUnder, Does, DrawsBytes, GoesLocked, GoesUnder, HoldsBytes, IsCreated, Keeps, LockedHanding, LocksStep, ReadIsStored, Run, StillOpens, Written, bytes_at, hands_under, keyset_of, read_in, session_under}
+use Rattle.tinkey_readable.specs.Runs.{AreLocked, CreatesUnder, Does, DrawsBytes, GoesLocked, GoesUnder, HoldsBytes, IsCreated, Keeps, LockedHanding, LocksStep, ReadIsStored, Run, StillOpens, HandsUnder, Wraps, Written, bytes_at, hands_under, keyset_of, read_in, session_under}
 use Rattle.tinkey_words.specs.declared.words.rows.Format.{Format}
 use Rattle.tinkey_words.specs.declared.words.rows.Format.TheVariants as formats
 use Rattle.tinkey_words.specs.Words.{Asked, AskedEdit, Master, Place, as_taken, convert_keyset, create_keyset, edit_keyset, help, in_clear, key_of, list_key_templates, list_keyset, open_range, open_stream, reseal_stream, seal_stream, self_test, session, under, use_envelope, use_keyset, version}
@@ -90,7 +91,7 @@ session_left table keys (line ∷ later) random m all e = elim (serve table keys
 -- ---- a keyset that lies sealed
 
 -- so it does as this text, under this master
-record UnderSeal (master text : Written) (keys : Keys) : Type 0 where
+pub record UnderSeal (master text : Written) (keys : Keys) : Type 0 where
   over : Keys
   read : keyset_of master ≡ Some over
   within : length master.bytes ≤ keyset_limit
@@ -331,6 +332,27 @@ record LedUnder (P : Keys → Type 0) (old : Keys) (last after : Written) : Type
   has : P new
   seal : UnderSeal last after new
 
+went_so : (run : Run) (opening text put after : Written) (over old : Keys) (hands : HandsUnder standard_table run opening text put after) → keyset_of opening ≡ Some over → unwrap_of over standard_table text.bytes (is_json text.form) ≡ Ok old → fault_of old ≡ None → AreStored old → DrawsBytes run
+    → Went run.asked run.told opening text put after over old hands.locked
+went_so run opening text put after over old hands read gives faultless stored random = record {
+  form = hands.form;
+  lies = hands.lies;
+  read = read;
+  new_form = hands.new_form;
+  new_lies = hands.new_lies;
+  new_over = hands.over;
+  new_read = hands.read;
+  gives = gives;
+  faultless = faultless;
+  stored = stored;
+  random = random;
+  done = hands.handed.done;
+  taken_form = hands.handed.read_form;
+  taken = hands.handed.read;
+  put_form = hands.handed.put_form;
+  put' = hands.handed.put;
+}
+
 led_under : (P : Keys → Type 0) → StepLaws → (runs : List Run) (master text last after : Written) (old : Keys) (are : AreLocked standard_table runs master text last after) → EachUnder P runs master text last after are → P old → AllByRecursion DrawsBytes runs → UnderSeal master text old → LedUnder P old last after
 led_under P l [] master text last after old (one, same) each p bytes s = record {
   new = old;
@@ -340,24 +362,7 @@ led_under P l [] master text last after old (one, same) each p bytes s = record 
 }
 led_under P l (run ∷ later) master text last after old (opening, put, between, opens, hands, are) each p bytes s =
     let gives = given_again l master opening text old opens s in
-    let went : Went run.asked run.told opening text put between opens.new old hands.locked = record {
-      form = hands.form;
-      lies = hands.lies;
-      read = opens.read_again;
-      new_form = hands.new_form;
-      new_lies = hands.new_lies;
-      new_over = hands.over;
-      new_read = hands.read;
-      gives = gives;
-      faultless = s.faultless;
-      stored = s.stored;
-      random = bytes.0;
-      done = hands.handed.done;
-      taken_form = hands.handed.read_form;
-      taken = hands.handed.read;
-      put_form = hands.handed.put_form;
-      put' = hands.handed.put;
-    } in
+    let went = went_so run opening text put between opens.new old hands opens.read_again gives s.faultless s.stored bytes.0 in
     let step' = step_by l run.asked run.told opening text put between opens.new old hands.locked hands.hands went in
     let rest = led_under P l later put between last after step'.new are each.1 (each.0 old step'.new gives s.stored p step'.does) bytes.1 step'.seal in
     record {
@@ -377,12 +382,13 @@ record GivesLast (P : Keys → Type 0) (old : Keys) (over : Keys) (text : Writte
   faultless : fault_of new ≡ None
   stored : AreStored new
 
-gives_last : (P : Keys → Type 0) → StepLaws → (wrap : Run) (locked : List Run) (before later text : Written) (old : Keys) (goes : GoesUnder standard_table wrap locked before later text) → DrawsBytes wrap → AllByRecursion DrawsBytes locked → HoldsBytes before → keyset_of before ≡ Some old → EachUnder P locked goes.master goes.first goes.last text goes.are → P old → GivesLast P old goes.opens.new text
-gives_last P l wrap locked before later text old goes random bytes holds is each p =
-    let w = wraps_done wrap goes.master before goes.first goes.over old goes.wraps goes.read is in
-    let start : UnderSeal goes.master goes.first old = record {
-      over = goes.over;
-      read = goes.read;
+-- a keyset that was wrapped lies so
+pub wrapped_first : StepLaws → (wrap : Run) (master before first : Written) (over old : Keys) → Wraps standard_table wrap master before first → keyset_of master ≡ Some over → keyset_of before ≡ Some old → HoldsBytes before → DrawsBytes wrap → UnderSeal master first old
+wrapped_first l wrap master before first over old wraps read is holds random =
+    let w = wraps_done wrap master before first over old wraps read is in
+    record {
+      over = over;
+      read = read;
       within = w.master_within;
       random = wrap.told.random;
       bytes = random;
@@ -392,7 +398,11 @@ gives_last P l wrap locked before later text old goes random bytes holds is each
       short = w.short;
       faultless = read_faultless before old is;
       stored = l.stored before old holds w.within is;
-    } in
+    }
+
+gives_last : (P : Keys → Type 0) → StepLaws → (wrap : Run) (locked : List Run) (before later text : Written) (old : Keys) (goes : GoesUnder standard_table wrap locked before later text) → DrawsBytes wrap → AllByRecursion DrawsBytes locked → HoldsBytes before → keyset_of before ≡ Some old → EachUnder P locked goes.master goes.first goes.last text goes.are → P old → GivesLast P old goes.opens.new text
+gives_last P l wrap locked before later text old goes random bytes holds is each p =
+    let start = wrapped_first l wrap goes.master before goes.first goes.over old goes.wraps goes.read is holds random in
     let d = led_under P l locked goes.master goes.first goes.last text old goes.are each p bytes start in
     record {
       new = d.new;
@@ -560,3 +570,46 @@ created_serve_streams sound firsts firsts_stored l run locked template master fi
         };
       },
     )
+
+-- one template makes one keyset of random bytes
+created_once : (template random : List ℕ) (old new : Keys) → IsCreated template random old → IsCreated template random new → new ≡ old
+created_once template random old new x y =
+    let rows : y.row ≡ x.row = same_Some _ _ (sym y.named ∙ x.named) in
+    let steps : y.stepped ≡ x.stepped = same_Some _ _ (sym y.steps ∙ ap (λ (row : Row). first row random) rows ∙ x.steps) in
+    let answers : ◌≡◌ {A = Result Keys CmdFault} (Ok new) (Ok old) = sym y.accepted ∙ ap (λ (s : Drawn Keys). s.answer) steps ∙ x.accepted in
+    cc
+
+-- so does one that was created under a master
+pub created_first : FirstsAreKeysets → FirstsAreStored → (run : Run) (template : List ℕ) (master text : Written) (over old : Keys) → CreatesUnder standard_table run template master text → keyset_of master ≡ Some over → IsCreated template run.told.random old → DrawsBytes run → UnderSeal master text old
+created_first firsts firsts_stored run template master text over old x read created random =
+    let a : Asked → Answer = λ asked. answer (command_plan standard_table asked) run.told in
+    let c = created_under firsts firsts_stored x.lock template x.out run.told master text over x.form x.lies read random
+    (ap (λ asked. (a asked).status) (sym x.asked) ∙ x.done) x.put_form
+    (ap (λ asked. bytes_at x.out.file (a asked).files (a asked).output) (sym x.asked) ∙ x.put) in
+    subst (UnderSeal master text) (created_once template run.told.random old c.new created c.created) c.seal
+
+-- ---- one more run
+
+-- what it did to the keyset that its text gave, and what the text that it put gives under a master
+pub record OneMore (P : Keys → Type 0) (run : Run) (over : Keys) (after : Written) : Type 0 where
+  pub old : Keys
+  pub has : P old
+  pub stored : AreStored old
+  pub new : Keys
+  pub does : Does standard_table run.told old new run.asked
+  pub gives : GivesUnder over after new
+
+pub one_more : (P : Keys → Type 0) → StepLaws → (locked : List Run) (run : Run) (master first last opening text put after later : Written) (old : Keys) (are : AreLocked standard_table locked master first last text) → EachUnder P locked master first last text are → P old → AllByRecursion DrawsBytes locked → UnderSeal master first old
+    → StillOpens last opening → HandsUnder standard_table run opening text put after → DrawsBytes run → (opens : StillOpens put later) → OneMore P run opens.new after
+one_more P l locked run master first last opening text put after later old are each p bytes s still hands random opens =
+    let d = led_under P l locked master first last text old are each p bytes s in
+    let went = went_so run opening text put after still.new d.new hands still.read_again (given_again l last opening text d.new still d.seal) d.seal.faultless d.seal.stored random in
+    let step' = step_by l run.asked run.told opening text put after still.new d.new hands.locked hands.hands went in
+    record {
+      old = d.new;
+      has = d.has;
+      stored = d.seal.stored;
+      new = step'.new;
+      does = step'.does;
+      gives = given_again l put later after step'.new opens step'.seal;
+    }

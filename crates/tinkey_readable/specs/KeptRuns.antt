@@ -4,8 +4,9 @@
 --   Event          what happens to a keyset: it is handed on, goes wrapped, or stays where it lies
 --   HaveLed        events lead from one keyset to another
 --   OfEvents       a claim on each accepted edit and line among them, over the keyset that it met
+--   CourseUnder    a keyset lies sealed, as it was wrapped or created under a master and taken on under masters
 --   KeptByCommands, CommandIdsStayDistinct, KeptByItsIdAlone, GivenBackByEnable ..    the laws
-use Rattle.std.specs.Prelude.{◌≡◌, ℕ, List, [], ◌∷◌, ◌++◌, Option, Some, None, Ok}
+use Rattle.std.specs.Prelude.{◌≡◌, ◌⊎◌, ℕ, List, [], ◌∷◌, ◌++◌, Option, Some, None, Ok}
 use Rattle.std.specs.FinMap as map
 use Rattle.std.specs.List.{AllByRecursion}
 use Rattle.keyset_model.specs.Keyset.{Keys}
@@ -26,8 +27,8 @@ use Rattle.tinkey_plans.specs.Promises.{Promised, Tells}
 use Rattle.tinkey_plans.specs.declared.status.Status.{Status}
 use Rattle.tinkey_plans.specs.declared.status.Status.TheVariants as status
 use Rattle.tinkey_readable.specs.LockedRuns.{GivesUnder}
-use Rattle.tinkey_readable.specs.Runs.{DrawsBytes, Handing, HoldsBytes, LiesIn, LockedHanding, Run, StillOpens, Written, bytes_at, hands_on, hands_under, keyset_of}
-use Rattle.tinkey_words.specs.Words.{Asked, AskedEdit, Place, create_keyset, edit_keyset, session, unwrap_keyset, words_of, wrap_keyset}
+use Rattle.tinkey_readable.specs.Runs.{DrawsBytes, Handing, HoldsBytes, IsCreated, LiesIn, LockedHanding, Run, StillOpens, Written, bytes_at, hands_on, hands_under, keyset_of}
+use Rattle.tinkey_words.specs.Words.{Asked, AskedEdit, Master, Place, create_keyset, edit_keyset, session, unwrap_keyset, words_of, wrap_keyset}
 
 -- ---- runs as they took place
 
@@ -192,6 +193,47 @@ OfEvents Claim [] before after led = Unit {0}
 OfEvents Claim (event ∷ later) before after (between, has, led) =
     OfEvent Claim event before between has × OfEvents Claim later between after led
 
+-- ---- a keyset that lies sealed
+
+-- a run wrapped this keyset, which lay in clear, under a master that lay in a file of it, as this text
+pub record WrapsFirst (run : Run) (master text : Written) (keys : Keys) : Type 0 where
+  pub name : List ℕ
+  pub lies : LiesIn master run.told name
+  pub before : Written
+  pub holds : HoldsBytes before
+  pub read : keyset_of before ≡ Some keys
+  pub handing : Handing
+  pub asked : run.asked ≡ wrap_keyset name master.form handing.taken handing.put
+  pub passes : Passes run handing before text
+
+-- a run created it under such a master
+pub record CreatesFirst (run : Run) (master text : Written) (keys : Keys) : Type 0 where
+  pub lock : Master
+  pub form : lock.form ≡ master.form
+  pub lies : LiesIn master run.told lock.file
+  pub template : List ℕ
+  pub created : IsCreated template run.told.random keys
+  pub out : Place
+  pub asked : run.asked ≡ create_keyset (Some lock) template out
+  pub old : World
+  pub new : World
+  pub took : TookPlace run old status.Done new
+  pub put_form : out.form ≡ text.form
+  pub put : IsPut out.file old new text.bytes
+
+-- A run wrapped or created a keyset under a master, and others took it on under masters, so that it lies as this
+-- text, which this master still opens.
+pub record CourseUnder (first : Run) (locked : List Run) (later text : Written) (old : Keys) : Type 0 where
+  pub master : Written
+  pub over : Keys
+  pub read : keyset_of master ≡ Some over
+  pub begun : Written
+  pub begins : WrapsFirst first master begun old ⊎ CreatesFirst first master begun old
+  pub last : Written
+  pub are : HavePassed locked master begun last text
+  pub opens : StillOpens last later
+  pub bytes : AllByRecursion DrawsBytes (first ∷ locked)
+
 -- ---- the laws
 
 -- the key of that record lies here, ENABLED and alone under its prefix
@@ -242,6 +284,20 @@ GivenBackByEnable = (run : Run) (before after : Written) (old : Keys) (r : Recor
     → keyset_of before ≡ Some old → HasDistinctIds old
     → prefix_of r ≡ Some prefix → HasData r old
     → LiesAlone r after
+
+-- So does one with a lock, of a keyset that lies sealed, as no run under masters destroyed or deleted its id:
+-- under each master that still opens what it put out, that gives a keyset that has the key, ENABLED and alone
+-- under its prefix.
+abbrev pub GivenBackUnderLock : Type 0
+GivenBackUnderLock = (first : Run) (locked : List Run) (run : Run)
+    (opening text put after later : Written) (old : Keys) (r : Record) (prefix : List ℕ)
+    (lock : Master) (in' out : Place) (course : CourseUnder first locked opening text old)
+    → run.asked ≡ edit_keyset (Some lock) (Enable r.id) in' out
+    → PassesUnder run opening text put after → DrawsBytes run
+    → HasDistinctIds old → prefix_of r ≡ Some prefix → HasData r old
+    → OfLocked (λ keys. SparesData r.id) locked course.master course.begun course.last text course.are
+    → (opens : StillOpens put later)
+    → (new : Keys) × GivesUnder opens.new after new × HasSameKey r new
 
 -- What a run of create-keyset put out is a keyset whose ids are distinct.
 abbrev pub CreatedIdsAreDistinct : Type 0

@@ -7,7 +7,7 @@ ghost use Rattle.tinkey_readable.specs.Anywhere.{CreatedServe, CreatedServeStrea
 ghost use Rattle.tinkey_readable.specs.DoneWhere.{EditsDone, EnvelopesDone, KeyOfDone, RangesDone, SessionsDone, StreamsDone, WorksDone};
 ghost use Rattle.tinkey_readable.specs.EnvelopeRuns.{RunsOpenEnvelope};
 ghost use Rattle.tinkey_readable.specs.Hiding.{ListedAlike, ListingHidesKeys, ReportsGoByStatus};
-ghost use Rattle.tinkey_readable.specs.KeptRuns.{CommandIdsStayDistinct, CreatedIdsAreDistinct, DataStaysByCommands, FilesStay, GivenBackByEnable, KeptByCommands, KeptByItsIdAlone};
+ghost use Rattle.tinkey_readable.specs.KeptRuns.{CommandIdsStayDistinct, CreatedIdsAreDistinct, DataStaysByCommands, FilesStay, GivenBackByEnable, GivenBackUnderLock, KeptByCommands, KeptByItsIdAlone};
 ghost use Rattle.tinkey_readable.specs.KeptTexts.{ReadsAfterCommands, ReadsByItsIdAlone};
 ghost use Rattle.tinkey_readable.specs.LibraryStreams.{LibraryStreamsOpen, StreamHandlesAreMade, StreamHandlesServe, WrappedStreamHandlesAreMade};
 ghost use Rattle.tinkey_readable.specs.LibraryTexts.{HandlesAreMade, HandlesServe, LibraryTagsVerify, LibraryTextsDopen, LibraryTextsOpen, WrappedHandlesAreMade};
@@ -226,13 +226,16 @@ pub fn kept_by_commands()
 /// A keyset with distinct ids has distinct ids after any such runs, and create-keyset makes one. In
 /// such a keyset only disable-key, destroy-key and delete-key of its own id, as a command or a line
 /// of a session, remove a key with a prefix; and enable-key restores it after a disable, since all
-/// that makes it is kept.
+/// that makes it is kept. It restores it under a master too, in a keyset that one run wrapped or
+/// created there and that other runs took on under masters, each of which has the key that sealed
+/// what it opens, ENABLED and alone under its prefix.
 pub fn ids_stay_distinct()
     ensures apart { CommandIdsStayDistinct }
     ensures created { CreatedIdsAreDistinct }
     ensures kept { KeptByItsIdAlone }
     ensures stays { DataStaysByCommands }
     ensures back { GivenBackByEnable }
+    ensures back_under_lock { GivenBackUnderLock }
 {
     run_step();
     read_is_stored();

@@ -1,4 +1,4 @@
-use Rattle.tinkey_readable.proofs.KeptRunLemmas.{command_ids_stay_distinct, created_ids_are_distinct, data_stays_by_commands, given_back_by_enable, kept_by_its_id_alone}
+use Rattle.tinkey_readable.proofs.KeptRunLemmas.{command_ids_stay_distinct, created_ids_are_distinct, data_stays_by_commands, given_back_by_enable, given_back_under_lock, kept_by_its_id_alone}
 use Rattle.tinkey_readable.proofs.LockedRunLemmas.{StepLaws}
 use Rattle.tinkey_readable.proofs.laws.ids_stay_distinct.Goals as goal
 
@@ -23,4 +23,5 @@ returns c =
       kept = kept_by_its_id_alone c.run_step.ensures l;
       stays = data_stays_by_commands c.run_step.ensures l;
       back = given_back_by_enable c.read_is_stored.ensures c.run_step.ensures;
+      back_under_lock = given_back_under_lock c.edits_keep_keysets.ensures.firsts c.stored_kept.ensures.firsts l;
     }
