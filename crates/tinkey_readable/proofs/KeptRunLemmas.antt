@@ -38,10 +38,10 @@ use Rattle.tinkey_plans.specs.Steps.{makes_keyset, puts_keyset}
 use Rattle.tinkey_plans.specs.declared.status.Status.{Status}
 use Rattle.tinkey_plans.specs.declared.status.Status.TheVariants as status
 use Rattle.tinkey_readable.proofs.FileLemmas.{files_stay, has_once}
-use Rattle.tinkey_readable.proofs.LockedRunLemmas.{EachUnder, StepLaws, UnderSeal, created_first, locks_keep, one_more, wrapped_first}
+use Rattle.tinkey_readable.proofs.LockedRunLemmas.{EachUnder, StepLaws, UnderSeal, created_first, created_gives, locks_keep, one_more, wrapped_first}
 use Rattle.tinkey_readable.proofs.ReachLemmas.{found_row, made_done, put_done}
 use Rattle.tinkey_readable.proofs.RunLemmas.{each_of, hands_within, template_row, kept as keyset_written}
-use Rattle.tinkey_readable.specs.KeptRuns.{CommandIdsStayDistinct, CreatedIdsAreDistinct, CreatesFirst, DataStaysByCommands, Event, EventDraws, GivenBackByEnable, GivenBackUnderLock, HaveLed, HasLed, IsPut, KeptByCommands, KeptByItsIdAlone, HavePassed, OfAsked, OfEvent, OfEvents, OfLocked, Passes, PassesOn, PassesUnder, PassesWrapped, StaysIn, TookPlace, WrapsFirst, passed_by, passed_on, passed_wrapped}
+use Rattle.tinkey_readable.specs.KeptRuns.{CommandIdsStayDistinct, CreatedIdsAreDistinct, CreatedUnderLock, CreatesFirst, CreatesThis, DataStaysByCommands, Event, EventDraws, GivenBackByEnable, GivenBackUnderLock, HaveLed, HasLed, IsPut, KeptByCommands, KeptByItsIdAlone, HavePassed, OfAsked, OfEvent, OfEvents, OfLocked, Passes, PassesOn, PassesUnder, PassesWrapped, StaysIn, TookPlace, WrapsFirst, passed_by, passed_on, passed_wrapped}
 use Rattle.tinkey_readable.specs.Runs.{AreLocked, CreatesUnder, Does, DrawsBytes, GoesLocked, Handing, Hands, HandsOn, HandsUnder, HoldsBytes, ReadIsStored, Run, RunStep, Wraps, Written, bytes_at, keyset_of}
 use Rattle.tinkey_words.specs.declared.words.rows.Format.{Format}
 use Rattle.tinkey_words.specs.Words.{Asked, AskedEdit, Lock, Place, create_keyset, edit_keyset, list_keyset, key_of, convert_keyset, list_key_templates, use_keyset, use_envelope, seal_stream, open_stream, reseal_stream, open_range, self_test, session, help, version}
@@ -321,14 +321,16 @@ all_done r told old asked h spares =
       by_session = λ lock name form out is m left. (ids.by_session lock name form out is m left, data'.by_session lock name form out is m left);
     }
 
-begun_under : FirstsAreKeysets → FirstsAreStored → StepLaws → (first : Run) (master begun : Written) (over old : Keys) → keyset_of master ≡ Some over → DrawsBytes first → WrapsFirst first master begun old ⊎ CreatesFirst first master begun old → UnderSeal master begun old
+creates_of : (run : Run) (template : List ℕ) (master text : Written) → CreatesFirst run template master text → CreatesUnder standard_table run template master text
+creates_of run template master text c =
+    let is = answered_by run c.old status.Done c.new c.took tt in
+    record { lock = c.lock; form = c.form; lies = c.lies; out = c.out; asked = c.asked; done = sym is.status; put_form = c.put_form; put = put_by c.out.file c.old c.new _ text.bytes is c.put }
+
+begun_under : FirstsAreKeysets → FirstsAreStored → StepLaws → (first : Run) (master begun : Written) (over old : Keys) → keyset_of master ≡ Some over → DrawsBytes first → WrapsFirst first master begun old ⊎ CreatesThis first master begun old → UnderSeal master begun old
 begun_under firsts firsts_stored l first master begun over old read random (inl w) =
     let wraps : Wraps standard_table first master w.before begun = record { name = w.name; lies = w.lies; handing = w.handing; asked = w.asked; handed = hands_of first w.handing w.before begun w.passes } in
     wrapped_first l first master w.before begun over old wraps read w.read w.holds random
-begun_under firsts firsts_stored l first master begun over old read random (inr c) =
-    let is = answered_by first c.old status.Done c.new c.took tt in
-    let creates : CreatesUnder standard_table first c.template master begun = record { lock = c.lock; form = c.form; lies = c.lies; out = c.out; asked = c.asked; done = sym is.status; put_form = c.put_form; put = put_by c.out.file c.old c.new _ begun.bytes is c.put } in
-    created_first firsts firsts_stored first c.template master begun over old creates read c.created random
+begun_under firsts firsts_stored l first master begun over old read random (inr (template, c, created)) = created_first firsts firsts_stored first template master begun over old (creates_of first template master begun c) read created random
 
 pub given_back_under_lock : FirstsAreKeysets → FirstsAreStored → StepLaws → GivenBackUnderLock
 given_back_under_lock firsts firsts_stored l first locked run opening text put after later old r prefix lock in' out course asked passes random apart has h spares opens =
@@ -362,3 +364,9 @@ created_ids_are_distinct law binary json firsts firsts_stored run template out o
     created law binary json firsts firsts_stored run.told template out after
     (ap (λ (a : Answer). a.status) (sym same) ∙ sym is.status) random form
     (ap (λ (a : Answer). bytes_at out.file a.files a.output) (sym same) ∙ put_by out.file old new _ after.bytes is put)
+
+pub created_under_lock : FirstsAreKeysets → FirstsAreStored → StepLaws → CreatedUnderLock
+created_under_lock firsts firsts_stored l run template master text later creates random opens =
+    let g = created_gives firsts firsts_stored l run template master text later (creates_of run template master text creates) random opens in
+    let c = g.1 in
+    (g.0, c, g.2, firsts_have_distinct_ids g.0 c.row run.told.random c.stepped c.steps c.accepted)

@@ -516,6 +516,13 @@ created_under firsts firsts_stored lock template out told master text over form 
           (firsts_stored m.new f.0 told.random m.drawn row random m.gave m.made);
     }
 
+created_by : FirstsAreKeysets → FirstsAreStored → (run : Run) (template : List ℕ) (master text : Written) (over : Keys) → CreatesUnder standard_table run template master text → keyset_of master ≡ Some over → DrawsBytes run → CreatedUnder template run.told.random master text
+created_by firsts firsts_stored run template master text over x read random =
+    let a : Asked → Answer = λ asked. answer (command_plan standard_table asked) run.told in
+    created_under firsts firsts_stored x.lock template x.out run.told master text over x.form x.lies read random
+    (ap (λ asked. (a asked).status) (sym x.asked) ∙ x.done) x.put_form
+    (ap (λ asked. bytes_at x.out.file (a asked).files (a asked).output) (sym x.asked) ∙ x.put)
+
 -- what was created, and went on
 record CreatedLast (template random : List ℕ) (later text : Written) (over : Keys) : Type 0 where
   old : Keys
@@ -525,10 +532,7 @@ record CreatedLast (template random : List ℕ) (later text : Written) (over : K
 created_last : FirstsAreKeysets → FirstsAreStored → StepLaws → (run : Run) (locked : List Run) (template : List ℕ) (master first last later text : Written) (begun over : Keys) → CreatesUnder standard_table run template master first → keyset_of master ≡ Some begun
     → AreLocked standard_table locked master first last text → StillOpens last later → DrawsBytes run → AllByRecursion DrawsBytes locked → keyset_of later ≡ Some over → CreatedLast template run.told.random later text over
 created_last firsts firsts_stored l run locked template master first last later text begun over x read are opens random bytes read_again =
-    let a : Asked → Answer = λ asked. answer (command_plan standard_table asked) run.told in
-    let c = created_under firsts firsts_stored x.lock template x.out run.told master first begun x.form x.lies read random
-    (ap (λ asked. (a asked).status) (sym x.asked) ∙ x.done) x.put_form
-    (ap (λ asked. bytes_at x.out.file (a asked).files (a asked).output) (sym x.asked) ∙ x.put) in
+    let c = created_by firsts firsts_stored run template master first begun x read random in
     let d = led_under (λ keys. Unit {0}) l locked master first last text c.new are (each_none locked master first last text are) tt bytes c.seal in
     record {
       old = c.new;
@@ -582,11 +586,14 @@ created_once template random old new x y =
 -- so does one that was created under a master
 pub created_first : FirstsAreKeysets → FirstsAreStored → (run : Run) (template : List ℕ) (master text : Written) (over old : Keys) → CreatesUnder standard_table run template master text → keyset_of master ≡ Some over → IsCreated template run.told.random old → DrawsBytes run → UnderSeal master text old
 created_first firsts firsts_stored run template master text over old x read created random =
-    let a : Asked → Answer = λ asked. answer (command_plan standard_table asked) run.told in
-    let c = created_under firsts firsts_stored x.lock template x.out run.told master text over x.form x.lies read random
-    (ap (λ asked. (a asked).status) (sym x.asked) ∙ x.done) x.put_form
-    (ap (λ asked. bytes_at x.out.file (a asked).files (a asked).output) (sym x.asked) ∙ x.put) in
+    let c = created_by firsts firsts_stored run template master text over x read random in
     subst (UnderSeal master text) (created_once template run.told.random old c.new created c.created) c.seal
+
+-- and gives it under a master that still opens it
+pub created_gives : FirstsAreKeysets → FirstsAreStored → StepLaws → (run : Run) (template : List ℕ) (master text later : Written) → CreatesUnder standard_table run template master text → DrawsBytes run → (opens : StillOpens master later) → (keys : Keys) × IsCreated template run.told.random keys × GivesUnder opens.new text keys
+created_gives firsts firsts_stored l run template master text later x random opens =
+    let c = created_by firsts firsts_stored run template master text opens.old x opens.read random in
+    (c.new, c.created, given_again l master later text c.new opens c.seal)
 
 -- ---- one more run
 

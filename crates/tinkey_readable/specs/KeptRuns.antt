@@ -206,13 +206,11 @@ pub record WrapsFirst (run : Run) (master text : Written) (keys : Keys) : Type 0
   pub asked : run.asked ≡ wrap_keyset name master.form handing.taken handing.put
   pub passes : Passes run handing before text
 
--- a run created it under such a master
-pub record CreatesFirst (run : Run) (master text : Written) (keys : Keys) : Type 0 where
+-- a run created one by this template under such a master, as this text
+pub record CreatesFirst (run : Run) (template : List ℕ) (master text : Written) : Type 0 where
   pub lock : Master
   pub form : lock.form ≡ master.form
   pub lies : LiesIn master run.told lock.file
-  pub template : List ℕ
-  pub created : IsCreated template run.told.random keys
   pub out : Place
   pub asked : run.asked ≡ create_keyset (Some lock) template out
   pub old : World
@@ -221,6 +219,11 @@ pub record CreatesFirst (run : Run) (master text : Written) (keys : Keys) : Type
   pub put_form : out.form ≡ text.form
   pub put : IsPut out.file old new text.bytes
 
+-- this keyset, as it is made of the random bytes
+abbrev pub CreatesThis : (run : Run) → (master text : Written) → Keys → Type 0
+CreatesThis run master text keys = (template : List ℕ)
+    × CreatesFirst run template master text × IsCreated template run.told.random keys
+
 -- A run wrapped or created a keyset under a master, and others took it on under masters, so that it lies as this
 -- text, which this master still opens.
 pub record CourseUnder (first : Run) (locked : List Run) (later text : Written) (old : Keys) : Type 0 where
@@ -228,7 +231,7 @@ pub record CourseUnder (first : Run) (locked : List Run) (later text : Written) 
   pub over : Keys
   pub read : keyset_of master ≡ Some over
   pub begun : Written
-  pub begins : WrapsFirst first master begun old ⊎ CreatesFirst first master begun old
+  pub begins : WrapsFirst first master begun old ⊎ CreatesThis first master begun old
   pub last : Written
   pub are : HavePassed locked master begun last text
   pub opens : StillOpens last later
@@ -305,6 +308,15 @@ CreatedIdsAreDistinct = (run : Run) (template : List ℕ) (out : Place) (old new
     (after : Written) → run.asked ≡ create_keyset None template out → TookPlace run old status.Done new
     → DrawsBytes run → out.form ≡ after.form → IsPut out.file old new after.bytes
     → (keys : Keys) × (keyset_of after ≡ Some keys) × HasDistinctIds keys
+
+-- What one put under a master gives such a keyset, the first one of its template, under each master that still
+-- opens it.
+abbrev pub CreatedUnderLock : Type 0
+CreatedUnderLock = (run : Run) (template : List ℕ) (master text later : Written)
+    → CreatesFirst run template master text → DrawsBytes run
+    → (opens : StillOpens master later)
+    → (keys : Keys) × IsCreated template run.told.random keys × GivesUnder opens.new text keys
+    × HasDistinctIds keys
 
 -- No run takes a file away or changes it, whatever it is asked and however it ends.
 abbrev pub FilesStay : Type 0

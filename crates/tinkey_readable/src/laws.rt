@@ -7,7 +7,7 @@ ghost use Rattle.tinkey_readable.specs.Anywhere.{CreatedServe, CreatedServeStrea
 ghost use Rattle.tinkey_readable.specs.DoneWhere.{EditsDone, EnvelopesDone, KeyOfDone, RangesDone, SessionsDone, StreamsDone, WorksDone};
 ghost use Rattle.tinkey_readable.specs.EnvelopeRuns.{RunsOpenEnvelope};
 ghost use Rattle.tinkey_readable.specs.Hiding.{ListedAlike, ListingHidesKeys, ReportsGoByStatus};
-ghost use Rattle.tinkey_readable.specs.KeptRuns.{CommandIdsStayDistinct, CreatedIdsAreDistinct, DataStaysByCommands, FilesStay, GivenBackByEnable, GivenBackUnderLock, KeptByCommands, KeptByItsIdAlone};
+ghost use Rattle.tinkey_readable.specs.KeptRuns.{CommandIdsStayDistinct, CreatedIdsAreDistinct, CreatedUnderLock, DataStaysByCommands, FilesStay, GivenBackByEnable, GivenBackUnderLock, KeptByCommands, KeptByItsIdAlone};
 ghost use Rattle.tinkey_readable.specs.KeptTexts.{ReadsAfterCommands, ReadsByItsIdAlone};
 ghost use Rattle.tinkey_readable.specs.LibraryStreams.{LibraryStreamsOpen, StreamHandlesAreMade, StreamHandlesServe, WrappedStreamHandlesAreMade};
 ghost use Rattle.tinkey_readable.specs.LibraryTexts.{HandlesAreMade, HandlesServe, LibraryTagsVerify, LibraryTextsDopen, LibraryTextsOpen, WrappedHandlesAreMade};
@@ -223,15 +223,16 @@ pub fn kept_by_commands()
     wrap_back_bytes();
 }
 
-/// A keyset with distinct ids has distinct ids after any such runs, and create-keyset makes one. In
-/// such a keyset only disable-key, destroy-key and delete-key of its own id, as a command or a line
-/// of a session, remove a key with a prefix; and enable-key restores it after a disable, since all
-/// that makes it is kept. It restores it under a master too, in a keyset that one run wrapped or
-/// created there and that other runs took on under masters, each of which has the key that sealed
-/// what it opens, ENABLED and alone under its prefix.
+/// A keyset with distinct ids has distinct ids after any such runs, and create-keyset makes one, in
+/// clear or under a master. In such a keyset only disable-key, destroy-key and delete-key of its
+/// own id, as a command or a line of a session, remove a key with a prefix; and enable-key restores
+/// it after a disable, since all that makes it is kept. It restores it under a master too, in a
+/// keyset that one run wrapped or created there and that other runs took on under masters, each of
+/// which has the key that sealed what it opens, ENABLED and alone under its prefix.
 pub fn ids_stay_distinct()
     ensures apart { CommandIdsStayDistinct }
     ensures created { CreatedIdsAreDistinct }
+    ensures created_under_lock { CreatedUnderLock }
     ensures kept { KeptByItsIdAlone }
     ensures stays { DataStaysByCommands }
     ensures back { GivenBackByEnable }
